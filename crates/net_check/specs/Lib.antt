@@ -1,0 +1,4 @@
+pub use Rattle.net_text.specs.Names
+pub use Rattle.net_text.specs.Trees
+pub mod Syntax
+pub mod Valid

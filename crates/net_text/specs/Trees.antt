@@ -1,0 +1,90 @@
+-- The tree of a network's text without the pointers of its boxes and vectors: two texts that read alike, line by line, are equal here.
+use Rattle.std.specs.Prelude.{ℕ, ℤ, List, [], ◌∷◌, map, Option, Some, None}
+use Rattle.net_text.specs.Names.{NameTree}
+use Rattle.net_text.specs.declared.tree.Operator.{Operator}
+use Rattle.net_text.specs.declared.tree.ExprText.{ExprText}
+use Rattle.net_text.specs.declared.tree.ExprText.TheVariants.{Literal, Variable, Binary'}
+use Rattle.net_text.specs.declared.tree.StatementText.{StatementText}
+use Rattle.net_text.specs.declared.tree.StatementText.TheVariants.{Get, Assign, Put}
+use Rattle.net_text.specs.declared.tree.ChannelText.{ChannelText}
+use Rattle.net_text.specs.declared.tree.VariableText.{VariableText}
+use Rattle.net_text.specs.declared.tree.NodeText.{NodeText}
+use Rattle.net_text.specs.declared.tree.LoopText.{LoopText}
+use Rattle.net_text.specs.declared.tree.ProcessText.{ProcessText}
+use Rattle.net_text.specs.declared.tree.Declaration.{Declaration}
+use Rattle.net_text.specs.declared.tree.Declaration.TheVariants.{Channel, Process}
+use Rattle.net_text.specs.declared.tree.NetText.{NetText}
+use Rattle.net_text.specs.declared.raw_inputs.InputLine.{InputLine}
+use Rattle.net_text.specs.declared.raw_inputs.RawInputs.{RawInputs}
+
+-- an expression
+pub data ExprTree : Type 0 where
+  LiteralTree : (value : ℤ) → ExprTree
+  VariableTree : (name : NameTree) → ExprTree
+  BinaryTree : (operator : Operator) (left right : ExprTree) → ExprTree
+
+-- statements, each with those after it
+pub data BlockTree : Type 0 where
+  NothingTree : BlockTree
+  GetTree : (variable channel : NameTree) (rest : BlockTree) → BlockTree
+  AssignTree : (variable : NameTree) (value : ExprTree) (rest : BlockTree) → BlockTree
+  PutTree : (value : ExprTree) (channel : NameTree) (rest : BlockTree) → BlockTree
+
+pub record LoopTree : Type 0 where
+  pub body : BlockTree
+  pub line : ℕ
+
+pub record ProcessTree : Type 0 where
+  pub name : NameTree
+  pub node : NodeText
+  pub variables : List VariableText
+  pub prelude : BlockTree
+  pub repeated : Option LoopTree
+  pub line : ℕ
+
+pub data DeclarationTree : Type 0 where
+  ChannelTree : (channel : ChannelText) → DeclarationTree
+  ProcessDeclared : (process : ProcessTree) → DeclarationTree
+
+abbrev pub expr_tree : ExprText → ExprTree
+expr_tree (Literal n) = LiteralTree n
+expr_tree (Variable name) = VariableTree name
+expr_tree (Binary' operator p a q b) = BinaryTree operator (expr_tree a) (expr_tree b)
+
+abbrev pub then_tree : StatementText → BlockTree → BlockTree
+then_tree (Get variable channel) rest = GetTree variable channel rest
+then_tree (Assign variable value) rest = AssignTree variable (expr_tree value) rest
+then_tree (Put value channel) rest = PutTree (expr_tree value) channel rest
+
+abbrev pub block_tree : List StatementText → BlockTree
+block_tree [] = NothingTree
+block_tree (s ∷ statements) = then_tree s (block_tree statements)
+
+abbrev pub loop_tree : LoopText → LoopTree
+loop_tree l = record { body = block_tree l.body.items; line = l.line }
+
+abbrev pub repeated_tree : Option LoopText → Option LoopTree
+repeated_tree None = None
+repeated_tree (Some l) = Some (loop_tree l)
+
+abbrev pub process_tree : ProcessText → ProcessTree
+process_tree p = record { name = p.name; node = p.node; variables = p.variables.items; prelude = block_tree p.prelude.items; repeated = repeated_tree p.repeated; line = p.line }
+
+abbrev pub declaration_tree : Declaration → DeclarationTree
+declaration_tree (Channel c) = ChannelTree c
+declaration_tree (Process p) = ProcessDeclared (process_tree p)
+
+-- the declarations of a text, in order
+abbrev pub net_tree : NetText → List DeclarationTree
+net_tree t = map declaration_tree t.declarations.items
+
+-- a line of an inputs text
+pub record InputTree : Type 0 where
+  pub name : NameTree
+  pub items : List ℤ
+
+abbrev pub input_tree : InputLine → InputTree
+input_tree l = record { name = l.name; items = l.items.items }
+
+abbrev pub inputs_tree : RawInputs → List InputTree
+inputs_tree r = map input_tree r.lines.items

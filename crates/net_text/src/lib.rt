@@ -1,0 +1,17 @@
+//! The texts of a network: tokens, the tree of a network's text, and the lines of an inputs text.
+#![tactic(auto)]
+
+mod fault;
+mod name;
+mod raw_inputs;
+mod token;
+mod tree;
+
+pub use fault::TextFault;
+pub use name::Name;
+pub use raw_inputs::{InputLine, RawInputs};
+pub use token::{Keyword, Symbol, Token, TokenKind};
+pub use tree::{
+    ChannelText, Declaration, ExprText, LoopText, NetText, NodeText, Operator, ProcessText, Role,
+    StatementText, VariableText,
+};

@@ -1,0 +1,100 @@
+//! The tree of a network's text, with the lines that a fault may have to name.
+
+use crate::name::Name;
+
+/// What stands outside the network at a channel's end.
+#[derive(Clone, Copy, Debug, PartialEq, Eq)]
+pub enum Role {
+    /// The items come from outside.
+    Input,
+    /// Both ends are processes'.
+    Inner,
+    /// The items go outside.
+    Output,
+}
+
+/// The declaration of a channel.
+#[derive(Debug, Drop)]
+pub struct ChannelText {
+    pub role: Role,
+    pub name: Name,
+    /// The line of the declaration's first word.
+    pub line: usize,
+}
+
+/// The declaration of a variable, with its first value.
+#[derive(Debug, Drop)]
+pub struct VariableText {
+    pub name: Name,
+    pub initial: i64,
+    /// The line of the declaration's first word.
+    pub line: usize,
+}
+
+/// What joins two values in an expression.
+#[derive(Clone, Copy, Debug, PartialEq, Eq)]
+pub enum Operator {
+    Add,
+}
+
+/// An expression.
+#[derive(Debug, Drop)]
+pub enum ExprText {
+    Literal(i64),
+    Variable(Name),
+    Binary {
+        operator: Operator,
+        left: Box<ExprText>,
+        right: Box<ExprText>,
+    },
+}
+
+/// A statement.
+#[derive(Debug, Drop)]
+pub enum StatementText {
+    Get { variable: Name, channel: Name },
+    Assign { variable: Name, value: ExprText },
+    Put { value: ExprText, channel: Name },
+}
+
+/// A loop's body, repeated without end.
+#[derive(Debug, Drop)]
+pub struct LoopText {
+    pub body: Vec<StatementText>,
+    /// The line of the word `loop`.
+    pub line: usize,
+}
+
+/// The number of the node on which a process runs, with its line.
+#[derive(Clone, Copy, Debug, PartialEq, Eq)]
+pub struct NodeText {
+    pub number: u64,
+    pub line: usize,
+}
+
+/// The declaration of a process.
+#[derive(Debug, Drop)]
+pub struct ProcessText {
+    pub name: Name,
+    pub node: NodeText,
+    pub variables: Vec<VariableText>,
+    /// What is done once, before the loop.
+    pub prelude: Vec<StatementText>,
+    /// The loop, unless the process finishes after its prelude.
+    pub repeated: Option<LoopText>,
+    /// The line of the word `process`.
+    pub line: usize,
+}
+
+/// A declaration, in order of the text.
+#[derive(Debug, Drop)]
+pub enum Declaration {
+    Channel(ChannelText),
+    Process(ProcessText),
+}
+
+/// The text of a network.
+#[derive(Debug, Drop)]
+pub struct NetText {
+    pub declarations: Vec<Declaration>,
+}
