@@ -2,6 +2,7 @@
 #![tactic(auto)]
 
 mod fault;
+mod lexer;
 mod name;
 mod raw_inputs;
 mod token;

@@ -1,7 +1,7 @@
 //! The tokens of a network's text.
 
 ghost use Rattle.std.specs.Prelude.{IsTrue};
-ghost use Rattle.net_text.specs.Numbers.{is_in_range};
+ghost use Rattle.net_text.specs.Spellings.{is_kept};
 
 /// A word that can't be a name.
 #[derive(Clone, Copy, Debug, PartialEq, Eq)]
@@ -64,4 +64,5 @@ pub struct Token<'a> {
     pub start: usize,
     /// 1 plus the line feeds before it.
     pub line: usize,
+    pub ghost number_in_range: { IsTrue (is_kept kind) },
 }

@@ -1,0 +1,4 @@
+pub mod Symbols
+pub mod Lexemes
+pub mod Numerals
+pub mod Steps
