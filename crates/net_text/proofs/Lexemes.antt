@@ -120,16 +120,16 @@ passes_at p (b ∷ bs) zero h lt = (and_parts (p b) (list_all p bs) h).0
 passes_at p (b ∷ bs) (suc i) h lt = passes_at p bs i (and_parts (p b) (list_all p bs) h).1 (omega arith)
 passes_at p [] i h lt = absurd (omega arith)
 
-first_of_word : (bs : List ℕ) → is_word bs ≡ true → starts_word (get_or bs 0 0) ≡ true
+pub first_of_word : (bs : List ℕ) → is_word bs ≡ true → starts_word (get_or bs 0 0) ≡ true
 first_of_word [] h = absurd cc
 first_of_word (b ∷ bs) h = (and_parts (starts_word b) (list_all continues_word bs) h).0
 
-first_of_numeral : (bs : List ℕ) → is_numeral bs ≡ true → is_ascii_digit (get_or bs 0 0) ≡ true
+pub first_of_numeral : (bs : List ℕ) → is_numeral bs ≡ true → is_ascii_digit (get_or bs 0 0) ≡ true
 first_of_numeral [] h = absurd cc
 first_of_numeral (b ∷ bs) h = (and_parts (is_ascii_digit b) (list_all is_ascii_digit bs) h).0
 
 -- a symbol begins with neither a digit nor a letter nor _
-first_of_symbol : (s : Symbol) → ((get_or (symbol_spelling s) 0 0 < 48) ⊎ (57 < get_or (symbol_spelling s) 0 0)) × ((get_or (symbol_spelling s) 0 0 < 65) ⊎ (122 < get_or (symbol_spelling s) 0 0))
+pub first_of_symbol : (s : Symbol) → ((get_or (symbol_spelling s) 0 0 < 48) ⊎ (57 < get_or (symbol_spelling s) 0 0)) × ((get_or (symbol_spelling s) 0 0 < 65) ⊎ (122 < get_or (symbol_spelling s) 0 0))
 first_of_symbol symbol.Semicolon = (inr (omega arith), inl (omega arith))
 first_of_symbol symbol.LeftBrace = (inr (omega arith), inr (omega arith))
 first_of_symbol symbol.RightBrace = (inr (omega arith), inr (omega arith))

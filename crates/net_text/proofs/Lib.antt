@@ -2,3 +2,4 @@ pub mod Symbols
 pub mod Lexemes
 pub mod Numerals
 pub mod Steps
+pub mod Readings

@@ -291,3 +291,23 @@ fn next_token(source: &str, place: usize, line: usize) -> Result<Token<'_>, End>
         Err(fault) => Err(End::Bad(fault)),
     }
 }
+
+/// The tokens of a text that isn't over-long, up to its end or to the first that is bad.
+pub(crate) fn read<'a>(alloc: Global, source: &'a str) -> Result<Reading<'a>, AllocError>
+    requires { length source.now ≤ text_limit }
+    ensures { IfOk result (λ reading. IsReading source.now (lexemes reading.tokens.items) reading.end) }
+{
+    let mut tokens = Vec::new(alloc);
+    let mut place = 0;
+    let mut line = 1;
+    'tokens: loop {
+        match next_token(source, place, line) {
+            Ok(token) => {
+                place = token.start + token.text.len();
+                line = token.line;
+                tokens.push(token)?;
+            }
+            Err(end) => return Ok(Reading { tokens, end }),
+        }
+    }
+}
