@@ -4,6 +4,7 @@
 mod fault;
 mod lexer;
 mod name;
+mod parser;
 mod raw_inputs;
 mod token;
 mod tree;
