@@ -30,22 +30,22 @@ digit_bounds b h = in_range 48 57 b h
 pub starts_bounds : (b : ℕ) → starts_word b ≡ true → (65 ≤ b) × (b ≤ 122)
 starts_bounds b h =
     elim (or_cases (is_ascii_alphabetic b) (eqb b 95) h) as (λ _. (65 ≤ b) × (b ≤ 122)) [
-      inl letter ↦ letter_bounds b letter
-    | inr underscore ↦ let e = eqb-true _ _ underscore in (omega arith, omega arith)
+      | inl letter ↦ letter_bounds b letter
+      | inr underscore ↦ let e = eqb-true _ _ underscore in (omega arith, omega arith)
     ]
   where
     letter_bounds : (b : ℕ) → is_ascii_alphabetic b ≡ true → (65 ≤ b) × (b ≤ 122)
     letter_bounds b h =
         elim (or_cases (is_in_range 65 90 b) (is_in_range 97 122 b) h) as (λ _. (65 ≤ b) × (b ≤ 122)) [
-          inl upper ↦ let r = in_range 65 90 b upper in (omega arith, omega arith)
-        | inr lower ↦ let r = in_range 97 122 b lower in (omega arith, omega arith)
+          | inl upper ↦ let r = in_range 65 90 b upper in (omega arith, omega arith)
+          | inr lower ↦ let r = in_range 97 122 b lower in (omega arith, omega arith)
         ]
 
 pub continues_bounds : (b : ℕ) → continues_word b ≡ true → (48 ≤ b) × (b ≤ 122)
 continues_bounds b h =
     elim (or_cases (starts_word b) (is_ascii_digit b) h) as (λ _. (48 ≤ b) × (b ≤ 122)) [
-      inl start ↦ let r = starts_bounds b start in (omega arith, omega arith)
-    | inr digit ↦ let r = digit_bounds b digit in (omega arith, omega arith)
+      | inl start ↦ let r = starts_bounds b start in (omega arith, omega arith)
+      | inr digit ↦ let r = digit_bounds b digit in (omega arith, omega arith)
     ]
 
 pub starts_continues : (b : ℕ) → starts_word b ≡ true → continues_word b ≡ true
@@ -182,8 +182,8 @@ run_some p (suc n) bs run = omega arith
 run_longest : (p : ℕ → Bool) (n m : ℕ) (bs : List ℕ) → IsRun p n bs → m ≤ length bs → list_all p (take m bs) ≡ true → m ≤ n
 run_longest p n m bs run le all =
     elim (cases_lt n m) as (λ _. m ≤ n) [
-      inl past ↦ absurd (both_ways _ (run.stops (omega arith)) (sym (ap p (get_or-take m bs n 0 past)) ∙ passes_at p (take m bs) n all (omega (arith, length-take m bs))))
-    | inr not_past ↦ not_past
+      | inl past ↦ absurd (both_ways _ (run.stops (omega arith)) (sym (ap p (get_or-take m bs n 0 past)) ∙ passes_at p (take m bs) n all (omega (arith, length-take m bs))))
+      | inr not_past ↦ not_past
     ]
 
 word_from_run : (bs : List ℕ) → 0 < length bs → starts_word (get_or bs 0 0) ≡ true → list_all continues_word bs ≡ true → is_word bs ≡ true
@@ -202,34 +202,38 @@ longest_word n bs run start =
     let some = run_some continues_word n bs run in
     let len = length-take n bs in
     let within = run.within in
-    let word = word_from_run (take n bs) (omega arith) (ap starts_word (first_of_front n bs some) ∙ start) run.all in
-    (record {
-      lexeme = inl word;
-      front_of = front_take n bs run.within;
-      longest = λ m le lexeme.
-          let positive = lexeme_some (take m bs) lexeme in
-          let len' = length-take m bs in
-          let word' = is_word_from (take m bs) lexeme (ap starts_word (first_of_front m bs (omega arith)) ∙ start) in
-          let short = run_longest continues_word n m bs run le (word_continues (take m bs) word') in
-          omega arith;
-    }, word)
+    let word = word_from_run (take n bs) (omega arith) (ap starts_word (first_of_front n bs some) ∙ start) run.all in (
+      record {
+        lexeme = inl word;
+        front_of = front_take n bs run.within;
+        longest = λ m le lexeme.
+            let positive = lexeme_some (take m bs) lexeme in
+            let len' = length-take m bs in
+            let word' = is_word_from (take m bs) lexeme (ap starts_word (first_of_front m bs (omega arith)) ∙ start) in
+            let short = run_longest continues_word n m bs run le (word_continues (take m bs) word') in
+            omega arith;
+      },
+      word,
+    )
 
 pub longest_numeral : (n : ℕ) (bs : List ℕ) → IsRun is_ascii_digit n bs → IsLongest (take n bs) bs × (is_numeral (take n bs) ≡ true)
 longest_numeral n bs run =
     let some = run_some is_ascii_digit n bs run in
     let len = length-take n bs in
     let within = run.within in
-    let numeral = numeral_from_run (take n bs) (omega arith) run.all in
-    (record {
-      lexeme = inr (inl numeral);
-      front_of = front_take n bs run.within;
-      longest = λ m le lexeme.
-          let positive = lexeme_some (take m bs) lexeme in
-          let len' = length-take m bs in
-          let numeral' = is_numeral_from (take m bs) lexeme (ap is_ascii_digit (first_of_front m bs (omega arith)) ∙ run.first) in
-          let short = run_longest is_ascii_digit n m bs run le (numeral_digits (take m bs) numeral') in
-          omega arith;
-    }, numeral)
+    let numeral = numeral_from_run (take n bs) (omega arith) run.all in (
+      record {
+        lexeme = inr (inl numeral);
+        front_of = front_take n bs run.within;
+        longest = λ m le lexeme.
+            let positive = lexeme_some (take m bs) lexeme in
+            let len' = length-take m bs in
+            let numeral' = is_numeral_from (take m bs) lexeme (ap is_ascii_digit (first_of_front m bs (omega arith)) ∙ run.first) in
+            let short = run_longest is_ascii_digit n m bs run le (numeral_digits (take m bs) numeral') in
+            omega arith;
+      },
+      numeral,
+    )
 
 -- where the first byte is neither, a lexeme is a symbol
 pub symbol_from : (bs : List ℕ) → IsLexeme bs → starts_word (get_or bs 0 0) ≡ false → is_ascii_digit (get_or bs 0 0) ≡ false → (s : Symbol) × (bs ≡ symbol_spelling s)

@@ -3,3 +3,4 @@ pub mod Lexemes
 pub mod Numerals
 pub mod Steps
 pub mod Readings
+pub mod Many

@@ -17,7 +17,7 @@ use Rattle.net_text.specs.declared.fault.TextFault.TheVariants.{NoMemory, BadTok
 pub line_at-add : (text : List ℕ) (place n : ℕ) → line_at text (place + n) ≡ line_at text place + count_by (λ b. b == 10) (take n (drop place text))
 line_at-add text place n =
     let e : count_by (λ b. b == 10) (take (place + n) text) ≡ count_by (λ b. b == 10) (take place text) + count_by (λ b. b == 10) (take n (drop place text)) =
-        ap (count_by (λ b. b == 10)) (take-add place n text) ∙ sum_by-append _ (take place text) (take n (drop place text)) in
+    ap (count_by (λ b. b == 10)) (take-add place n text) ∙ sum_by-append _ (take place text) (take n (drop place text)) in
     omega arith
 
 pub past_gap : (text : List ℕ) (place n line : ℕ) → place ≤ length text → n ≤ length (drop place text) → drop n (drop place text) ≡ after_gap (drop place text) → line ≡ line_at text place

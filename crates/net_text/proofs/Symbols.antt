@@ -55,8 +55,8 @@ one_longest s bytes within is no_double = record {
 pub no_symbol : (bytes : List ℕ) → 0 < length bytes → ((s : Symbol) → symbol_spelling s ≡ get_or bytes 0 0 ∷ [] → ⊥) → ((t : Symbol) → 2 ≤ length bytes → take 2 bytes ≡ symbol_spelling t → ⊥) → (s : Symbol) (n : ℕ) → n ≤ length bytes → take n bytes ≡ symbol_spelling s → ⊥
 no_symbol bytes within no_single no_double s n le front =
     elim (front_length s n bytes le front) as (λ _. ⊥) [
-      inl e ↦ no_single s (sym front ∙ ap (λ (k : ℕ). take k bytes) e ∙ take_one bytes within)
-    | inr e ↦ no_double s (omega arith) (ap (λ (k : ℕ). take k bytes) (sym e) ∙ front)
+      | inl e ↦ no_single s (sym front ∙ ap (λ (k : ℕ). take k bytes) e ∙ take_one bytes within)
+      | inr e ↦ no_double s (omega arith) (ap (λ (k : ℕ). take k bytes) (sym e) ∙ front)
     ]
 
 pub no_symbol_in_nothing : (bytes : List ℕ) → length bytes ≡ 0 → (s : Symbol) (n : ℕ) → n ≤ length bytes → take n bytes ≡ symbol_spelling s → ⊥

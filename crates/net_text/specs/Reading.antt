@@ -7,6 +7,7 @@ use Rattle.net_text.specs.Spellings.{keyword_spelling, symbol_spelling}
 use Rattle.net_text.specs.Trees.{ExprTree, LiteralTree, VariableTree, BinaryTree, BlockTree, NothingTree, GetTree, AssignTree, PutTree, LoopTree, ProcessTree, DeclarationTree, ChannelTree, ProcessDeclared}
 use Rattle.net_text.specs.Tokens.{Lexeme}
 use Rattle.net_text.specs.Grammar.{sum_of, first_word}
+use Rattle.net_text.specs.declared.parser.Head.{Head}
 use Rattle.net_text.specs.declared.parser.Stuck.{Stuck}
 use Rattle.net_text.specs.declared.parser.Stuck.TheVariants.{At, AtEnd}
 use Rattle.net_text.specs.declared.parser.ParseError.{ParseError}
@@ -211,6 +212,9 @@ pub record HeadTree : Type 0 where
   pub line : ℕ
   pub name : NameTree
   pub node : NodeText
+
+abbrev pub head_tree : Head → HeadTree
+head_tree h = record { line = h.line; name = h.name; node = h.node }
 
 unfoldable pub head_at : List Lexeme → Read HeadTree
 head_at ts = do

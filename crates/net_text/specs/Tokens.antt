@@ -107,4 +107,3 @@ pub record AreTokensBefore (text : List ℕ) (ts : List Lexeme) (fault : TextFau
   pub place : ℕ
   pub read : AreTokensTo text 0 ts place
   pub bad : IsBadFrom text place fault
-

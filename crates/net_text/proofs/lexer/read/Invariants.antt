@@ -6,7 +6,7 @@ abbrev pub invariant-tokens : goal.invariant-tokens
 invariant-tokens l = record {
   within : l.place ≤ length l.source;
   line_is : l.line ≡ line_at l.source l.place;
-  read : AreTokensTo l.source 0 (lexemes l.tokens.items) l.place
+  read : AreTokensTo l.source 0 (lexemes l.tokens.items) l.place;
 }
 
 abbrev pub decreases-tokens : goal.decreases-tokens
