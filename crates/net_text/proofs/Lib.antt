@@ -4,3 +4,4 @@ pub mod Numerals
 pub mod Steps
 pub mod Readings
 pub mod Many
+pub mod Sound

@@ -53,7 +53,7 @@ keyword_back keyword.Repeat = refl
 keyword_back keyword.Div = refl
 keyword_back keyword.Mod = refl
 
-one_keyword : (v w : Keyword) → keyword_spelling v ≡ keyword_spelling w → v ≡ w
+pub one_keyword : (v w : Keyword) → keyword_spelling v ≡ keyword_spelling w → v ≡ w
 one_keyword v w e = let both : Some v ≡ Some w = sym (keyword_back v) ∙ ap (spelled_among keywords) e ∙ keyword_back w in cc
 
 symbols : List Symbol
@@ -81,7 +81,7 @@ symbol_back symbol.Plus = refl
 symbol_back symbol.Minus = refl
 symbol_back symbol.Star = refl
 
-one_symbol : (s t : Symbol) → symbol_spelling s ≡ symbol_spelling t → s ≡ t
+pub one_symbol : (s t : Symbol) → symbol_spelling s ≡ symbol_spelling t → s ≡ t
 one_symbol s t e = let both : Some s ≡ Some t = sym (symbol_back s) ∙ ap (symbol_among symbols) e ∙ symbol_back t in cc
 
 -- a keyword is a word of at most 64 bytes
