@@ -5,3 +5,4 @@ pub mod Steps
 pub mod Readings
 pub mod Many
 pub mod Sound
+pub mod Loops

@@ -26,7 +26,7 @@ cond_same true x y z e = e
 cond_same false x y z e = refl
 
 -- the turns after the first
-abbrev with_first : {A : Type 0} → A → Read (List A) → Read (List A)
+abbrev pub with_first : {A : Type 0} → A → Read (List A) → Read (List A)
 with_first first read = read >>= λ others. Ok (first ∷ others.0, others.1)
 
 abbrev turn : {A : Type 0} → (TokenKind → Bool) → (List Lexeme → Read A) → ℕ → A × List Lexeme → Read (List A)

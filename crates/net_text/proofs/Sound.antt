@@ -385,6 +385,11 @@ loop_took ts x e =
           subst (λ (p : Option LoopTree × List Lexeme). Took ts (IsLoop p.0) p.1) (ok_is whole x g.1) (record { front = []; parts = refl; is = refl })
     ]
 
+-- (P >> R) >> Q is P >> (R >> Q)
+then_regroup : (P R Q S : List Lexeme → Type 0) → ((front : List Lexeme) → (R >> Q) front → S front) → (front : List Lexeme) → ((P >> R) >> Q) front → (P >> S) front
+then_regroup P R Q S h front is =
+    (is.3.0, is.3.1 ++ is.1, is.2 ∙ ap (λ (l : List Lexeme). l ++ is.1) is.3.2 ∙ append_assoc is.3.0 is.3.1 is.1, is.3.3, h (is.3.1 ++ is.1) (is.3.1, is.1, refl, is.3.4, is.4))
+
 IsHead : HeadTree → List Lexeme → Type 0
 IsHead h = IsWordOn keyword.Process h.line >> IsName h.name >> IsWord keyword.On >> IsNumberOn h.node.number h.node.line >> IsSymbol symbol.LeftBrace
 
@@ -407,11 +412,6 @@ regroup_process : (h : HeadTree) (Q : List Lexeme → Type 0) (front : List Lexe
 unfolding IsHead
 regroup_process h Q front is =
     then_regroup (IsWordOn keyword.Process h.line) _ Q _ (λ f i. then_regroup (IsName h.name) _ Q _ (λ g j. then_regroup (IsWord keyword.On) _ Q _ (λ k l. then_regroup (IsNumberOn h.node.number h.node.line) _ Q _ (λ m n. n) k l) g j) f i) front is
-  where
-    -- (P >> R) >> Q is P >> (R >> Q)
-    then_regroup : (P R Q S : List Lexeme → Type 0) → ((front : List Lexeme) → (R >> Q) front → S front) → (front : List Lexeme) → ((P >> R) >> Q) front → (P >> S) front
-    then_regroup P R Q S h front is =
-        (is.3.0, is.3.1 ++ is.1, is.2 ∙ ap (λ (l : List Lexeme). l ++ is.1) is.3.2 ∙ append_assoc is.3.0 is.3.1 is.1, is.3.3, h (is.3.1 ++ is.1) (is.3.1, is.1, refl, is.3.4, is.4))
 
 pub process_took : (ts : List Lexeme) (x : ProcessTree × List Lexeme) → process_at ts ≡ Ok x → Took ts (IsProcess x.0) x.1
 unfolding process_at
@@ -438,7 +438,6 @@ channel_took role ts x e =
     subst (λ (p : ChannelText × List Lexeme). (p.0.role ≡ role) × Took ts (IsChannel p.0) p.1) (ok_is whole x c.2)
     (refl, then_took (word_took (first_word role) ts a.0 a.1) (then_took (name_took a.0.1 b.0 b.1) (symbol_took symbol.Semicolon b.0.1 c.0 c.1)))
 
--- (P >> R >> S) >> Q is P >> R >> S >> Q
 IsEdition : List Lexeme → Type 0
 IsEdition = IsWord keyword.Kahn >> IsNumber 1 >> IsSymbol symbol.Semicolon
 
@@ -461,10 +460,6 @@ regroup_edition : (Q : List Lexeme → Type 0) (front : List Lexeme) → (IsEdit
 unfolding IsEdition
 regroup_edition Q front is =
     then_regroup (IsWord keyword.Kahn) _ Q _ (λ f i. then_regroup (IsNumber 1) _ Q _ (λ g j. j) f i) front is
-  where
-    then_regroup : (P R Q S : List Lexeme → Type 0) → ((front : List Lexeme) → (R >> Q) front → S front) → (front : List Lexeme) → ((P >> R) >> Q) front → (P >> S) front
-    then_regroup P R Q S h front is =
-        (is.3.0, is.3.1 ++ is.1, is.2 ∙ ap (λ (l : List Lexeme). l ++ is.1) is.3.2 ∙ append_assoc is.3.0 is.3.1 is.1, is.3.3, h (is.3.1 ++ is.1) (is.3.1, is.1, refl, is.3.4, is.4))
 
 -- all tokens are a text of the tree that is read
 pub whole_took : (ts : List Lexeme) (tree : List DeclarationTree) → whole_text ts ≡ Ok tree → IsText tree ts

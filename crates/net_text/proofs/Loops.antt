@@ -1,0 +1,113 @@
+-- The parser's loops: a turn leaves what is read as it was, and so do their ends.
+use Rattle.std.proofs.Common.{◌≡◌, ℕ, ◌<◌, Bool, true, false, List, [], ◌∷◌, ◌++◌, length, Result, Ok, Err, refl, sym, ap, ◌∙◌, append_assoc}
+use Rattle.std.proofs.lemmas.List.{append-nil}
+use Rattle.net_text.specs.Trees.{ExprTree, BinaryTree, BlockTree, NothingTree, GetTree, AssignTree, PutTree, then_tree, block_tree, expr_tree}
+use Rattle.net_text.specs.Tokens.{Lexeme}
+use Rattle.net_text.specs.Grammar.{sum_of}
+use Rattle.net_text.specs.Reading.{◌>>=◌, Read, Fails, begins, has_word, has_symbol, many, addend_at, addends_at, sum_at, statement_at, starts_statement, append_block, joined, statements_at, variable_at, variables_at}
+use Rattle.net_text.proofs.Many.{with_first, after_items, after_block, many_step, many_stop, many_fail}
+use Rattle.net_text.proofs.Sound.{addend_shortens, statement_shortens, variable_shortens}
+use Rattle.net_text.specs.declared.parser.Stuck.{Stuck}
+use Rattle.net_text.specs.declared.parser.ParseError.{ParseError}
+use Rattle.net_text.specs.declared.parser.ParseError.TheVariants as error
+use Rattle.net_text.specs.declared.token.Keyword.TheVariants as keyword
+use Rattle.net_text.specs.declared.token.Symbol.TheVariants as symbol
+use Rattle.net_text.specs.declared.tree.StatementText.{StatementText}
+use Rattle.net_text.specs.declared.tree.StatementText.TheVariants.{Get, Assign, Put}
+use Rattle.net_text.specs.declared.tree.VariableText.{VariableText}
+use Rattle.net_text.specs.declared.tree.Operator.TheVariants.{Add}
+
+-- ---- sums
+
+-- a value with what is added to it
+abbrev summed : ExprTree → Read (List ExprTree) → Read ExprTree
+summed first read = read >>= λ others. Ok (sum_of first others.0, others.1)
+
+sum_regroup : (first e : ExprTree) (read : Read (List ExprTree)) → summed first (with_first e read) ≡ summed (BinaryTree Add first e) read
+sum_regroup first e (Ok x) = refl
+sum_regroup first e (Err s) = refl
+
+pub sum_more : (first e : ExprTree) (ts rest : List Lexeme) → begins (has_symbol symbol.Plus) ts ≡ true → addend_at ts ≡ Ok (e, rest) → sum_at first ts ≡ sum_at (BinaryTree Add first e) rest
+unfolding addends_at
+sum_more first e ts rest b h =
+    ap (summed first) (many_step (has_symbol symbol.Plus) addend_at addend_shortens ts (e, rest) b h)
+    ∙ sum_regroup first e (many (has_symbol symbol.Plus) addend_at (length rest) rest)
+
+pub sum_ends : (first : ExprTree) (ts : List Lexeme) → begins (has_symbol symbol.Plus) ts ≡ false → sum_at first ts ≡ Ok (first, ts)
+unfolding addends_at
+sum_ends first ts b = ap (summed first) (many_stop (has_symbol symbol.Plus) addend_at ts b)
+
+pub sum_fails : (e : ParseError) (first : ExprTree) (ts : List Lexeme) (all : Read ExprTree) → begins (has_symbol symbol.Plus) ts ≡ true → Fails e (addend_at ts) → sum_at first ts ≡ all → Fails e all
+unfolding addends_at
+sum_fails error.NoMemory first ts all b h so_far = tt
+sum_fails (error.Stuck s) first ts all b h so_far =
+    sym so_far ∙ ap (summed first) (many_fail (has_symbol symbol.Plus) addend_at ts s b h)
+
+-- ---- variables
+
+items_regroup : {A : Type 0} (front : List A) (x : A) (read : Read (List A)) → after_items front (with_first x read) ≡ after_items (front ++ x ∷ []) read
+items_regroup front x (Ok y) = ap (λ (xs : List _). Ok (xs, y.1)) (simp append_assoc)
+items_regroup front x (Err s) = refl
+
+pub variables_more : (front : List VariableText) (v : VariableText) (ts rest : List Lexeme) → begins (has_word keyword.Var) ts ≡ true → variable_at ts ≡ Ok (v, rest) → after_items front (variables_at ts) ≡ after_items (front ++ v ∷ []) (variables_at rest)
+unfolding variables_at
+variables_more front v ts rest b h =
+    ap (after_items front) (many_step (has_word keyword.Var) variable_at variable_shortens ts (v, rest) b h)
+    ∙ items_regroup front v (many (has_word keyword.Var) variable_at (length rest) rest)
+
+pub variables_end : (front : List VariableText) (ts : List Lexeme) → begins (has_word keyword.Var) ts ≡ false → after_items front (variables_at ts) ≡ Ok (front, ts)
+unfolding variables_at
+variables_end front ts b = ap (after_items front) (many_stop (has_word keyword.Var) variable_at ts b) ∙ ap (λ (xs : List VariableText). Ok (xs, ts)) (append-nil front)
+
+pub variables_fail : (e : ParseError) (front : List VariableText) (ts : List Lexeme) (all : Read (List VariableText)) → begins (has_word keyword.Var) ts ≡ true → Fails e (variable_at ts) → after_items front (variables_at ts) ≡ all → Fails e all
+unfolding variables_at
+variables_fail error.NoMemory front ts all b h so_far = tt
+variables_fail (error.Stuck s) front ts all b h so_far = sym so_far ∙ ap (after_items front) (many_fail (has_word keyword.Var) variable_at ts s b h)
+
+-- ---- statements
+
+append_block_assoc : (a b c : BlockTree) → append_block (append_block a b) c ≡ append_block a (append_block b c)
+append_block_assoc NothingTree b c = refl
+append_block_assoc (GetTree variable channel rest) b c = ap (GetTree variable channel) (append_block_assoc rest b c)
+append_block_assoc (AssignTree variable value rest) b c = ap (AssignTree variable value) (append_block_assoc rest b c)
+append_block_assoc (PutTree value channel rest) b c = ap (PutTree value channel) (append_block_assoc rest b c)
+
+pub append_block-nothing : (a : BlockTree) → append_block a NothingTree ≡ a
+append_block-nothing NothingTree = refl
+append_block-nothing (GetTree variable channel rest) = ap (GetTree variable channel) (append_block-nothing rest)
+append_block-nothing (AssignTree variable value rest) = ap (AssignTree variable value) (append_block-nothing rest)
+append_block-nothing (PutTree value channel rest) = ap (PutTree value channel) (append_block-nothing rest)
+
+block_push : (ss : List StatementText) (s : StatementText) → block_tree (ss ++ s ∷ []) ≡ append_block (block_tree ss) (then_tree s NothingTree)
+block_push [] s = refl
+block_push (Get variable channel ∷ ss) s = ap (GetTree variable channel) (block_push ss s)
+block_push (Assign variable value ∷ ss) s = ap (AssignTree variable (expr_tree value)) (block_push ss s)
+block_push (Put value channel ∷ ss) s = ap (PutTree (expr_tree value) channel) (block_push ss s)
+
+-- a block of single statements
+abbrev as_block : Read (List BlockTree) → Read BlockTree
+as_block read = read >>= λ each. Ok (joined each.0, each.1)
+
+block_regroup : (front b : BlockTree) (read : Read (List BlockTree)) → after_block front (as_block (with_first b read)) ≡ after_block (append_block front b) (as_block read)
+block_regroup front b (Ok y) = ap (λ (x : BlockTree). Ok (x, y.1)) (sym (append_block_assoc front b (joined y.0)))
+block_regroup front b (Err s) = refl
+
+pub statements_more : (ss : List StatementText) (s : StatementText) (ts rest : List Lexeme) → begins starts_statement ts ≡ true → statement_at ts ≡ Ok (then_tree s NothingTree, rest)
+    → after_block (block_tree ss) (statements_at ts) ≡ after_block (block_tree (ss ++ s ∷ [])) (statements_at rest)
+unfolding statements_at
+statements_more ss s ts rest b h =
+    ap (λ (r : Read (List BlockTree)). after_block (block_tree ss) (as_block r)) (many_step starts_statement statement_at statement_shortens ts (then_tree s NothingTree, rest) b h)
+    ∙ block_regroup (block_tree ss) (then_tree s NothingTree) (many starts_statement statement_at (length rest) rest)
+    ∙ ap (λ (x : BlockTree). after_block x (as_block (many starts_statement statement_at (length rest) rest))) (sym (block_push ss s))
+
+pub statements_end : (front : BlockTree) (ts : List Lexeme) → begins starts_statement ts ≡ false → after_block front (statements_at ts) ≡ Ok (front, ts)
+unfolding statements_at
+statements_end front ts b =
+    ap (λ (r : Read (List BlockTree)). after_block front (as_block r)) (many_stop starts_statement statement_at ts b)
+    ∙ ap (λ (x : BlockTree). Ok (x, ts)) (append_block-nothing front)
+
+pub statements_fail : (e : ParseError) (front : BlockTree) (ts : List Lexeme) (all : Read BlockTree) → begins starts_statement ts ≡ true → Fails e (statement_at ts) → after_block front (statements_at ts) ≡ all → Fails e all
+unfolding statements_at
+statements_fail error.NoMemory front ts all b h so_far = tt
+statements_fail (error.Stuck s) front ts all b h so_far =
+    sym so_far ∙ ap (λ (r : Read (List BlockTree)). after_block front (as_block r)) (many_fail starts_statement statement_at ts s b h)
