@@ -6,3 +6,4 @@ pub mod Readings
 pub mod Many
 pub mod Sound
 pub mod Loops
+pub mod Complete

@@ -167,16 +167,16 @@ many_took {A} P starts item took (suc n) ts x e =
 shorter_by : {ts rest : List Lexeme} {P : List Lexeme → Type 0} → ((front : List Lexeme) → P front → 0 < length front) → Took ts P rest → length rest < length ts
 shorter_by {ts} {rest} h t = let some = h t.front t.is in let l = ap length t.parts ∙ length-append t.front rest in omega arith
 
-word_first : (w : Keyword) (line : ℕ) (front : List Lexeme) → IsWordOn w line front → 0 < length front
+pub word_first : (w : Keyword) (line : ℕ) (front : List Lexeme) → IsWordOn w line front → 0 < length front
 word_first w line front is = let l = ap length is.1 in omega arith
 
-symbol_first : (s : Symbol) (front : List Lexeme) → IsSymbol s front → 0 < length front
+pub symbol_first : (s : Symbol) (front : List Lexeme) → IsSymbol s front → 0 < length front
 symbol_first s front is = let l = ap length is.1 in omega arith
 
-name_first : (name : NameTree) (front : List Lexeme) → IsName name front → 0 < length front
+pub name_first : (name : NameTree) (front : List Lexeme) → IsName name front → 0 < length front
 name_first name front is = let l = ap length is.1 in omega arith
 
-then_first : (P Q : List Lexeme → Type 0) → ((front : List Lexeme) → P front → 0 < length front) → (front : List Lexeme) → (P >> Q) front → 0 < length front
+pub then_first : (P Q : List Lexeme → Type 0) → ((front : List Lexeme) → P front → 0 < length front) → (front : List Lexeme) → (P >> Q) front → 0 < length front
 then_first P Q h front is = let some = h is.0 is.3 in let l = ap length is.2 ∙ length-append is.0 is.1 in omega arith
 
 pub addend_shortens : IsShortening addend_at
@@ -198,7 +198,7 @@ expr_took ts x e =
     took_as (λ front is. (a.0.0, s.0, s.1, is)) (then_took (factor_took ts a.0 a.1) s.2)
 
 -- a statement alone
-pub IsSingle : BlockTree → List Lexeme → Type 0
+unfoldable pub IsSingle : BlockTree → List Lexeme → Type 0
 IsSingle NothingTree ts = ⊥
 IsSingle (GetTree variable channel rest) ts = (rest ≡ NothingTree) × IsGet variable channel ts
 IsSingle (AssignTree variable value rest) ts = (rest ≡ NothingTree) × IsAssign variable value ts
@@ -269,7 +269,7 @@ statement_took ts x e =
     | inr g ↦ put_took ts x g.1
     ]
 
-single_first : (block : BlockTree) (front : List Lexeme) → IsSingle block front → 0 < length front
+pub single_first : (block : BlockTree) (front : List Lexeme) → IsSingle block front → 0 < length front
 unfolding IsSingle
 single_first NothingTree front is = absurd is
 single_first (GetTree variable channel rest) front is = then_first (IsName variable) _ (name_first variable) front is.1
