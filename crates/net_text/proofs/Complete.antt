@@ -336,8 +336,8 @@ process_again p front rest is =
     let loop_stop = after_loop (has_word keyword.Loop) refl in
     let statements_stop = ap (begins starts_statement) (split_rest h.1 k.0 k.1 rest k.2) ∙ begins_loop starts_statement p.repeated k.0 (k.1 ++ rest) refl k.3 (after_loop starts_statement refl) in
     let variables_stop = ap (begins (has_word keyword.Var)) (split_rest g.1 h.0 h.1 rest h.2)
-        ∙ begins_statements (has_word keyword.Var) p.prelude h.0 (h.1 ++ rest) refl refl h.3
-          (ap (begins (has_word keyword.Var)) (split_rest h.1 k.0 k.1 rest k.2) ∙ begins_loop (has_word keyword.Var) p.repeated k.0 (k.1 ++ rest) refl k.3 (after_loop (has_word keyword.Var) refl)) in
+    ∙ begins_statements (has_word keyword.Var) p.prelude h.0 (h.1 ++ rest) refl refl h.3
+    (ap (begins (has_word keyword.Var)) (split_rest h.1 k.0 k.1 rest k.2) ∙ begins_loop (has_word keyword.Var) p.repeated k.0 (k.1 ++ rest) refl k.3 (after_loop (has_word keyword.Var) refl)) in
     let t6 = ap variables_at (split_rest f.1 g.0 g.1 rest g.2) ∙ variables_again p.variables g.0 (g.1 ++ rest) g.3 variables_stop in
     let t7 = ap statements_at (split_rest g.1 h.0 h.1 rest h.2) ∙ statements_again p.prelude h.0 (h.1 ++ rest) h.3 statements_stop in
     let t8 = ap loop_at (split_rest h.1 k.0 k.1 rest k.2) ∙ loop_again p.repeated k.0 (k.1 ++ rest) k.3 loop_stop in

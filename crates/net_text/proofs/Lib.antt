@@ -7,3 +7,4 @@ pub mod Many
 pub mod Sound
 pub mod Loops
 pub mod Complete
+pub mod Texts

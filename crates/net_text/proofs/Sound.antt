@@ -152,13 +152,13 @@ many_took {A} P starts item took zero ts x e =
     subst (λ (p : List A × List Lexeme). Took ts (IsEach P p.0) p.1) (ok_is made x e) (record { front = []; parts = refl; is = refl })
 many_took {A} P starts item took (suc n) ts x e =
     elim (chosen (begins starts ts) (item ts >>= λ first. many starts item n first.1 >>= λ others. Ok (first.0 ∷ others.0, others.1)) (Ok ([], ts)) (Ok x) e) as (λ _. Took ts (IsEach P x.0) x.1) [
-      inl more ↦
+      | inl more ↦
           let a = bind_ok (item ts) (λ first. many starts item n first.1 >>= λ others. Ok (first.0 ∷ others.0, others.1)) x more.1 in
           let b = bind_ok (many starts item n a.0.1) (λ others. Ok (a.0.0 ∷ others.0, others.1)) x a.2 in
           let made : List A × List Lexeme = (a.0.0 ∷ b.0.0, b.0.1) in
           subst (λ (p : List A × List Lexeme). Took ts (IsEach P p.0) p.1) (ok_is made x b.2)
           (then_took (took ts a.0 a.1) (many_took P starts item took n a.0.1 b.0 b.1))
-    | inr stop ↦
+      | inr stop ↦
           let made : List A × List Lexeme = ([], ts) in
           subst (λ (p : List A × List Lexeme). Took ts (IsEach P p.0) p.1) (ok_is made x stop.1) (record { front = []; parts = refl; is = refl })
     ]
@@ -243,10 +243,10 @@ named_took ts x e =
     let a = bind_ok (name_at ts) (λ variable. symbol_at symbol.Assign variable.1 >>= λ rest. cond (begins (has_word keyword.Get) rest) (get_at variable.0 rest) (assign_at variable.0 rest)) x e in
     let b = bind_ok (symbol_at symbol.Assign a.0.1) (λ rest. cond (begins (has_word keyword.Get) rest) (get_at a.0.0 rest) (assign_at a.0.0 rest)) x a.2 in
     let after : Took b.0 (AfterAssign a.0.0 x.0) x.1 =
-        elim (chosen (begins (has_word keyword.Get) b.0) (get_at a.0.0 b.0) (assign_at a.0.0 b.0) (Ok x) b.2) as (λ _. Took b.0 (AfterAssign a.0.0 x.0) x.1) [
-          inl g ↦ get_took a.0.0 b.0 x g.1
-        | inr g ↦ assign_took a.0.0 b.0 x g.1
-        ] in
+    elim (chosen (begins (has_word keyword.Get) b.0) (get_at a.0.0 b.0) (assign_at a.0.0 b.0) (Ok x) b.2) as (λ _. Took b.0 (AfterAssign a.0.0 x.0) x.1) [
+      | inl g ↦ get_took a.0.0 b.0 x g.1
+      | inr g ↦ assign_took a.0.0 b.0 x g.1
+    ] in
     took_as (single_named a.0.0 x.0) (then_took (name_took ts a.0 a.1) (then_took (symbol_took symbol.Assign a.0.1 b.0 b.1) after))
 
 put_took : (ts : List Lexeme) (x : BlockTree × List Lexeme) → put_at ts ≡ Ok x → Took ts (IsSingle x.0) x.1
@@ -265,8 +265,8 @@ pub statement_took : (ts : List Lexeme) (x : BlockTree × List Lexeme) → state
 unfolding statement_at
 statement_took ts x e =
     elim (chosen (begins is_name ts) (named_at ts) (put_at ts) (Ok x) e) as (λ _. Took ts (IsSingle x.0) x.1) [
-      inl g ↦ named_took ts x g.1
-    | inr g ↦ put_took ts x g.1
+      | inl g ↦ named_took ts x g.1
+      | inr g ↦ put_took ts x g.1
     ]
 
 pub single_first : (block : BlockTree) (front : List Lexeme) → IsSingle block front → 0 < length front
@@ -317,13 +317,13 @@ value_took : (ts : List Lexeme) (x : ℤ × List Lexeme) → value_at ts ≡ Ok 
 unfolding value_at IsValue
 value_took ts x e =
     elim (chosen (begins (has_symbol symbol.Minus) ts) (symbol_at symbol.Minus ts >>= λ rest. number_at rest >>= λ n. Ok (neg_ℤ (pos n.0.number), n.1)) (number_at ts >>= λ n. Ok (pos n.0.number, n.1)) (Ok x) e) as (λ _. Took ts (IsValue x.0) x.1) [
-      inl g ↦
+      | inl g ↦
           let a = bind_ok (symbol_at symbol.Minus ts) (λ rest. number_at rest >>= λ n. Ok (neg_ℤ (pos n.0.number), n.1)) x g.1 in
           let b = bind_ok (number_at a.0) (λ n. Ok (neg_ℤ (pos n.0.number), n.1)) x a.2 in
           let made : ℤ × List Lexeme = (neg_ℤ (pos b.0.0.number), b.0.1) in
           subst (λ (p : ℤ × List Lexeme). Took ts (IsValue p.0) p.1) (ok_is made x b.2)
           (took_as (λ front is. inr (b.0.0.number, refl, is)) (then_took (symbol_took symbol.Minus ts a.0 a.1) (any_number_took a.0 b.0 b.1)))
-    | inr g ↦
+      | inr g ↦
           let a = bind_ok (number_at ts) (λ n. Ok (pos n.0.number, n.1)) x g.1 in
           let made : ℤ × List Lexeme = (pos a.0.0.number, a.0.1) in
           subst (λ (p : ℤ × List Lexeme). Took ts (IsValue p.0) p.1) (ok_is made x a.2)
@@ -334,18 +334,18 @@ initial_from_value : (v : ℤ) (front : List Lexeme) → (IsSymbol symbol.Assign
 unfolding IsValue
 initial_from_value v front is =
     elim is.4 as (λ _. IsInitial v front) [
-      inl n ↦ inr (inl (n.0, n.1, (is.0, is.1, is.2, is.3, n.2)))
-    | inr n ↦ inr (inr (n.0, n.1, (is.0, is.1, is.2, is.3, n.2)))
+      | inl n ↦ inr (inl (n.0, n.1, (is.0, is.1, is.2, is.3, n.2)))
+      | inr n ↦ inr (inr (n.0, n.1, (is.0, is.1, is.2, is.3, n.2)))
     ]
 
 initial_took : (ts : List Lexeme) (x : ℤ × List Lexeme) → initial_at ts ≡ Ok x → Took ts (IsInitial x.0) x.1
 unfolding initial_at
 initial_took ts x e =
     elim (chosen (begins (has_symbol symbol.Assign) ts) (symbol_at symbol.Assign ts >>= λ rest. value_at rest) (Ok (pos 0, ts)) (Ok x) e) as (λ _. Took ts (IsInitial x.0) x.1) [
-      inl g ↦
+      | inl g ↦
           let a = bind_ok (symbol_at symbol.Assign ts) (λ rest. value_at rest) x g.1 in
           took_as (initial_from_value x.0) (then_took (symbol_took symbol.Assign ts a.0 a.1) (value_took a.0 x a.2))
-    | inr g ↦
+      | inr g ↦
           let made : ℤ × List Lexeme = (pos 0, ts) in
           subst (λ (p : ℤ × List Lexeme). Took ts (IsInitial p.0) p.1) (ok_is made x g.1) (record { front = []; parts = refl; is = inl (refl, refl) })
     ]
@@ -374,13 +374,13 @@ unfolding loop_at
 loop_took ts x e =
     let made = λ (start : ℕ) (body : BlockTree). let l : Option LoopTree = Some (record { body = body; line = start }) in l in
     elim (chosen (begins (has_word keyword.Loop) ts) (word_at keyword.Loop ts >>= λ start. block_at start.1 >>= λ body. Ok (made start.0 body.0, body.1)) (Ok (None, ts)) (Ok x) e) as (λ _. Took ts (IsLoop x.0) x.1) [
-      inl g ↦
+      | inl g ↦
           let a = bind_ok (word_at keyword.Loop ts) (λ start. block_at start.1 >>= λ body. Ok (made start.0 body.0, body.1)) x g.1 in
           let b = bind_ok (block_at a.0.1) (λ body. Ok (made a.0.0 body.0, body.1)) x a.2 in
           let whole : Option LoopTree × List Lexeme = (made a.0.0 b.0.0, b.0.1) in
           subst (λ (p : Option LoopTree × List Lexeme). Took ts (IsLoop p.0) p.1) (ok_is whole x b.2)
           (then_took (word_took keyword.Loop ts a.0 a.1) (block_took a.0.1 b.0 b.1))
-    | inr g ↦
+      | inr g ↦
           let whole : Option LoopTree × List Lexeme = (None, ts) in
           subst (λ (p : Option LoopTree × List Lexeme). Took ts (IsLoop p.0) p.1) (ok_is whole x g.1) (record { front = []; parts = refl; is = refl })
     ]
@@ -417,7 +417,7 @@ pub process_took : (ts : List Lexeme) (x : ProcessTree × List Lexeme) → proce
 unfolding process_at
 process_took ts x e =
     let made = λ (head : HeadTree) (variables : List VariableText) (prelude : BlockTree) (repeated : Option LoopTree).
-        let p : ProcessTree = record { name = head.name; node = head.node; variables = variables; prelude = prelude; repeated = repeated; line = head.line } in p in
+    let p : ProcessTree = record { name = head.name; node = head.node; variables = variables; prelude = prelude; repeated = repeated; line = head.line } in p in
     let a = bind_ok (head_at ts) (λ head. variables_at head.1 >>= λ variables. statements_at variables.1 >>= λ prelude. loop_at prelude.1 >>= λ repeated. symbol_at symbol.RightBrace repeated.1 >>= λ rest. Ok (made head.0 variables.0 prelude.0 repeated.0, rest)) x e in
     let b = bind_ok (variables_at a.0.1) (λ variables. statements_at variables.1 >>= λ prelude. loop_at prelude.1 >>= λ repeated. symbol_at symbol.RightBrace repeated.1 >>= λ rest. Ok (made a.0.0 variables.0 prelude.0 repeated.0, rest)) x a.2 in
     let c = bind_ok (statements_at b.0.1) (λ prelude. loop_at prelude.1 >>= λ repeated. symbol_at symbol.RightBrace repeated.1 >>= λ rest. Ok (made a.0.0 b.0.0 prelude.0 repeated.0, rest)) x b.2 in
@@ -447,10 +447,10 @@ edition_took ts rest e =
     let a = bind_ok (word_at keyword.Kahn ts) (λ start. number_at start.1 >>= λ number. cond (number.0.number == 1) (symbol_at symbol.Semicolon number.1) (Err (At number.0.line))) rest e in
     let b = bind_ok (number_at a.0.1) (λ number. cond (number.0.number == 1) (symbol_at symbol.Semicolon number.1) (Err (At number.0.line))) rest a.2 in
     let c : (b.0.0.number ≡ 1) × (symbol_at symbol.Semicolon b.0.1 ≡ Ok rest) =
-        elim (chosen (b.0.0.number == 1) (symbol_at symbol.Semicolon b.0.1) (Err (At b.0.0.line)) (Ok rest) b.2) as (λ _. (b.0.0.number ≡ 1) × (symbol_at symbol.Semicolon b.0.1 ≡ Ok rest)) [
-          inl g ↦ (eqb-true _ _ g.0, g.1)
-        | inr g ↦ absurd (no_ok _ _ g.1)
-        ] in
+    elim (chosen (b.0.0.number == 1) (symbol_at symbol.Semicolon b.0.1) (Err (At b.0.0.line)) (Ok rest) b.2) as (λ _. (b.0.0.number ≡ 1) × (symbol_at symbol.Semicolon b.0.1 ≡ Ok rest)) [
+      | inl g ↦ (eqb-true _ _ g.0, g.1)
+      | inr g ↦ absurd (no_ok _ _ g.1)
+    ] in
     then_took (any_word_took keyword.Kahn ts a.0 a.1) (then_took (subst (λ (n : ℕ). Took a.0.1 (IsNumber n) b.0.1) c.0 (any_number_took a.0.1 b.0 b.1)) (symbol_took symbol.Semicolon b.0.1 rest c.1))
   where
     no_ok : {A : Type 0} (e : Stuck) (x : A) → (let left : Result A Stuck = Err e in left ≡ Ok x) → ⊥

@@ -4,5 +4,6 @@ pub mod Names
 pub mod Numbers
 pub mod Reading
 pub mod Spellings
+pub mod Texts
 pub mod Tokens
 pub mod Trees

@@ -1,5 +1,5 @@
 -- The tokens of a text: between them stand white space and comments, and each is the longest that can stand at its place.
-use Rattle.std.specs.Prelude.{◌≡◌, ℕ, suc, ◌+◌, ◌^◌, ◌<◌, ◌≤◌, Bool, true, false, ◌||◌, ◌==◌, if◌then◌else◌, List, [], ◌∷◌, length, take, drop, count_by, IsTrue, map, Option, Some, None}
+use Rattle.std.specs.Prelude.{◌≡◌, ◌⊎◌, ℕ, suc, ◌+◌, ◌^◌, ◌<◌, ◌≤◌, Bool, true, false, ◌||◌, ◌==◌, if◌then◌else◌, List, [], ◌∷◌, length, take, drop, count_by, IsTrue, map, Option, Some, None}
 use Rattle.net_text.specs.Numbers.{is_numeral, numeral_value}
 use Rattle.net_text.specs.Spellings.{IsLexeme, IsLongest, Spells, is_word}
 use Rattle.net_text.specs.declared.fault.TextFault.{TextFault}
@@ -107,3 +107,14 @@ pub record AreTokensBefore (text : List ℕ) (ts : List Lexeme) (fault : TextFau
   pub place : ℕ
   pub read : AreTokensTo text 0 ts place
   pub bad : IsBadFrom text place fault
+
+abbrev pub IsFirstFault : List ℕ → TextFault → Type 0
+IsFirstFault text fault = (length text ≤ text_limit) × ((ts : List Lexeme) × AreTokensBefore text ts fault)
+
+-- Why a text has no tokens: it is over-long, or these are its tokens before the first that is bad. Of want of memory the text says nothing.
+abbrev pub IsTokensFault : List ℕ → TextFault → Type 0
+IsTokensFault text NoMemory = Unit {0}
+IsTokensFault text (BadToken line) = IsFirstFault text (BadToken line)
+IsTokensFault text (NumberRange line) = IsFirstFault text (NumberRange line)
+IsTokensFault text (TooLong line) = ((text_limit < length text) × (line ≡ 1)) ⊎ IsFirstFault text (TooLong line)
+IsTokensFault text (Unexpected line) = ⊥

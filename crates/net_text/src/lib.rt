@@ -6,12 +6,14 @@ mod lexer;
 mod name;
 mod parser;
 mod raw_inputs;
+mod text;
 mod token;
 mod tree;
 
 pub use fault::TextFault;
 pub use name::Name;
 pub use raw_inputs::{InputLine, RawInputs};
+pub use text::{LONGEST_TEXT, parse, tokens};
 pub use token::{Keyword, Symbol, Token, TokenKind};
 pub use tree::{
     ChannelText, Declaration, ExprText, LoopText, NetText, NodeText, Operator, ProcessText, Role,

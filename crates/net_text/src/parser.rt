@@ -105,6 +105,7 @@ struct Head {
 }
 
 /// The tokens that are left to read.
+#[derive(Drop)]
 pub(crate) struct Parser<'a> {
     alloc: Global,
     rest: &'a [Token<'a>],
