@@ -115,7 +115,7 @@ plain_no_line_feed (b ∷ bs) h =
     let rest = plain_no_line_feed bs parts.1 in
     rw other rest
 
-passes_at : (p : ℕ → Bool) (bs : List ℕ) (i : ℕ) → list_all p bs ≡ true → i < length bs → p (get_or bs i 0) ≡ true
+pub passes_at : (p : ℕ → Bool) (bs : List ℕ) (i : ℕ) → list_all p bs ≡ true → i < length bs → p (get_or bs i 0) ≡ true
 passes_at p (b ∷ bs) zero h lt = (and_parts (p b) (list_all p bs) h).0
 passes_at p (b ∷ bs) (suc i) h lt = passes_at p bs i (and_parts (p b) (list_all p bs) h).1 (omega arith)
 passes_at p [] i h lt = absurd (omega arith)
@@ -190,7 +190,7 @@ word_from_run : (bs : List ℕ) → 0 < length bs → starts_word (get_or bs 0 0
 word_from_run [] some start all = absurd (omega arith)
 word_from_run (b ∷ bs) some start all = and_from (starts_word b) (list_all continues_word bs) start (and_parts (continues_word b) (list_all continues_word bs) all).1
 
-numeral_from_run : (bs : List ℕ) → 0 < length bs → list_all is_ascii_digit bs ≡ true → is_numeral bs ≡ true
+pub numeral_from_run : (bs : List ℕ) → 0 < length bs → list_all is_ascii_digit bs ≡ true → is_numeral bs ≡ true
 numeral_from_run [] some all = absurd (omega arith)
 numeral_from_run (b ∷ bs) some all = all
 

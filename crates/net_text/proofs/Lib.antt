@@ -8,3 +8,5 @@ pub mod Sound
 pub mod Loops
 pub mod Complete
 pub mod Texts
+pub mod Runs
+pub mod Items

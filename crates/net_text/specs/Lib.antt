@@ -1,5 +1,7 @@
 pub mod Faults
 pub mod Grammar
+pub mod InputLines
+pub mod InputReading
 pub mod Names
 pub mod Numbers
 pub mod Reading

@@ -44,7 +44,7 @@ fn is_white(b: u8) -> bool
     b == b' ' || b == b'\t' || b == b'\r' || b == b'\n'
 }
 
-fn starts_word(b: u8) -> bool
+pub(crate) fn starts_word(b: u8) -> bool
     ensures { result ≡ starts_word b }
 {
     b.is_ascii_alphabetic() || b == b'_'
@@ -81,7 +81,7 @@ fn line_feeds(bytes: &[u8]) -> usize
 }
 
 // How many bytes at the front can be part of a word.
-fn word_len(bytes: &[u8]) -> usize
+pub(crate) fn word_len(bytes: &[u8]) -> usize
     ensures within { result ≤ length bytes.now }
     ensures all { list_all continues_word (take result bytes.now) ≡ true }
     ensures stops { result < length bytes.now → continues_word (slice_index bytes.now result) ≡ false }
@@ -95,7 +95,7 @@ fn word_len(bytes: &[u8]) -> usize
 }
 
 // How many digits stand at the front.
-fn numeral_len(bytes: &[u8]) -> usize
+pub(crate) fn numeral_len(bytes: &[u8]) -> usize
     ensures within { result ≤ length bytes.now }
     ensures all { list_all is_ascii_digit (take result bytes.now) ≡ true }
     ensures stops { result < length bytes.now → is_ascii_digit (slice_index bytes.now result) ≡ false }
@@ -205,7 +205,7 @@ fn lexeme_at(rest: &[u8]) -> Option<(Shape, usize)>
     }
 }
 
-const LONGEST_NAME: usize = 64;
+pub(crate) const LONGEST_NAME: usize = 64;
 
 // A word that is no keyword is a name.
 fn word_kind(word: &str, line: usize) -> Result<TokenKind, TextFault>

@@ -2,6 +2,7 @@
 #![tactic(auto)]
 
 mod fault;
+mod inputs;
 mod lexer;
 mod name;
 mod parser;
