@@ -186,7 +186,7 @@ run_longest p n m bs run le all =
       | inr not_past ↦ not_past
     ]
 
-word_from_run : (bs : List ℕ) → 0 < length bs → starts_word (get_or bs 0 0) ≡ true → list_all continues_word bs ≡ true → is_word bs ≡ true
+pub word_from_run : (bs : List ℕ) → 0 < length bs → starts_word (get_or bs 0 0) ≡ true → list_all continues_word bs ≡ true → is_word bs ≡ true
 word_from_run [] some start all = absurd (omega arith)
 word_from_run (b ∷ bs) some start all = and_from (starts_word b) (list_all continues_word bs) start (and_parts (continues_word b) (list_all continues_word bs) all).1
 

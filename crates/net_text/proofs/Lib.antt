@@ -10,3 +10,4 @@ pub mod Complete
 pub mod Texts
 pub mod Runs
 pub mod Items
+pub mod InputLaws
