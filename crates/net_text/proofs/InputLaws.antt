@@ -249,3 +249,109 @@ item_again line item v rest (inr minus) stop =
     let some : (length digits == 0) ≡ false = ne_eqb (length digits) 0 (λ e. omega arith) in
     ap (λ (t : List ℕ). item_at line (t ++ rest)) minus.1
     ∙ in_pieces line true 1 (run is_ascii_digit (digits ++ rest)) (length digits) (45 ∷ (digits ++ rest)) digits rest v len some front back (signed_minus (numeral_value digits) line minus.3 ∙ ap (λ (z : ℤ). let r : Result ℤ TextFault = Ok z in r) (sym minus.4))
+
+-- items begin with a space, where there are any
+items_begin : (vs : List ℤ) (bytes : List ℕ) → IsItems vs bytes → is_ascii_digit (get_or bytes 0 0) ≡ false
+items_begin [] [] is = refl
+items_begin [] (b ∷ bytes) is = let space = eqb-true _ _ (and_parts (is_space b) (list_all is_space bytes) is).0 in ap is_ascii_digit space
+items_begin (v ∷ vs) bytes is = first_space is.0 bytes (is.1 ++ is.2) is.3 is.4 is.5
+  where
+    first_space : (gap bytes rest : List ℕ) → bytes ≡ gap ++ rest → 0 < length gap → list_all is_space gap ≡ true → is_ascii_digit (get_or bytes 0 0) ≡ false
+    first_space [] bytes rest e some all = absurd (omega arith)
+    first_space (b ∷ gap) bytes rest e some all =
+        let space = eqb-true _ _ (and_parts (is_space b) (list_all is_space gap) all).0 in
+        ap (λ (bs : List ℕ). is_ascii_digit (get_or bs 0 0)) e ∙ ap is_ascii_digit space
+
+-- an item is no space, and takes a byte at least
+item_begins : (item : List ℕ) (v : ℤ) (rest : List ℕ) → IsItem item v → (is_space (get_or (item ++ rest) 0 0) ≡ false) × (0 < length item)
+item_begins [] v rest (inl plain) = absurd cc
+item_begins (b ∷ bs) v rest (inl plain) =
+    let first = digit_bounds b (and_parts (is_ascii_digit b) (list_all is_ascii_digit bs) plain.0).0 in
+    (ne_eqb b 32 (λ e. omega arith), omega arith)
+item_begins item v rest (inr minus) =
+    let l = ap length minus.1 in
+    (ap (λ (t : List ℕ). is_space (get_or (t ++ rest) 0 0)) minus.1, omega arith)
+
+items_from_again : (line n : ℕ) (vs : List ℤ) (bytes : List ℕ) → IsItems vs bytes → length bytes < n → items_from line n bytes ≡ Ok vs
+items_from_again line zero vs bytes is lt = absurd (omega arith)
+items_from_again line (suc n) [] bytes is lt = let all : (run is_space bytes == length bytes) ≡ true = eq-eqb _ _ (run_whole is_space bytes is) in rw all refl
+items_from_again line (suc n) (v ∷ vs) bytes is lt =
+    let gap = is.0 in
+    let item = is.1 in
+    let rest = is.2 in
+    let begins = item_begins item v rest is.6 in
+    let len : run is_space bytes ≡ length gap = ap (run is_space) is.3 ∙ run_append is_space gap (item ++ rest) is.5 begins.0 in
+    let whole : length bytes ≡ length gap + (length item + length rest) = ap length is.3 ∙ length-append gap (item ++ rest) ∙ ap (λ (k : ℕ). length gap + k) (length-append item rest) in
+    let some = begins.1 in
+    let gap_some = is.4 in
+    let not_all : (run is_space bytes == length bytes) ≡ false = ne_eqb _ _ (λ e. omega arith) in
+    let not_none : (run is_space bytes == 0) ≡ false = ne_eqb _ _ (λ e. omega arith) in
+    let after : drop (run is_space bytes) bytes ≡ item ++ rest = ap (λ (k : ℕ). drop k bytes) len ∙ ap (drop (length gap)) is.3 ∙ drop_at gap (item ++ rest) (length gap) refl in
+    let first = item_again line item v rest is.6 (items_begin vs rest is.7) in
+    let others = items_from_again line n vs rest is.7 (omega arith) in
+    rw (not_all, not_none, after, first, others) refl
+
+items_again : (line : ℕ) (vs : List ℤ) (bytes : List ℕ) → IsItems vs bytes → items_at line bytes ≡ Ok vs
+unfolding items_at
+items_again line vs bytes is = items_from_again line (suc (length bytes)) vs bytes is (omega arith)
+
+entry_again : (line : ℕ) (bytes : List ℕ) (e : InputTree) → IsEntry line bytes e → entry_at line bytes ≡ Ok e
+unfolding entry_at after_name
+entry_again line bytes e is =
+    let name = e.name.text in
+    let tail = 58 ∷ is.rest in
+    let len : run continues_word bytes ≡ length name = ap (run continues_word) is.parts ∙ run_append continues_word name tail (word_continues name is.word) refl in
+    let whole : length bytes ≡ length name + suc (length is.rest) = ap length is.parts ∙ length-append name tail in
+    let short = is.short in
+    let is_short : ltb 64 (length name) ≡ false = le-ltb 64 (length name) short in
+    let goes_on : (length name == length bytes) ≡ false = ne_eqb _ _ (λ h. omega arith) in
+    let first : get_or bytes 0 0 ≡ get_or name 0 0 = ap (λ (bs : List ℕ). get_or bs 0 0) is.parts ∙ first_of name tail is.word in
+    let start : starts_word (get_or bytes 0 0) ≡ true = ap starts_word first ∙ first_of_word name is.word in
+    let colon : (slice_index bytes (length name) == 58) ≡ true = ap (λ (bs : List ℕ). slice_index bs (length name) == 58) is.parts ∙ colon_at name is.rest in
+    let after : drop (suc (length name)) bytes ≡ is.rest = ap (drop (suc (length name))) is.parts ∙ past_colon name is.rest in
+    let front : take (length name) bytes ≡ name = ap (take (length name)) is.parts ∙ take_at name tail (length name) refl in
+    let items = items_again line e.items is.rest is.items in
+    rw (start, len, is_short, goes_on, colon, after, items, front, ← is.line_is) refl
+  where
+    first_of : (name tail : List ℕ) → is_word name ≡ true → get_or (name ++ tail) 0 0 ≡ get_or name 0 0
+    first_of [] tail word = absurd cc
+    first_of (b ∷ name) tail word = refl
+
+    colon_at : (name rest : List ℕ) → (slice_index (name ++ 58 ∷ rest) (length name) == 58) ≡ true
+    colon_at [] rest = refl
+    colon_at (b ∷ name) rest = colon_at name rest
+
+    past_colon : (name rest : List ℕ) → drop (suc (length name)) (name ++ 58 ∷ rest) ≡ rest
+    past_colon [] rest = refl
+    past_colon (b ∷ name) rest = past_colon name rest
+
+-- an entry is no blank line
+entry_not_blank : (number : ℕ) (line : List ℕ) (e : InputTree) → IsEntry number line e → ((run is_space line == length line) || is_comment line) ≡ false
+entry_not_blank number line e is =
+    let name = e.name.text in
+    let tail = 58 ∷ is.rest in
+    ap (λ (bs : List ℕ). (run is_space bs == length bs) || is_comment bs) is.parts ∙ begins name tail is.word
+  where
+    begins : (name tail : List ℕ) → is_word name ≡ true → ((run is_space (name ++ tail) == length (name ++ tail)) || is_comment (name ++ tail)) ≡ false
+    begins [] tail word = absurd cc
+    begins (b ∷ name) tail word =
+        let start = starts_bounds b (and_parts (starts_word b) (list_all continues_word name) word).0 in
+        let no_space : is_space b ≡ false = ne_eqb b 32 (λ h. omega arith) in
+        let no_comment : (b == 35) ≡ false = ne_eqb b 35 (λ h. omega arith) in
+        let none : run is_space (b ∷ (name ++ tail)) ≡ 0 = rw no_space refl in
+        or_from _ _ (ne_eqb _ _ (λ h. omega (arith, none, h))) no_comment
+
+pub blank_again : (number : ℕ) (line : List ℕ) → IsBlank line → line_at number line ≡ Ok None
+unfolding line_at
+blank_again number line (inl spaces) = let b : ((run is_space line == length line) || is_comment line) ≡ true = or_left _ _ (eq-eqb _ _ (run_whole is_space line spaces)) in rw b refl
+blank_again number line (inr comment) = let b : ((run is_space line == length line) || is_comment line) ≡ true = or_right _ _ comment in rw b refl
+
+pub entry_line_again : (number : ℕ) (line : List ℕ) (e : InputTree) → IsEntry number line e → line_at number line ≡ Ok (Some e)
+unfolding line_at
+entry_line_again number line e is = rw (entry_not_blank number line e is, entry_again number line e is) refl
+
+pub lines_again : (number : ℕ) (lines : List (List ℕ)) (es : List InputTree) → AreEntries number lines es → lines_at number lines ≡ Ok es
+unfolding lines_at
+lines_again number [] es are = ap (λ (xs : List InputTree). let r : Result (List InputTree) TextFault = Ok xs in r) (sym are)
+lines_again number (line ∷ lines) es (inl blank) = rw (blank_again number line blank.0, lines_again (suc number) lines es blank.1) refl
+lines_again number (line ∷ lines) es (inr entry) = rw (entry_line_again number line entry.0 entry.3, lines_again (suc number) lines entry.1 entry.4, entry.2) refl
