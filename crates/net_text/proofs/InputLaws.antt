@@ -1,7 +1,8 @@
 -- What is read of an inputs text is in its grammar, and what is in the grammar is read.
-use Rattle.std.proofs.Common.{◌≡◌, ℕ, zero, suc, ◌+◌, ◌-◌, ◌^◌, ◌<◌, ◌≤◌, ◌⊎◌, inl, inr, Bool, true, false, cond, ◌||◌, ◌&&◌, eqb, ltb, leb, List, [], ◌∷◌, ◌++◌, length, take, drop, get_or, Option, Some, None, Result, Ok, Err, ℤ, pos, neg_ℤ, refl, sym, ap, subst, ◌∙◌, append_assoc, arith, length-append, length-take, length-drop, take-append-drop, add-zero, add-one, drop-cons}
+use Rattle.std.proofs.Common.{◌≡◌, ℕ, zero, suc, ◌+◌, ◌-◌, ◌^◌, ◌<◌, ◌≤◌, ◌⊎◌, inl, inr, Bool, true, false, cond, ◌||◌, ◌&&◌, eqb, ltb, leb, List, [], ◌∷◌, ◌++◌, length, take, drop, get_or, Option, Some, None, Result, Ok, Err, ℤ, pos, neg_ℤ, refl, sym, ap, subst, ◌∙◌, append_assoc, arith, length-append, length-take, length-drop, take-append-drop, add-zero, add-one, drop-cons, map}
 use Rattle.std.specs.Prelude.{◌==◌, slice_index, IsTrue}
-use Rattle.std.specs.List.{list_all}
+use Rattle.std.specs.List.{list_all, slice_split}
+use Rattle.std.specs.Str.Lines.{strip_carriage_return}
 use Rattle.std.specs.Char.{is_ascii_digit}
 use Rattle.std.proofs.lemmas.Bool.{and_parts, and_from, eqb-true, eqb-false, eq-eqb, ne_eqb, cases_lt, cases_Bool, le-ltb, lt-ltb, le-leb, lt-leb, ltb-true, ltb-false, leb-true, both_ways, or_left, or_right, or_from, or_cases}
 use Rattle.std.proofs.lemmas.List.{append-nil, take_at, drop_at, drop-take, get_or-take}
@@ -9,8 +10,8 @@ use Rattle.net_text.specs.Names.{NameTree}
 use Rattle.net_text.specs.Numbers.{is_numeral, numeral_value}
 use Rattle.net_text.specs.Spellings.{starts_word, continues_word, is_word}
 use Rattle.net_text.specs.Trees.{InputTree}
-use Rattle.net_text.specs.InputLines.{is_space, is_comment, IsBlank, IsItem, IsItems, IsEntry, AreEntries}
-use Rattle.net_text.specs.InputReading.{◌>>=◌, run, signed, sign_len, item_in, item_at, items_from, items_at, after_name, entry_at, with_entry, line_at, lines_at}
+use Rattle.net_text.specs.InputLines.{is_space, is_comment, IsBlank, IsItem, IsItems, IsEntry, AreEntries, lines_of, IsBadLine, IsInputsFault, IsInputsText, inputs_limit}
+use Rattle.net_text.specs.InputReading.{◌>>=◌, Fails, run, signed, sign_len, item_in, item_at, items_from, items_at, after_name, entry_at, with_entry, line_at, lines_at}
 use Rattle.net_text.proofs.Runs.{run_le, run_all, run_stops, run_whole, whole_run, run_is}
 use Rattle.net_text.proofs.Lexemes.{passes_at, numeral_digits, numeral_from_run, numeral_some, word_continues, word_from_run, first_of_word, first_of_numeral, digit_bounds, starts_bounds, starts_continues}
 use Rattle.net_text.proofs.Items.{bind_ok, ok_is, item_shortens}
@@ -51,8 +52,8 @@ item_in_took line true [] x b e = absurd (zero_is_no_minus b)
 item_in_took line true (b ∷ bytes) x h e =
     let n = run is_ascii_digit bytes in
     elim (chosen (n == 0) (Err (BadToken line)) (signed true (numeral_value (take n bytes)) line >>= λ v. Ok (v, drop (1 + n) (b ∷ bytes))) (Ok x) e) as (λ _. Item (b ∷ bytes) x.0 x.1) [
-      inl none ↦ absurd (no_ok _ x none.1)
-    | inr some ↦
+      | inl none ↦ absurd (no_ok _ x none.1)
+      | inr some ↦
           let a = bind_ok (signed true (numeral_value (take n bytes)) line) (λ v. Ok (v, drop (1 + n) (b ∷ bytes))) x some.1 in
           let made : ℤ × List ℕ = (a.0, drop (1 + n) (b ∷ bytes)) in
           let s = (signed_ok true (numeral_value (take n bytes)) line a.0 a.1).0 refl in
@@ -74,8 +75,8 @@ item_in_took line true (b ∷ bytes) x h e =
 item_in_took line false bytes x h e =
     let n = run is_ascii_digit bytes in
     elim (chosen (n == 0) (Err (BadToken line)) (signed false (numeral_value (take n bytes)) line >>= λ v. Ok (v, drop (0 + n) bytes)) (Ok x) e) as (λ _. Item bytes x.0 x.1) [
-      inl none ↦ absurd (no_ok _ x none.1)
-    | inr some ↦
+      | inl none ↦ absurd (no_ok _ x none.1)
+      | inr some ↦
           let a = bind_ok (signed false (numeral_value (take n bytes)) line) (λ v. Ok (v, drop (0 + n) bytes)) x some.1 in
           let made : ℤ × List ℕ = (a.0, drop (0 + n) bytes) in
           let s = (signed_ok false (numeral_value (take n bytes)) line a.0 a.1).1 refl in
@@ -103,11 +104,11 @@ items_from_took line zero bytes vs lt e = absurd (omega arith)
 items_from_took line (suc n) bytes vs lt e =
     let gap = run is_space bytes in
     elim (chosen (gap == length bytes) (Ok []) (cond (gap == 0) (Err (BadToken line)) (item_at line (drop gap bytes) >>= λ first. items_from line n first.1 >>= λ others. Ok (first.0 ∷ others))) (Ok vs) e) as (λ _. IsItems vs bytes) [
-      inl all ↦ subst (λ (xs : List ℤ). IsItems xs bytes) (ok_is [] vs all.1) (whole_run is_space bytes (eqb-true _ _ all.0))
-    | inr some ↦
+      | inl all ↦ subst (λ (xs : List ℤ). IsItems xs bytes) (ok_is [] vs all.1) (whole_run is_space bytes (eqb-true _ _ all.0))
+      | inr some ↦
           elim (chosen (gap == 0) (Err (BadToken line)) (item_at line (drop gap bytes) >>= λ first. items_from line n first.1 >>= λ others. Ok (first.0 ∷ others)) (Ok vs) some.1) as (λ _. IsItems vs bytes) [
-            inl none ↦ absurd (no_ok _ vs none.1)
-          | inr gone ↦
+            | inl none ↦ absurd (no_ok _ vs none.1)
+            | inr gone ↦
                 let a = bind_ok (item_at line (drop gap bytes)) (λ first. items_from line n first.1 >>= λ others. Ok (first.0 ∷ others)) vs gone.1 in
                 let b = bind_ok (items_from line n a.0.1) (λ others. Ok (a.0.0 ∷ others)) vs a.2 in
                 let less = item_shortens line (drop gap bytes) a.0 a.1 in
@@ -136,13 +137,13 @@ after_name_took line bytes e start h =
     let n = run continues_word bytes in
     let made = λ (items : List ℤ). let t : InputTree = record { name = record { text = take n bytes; line = line }; items = items } in t in
     elim (chosen (ltb 64 n) (Err (TooLong line)) (cond (n == length bytes) (Err (Unexpected line)) (cond (slice_index bytes n == 58) (items_at line (drop (suc n) bytes) >>= λ items. Ok (made items)) (Err (BadToken line)))) (Ok e) h) as (λ _. IsEntry line bytes e) [
-      inl long ↦ absurd (no_ok _ e long.1)
-    | inr short ↦
+      | inl long ↦ absurd (no_ok _ e long.1)
+      | inr short ↦
           elim (chosen (n == length bytes) (Err (Unexpected line)) (cond (slice_index bytes n == 58) (items_at line (drop (suc n) bytes) >>= λ items. Ok (made items)) (Err (BadToken line))) (Ok e) short.1) as (λ _. IsEntry line bytes e) [
-            inl all ↦ absurd (no_ok _ e all.1)
-          | inr some ↦
+            | inl all ↦ absurd (no_ok _ e all.1)
+            | inr some ↦
                 elim (chosen (slice_index bytes n == 58) (items_at line (drop (suc n) bytes) >>= λ items. Ok (made items)) (Err (BadToken line)) (Ok e) some.1) as (λ _. IsEntry line bytes e) [
-                  inl colon ↦
+                  | inl colon ↦
                       let a = bind_ok (items_at line (drop (suc n) bytes)) (λ items. Ok (made items)) e colon.1 in
                       let le = run_le continues_word bytes in
                       let ne = eqb-false n (length bytes) some.0 in
@@ -150,11 +151,11 @@ after_name_took line bytes e start h =
                       let len = length-take n bytes in
                       let positive = run_positive bytes start lt in
                       let parts : bytes ≡ take n bytes ++ 58 ∷ drop (suc n) bytes =
-                          sym (take-append-drop n bytes) ∙ ap (λ (r : List ℕ). take n bytes ++ r) (drop-cons bytes n 0 lt ∙ ap (λ (b : ℕ). b ∷ drop (suc n) bytes) (eqb-true _ _ colon.0)) in
+                      sym (take-append-drop n bytes) ∙ ap (λ (r : List ℕ). take n bytes ++ r) (drop-cons bytes n 0 lt ∙ ap (λ (b : ℕ). b ∷ drop (suc n) bytes) (eqb-true _ _ colon.0)) in
                       let word = word_from_run (take n bytes) (omega arith) (ap starts_word (get_or-take n bytes 0 0 positive) ∙ start) (run_all continues_word bytes) in
                       subst (IsEntry line bytes) (ok_is (made a.0) e a.2)
                       (record { rest = drop (suc n) bytes; parts = parts; word = word; short = let s = ltb-false 64 n short.0 in omega arith; line_is = refl; items = items_took line (drop (suc n) bytes) a.0 a.1 })
-                | inr other ↦ absurd (no_ok _ e other.1)
+                  | inr other ↦ absurd (no_ok _ e other.1)
                 ]
           ]
     ]
@@ -165,8 +166,8 @@ after_name_took line bytes e start h =
     run_positive : (bytes : List ℕ) → starts_word (get_or bytes 0 0) ≡ true → run continues_word bytes < length bytes → 0 < run continues_word bytes
     run_positive bytes start lt =
         elim (cases_lt 0 (run continues_word bytes)) as (λ _. 0 < run continues_word bytes) [
-          inl yes' ↦ yes'
-        | inr none ↦
+          | inl yes' ↦ yes'
+          | inr none ↦
               let z : run continues_word bytes ≡ 0 = omega arith in
               absurd (both_ways (continues_word (get_or bytes 0 0)) (ap (λ (k : ℕ). continues_word (get_or bytes k 0)) (sym z) ∙ run_stops continues_word bytes lt) (starts_continues (get_or bytes 0 0) start))
         ]
@@ -175,8 +176,8 @@ entry_took : (line : ℕ) (bytes : List ℕ) (e : InputTree) → entry_at line b
 unfolding entry_at
 entry_took line bytes e h =
     elim (chosen (starts_word (slice_index bytes 0)) (after_name line (run continues_word bytes) bytes) (Err (BadToken line)) (Ok e) h) as (λ _. IsEntry line bytes e) [
-      inl start ↦ after_name_took line bytes e start.0 start.1
-    | inr other ↦ absurd (no_ok _ e other.1)
+      | inl start ↦ after_name_took line bytes e start.0 start.1
+      | inr other ↦ absurd (no_ok _ e other.1)
     ]
   where
     no_ok : (f : TextFault) (x : InputTree) → (let left : Result InputTree TextFault = Err f in left ≡ Ok x) → ⊥
@@ -191,8 +192,8 @@ line_took : (number : ℕ) (line : List ℕ) (e : Option InputTree) → line_at 
 unfolding line_at IsLine
 line_took number line e h =
     elim (chosen ((run is_space line == length line) || is_comment line) (Ok None) (entry_at number line >>= λ x. Ok (Some x)) (Ok e) h) as (λ _. IsLine number line e) [
-      inl blank ↦ subst (IsLine number line) (ok_is None e blank.1) (elim (or_cases (run is_space line == length line) (is_comment line) blank.0) as (λ _. IsBlank line) [ inl spaces ↦ inl (whole_run is_space line (eqb-true _ _ spaces)) | inr comment ↦ inr comment ])
-    | inr other ↦
+      | inl blank ↦ subst (IsLine number line) (ok_is None e blank.1) (elim (or_cases (run is_space line == length line) (is_comment line) blank.0) as (λ _. IsBlank line) [ inl spaces ↦ inl (whole_run is_space line (eqb-true _ _ spaces)) | inr comment ↦ inr comment ])
+      | inr other ↦
           let a = bind_ok (entry_at number line) (λ x. Ok (Some x)) e other.1 in
           subst (IsLine number line) (ok_is (Some a.0) e a.2) (entry_took number line a.0 a.1)
     ]
@@ -355,3 +356,173 @@ unfolding lines_at
 lines_again number [] es are = ap (λ (xs : List InputTree). let r : Result (List InputTree) TextFault = Ok xs in r) (sym are)
 lines_again number (line ∷ lines) es (inl blank) = rw (blank_again number line blank.0, lines_again (suc number) lines es blank.1) refl
 lines_again number (line ∷ lines) es (inr entry) = rw (entry_line_again number line entry.0 entry.3, lines_again (suc number) lines entry.1 entry.4, entry.2) refl
+
+-- ---- faults
+
+-- a fault on this line
+IsOn : ℕ → TextFault → Type 0
+IsOn line NoMemory = ⊥
+IsOn line (BadToken at) = at ≡ line
+IsOn line (Unexpected at) = at ≡ line
+IsOn line (NumberRange at) = at ≡ line
+IsOn line (TooLong at) = at ≡ line
+
+err_is : {A : Type 0} (f g : TextFault) → (let left : Result A TextFault = Err f in left ≡ Err g) → f ≡ g
+err_is f g e = cc
+
+no_err : {A : Type 0} (x : A) (f : TextFault) → (let left : Result A TextFault = Ok x in left ≡ Err f) → ⊥
+no_err x f e = cc
+
+-- where a step fails, or what comes after it
+bind_err : {A B : Type 0} (r : Result A TextFault) (f : A → Result B TextFault) (e : TextFault) → (r >>= f) ≡ Err e → (r ≡ Err e) ⊎ ((x : A) × (r ≡ Ok x) × (f x ≡ Err e))
+bind_err (Ok x) f e h = inr (x, refl, h)
+bind_err (Err d) f e h = inl (ap (λ (g : TextFault). Err g) (err_is d e h))
+
+-- the faults of a choice are those of its two sides
+pick_fault : {A : Type 0} (line : ℕ) (b : Bool) (x y : Result A TextFault) (f : TextFault) → ((g : TextFault) → x ≡ Err g → IsOn line g) → ((g : TextFault) → y ≡ Err g → IsOn line g) → cond b x y ≡ Err f → IsOn line f
+pick_fault line true x y f h k e = h f e
+pick_fault line false x y f h k e = k f e
+
+bind_fault : {A B : Type 0} (line : ℕ) (r : Result A TextFault) (next : A → Result B TextFault) (f : TextFault) → ((g : TextFault) → r ≡ Err g → IsOn line g) → ((x : A) (g : TextFault) → next x ≡ Err g → IsOn line g) → (r >>= next) ≡ Err f → IsOn line f
+bind_fault line (Ok x) next f h k e = k x f e
+bind_fault line (Err d) next f h k e = subst (IsOn line) (err_is d f e) (h d refl)
+
+bad_on : {A : Type 0} (line : ℕ) (g : TextFault) → (let left : Result A TextFault = Err (BadToken line) in left ≡ Err g) → IsOn line g
+unfolding IsOn
+bad_on line g e = subst (IsOn line) (err_is (BadToken line) g e) refl
+
+range_on : {A : Type 0} (line : ℕ) (g : TextFault) → (let left : Result A TextFault = Err (NumberRange line) in left ≡ Err g) → IsOn line g
+unfolding IsOn
+range_on line g e = subst (IsOn line) (err_is (NumberRange line) g e) refl
+
+ended_on : {A : Type 0} (line : ℕ) (g : TextFault) → (let left : Result A TextFault = Err (Unexpected line) in left ≡ Err g) → IsOn line g
+unfolding IsOn
+ended_on line g e = subst (IsOn line) (err_is (Unexpected line) g e) refl
+
+long_on : {A : Type 0} (line : ℕ) (g : TextFault) → (let left : Result A TextFault = Err (TooLong line) in left ≡ Err g) → IsOn line g
+unfolding IsOn
+long_on line g e = subst (IsOn line) (err_is (TooLong line) g e) refl
+
+signed_fault : (minus : Bool) (n line : ℕ) (f : TextFault) → signed minus n line ≡ Err f → IsOn line f
+signed_fault true n line f e = pick_fault line (leb n (2 ^ 63)) _ _ f (λ g h. absurd (no_err _ g h)) (range_on line) e
+signed_fault false n line f e = pick_fault line (ltb n (2 ^ 63)) _ _ f (λ g h. absurd (no_err _ g h)) (range_on line) e
+
+item_fault : (line : ℕ) (bytes : List ℕ) (f : TextFault) → item_at line bytes ≡ Err f → IsOn line f
+unfolding item_at
+item_fault line bytes f e =
+    let minus = slice_index bytes 0 == 45 in
+    let sign = sign_len bytes in
+    let n = run is_ascii_digit (drop sign bytes) in
+    pick_fault line (n == 0) (Err (BadToken line)) (signed minus (numeral_value (take n (drop sign bytes))) line >>= λ v. Ok (v, drop (sign + n) bytes)) f (bad_on line)
+    (λ g h. bind_fault line (signed minus (numeral_value (take n (drop sign bytes))) line) (λ v. Ok (v, drop (sign + n) bytes)) g (signed_fault minus (numeral_value (take n (drop sign bytes))) line) (λ x k i. absurd (no_err _ k i)) h) e
+
+items_from_fault : (line n : ℕ) (bytes : List ℕ) (f : TextFault) → items_from line n bytes ≡ Err f → IsOn line f
+items_from_fault line zero bytes f e = absurd (no_err _ f e)
+items_from_fault line (suc n) bytes f e =
+    let gap = run is_space bytes in
+    let next = λ (first : ℤ × List ℕ). items_from line n first.1 >>= λ others. Ok (first.0 ∷ others) in
+    pick_fault line (gap == length bytes) (Ok []) (cond (gap == 0) (Err (BadToken line)) (item_at line (drop gap bytes) >>= next)) f (λ g h. absurd (no_err _ g h))
+    (λ g h. pick_fault line (gap == 0) (Err (BadToken line)) (item_at line (drop gap bytes) >>= next) g (bad_on line)
+    (λ k i. bind_fault line (item_at line (drop gap bytes)) next k (item_fault line (drop gap bytes)) (λ x j l. bind_fault line (items_from line n x.1) (λ others. Ok (x.0 ∷ others)) j (items_from_fault line n x.1) (λ o p q. absurd (no_err _ p q)) l) i) h) e
+
+items_fault : (line : ℕ) (bytes : List ℕ) (f : TextFault) → items_at line bytes ≡ Err f → IsOn line f
+unfolding items_at
+items_fault line bytes f e = items_from_fault line (suc (length bytes)) bytes f e
+
+entry_fault : (line : ℕ) (bytes : List ℕ) (f : TextFault) → entry_at line bytes ≡ Err f → IsOn line f
+unfolding entry_at after_name
+entry_fault line bytes f e =
+    let n = run continues_word bytes in
+    let made = λ (items : List ℤ). let t : InputTree = record { name = record { text = take n bytes; line = line }; items = items } in let r : Result InputTree TextFault = Ok t in r in
+    let colon = cond (slice_index bytes n == 58) (items_at line (drop (suc n) bytes) >>= made) (Err (BadToken line)) in
+    let goes_on = cond (n == length bytes) (Err (Unexpected line)) colon in
+    pick_fault line (starts_word (slice_index bytes 0)) (cond (ltb 64 n) (Err (TooLong line)) goes_on) (Err (BadToken line)) f
+    (λ g h. pick_fault line (ltb 64 n) (Err (TooLong line)) goes_on g (long_on line)
+    (λ k i. pick_fault line (n == length bytes) (Err (Unexpected line)) colon k (ended_on line)
+    (λ j l. pick_fault line (slice_index bytes n == 58) (items_at line (drop (suc n) bytes) >>= made) (Err (BadToken line)) j
+    (λ o p. bind_fault line (items_at line (drop (suc n) bytes)) made o (items_fault line (drop (suc n) bytes)) (λ x q r. absurd (no_err _ q r)) p)
+    (bad_on line) l) i) h)
+    (bad_on line) e
+
+line_fault : (number : ℕ) (line : List ℕ) (f : TextFault) → line_at number line ≡ Err f → IsOn number f
+unfolding line_at
+line_fault number line f e =
+    pick_fault number ((run is_space line == length line) || is_comment line) (Ok None) (entry_at number line >>= λ x. Ok (Some x)) f (λ g h. absurd (no_err _ g h))
+    (λ g h. bind_fault number (entry_at number line) (λ x. Ok (Some x)) g (entry_fault number line) (λ x k i. absurd (no_err _ k i)) h) e
+
+-- the line at which reading fails
+pub record Failed (number : ℕ) (lines : List (List ℕ)) (f : TextFault) : Type 0 where
+  pub before : List (List ℕ)
+  pub line : List ℕ
+  pub after : List (List ℕ)
+  pub parts : lines ≡ before ++ line ∷ after
+  pub fails : line_at (number + length before) line ≡ Err f
+
+lines_fault : (number : ℕ) (lines : List (List ℕ)) (f : TextFault) → lines_at number lines ≡ Err f → Failed number lines f
+unfolding lines_at
+lines_fault number [] f e = absurd (no_err _ f e)
+lines_fault number (line ∷ lines) f e =
+    elim (bind_err (line_at number line) (λ x. lines_at (suc number) lines >>= λ others. Ok (with_entry x others)) f e) as (λ _. Failed number (line ∷ lines) f) [
+      | inl here ↦ record { before = []; line = line; after = lines; parts = refl; fails = subst (λ (n : ℕ). line_at n line ≡ Err f) (sym (add-zero number)) here }
+      | inr later ↦
+          elim (bind_err (lines_at (suc number) lines) (λ others. Ok (with_entry later.0 others)) f later.2) as (λ _. Failed number (line ∷ lines) f) [
+            | inl there ↦
+                let h = lines_fault (suc number) lines f there in
+                let same : suc number + length h.before ≡ number + suc (length h.before) = omega arith in
+                record { before = line ∷ h.before; line = h.line; after = h.after; parts = ap (λ (ls : List (List ℕ)). line ∷ ls) h.parts; fails = subst (λ (n : ℕ). line_at n h.line ≡ Err f) same h.fails }
+            | inr never ↦ absurd (no_err _ f never.2)
+          ]
+    ]
+
+bad_line : (text : List ℕ) (f : TextFault) (number : ℕ) → Failed 1 (lines_of text) f → (n : ℕ) → n ≡ number → ((line : ℕ) → IsOn line f → n ≡ line) → IsBadLine text number
+bad_line text f number h n same on =
+    let here = on (1 + length h.before) (line_fault (1 + length h.before) h.line f h.fails) in
+    let place : 1 + length h.before ≡ number = sym here ∙ same in
+    let fails : line_at number h.line ≡ Err f = subst (λ (k : ℕ). line_at k h.line ≡ Err f) place h.fails in
+    record {
+      before = h.before;
+      line = h.line;
+      after = h.after;
+      lines = h.parts;
+      number_is = let z : number ≡ suc (length h.before) = omega arith in z;
+      not_blank = λ blank. no_err None f (sym (blank_again number h.line blank) ∙ fails);
+      no_entry = λ e is. no_err (Some e) f (sym (entry_line_again number h.line e is) ∙ fails);
+    }
+
+pub inputs_fault : (text : List ℕ) (f : TextFault) → lines_at 1 (lines_of text) ≡ Err f → IsInputsFault text f
+unfolding IsOn
+inputs_fault text NoMemory e = tt
+inputs_fault text (BadToken line) e = bad_line text (BadToken line) line (lines_fault 1 (lines_of text) (BadToken line) e) line refl (λ l on. on)
+inputs_fault text (Unexpected line) e = bad_line text (Unexpected line) line (lines_fault 1 (lines_of text) (Unexpected line) e) line refl (λ l on. on)
+inputs_fault text (NumberRange line) e = bad_line text (NumberRange line) line (lines_fault 1 (lines_of text) (NumberRange line) e) line refl (λ l on. on)
+inputs_fault text (TooLong line) e = inr (bad_line text (TooLong line) line (lines_fault 1 (lines_of text) (TooLong line) e) line refl (λ l on. on))
+
+-- ---- whole texts
+
+map_after : {A B C : Type 0} → (f : B → C) (g : A → B) (xs : List A) → map (λ x. f (g x)) xs ≡ map f (map g xs)
+map_after f g [] = refl
+map_after f g (x ∷ xs) = ap (λ (ys : List _). f (g x) ∷ ys) (map_after f g xs)
+
+-- the parts of a text between its line feeds, each without a carriage return, are its lines
+pub lines_are : {B : Type 0} → (now : B → List ℕ) (parts : List B) (text : List ℕ) → map now parts ≡ slice_split (λ b. b == 10) text → map (λ part. strip_carriage_return (now part)) parts ≡ lines_of text
+lines_are now parts text e = map_after strip_carriage_return now parts ∙ ap (map strip_carriage_return) e
+
+pub inputs_took : (text : List ℕ) (lines : List (List ℕ)) (es : List InputTree) → lines ≡ lines_of text → length text ≤ inputs_limit → lines_at 1 lines ≡ Ok es → IsInputsText text es
+inputs_took text lines es same small read = record { small = small; entries = lines_took 1 (lines_of text) es (ap (lines_at 1) (sym same) ∙ read) }
+
+pub one_inputs : (text : List ℕ) (lines : List (List ℕ)) (found es : List InputTree) → lines ≡ lines_of text → lines_at 1 lines ≡ Ok found → IsInputsText text es → found ≡ es
+one_inputs text lines found es same read is = ok_is found es (sym read ∙ ap (lines_at 1) same ∙ lines_again 1 (lines_of text) es is.entries)
+
+pub failed_inputs : (text : List ℕ) (lines : List (List ℕ)) (f : TextFault) → lines ≡ lines_of text → Fails f (lines_at 1 lines) → IsInputsFault text f
+failed_inputs text lines NoMemory same h = tt
+failed_inputs text lines (BadToken line) same h = inputs_fault text (BadToken line) (ap (lines_at 1) (sym same) ∙ h)
+failed_inputs text lines (Unexpected line) same h = inputs_fault text (Unexpected line) (ap (lines_at 1) (sym same) ∙ h)
+failed_inputs text lines (NumberRange line) same h = inputs_fault text (NumberRange line) (ap (lines_at 1) (sym same) ∙ h)
+failed_inputs text lines (TooLong line) same h = inputs_fault text (TooLong line) (ap (lines_at 1) (sym same) ∙ h)
+
+pub failed_no_text : (text : List ℕ) (lines : List (List ℕ)) (f : TextFault) (es : List InputTree) → lines ≡ lines_of text → Fails f (lines_at 1 lines) → IsInputsText text es → f ≡ NoMemory
+failed_no_text text lines NoMemory es same h is = refl
+failed_no_text text lines (BadToken line) es same h is = absurd (no_err es (BadToken line) (sym (ap (lines_at 1) same ∙ lines_again 1 (lines_of text) es is.entries) ∙ h))
+failed_no_text text lines (Unexpected line) es same h is = absurd (no_err es (Unexpected line) (sym (ap (lines_at 1) same ∙ lines_again 1 (lines_of text) es is.entries) ∙ h))
+failed_no_text text lines (NumberRange line) es same h is = absurd (no_err es (NumberRange line) (sym (ap (lines_at 1) same ∙ lines_again 1 (lines_of text) es is.entries) ∙ h))
+failed_no_text text lines (TooLong line) es same h is = absurd (no_err es (TooLong line) (sym (ap (lines_at 1) same ∙ lines_again 1 (lines_of text) es is.entries) ∙ h))

@@ -171,3 +171,29 @@ fn entries(alloc: Global, parts: &[&str]) -> Result<Vec<InputLine>, TextFault>
     }
     Ok(lines)
 }
+
+// The parts of a text between its line feeds.
+fn split_lines(alloc: Global, text: &str) -> Result<Vec<&str>, AllocError>
+    ensures { IfOk result (λ parts. map (λ part. part.now) parts.items ≡ slice_split (λ b. b == 10) text.now) }
+{
+    text.split('\n').collect(alloc)
+}
+
+/// The lines of an inputs text that name an input, in order. A line is empty, or holds spaces alone, or begins
+/// with `#`, or is a name, directly `:`, and items, each after one or more spaces; a carriage return may end it.
+/// Refuses the first line that is none of these: 2 at a character that can't stand at its place or at a line that
+/// ends after a `-`, 3 at a line that ends before its `:`, 4 at an item past the signed 64 bits, 5 at a name of
+/// more than 64 bytes; and an over-long text by 5 on line 1 before all else.
+pub fn parse_inputs(alloc: Global, text: &str) -> Result<RawInputs, TextFault>
+    ensures ok { IfOk result (λ inputs. IsInputsText text.now (inputs_tree inputs)) }
+    ensures err { IfErr result (IsInputsFault text.now) }
+    // A text in the grammar is read, unless memory runs out.
+    ensures only { (es : List InputTree) → IsInputsText text.now es → Answers inputs_tree result es }
+{
+    if text.len() > LONGEST_INPUTS {
+        return Err(TextFault::TooLong { line: 1 });
+    }
+    let parts = split_lines(alloc, text)?;
+    let lines = entries(alloc, &parts)?;
+    Ok(RawInputs { lines })
+}

@@ -12,6 +12,7 @@ mod token;
 mod tree;
 
 pub use fault::TextFault;
+pub use inputs::{LONGEST_INPUTS, parse_inputs};
 pub use name::Name;
 pub use raw_inputs::{InputLine, RawInputs};
 pub use text::{LONGEST_TEXT, parse, tokens};

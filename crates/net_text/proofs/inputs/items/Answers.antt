@@ -24,7 +24,7 @@ items-preserved c =
     let gap : c.space_len-gap.result ≡ run is_space rest = c.space_len-gap.ensures ∙ ap (λ (bs : List ℕ). run is_space bs) c.as_bytes.ensures.value in
     let next : c.split_at.result.1.now ≡ drop (run is_space rest) rest = c.split_at.ensures.back ∙ ap (λ (n : ℕ). drop n rest) gap in
     let more = items_more c.args.line c.items.items.items rest (c.in_ok-found.found, c.in_ok-found.after.now)
-        (λ e. c.if-gap-rest.false (gap ∙ e)) (λ e. c.if-gap-eq0.false (gap ∙ e)) (ap (item_at c.args.line) (sym next) ∙ c.in_ok-found.ensures.gives) in
+    (λ e. c.if-gap-rest.false (gap ∙ e)) (λ e. c.if-gap-eq0.false (gap ∙ e)) (ap (item_at c.args.line) (sym next) ∙ c.in_ok-found.ensures.gives) in
     let f : FitsSigned w64 c.in_ok-found.found = search rules in
     let pushed : c.push.new.self.items ≡ c.items.items.items ++ c.in_ok-found.found ∷ [] = c.in_ok-push.ensures.items ∙ ap (λ (z : ℤ). c.items.items.items ++ z ∷ []) (to_z-of_z w64 _ f) in
     record { found = rw pushed (sym more ∙ c.items.invariant.found); text = c.in_ok-found.ensures.text }
