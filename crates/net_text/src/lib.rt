@@ -21,3 +21,6 @@ pub use tree::{
     ChannelText, Declaration, ExprText, LoopText, NetText, NodeText, Operator, ProcessText, Role,
     StatementText, VariableText,
 };
+
+#[cfg(test)]
+mod tests;
