@@ -1,5 +1,5 @@
 -- How a run of device calls goes on, whatever it is that a crash leaves.
-use Rattle.std.proofs.Common.{inl, inr, ⊎_elim, ℕ, ◌≤◌, arith}
+use Rattle.std.proofs.Common.{inl, inr, ⊎_elim, ℕ, arith}
 use Rattle.sector_disk.specs.Clock.{Elapses, LeavesOnly}
 
 module _ {D C : Type 0} (moment : D → ℕ) (left_since : D → ℕ → C → Type 0) where

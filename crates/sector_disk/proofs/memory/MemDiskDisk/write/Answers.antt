@@ -1,4 +1,4 @@
-use Rattle.std.proofs.Common.{◌≤◌, ◌+◌, ◌*◌, ◌/◌, List, ℕ, length, ap, subst, sym, ◌∙◌, arith, rules}
+use Rattle.std.proofs.Common.{◌≤◌, ◌+◌, ◌*◌, List, ℕ, length, subst, sym, ◌∙◌, arith, rules}
 use Rattle.std.proofs.lemmas.List.{with_items_is}
 use Rattle.sector_disk.specs.Disk.{IsInRange, IsOverwritten, SameOutside}
 use Rattle.sector_disk.proofs.History.{elapses_to}
