@@ -5,7 +5,7 @@ use Rattle.sector_disk.specs.Clock.{Only, LeavesOnly}
 use Rattle.sector_disk.specs.Disk.{SameOutside, IsOverwritten}
 use Rattle.sector_disk.proofs.Sectors.{overwritten_outside}
 use Rattle.sector_disk.proofs.Moments.{joined, weakened}
-use Rattle.gate_cell.specs.Layout.{area_sectors, room_on, area, length_in, value_in, named, in_area, stands_for, value_on, other_area, IsGate, IsSettled, IsFrame}
+use Rattle.gate_cell.specs.Layout.{area_sectors, room_on, area, length_in, value_in, named, in_area, stands_for, value_on, IsGate, IsSettled, IsFrame}
 use Rattle.gate_cell.specs.Stands.{in_area_fits}
 use Rattle.gate_cell.proofs.Areas.{active_same, named_same, areas_same, gate_torn, frame_length, frame_value, written_area}
 

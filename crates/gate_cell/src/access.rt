@@ -30,7 +30,7 @@ pub fn write_through<D: Disk>(disk: &mut D, first: usize, bytes: &[u8]) -> Resul
     ensures calls { OnOk result (D.call_count disk.new ≡ count_after_calls 2 (D.call_count disk.old)) }
 {
     disk.write(first, bytes).map_err(|_| CellFault::Device)?;
-    disk.sync().map_err(|_| CellFault::Device)
+    make_sure(disk)
 }
 
 /// Syncs: what reads give can't fall back later.
