@@ -143,8 +143,12 @@ fn sizes(rt: HostRuntime) -> Result<(), Fail> {
 }
 
 #[test]
-fn too_few_sectors(rt: HostRuntime) -> Result<(), Fail> {
+fn nothing_formatted_or_opened(rt: HostRuntime) -> Result<(), Fail> {
     let alloc = rt.alloc();
+    match GateCell::format(alloc, MemDisk::new(alloc, 3)?, &[7; 505]) {
+        Ok(_) => return Err("formatted".into()),
+        Err(fault) => assert_eq!(rt; fault.number(), 22),
+    }
     for sectors in [0, 1, 2] {
         let disk = MemDisk::new(alloc, sectors)?;
         match GateCell::format(alloc, disk, b"") {
