@@ -14,6 +14,7 @@ pub fn write_sectors<D: Disk>(disk: &mut D, first: usize, bytes: &[u8]) -> Resul
     ensures written { OnOk result (IsOverwritten (D.content disk.old) (512 * first) bytes.now (D.content disk.new)) }
     ensures size { D.sector_count disk.new ≡ D.sector_count disk.old }
     ensures cause { HasDeviceCause (D.failure_count disk.old) (D.failure_count disk.new) result }
+    ensures armed { D.armed disk.new ≡ D.armed disk.old }
 {
     disk.write(first, bytes).map_err(|_| CellFault::Device)
 }
@@ -27,6 +28,7 @@ pub fn write_through<D: Disk>(disk: &mut D, first: usize, bytes: &[u8]) -> Resul
     ensures any_moment { LeavesOnly D.moment D.left_since disk.old disk.new (SameOutside (512 * first) (length bytes.now) (D.content disk.old)) }
     ensures size { D.sector_count disk.new ≡ D.sector_count disk.old }
     ensures cause { HasDeviceCause (D.failure_count disk.old) (D.failure_count disk.new) result }
+    ensures armed { D.armed disk.new ≡ D.armed disk.old }
     ensures calls { OnOk result (D.call_count disk.new ≡ count_after_calls 2 (D.call_count disk.old)) }
 {
     disk.write(first, bytes).map_err(|_| CellFault::Device)?;
@@ -38,6 +40,7 @@ pub fn make_sure<D: Disk>(disk: &mut D) -> Result<(), CellFault>
     ensures durable { OnOk result (Only (D.content disk.new) (D.may_leave disk.new)) }
     ensures looks { Looks D.content D.may_leave D.moment D.left_since D.sector_count disk.old disk.new }
     ensures cause { HasDeviceCause (D.failure_count disk.old) (D.failure_count disk.new) result }
+    ensures armed { D.armed disk.new ≡ D.armed disk.old }
     ensures calls { OnOk result (D.call_count disk.new ≡ count_after_calls 1 (D.call_count disk.old)) }
 {
     disk.sync().map_err(|_| CellFault::Device)
@@ -49,6 +52,7 @@ pub fn look<D: Disk>(disk: &mut D, first: usize, into: &mut [u8]) -> Result<(), 
     ensures bytes { OnOk result (into.new ≡ take (length into.old) (drop (512 * first) (D.content disk.old))) }
     ensures looks { Looks D.content D.may_leave D.moment D.left_since D.sector_count disk.old disk.new }
     ensures cause { HasDeviceCause (D.failure_count disk.old) (D.failure_count disk.new) result }
+    ensures armed { D.armed disk.new ≡ D.armed disk.old }
     ensures calls { OnOk result (D.call_count disk.new ≡ count_after_calls 1 (D.call_count disk.old)) }
 {
     disk.read(first, into).map_err(|_| CellFault::Device)

@@ -1,5 +1,5 @@
 // A cell on a disk of sectors: a gate, and two areas of which the gate names one.
-ghost use Rattle.std.specs.Prelude.{◌≡◌, ◌⊎◌, ◌+◌, ◌<◌, ◌≤◌, ◌↔◌, length, OnOk, IfOk, IfErr, IsErrOf, IsTrue, Some, None};
+ghost use Rattle.std.specs.Prelude.{◌≡◌, ◌⊎◌, ◌+◌, ◌<◌, ◌≤◌, ◌↔◌, ◌++◌, [], ◌∷◌, length, OnOk, OnErr, IfOk, IfErr, IsErrOf, IsTrue, Some, None};
 ghost use Rattle.sector_disk.specs.Clock.{LeavesOnly};
 ghost use Rattle.gate_cell.specs.CellFault.{HasCause};
 ghost use Rattle.gate_cell.specs.Layout.{room_on, value_on, stands_for, other_area, IsGate, IsSettled};
@@ -38,6 +38,7 @@ impl<D: Disk> GateCell<D> {
     pub fn format(alloc: Global, disk: D, value: &[u8]) -> Result<GateCell<D>, CellFault>
         ensures formatted { IfOk result (IsFormatted D.content D.sector_count D.call_count value.now) }
         ensures size { IfOk result (λ cell. D.sector_count (disk_in cell) ≡ D.sector_count disk) }
+        ensures armed { IfOk result (λ cell. D.armed (disk_in cell) ≡ D.armed disk) }
         ensures too_large { IsErrOf result CellFault.TooLarge ↔ ((D.sector_count disk < 3) ⊎ (room_on (D.sector_count disk) < length value.now)) }
         ensures reopen { ¬ (IsErrOf result CellFault.Reopen) }
 
@@ -80,6 +81,8 @@ impl<D: Disk> GateCell<D> {
         ensures cause { IfErr result (λ e. ((e.0 ≡ Device) × (D.failure_count disk < D.failure_count e.1))
             ⊎ ((e.0 ≡ TooLarge) × (D.failure_count e.1 ≡ D.failure_count disk) × ((D.sector_count disk < 3) ⊎ (stands_for (D.sector_count disk) (D.content disk) ≡ None)))) }
         ensures failures { IfOk result (λ cell. D.failure_count (disk_in cell) ≡ D.failure_count disk) }
+        ensures armed { IfOk result (λ cell. D.armed (disk_in cell) ≡ D.armed disk) }
+        ensures armed_err { IfErr result (λ e. D.armed e.1 ≡ D.armed disk) }
     {
         let mut disk = disk;
         let sectors = disk.sectors();
@@ -162,6 +165,7 @@ impl<D: Disk> StableCell for GateCell<D> {
 
         // One device call, of the sectors that the value needs.
         ensures calls { IfOk result (λ bytes. D.call_count (disk_in self.new) ≡ count_after_calls 1 (D.call_count (disk_in self.old))) }
+        ensures armed { D.armed (disk_in self.new) ≡ D.armed (disk_in self.old) }
     {
         if !self.ready {
             return Err(CellFault::Reopen);
@@ -185,6 +189,7 @@ impl<D: Disk> StableCell for GateCell<D> {
         // Four device calls, after which the gate names the other area.
         ensures calls { OnOk result (D.call_count (disk_in self.new) ≡ count_after_calls 4 (D.call_count (disk_in self.old))) }
         ensures gate { OnOk result (IsGate (other_area (D.content (disk_in self.old))) (D.content (disk_in self.new))) }
+        ensures armed { D.armed (disk_in self.new) ≡ D.armed (disk_in self.old) }
     {
         if !self.ready {
             return Err(CellFault::Reopen);
@@ -211,6 +216,10 @@ impl<D: Disk> StableCell for GateCell<D> {
         ensures same_readiness { ⟦<GateCell<D> as StableCell>⟧.is_ready self.new ≡ ⟦<GateCell<D> as StableCell>⟧.is_ready self.old }
         ensures failures { ⟦<GateCell<D> as StableCell>⟧.failure_count self.new ≡ ⟦<GateCell<D> as StableCell>⟧.failure_count self.old }
         ensures calls { D.call_count (disk_in self.new) ≡ D.call_count (disk_in self.old) }
+
+        // It is handed on to the disk.
+        ensures armed { OnOk result (D.armed (disk_in self.new) ≡ D.armed (disk_in self.old) ++ fault ∷ []) }
+        ensures not_armed { OnErr result (D.armed (disk_in self.new) ≡ D.armed (disk_in self.old)) }
     {
         self.disk.arm(fault)
     }
@@ -222,6 +231,7 @@ impl<D: Disk> StableCell for GateCell<D> {
         ensures same_readiness { ⟦<GateCell<D> as StableCell>⟧.is_ready self.new ≡ ⟦<GateCell<D> as StableCell>⟧.is_ready self.old }
         ensures failures { ⟦<GateCell<D> as StableCell>⟧.failure_count self.new ≡ ⟦<GateCell<D> as StableCell>⟧.failure_count self.old }
         ensures calls { D.call_count (disk_in self.new) ≡ 0 }
+        ensures armed { D.armed (disk_in self.new) ≡ D.armed (disk_in self.old) }
     {
         self.disk.recount();
     }

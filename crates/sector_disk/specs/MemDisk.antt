@@ -3,6 +3,7 @@ use Rattle.std.specs.Prelude.{◌⊎◌, ℕ, Bool, List, length, drop, Option, 
 use Rattle.sector_disk.specs.Images.{MayLeave, MightHaveLeft}
 use Rattle.sector_disk.specs.Schedule.{FaultState}
 use Rattle.sector_disk.specs.FaultSchedule.{state_of}
+use Rattle.sector_disk.specs.declared.disk.ArmedFault.{ArmedFault}
 use Rattle.sector_disk.specs.declared.memory.MemDisk.{MemDisk}
 
 -- the bytes that reads give
@@ -30,6 +31,9 @@ failures_of disk = disk.schedule.failures
 
 abbrev pub calls_of : MemDisk → ℕ
 calls_of disk = disk.schedule.calls
+
+abbrev pub armed_of : MemDisk → List ArmedFault
+armed_of disk = disk.schedule.armed.items
 
 -- a crash now leaves this or that in the sectors in doubt, and what the others hold
 abbrev pub may_leave_of : MemDisk → List ℕ → Type 0

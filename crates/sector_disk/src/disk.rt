@@ -1,5 +1,6 @@
 // A disk by what a read gives and what a crash may leave, with a clock.
-ghost use Rattle.std.specs.Prelude.{◌≡◌, ◌+◌, ◌*◌, ◌^◌, ◌<◌, ◌≤◌, ◌↔◌, List, ℕ, length, take, drop, OnOk, IsErrOf};
+ghost use Rattle.std.specs.Prelude.{◌≡◌, ◌+◌, ◌*◌, ◌^◌, ◌<◌, ◌≤◌, ◌↔◌, List, [], ◌∷◌, ◌++◌, ℕ, length, take, drop, OnOk, OnErr, IsErrOf};
+ghost use Rattle.sector_disk.specs.declared.disk.ArmedFault.{ArmedFault};
 ghost use Rattle.sector_disk.specs.Clock.{Only, Elapses};
 ghost use Rattle.sector_disk.specs.Disk.{IsInRange, SameOutside, IsOverwritten, Follows, HasCause, count_after};
 
@@ -45,6 +46,9 @@ pub trait Disk: Drop {
     /// The device calls since the last recount. It stops at 2^63 - 1.
     ghost call_count: { Self → ℕ };
 
+    /// The faults that are armed, in the order of arming.
+    ghost armed: { Self → List ArmedFault };
+
     /// The number of sectors.
     fn sectors(&self) -> usize
         ensures { result ≡ sector_count self.now };
@@ -68,7 +72,8 @@ pub trait Disk: Drop {
         ensures time { Elapses (moment self.old) (moment self.new) (left_since self.old) (left_since self.new) (may_leave self.new) }
         ensures cause { HasCause (failure_count self.old) (failure_count self.new) result }
         ensures counted { call_count self.new ≡ count_after result (call_count self.old) }
-        ensures size { sector_count self.new ≡ sector_count self.old };
+        ensures size { sector_count self.new ≡ sector_count self.old }
+        ensures armed { armed self.new ≡ armed self.old };
 
     /// Writes whole sectors, from the sector `first` on. Until a sync, a crash may leave any bytes in them,
     /// also where the write failed. Refuses with `Device` (20) and `Range` (21).
@@ -81,7 +86,8 @@ pub trait Disk: Drop {
         ensures time { Elapses (moment self.old) (moment self.new) (left_since self.old) (left_since self.new) (may_leave self.new) }
         ensures cause { HasCause (failure_count self.old) (failure_count self.new) result }
         ensures counted { call_count self.new ≡ count_after result (call_count self.old) }
-        ensures size { sector_count self.new ≡ sector_count self.old };
+        ensures size { sector_count self.new ≡ sector_count self.old }
+        ensures armed { armed self.new ≡ armed self.old };
 
     /// Waits until all that was written is on the disk: after it, a crash leaves what reads give.
     /// Refuses with `Device` (20) alone.
@@ -93,7 +99,8 @@ pub trait Disk: Drop {
         ensures time { Elapses (moment self.old) (moment self.new) (left_since self.old) (left_since self.new) (may_leave self.new) }
         ensures cause { HasCause (failure_count self.old) (failure_count self.new) result }
         ensures counted { call_count self.new ≡ count_after result (call_count self.old) }
-        ensures size { sector_count self.new ≡ sector_count self.old };
+        ensures size { sector_count self.new ≡ sector_count self.old }
+        ensures armed { armed self.new ≡ armed self.old };
 
     /// The device crashes and comes back. What it holds then is settled: one of the contents that a crash might leave,
     /// by the fill byte where one is given.
@@ -103,7 +110,8 @@ pub trait Disk: Drop {
         ensures time { Elapses (moment self.old) (moment self.new) (left_since self.old) (left_since self.new) (may_leave self.new) }
         ensures failures { failure_count self.new ≡ failure_count self.old }
         ensures counted { call_count self.new ≡ call_count self.old }
-        ensures size { sector_count self.new ≡ sector_count self.old };
+        ensures size { sector_count self.new ≡ sector_count self.old }
+        ensures armed { armed self.new ≡ armed self.old };
 
     /// Prepares a failure. Where there is no memory (1) it prepares nothing.
     fn arm(&mut self, fault: ArmedFault) -> Result<(), AllocError>
@@ -112,7 +120,9 @@ pub trait Disk: Drop {
         ensures time { Elapses (moment self.old) (moment self.new) (left_since self.old) (left_since self.new) (may_leave self.new) }
         ensures failures { failure_count self.new ≡ failure_count self.old }
         ensures counted { call_count self.new ≡ call_count self.old }
-        ensures size { sector_count self.new ≡ sector_count self.old };
+        ensures size { sector_count self.new ≡ sector_count self.old }
+        ensures armed { OnOk result (armed self.new ≡ armed self.old ++ fault ∷ []) }
+        ensures not_armed { OnErr result (armed self.new ≡ armed self.old) };
 
     /// Begins the count of device calls anew. What is armed stays armed.
     fn recount(&mut self)
@@ -121,7 +131,8 @@ pub trait Disk: Drop {
         ensures time { Elapses (moment self.old) (moment self.new) (left_since self.old) (left_since self.new) (may_leave self.new) }
         ensures failures { failure_count self.new ≡ failure_count self.old }
         ensures counted { call_count self.new ≡ 0 }
-        ensures size { sector_count self.new ≡ sector_count self.old };
+        ensures size { sector_count self.new ≡ sector_count self.old }
+        ensures armed { armed self.new ≡ armed self.old };
 
     /// This moment is one of those since an earlier one.
     ghost includes_now: { (disk : Self) (t : ℕ) (c : List ℕ) → t ≤ moment disk → may_leave disk c → left_since disk t c };

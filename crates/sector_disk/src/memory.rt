@@ -82,7 +82,7 @@ impl MemDisk {
 }
 
 impl Disk for MemDisk {
-    ghost use Rattle.sector_disk.specs.MemDisk.{content_of, doubt_of, faults_of, sectors_of, failures_of, calls_of, may_leave_of, moment_of, left_since_of, fill_or};
+    ghost use Rattle.sector_disk.specs.MemDisk.{content_of, doubt_of, faults_of, sectors_of, failures_of, calls_of, armed_of, may_leave_of, moment_of, left_since_of, fill_or};
     ghost use Rattle.sector_disk.specs.Doubt.{marked, NoneInDoubt};
     ghost use Rattle.sector_disk.specs.Schedule.{fault_met, after_call};
 
@@ -99,6 +99,8 @@ impl Disk for MemDisk {
     ghost failure_count = { failures_of };
 
     ghost call_count = { calls_of };
+
+    ghost armed = { armed_of };
 
     ghost includes_now = { λ d t c le now. inl now };
 
@@ -132,6 +134,7 @@ impl Disk for MemDisk {
         ensures cause { HasCause (failures_of self.old) (failures_of self.new) result }
         ensures counted { calls_of self.new ≡ count_after result (calls_of self.old) }
         ensures size { sectors_of self.new ≡ sectors_of self.old }
+        ensures armed { armed_of self.new ≡ armed_of self.old }
 
         // It fails exactly where a fault is armed.
         ensures fails { IsErrOf result DiskFault.Device ↔ (IsInRange (sectors_of self.old) first (length into.old) × IsSome (fault_met (faults_of self.old))) }
@@ -159,6 +162,7 @@ impl Disk for MemDisk {
         ensures cause { HasCause (failures_of self.old) (failures_of self.new) result }
         ensures counted { calls_of self.new ≡ count_after result (calls_of self.old) }
         ensures size { sectors_of self.new ≡ sectors_of self.old }
+        ensures armed { armed_of self.new ≡ armed_of self.old }
 
         // It fails exactly where a fault is armed. Its range is then in doubt, and the content is as it was.
         ensures fails { IsErrOf result DiskFault.Device ↔ (IsInRange (sectors_of self.old) first (length bytes.now) × IsSome (fault_met (faults_of self.old))) }
@@ -187,6 +191,7 @@ impl Disk for MemDisk {
         ensures cause { HasCause (failures_of self.old) (failures_of self.new) result }
         ensures counted { calls_of self.new ≡ count_after result (calls_of self.old) }
         ensures size { sectors_of self.new ≡ sectors_of self.old }
+        ensures armed { armed_of self.new ≡ armed_of self.old }
 
         // It fails exactly where a fault is armed, and then does nothing.
         ensures fails { IsErrOf result DiskFault.Device ↔ IsSome (fault_met (faults_of self.old)) }
@@ -209,6 +214,7 @@ impl Disk for MemDisk {
         ensures failures { failures_of self.new ≡ failures_of self.old }
         ensures counted { calls_of self.new ≡ calls_of self.old }
         ensures size { sectors_of self.new ≡ sectors_of self.old }
+        ensures armed { armed_of self.new ≡ armed_of self.old }
 
         // Each sector in doubt holds copies of the fill byte: the one given, or that of the last fault met, or 0.
         ensures settled { IsSettledBy (fill_or fill (faults_of self.old).fill) (doubt_of self.old) (content_of self.old) (content_of self.new) }
@@ -232,9 +238,11 @@ impl Disk for MemDisk {
         ensures failures { failures_of self.new ≡ failures_of self.old }
         ensures counted { calls_of self.new ≡ calls_of self.old }
         ensures size { sectors_of self.new ≡ sectors_of self.old }
+        ensures armed { OnOk result (armed_of self.new ≡ armed_of self.old ++ fault ∷ []) }
+        ensures not_armed { OnErr result (armed_of self.new ≡ armed_of self.old) }
 
-        ensures armed { OnOk result (faults_of self.new ≡ record (faults_of self.old) { armed = (faults_of self.old).armed ++ fault ∷ [] }) }
-        ensures not_armed { OnErr result (faults_of self.new ≡ faults_of self.old) }
+        ensures faults { OnOk result (faults_of self.new ≡ record (faults_of self.old) { armed = (faults_of self.old).armed ++ fault ∷ [] }) }
+        ensures same_faults { OnErr result (faults_of self.new ≡ faults_of self.old) }
         ensures doubt { doubt_of self.new ≡ doubt_of self.old }
     {
         self.schedule.arm(fault)
@@ -247,6 +255,7 @@ impl Disk for MemDisk {
         ensures failures { failures_of self.new ≡ failures_of self.old }
         ensures counted { calls_of self.new ≡ 0 }
         ensures size { sectors_of self.new ≡ sectors_of self.old }
+        ensures armed { armed_of self.new ≡ armed_of self.old }
 
         // What is armed stays armed, for the counts that begin now.
         ensures faults { faults_of self.new ≡ record (faults_of self.old) { calls = 0 } }
