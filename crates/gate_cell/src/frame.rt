@@ -45,9 +45,11 @@ pub fn framed(alloc: Global, value: &[u8]) -> Result<Vec<u8>, AllocError>
     requires { length value.now ≤ 1048576 }
     ensures { IfOk result (λ frame. IsFrame value.now frame.items) }
 {
-    let mut frame = (value.len() as u64).to_be_bytes().to_vec(alloc)?;
+    let len = frame_len(value.len());
+    let mut frame = Vec::with_capacity(alloc, len)?;
+    frame.extend_from_slice(&(value.len() as u64).to_be_bytes())?;
     frame.extend_from_slice(value)?;
-    frame.resize(frame_len(value.len()), 0)?;
+    frame.resize(len, 0)?;
     Ok(frame)
 }
 
