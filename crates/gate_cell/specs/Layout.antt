@@ -1,5 +1,5 @@
 -- Where a value lies on a disk: sector 0 is the gate, and two areas follow.
-use Rattle.std.specs.Prelude.{◌≡◌, ℕ, ◌+◌, ◌-◌, ◌*◌, ◌/◌, ◌%◌, ◌≤◌, ◌<◌, min, leb, if◌then◌else◌, List, length, get_or, take, drop, Option, Some, None}
+use Rattle.std.specs.Prelude.{◌≡◌, ◌⊎◌, ℕ, ◌+◌, ◌-◌, ◌*◌, ◌/◌, ◌%◌, ◌≤◌, ◌<◌, min, leb, if◌then◌else◌, List, length, get_or, take, drop, Option, Some, None}
 use Rattle.std.specs.Int.{w64, from_be_bytes}
 use Rattle.sector_disk.specs.Clock.{Only}
 
@@ -40,6 +40,10 @@ in_area size bytes = if leb (length_in bytes) (room_on size) then Some (value_in
 -- the value for which a content stands, or none where its length doesn't fit
 abbrev pub stands_for : ℕ → List ℕ → Option (List ℕ)
 stands_for size content = in_area size (named size content)
+
+-- a disk too small for a cell, or one whose content stands for none
+abbrev pub HoldsNoValue : ℕ → List ℕ → Type 0
+HoldsNoValue size content = (size < 3) ⊎ (stands_for size content ≡ None)
 
 abbrev pub value_on : ℕ → List ℕ → List ℕ
 value_on size content = value_in (named size content)

@@ -25,7 +25,8 @@ pub fn write_through<D: Disk>(disk: &mut D, first: usize, bytes: &[u8]) -> Resul
     requires durable { Only (D.content disk.old) (D.may_leave disk.old) }
     ensures written { OnOk result (IsOverwritten (D.content disk.old) (512 * first) bytes.now (D.content disk.new)) }
     ensures durable { OnOk result (Only (D.content disk.new) (D.may_leave disk.new)) }
-    ensures any_moment { LeavesOnly D.moment D.left_since disk.old disk.new (SameOutside (512 * first) (length bytes.now) (D.content disk.old)) }
+    ensures any_moment { LeavesOnly D.moment D.left_since disk.old disk.new
+        (SameOutside (512 * first) (length bytes.now) (D.content disk.old)) }
     ensures size { D.sector_count disk.new ≡ D.sector_count disk.old }
     ensures cause { HasDeviceCause (D.failure_count disk.old) (D.failure_count disk.new) result }
     ensures armed { D.armed disk.new ≡ D.armed disk.old }

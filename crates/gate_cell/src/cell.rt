@@ -44,8 +44,10 @@ pub trait StableCell: Drop {
         ensures same_room { room self.new ≡ room self.old }
 
         ensures too_large { ¬ (IsErrOf result CellFault.TooLarge) }
-        ensures unchanged { IsErrOf result CellFault.NoMemory ⊎ IsErrOf result CellFault.Reopen → self.new ≡ self.old }
-        ensures cause { HasCause (failure_count self.old) (failure_count self.new) (is_ready self.old) (is_ready self.new) result };
+        ensures unchanged { (IsErrOf result CellFault.NoMemory ⊎ IsErrOf result CellFault.Reopen)
+            → self.new ≡ self.old }
+        ensures cause { HasCause (failure_count self.old) (failure_count self.new)
+            (is_ready self.old) (is_ready self.new) result };
 
     /// Puts a new value in the place of the old one. Refuses with `NoMemory` (1), `Device` (20), `TooLarge` (22) and
     /// `Reopen` (23).
@@ -53,12 +55,16 @@ pub trait StableCell: Drop {
         ensures ok { OnOk result (value self.new ≡ new.now) }
 
         // A crash at any moment of the call leaves what it might have left before, or the new value.
-        ensures any_moment { LeavesOnly moment left_since self.old self.new (λ left. may_leave self.old left ⊎ (left ≡ Some new.now)) }
+        ensures any_moment { LeavesOnly moment left_since self.old self.new
+            (λ left. may_leave self.old left ⊎ (left ≡ Some new.now)) }
         ensures same_room { room self.new ≡ room self.old }
 
-        ensures too_large { IsErrOf result CellFault.TooLarge ↔ (IsTrue (is_ready self.old) × (room self.old < length new.now)) }
-        ensures unchanged { IsErrOf result CellFault.NoMemory ⊎ IsErrOf result CellFault.TooLarge ⊎ IsErrOf result CellFault.Reopen → self.new ≡ self.old }
-        ensures cause { HasCause (failure_count self.old) (failure_count self.new) (is_ready self.old) (is_ready self.new) result };
+        ensures too_large { IsErrOf result CellFault.TooLarge
+            ↔ (IsTrue (is_ready self.old) × (room self.old < length new.now)) }
+        ensures unchanged { (IsErrOf result CellFault.NoMemory ⊎ IsErrOf result CellFault.TooLarge ⊎ IsErrOf result CellFault.Reopen)
+            → self.new ≡ self.old }
+        ensures cause { HasCause (failure_count self.old) (failure_count self.new)
+            (is_ready self.old) (is_ready self.new) result };
 
     /// Prepares a failure of the device, where there is one. Without memory (1) it prepares nothing.
     fn arm(&mut self, fault: ArmedFault) -> Result<(), AllocError>

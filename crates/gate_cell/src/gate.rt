@@ -1,8 +1,8 @@
 // A cell on a disk of sectors: a gate, and two areas of which the gate names one.
-ghost use Rattle.std.specs.Prelude.{◌≡◌, ◌⊎◌, ◌+◌, ◌<◌, ◌≤◌, ◌↔◌, ◌++◌, [], ◌∷◌, length, OnOk, OnErr, IfOk, IfErr, IsErrOf, IsTrue, Some, None};
+ghost use Rattle.std.specs.Prelude.{◌≡◌, ◌⊎◌, ◌+◌, ◌<◌, ◌≤◌, ◌↔◌, ◌++◌, [], ◌∷◌, length, OnOk, OnErr, IfOk, IfErr, IsErrOf, IsTrue, Some};
 ghost use Rattle.sector_disk.specs.Clock.{LeavesOnly};
 ghost use Rattle.gate_cell.specs.CellFault.{HasCause};
-ghost use Rattle.gate_cell.specs.Layout.{room_on, value_on, stands_for, other_area, IsGate, IsSettled};
+ghost use Rattle.gate_cell.specs.Layout.{room_on, value_on, other_area, HoldsNoValue, IsGate, IsSettled};
 ghost use Rattle.gate_cell.specs.Stands.{MayStand, StoodSince, Looks, count_after_calls, only_value, settled_value};
 ghost use Rattle.gate_cell.specs.declared.fault.CellFault.TheVariants.{Device, TooLarge};
 
@@ -39,11 +39,13 @@ impl<D: Disk> GateCell<D> {
         ensures formatted { IfOk result (IsFormatted D.content D.sector_count D.call_count value.now) }
         ensures size { IfOk result (λ cell. D.sector_count (disk_in cell) ≡ D.sector_count disk) }
         ensures armed { IfOk result (λ cell. D.armed (disk_in cell) ≡ D.armed disk) }
-        ensures too_large { IsErrOf result CellFault.TooLarge ↔ ((D.sector_count disk < 3) ⊎ (room_on (D.sector_count disk) < length value.now)) }
+        ensures too_large { IsErrOf result CellFault.TooLarge
+            ↔ ((D.sector_count disk < 3) ⊎ (room_on (D.sector_count disk) < length value.now)) }
         ensures reopen { ¬ (IsErrOf result CellFault.Reopen) }
 
         // The disk came to a state in which it had failed more often than before.
-        ensures device { IsErrOf result CellFault.Device → ((after : D) × (D.failure_count disk < D.failure_count after)) }
+        ensures device { IsErrOf result CellFault.Device
+            → ((after : D) × (D.failure_count disk < D.failure_count after)) }
     {
         let mut disk = disk;
         let sectors = disk.sectors();
@@ -71,15 +73,20 @@ impl<D: Disk> GateCell<D> {
     /// the area doesn't fit. A refusal hands the disk back.
     pub fn open(alloc: Global, disk: D) -> Result<GateCell<D>, (CellFault, D)>
         ensures opens { IfOk result (λ cell. Opens D.content D.sector_count disk cell) }
-        ensures looks { IfOk result (λ cell. Looks D.content D.may_leave D.moment D.left_since D.sector_count disk (disk_in cell)) }
-        ensures looks_err { IfErr result (λ e. Looks D.content D.may_leave D.moment D.left_since D.sector_count disk e.1) }
+        ensures looks { IfOk result
+            (λ cell. Looks D.content D.may_leave D.moment D.left_since D.sector_count disk (disk_in cell)) }
+        ensures looks_err { IfErr result
+            (λ e. Looks D.content D.may_leave D.moment D.left_since D.sector_count disk e.1) }
 
         // Three device calls; none on a disk that is too small.
-        ensures calls { IfOk result (λ cell. D.call_count (disk_in cell) ≡ count_after_calls 3 (D.call_count disk)) }
+        ensures calls { IfOk result (λ cell. D.call_count (disk_in cell)
+            ≡ count_after_calls 3 (D.call_count disk)) }
         ensures no_call { D.sector_count disk < 3 → IfErr result (λ e. (e.0 ≡ TooLarge) × (e.1 ≡ disk)) }
 
+        // It refuses where the device failed, or where there is no value.
         ensures cause { IfErr result (λ e. ((e.0 ≡ Device) × (D.failure_count disk < D.failure_count e.1))
-            ⊎ ((e.0 ≡ TooLarge) × (D.failure_count e.1 ≡ D.failure_count disk) × ((D.sector_count disk < 3) ⊎ (stands_for (D.sector_count disk) (D.content disk) ≡ None)))) }
+            ⊎ ((e.0 ≡ TooLarge) × (D.failure_count e.1 ≡ D.failure_count disk)
+            × HoldsNoValue (D.sector_count disk) (D.content disk))) }
         ensures failures { IfOk result (λ cell. D.failure_count (disk_in cell) ≡ D.failure_count disk) }
         ensures armed { IfOk result (λ cell. D.armed (disk_in cell) ≡ D.armed disk) }
         ensures armed_err { IfErr result (λ e. D.armed e.1 ≡ D.armed disk) }
@@ -155,16 +162,21 @@ impl<D: Disk> StableCell for GateCell<D> {
     ghost only_now = { λ g left might. (might.0, D.only_now g.disk might.0 might.1, might.2) };
 
     fn get(&mut self) -> Result<Vec<u8>, CellFault>
-        ensures value { IfOk result (λ bytes. bytes.items ≡ ⟦<GateCell<D> as StableCell>⟧.value self.old) }
-        ensures any_moment { LeavesOnly ⟦<GateCell<D> as StableCell>⟧.moment ⟦<GateCell<D> as StableCell>⟧.left_since self.old self.new (⟦<GateCell<D> as StableCell>⟧.may_leave self.old) }
-        ensures same_value { ⟦<GateCell<D> as StableCell>⟧.value self.new ≡ ⟦<GateCell<D> as StableCell>⟧.value self.old }
-        ensures same_room { ⟦<GateCell<D> as StableCell>⟧.room self.new ≡ ⟦<GateCell<D> as StableCell>⟧.room self.old }
+        ensures value { IfOk result (λ bytes. bytes.items ≡ ⟦<Self as StableCell>⟧.value self.old) }
+        ensures any_moment { LeavesOnly ⟦<Self as StableCell>⟧.moment ⟦<Self as StableCell>⟧.left_since
+            self.old self.new (⟦<Self as StableCell>⟧.may_leave self.old) }
+        ensures same_value { ⟦<Self as StableCell>⟧.value self.new ≡ ⟦<Self as StableCell>⟧.value self.old }
+        ensures same_room { ⟦<Self as StableCell>⟧.room self.new ≡ ⟦<Self as StableCell>⟧.room self.old }
         ensures too_large { ¬ (IsErrOf result CellFault.TooLarge) }
-        ensures unchanged { IsErrOf result CellFault.NoMemory ⊎ IsErrOf result CellFault.Reopen → self.new ≡ self.old }
-        ensures cause { HasCause (⟦<GateCell<D> as StableCell>⟧.failure_count self.old) (⟦<GateCell<D> as StableCell>⟧.failure_count self.new) (⟦<GateCell<D> as StableCell>⟧.is_ready self.old) (⟦<GateCell<D> as StableCell>⟧.is_ready self.new) result }
+        ensures unchanged { (IsErrOf result CellFault.NoMemory ⊎ IsErrOf result CellFault.Reopen)
+            → self.new ≡ self.old }
+        ensures cause { HasCause
+            (⟦<Self as StableCell>⟧.failure_count self.old) (⟦<Self as StableCell>⟧.failure_count self.new)
+            (⟦<Self as StableCell>⟧.is_ready self.old) (⟦<Self as StableCell>⟧.is_ready self.new) result }
 
         // One device call, of the sectors that the value needs.
-        ensures calls { IfOk result (λ bytes. D.call_count (disk_in self.new) ≡ count_after_calls 1 (D.call_count (disk_in self.old))) }
+        ensures calls { IfOk result (λ bytes. D.call_count (disk_in self.new)
+            ≡ count_after_calls 1 (D.call_count (disk_in self.old))) }
         ensures armed { D.armed (disk_in self.new) ≡ D.armed (disk_in self.old) }
     {
         if !self.ready {
@@ -179,15 +191,21 @@ impl<D: Disk> StableCell for GateCell<D> {
     }
 
     fn put(&mut self, new: &[u8]) -> Result<(), CellFault>
-        ensures ok { OnOk result (⟦<GateCell<D> as StableCell>⟧.value self.new ≡ new.now) }
-        ensures any_moment { LeavesOnly ⟦<GateCell<D> as StableCell>⟧.moment ⟦<GateCell<D> as StableCell>⟧.left_since self.old self.new (λ left. ⟦<GateCell<D> as StableCell>⟧.may_leave self.old left ⊎ (left ≡ Some new.now)) }
-        ensures same_room { ⟦<GateCell<D> as StableCell>⟧.room self.new ≡ ⟦<GateCell<D> as StableCell>⟧.room self.old }
-        ensures too_large { IsErrOf result CellFault.TooLarge ↔ (IsTrue (⟦<GateCell<D> as StableCell>⟧.is_ready self.old) × (⟦<GateCell<D> as StableCell>⟧.room self.old < length new.now)) }
-        ensures unchanged { IsErrOf result CellFault.NoMemory ⊎ IsErrOf result CellFault.TooLarge ⊎ IsErrOf result CellFault.Reopen → self.new ≡ self.old }
-        ensures cause { HasCause (⟦<GateCell<D> as StableCell>⟧.failure_count self.old) (⟦<GateCell<D> as StableCell>⟧.failure_count self.new) (⟦<GateCell<D> as StableCell>⟧.is_ready self.old) (⟦<GateCell<D> as StableCell>⟧.is_ready self.new) result }
+        ensures ok { OnOk result (⟦<Self as StableCell>⟧.value self.new ≡ new.now) }
+        ensures any_moment { LeavesOnly ⟦<Self as StableCell>⟧.moment ⟦<Self as StableCell>⟧.left_since
+            self.old self.new (λ left. ⟦<Self as StableCell>⟧.may_leave self.old left ⊎ (left ≡ Some new.now)) }
+        ensures same_room { ⟦<Self as StableCell>⟧.room self.new ≡ ⟦<Self as StableCell>⟧.room self.old }
+        ensures too_large { IsErrOf result CellFault.TooLarge
+            ↔ (IsTrue (⟦<Self as StableCell>⟧.is_ready self.old) × (⟦<Self as StableCell>⟧.room self.old < length new.now)) }
+        ensures unchanged { (IsErrOf result CellFault.NoMemory ⊎ IsErrOf result CellFault.TooLarge ⊎ IsErrOf result CellFault.Reopen)
+            → self.new ≡ self.old }
+        ensures cause { HasCause
+            (⟦<Self as StableCell>⟧.failure_count self.old) (⟦<Self as StableCell>⟧.failure_count self.new)
+            (⟦<Self as StableCell>⟧.is_ready self.old) (⟦<Self as StableCell>⟧.is_ready self.new) result }
 
         // Four device calls, after which the gate names the other area.
-        ensures calls { OnOk result (D.call_count (disk_in self.new) ≡ count_after_calls 4 (D.call_count (disk_in self.old))) }
+        ensures calls { OnOk result (D.call_count (disk_in self.new)
+            ≡ count_after_calls 4 (D.call_count (disk_in self.old))) }
         ensures gate { OnOk result (IsGate (other_area (D.content (disk_in self.old))) (D.content (disk_in self.new))) }
         ensures armed { D.armed (disk_in self.new) ≡ D.armed (disk_in self.old) }
     {
@@ -210,11 +228,14 @@ impl<D: Disk> StableCell for GateCell<D> {
     }
 
     fn arm(&mut self, fault: ArmedFault) -> Result<(), AllocError>
-        ensures same_value { ⟦<GateCell<D> as StableCell>⟧.value self.new ≡ ⟦<GateCell<D> as StableCell>⟧.value self.old }
-        ensures any_moment { LeavesOnly ⟦<GateCell<D> as StableCell>⟧.moment ⟦<GateCell<D> as StableCell>⟧.left_since self.old self.new (⟦<GateCell<D> as StableCell>⟧.may_leave self.old) }
-        ensures same_room { ⟦<GateCell<D> as StableCell>⟧.room self.new ≡ ⟦<GateCell<D> as StableCell>⟧.room self.old }
-        ensures same_readiness { ⟦<GateCell<D> as StableCell>⟧.is_ready self.new ≡ ⟦<GateCell<D> as StableCell>⟧.is_ready self.old }
-        ensures failures { ⟦<GateCell<D> as StableCell>⟧.failure_count self.new ≡ ⟦<GateCell<D> as StableCell>⟧.failure_count self.old }
+        ensures same_value { ⟦<Self as StableCell>⟧.value self.new ≡ ⟦<Self as StableCell>⟧.value self.old }
+        ensures any_moment { LeavesOnly ⟦<Self as StableCell>⟧.moment ⟦<Self as StableCell>⟧.left_since
+            self.old self.new (⟦<Self as StableCell>⟧.may_leave self.old) }
+        ensures same_room { ⟦<Self as StableCell>⟧.room self.new ≡ ⟦<Self as StableCell>⟧.room self.old }
+        ensures same_readiness { ⟦<Self as StableCell>⟧.is_ready self.new
+            ≡ ⟦<Self as StableCell>⟧.is_ready self.old }
+        ensures failures { ⟦<Self as StableCell>⟧.failure_count self.new
+            ≡ ⟦<Self as StableCell>⟧.failure_count self.old }
         ensures calls { D.call_count (disk_in self.new) ≡ D.call_count (disk_in self.old) }
 
         // It is handed on to the disk.
@@ -225,11 +246,14 @@ impl<D: Disk> StableCell for GateCell<D> {
     }
 
     fn recount(&mut self)
-        ensures same_value { ⟦<GateCell<D> as StableCell>⟧.value self.new ≡ ⟦<GateCell<D> as StableCell>⟧.value self.old }
-        ensures any_moment { LeavesOnly ⟦<GateCell<D> as StableCell>⟧.moment ⟦<GateCell<D> as StableCell>⟧.left_since self.old self.new (⟦<GateCell<D> as StableCell>⟧.may_leave self.old) }
-        ensures same_room { ⟦<GateCell<D> as StableCell>⟧.room self.new ≡ ⟦<GateCell<D> as StableCell>⟧.room self.old }
-        ensures same_readiness { ⟦<GateCell<D> as StableCell>⟧.is_ready self.new ≡ ⟦<GateCell<D> as StableCell>⟧.is_ready self.old }
-        ensures failures { ⟦<GateCell<D> as StableCell>⟧.failure_count self.new ≡ ⟦<GateCell<D> as StableCell>⟧.failure_count self.old }
+        ensures same_value { ⟦<Self as StableCell>⟧.value self.new ≡ ⟦<Self as StableCell>⟧.value self.old }
+        ensures any_moment { LeavesOnly ⟦<Self as StableCell>⟧.moment ⟦<Self as StableCell>⟧.left_since
+            self.old self.new (⟦<Self as StableCell>⟧.may_leave self.old) }
+        ensures same_room { ⟦<Self as StableCell>⟧.room self.new ≡ ⟦<Self as StableCell>⟧.room self.old }
+        ensures same_readiness { ⟦<Self as StableCell>⟧.is_ready self.new
+            ≡ ⟦<Self as StableCell>⟧.is_ready self.old }
+        ensures failures { ⟦<Self as StableCell>⟧.failure_count self.new
+            ≡ ⟦<Self as StableCell>⟧.failure_count self.old }
         ensures calls { D.call_count (disk_in self.new) ≡ 0 }
         ensures armed { D.armed (disk_in self.new) ≡ D.armed (disk_in self.old) }
     {

@@ -12,6 +12,10 @@ pub record Elapses {C : Type 0} (before now : ℕ) (past since : ℕ → C → T
   pub nothing_else : (t : ℕ) (c : C) → t ≤ before → since t c → past t c ⊎ may_leave c
   pub keeps : (t : ℕ) (c : C) → t ≤ before → past t c → since t c
 
+-- the same, from one state of a device to a later one
+abbrev pub TimePasses : {D C : Type 0} → (D → ℕ) → (D → ℕ → C → Type 0) → (D → C → Type 0) → D → D → Type 0
+TimePasses moment left_since may_leave old new = Elapses (moment old) (moment new) (left_since old) (left_since new) (may_leave new)
+
 -- A crash at any moment since `old` leaves what has P.
 pub record LeavesOnly {D C : Type 0} (moment : D → ℕ) (left_since : D → ℕ → C → Type 0) (old new : D) (P : C → Type 0) : Type 0 where
   pub later : moment old ≤ moment new

@@ -1,7 +1,7 @@
 // A disk by what a read gives and what a crash may leave, with a clock.
 ghost use Rattle.std.specs.Prelude.{◌≡◌, ◌+◌, ◌*◌, ◌^◌, ◌<◌, ◌≤◌, ◌↔◌, List, [], ◌∷◌, ◌++◌, ℕ, length, take, drop, OnOk, OnErr, IsErrOf};
 ghost use Rattle.sector_disk.specs.declared.disk.ArmedFault.{ArmedFault};
-ghost use Rattle.sector_disk.specs.Clock.{Only, Elapses};
+ghost use Rattle.sector_disk.specs.Clock.{Only, TimePasses};
 ghost use Rattle.sector_disk.specs.Disk.{IsInRange, SameOutside, IsOverwritten, Follows, HasCause, count_after};
 
 use crate::fault::DiskFault;
@@ -64,12 +64,14 @@ pub trait Disk: Drop {
     /// Reads whole sectors, from the sector `first` on. Refuses with `Device` (20) and `Range` (21).
     /// No bytes are in range where `first` is at most the number of sectors.
     fn read(&mut self, first: usize, into: &mut [u8]) -> Result<(), DiskFault>
-        ensures range { IsErrOf result DiskFault.Range ↔ ¬ (IsInRange (sector_count self.old) first (length into.old)) }
+        ensures range { IsErrOf result DiskFault.Range
+            ↔ ¬ (IsInRange (sector_count self.old) first (length into.old)) }
         ensures out_of_range { IsErrOf result DiskFault.Range → self.new ≡ self.old }
-        ensures bytes { OnOk result (into.new ≡ take (length into.old) (drop (512 * first) (content self.old))) }
+        ensures bytes { OnOk result
+            (into.new ≡ take (length into.old) (drop (512 * first) (content self.old))) }
         ensures content { content self.new ≡ content self.old }
         ensures crash { (c : List ℕ) → may_leave self.new c → may_leave self.old c }
-        ensures time { Elapses (moment self.old) (moment self.new) (left_since self.old) (left_since self.new) (may_leave self.new) }
+        ensures time { TimePasses moment left_since may_leave self.old self.new }
         ensures cause { HasCause (failure_count self.old) (failure_count self.new) result }
         ensures counted { call_count self.new ≡ count_after result (call_count self.old) }
         ensures size { sector_count self.new ≡ sector_count self.old }
@@ -78,12 +80,14 @@ pub trait Disk: Drop {
     /// Writes whole sectors, from the sector `first` on. Until a sync, a crash may leave any bytes in them,
     /// also where the write failed. Refuses with `Device` (20) and `Range` (21).
     fn write(&mut self, first: usize, bytes: &[u8]) -> Result<(), DiskFault>
-        ensures range { IsErrOf result DiskFault.Range ↔ ¬ (IsInRange (sector_count self.old) first (length bytes.now)) }
+        ensures range { IsErrOf result DiskFault.Range
+            ↔ ¬ (IsInRange (sector_count self.old) first (length bytes.now)) }
         ensures out_of_range { IsErrOf result DiskFault.Range → self.new ≡ self.old }
         ensures written { OnOk result (IsOverwritten (content self.old) (512 * first) bytes.now (content self.new)) }
         ensures elsewhere { SameOutside (512 * first) (length bytes.now) (content self.old) (content self.new) }
-        ensures crash { Follows (SameOutside (512 * first) (length bytes.now)) (may_leave self.old) (may_leave self.new) }
-        ensures time { Elapses (moment self.old) (moment self.new) (left_since self.old) (left_since self.new) (may_leave self.new) }
+        ensures crash { Follows (SameOutside (512 * first) (length bytes.now))
+            (may_leave self.old) (may_leave self.new) }
+        ensures time { TimePasses moment left_since may_leave self.old self.new }
         ensures cause { HasCause (failure_count self.old) (failure_count self.new) result }
         ensures counted { call_count self.new ≡ count_after result (call_count self.old) }
         ensures size { sector_count self.new ≡ sector_count self.old }
@@ -96,7 +100,7 @@ pub trait Disk: Drop {
         ensures durable { OnOk result (Only (content self.old) (may_leave self.new)) }
         ensures content { content self.new ≡ content self.old }
         ensures crash { (c : List ℕ) → may_leave self.new c → may_leave self.old c }
-        ensures time { Elapses (moment self.old) (moment self.new) (left_since self.old) (left_since self.new) (may_leave self.new) }
+        ensures time { TimePasses moment left_since may_leave self.old self.new }
         ensures cause { HasCause (failure_count self.old) (failure_count self.new) result }
         ensures counted { call_count self.new ≡ count_after result (call_count self.old) }
         ensures size { sector_count self.new ≡ sector_count self.old }
@@ -107,7 +111,7 @@ pub trait Disk: Drop {
     fn crash(&mut self, fill: Option<u8>)
         ensures left { may_leave self.old (content self.new) }
         ensures durable { Only (content self.new) (may_leave self.new) }
-        ensures time { Elapses (moment self.old) (moment self.new) (left_since self.old) (left_since self.new) (may_leave self.new) }
+        ensures time { TimePasses moment left_since may_leave self.old self.new }
         ensures failures { failure_count self.new ≡ failure_count self.old }
         ensures counted { call_count self.new ≡ call_count self.old }
         ensures size { sector_count self.new ≡ sector_count self.old }
@@ -117,7 +121,7 @@ pub trait Disk: Drop {
     fn arm(&mut self, fault: ArmedFault) -> Result<(), AllocError>
         ensures content { content self.new ≡ content self.old }
         ensures crash { (c : List ℕ) → may_leave self.new c → may_leave self.old c }
-        ensures time { Elapses (moment self.old) (moment self.new) (left_since self.old) (left_since self.new) (may_leave self.new) }
+        ensures time { TimePasses moment left_since may_leave self.old self.new }
         ensures failures { failure_count self.new ≡ failure_count self.old }
         ensures counted { call_count self.new ≡ call_count self.old }
         ensures size { sector_count self.new ≡ sector_count self.old }
@@ -128,7 +132,7 @@ pub trait Disk: Drop {
     fn recount(&mut self)
         ensures content { content self.new ≡ content self.old }
         ensures crash { (c : List ℕ) → may_leave self.new c → may_leave self.old c }
-        ensures time { Elapses (moment self.old) (moment self.new) (left_since self.old) (left_since self.new) (may_leave self.new) }
+        ensures time { TimePasses moment left_since may_leave self.old self.new }
         ensures failures { failure_count self.new ≡ failure_count self.old }
         ensures counted { call_count self.new ≡ 0 }
         ensures size { sector_count self.new ≡ sector_count self.old }

@@ -1,7 +1,7 @@
 // A disk in memory, which obeys armed faults.
 ghost use Rattle.std.specs.Prelude.{◌≡◌, ◌⊎◌, ◌+◌, ◌*◌, ◌/◌, ◌^◌, ◌<◌, ◌≤◌, ◌++◌, ◌↔◌, ℕ, Bool, List, [], ◌∷◌, false, length, take, drop, replicate, IsTrue, IsSome, IfOk, OnOk, OnErr, IsErrOf};
 ghost use Rattle.std.proofs.Common.{inl};
-ghost use Rattle.sector_disk.specs.Clock.{Only, Elapses};
+ghost use Rattle.sector_disk.specs.Clock.{Only, TimePasses};
 ghost use Rattle.sector_disk.specs.Disk.{IsInRange, SameOutside, IsOverwritten, Follows, HasCause, count_after};
 ghost use Rattle.sector_disk.specs.Images.{MayLeave, MightHaveLeft, only_now, same_bytes, IsSettledBy};
 
@@ -70,7 +70,8 @@ impl MemDisk {
         requires { 512 * sectors < 2 ^ 64 }
         ensures content { IfOk result (λ disk. content_of disk ≡ replicate (512 * sectors) 0) }
         ensures settled { IfOk result (λ disk. doubt_of disk ≡ replicate sectors false) }
-        ensures faults { IfOk result (λ disk. faults_of disk ≡ record { armed = []; calls = 0; failures = 0; fill = 0 }) }
+        ensures faults { IfOk result
+            (λ disk. faults_of disk ≡ record { armed = []; calls = 0; failures = 0; fill = 0 }) }
     {
         Ok(MemDisk {
             bytes: Vec::from_elem(alloc, 0, SECTOR_BYTES * sectors)?,
@@ -125,20 +126,25 @@ impl Disk for MemDisk {
     }
 
     fn read(&mut self, first: usize, into: &mut [u8]) -> Result<(), DiskFault>
-        ensures range { IsErrOf result DiskFault.Range ↔ ¬ (IsInRange (sectors_of self.old) first (length into.old)) }
+        ensures range { IsErrOf result DiskFault.Range
+            ↔ ¬ (IsInRange (sectors_of self.old) first (length into.old)) }
         ensures out_of_range { IsErrOf result DiskFault.Range → self.new ≡ self.old }
-        ensures bytes { OnOk result (into.new ≡ take (length into.old) (drop (512 * first) (content_of self.old))) }
+        ensures bytes { OnOk result
+            (into.new ≡ take (length into.old) (drop (512 * first) (content_of self.old))) }
         ensures content { content_of self.new ≡ content_of self.old }
         ensures crash { (c : List ℕ) → may_leave_of self.new c → may_leave_of self.old c }
-        ensures time { Elapses (moment_of self.old) (moment_of self.new) (left_since_of self.old) (left_since_of self.new) (may_leave_of self.new) }
+        ensures time { TimePasses moment_of left_since_of may_leave_of self.old self.new }
         ensures cause { HasCause (failures_of self.old) (failures_of self.new) result }
         ensures counted { calls_of self.new ≡ count_after result (calls_of self.old) }
         ensures size { sectors_of self.new ≡ sectors_of self.old }
         ensures armed { armed_of self.new ≡ armed_of self.old }
 
         // It fails exactly where a fault is armed.
-        ensures fails { IsErrOf result DiskFault.Device ↔ (IsInRange (sectors_of self.old) first (length into.old) × IsSome (fault_met (faults_of self.old))) }
-        ensures faults { ¬ (IsErrOf result DiskFault.Range) → faults_of self.new ≡ after_call (faults_of self.old) }
+        ensures fails { IsErrOf result DiskFault.Device
+            ↔ (IsInRange (sectors_of self.old) first (length into.old)
+            × IsSome (fault_met (faults_of self.old))) }
+        ensures faults { ¬ (IsErrOf result DiskFault.Range)
+            → faults_of self.new ≡ after_call (faults_of self.old) }
         ensures doubt { doubt_of self.new ≡ doubt_of self.old }
     {
         if !is_in_range(self.doubt.flags.len(), first, into.len()) {
@@ -153,22 +159,28 @@ impl Disk for MemDisk {
     }
 
     fn write(&mut self, first: usize, bytes: &[u8]) -> Result<(), DiskFault>
-        ensures range { IsErrOf result DiskFault.Range ↔ ¬ (IsInRange (sectors_of self.old) first (length bytes.now)) }
+        ensures range { IsErrOf result DiskFault.Range
+            ↔ ¬ (IsInRange (sectors_of self.old) first (length bytes.now)) }
         ensures out_of_range { IsErrOf result DiskFault.Range → self.new ≡ self.old }
         ensures written { OnOk result (IsOverwritten (content_of self.old) (512 * first) bytes.now (content_of self.new)) }
         ensures elsewhere { SameOutside (512 * first) (length bytes.now) (content_of self.old) (content_of self.new) }
-        ensures crash { Follows (SameOutside (512 * first) (length bytes.now)) (may_leave_of self.old) (may_leave_of self.new) }
-        ensures time { Elapses (moment_of self.old) (moment_of self.new) (left_since_of self.old) (left_since_of self.new) (may_leave_of self.new) }
+        ensures crash { Follows (SameOutside (512 * first) (length bytes.now))
+            (may_leave_of self.old) (may_leave_of self.new) }
+        ensures time { TimePasses moment_of left_since_of may_leave_of self.old self.new }
         ensures cause { HasCause (failures_of self.old) (failures_of self.new) result }
         ensures counted { calls_of self.new ≡ count_after result (calls_of self.old) }
         ensures size { sectors_of self.new ≡ sectors_of self.old }
         ensures armed { armed_of self.new ≡ armed_of self.old }
 
         // It fails exactly where a fault is armed. Its range is then in doubt, and the content is as it was.
-        ensures fails { IsErrOf result DiskFault.Device ↔ (IsInRange (sectors_of self.old) first (length bytes.now) × IsSome (fault_met (faults_of self.old))) }
+        ensures fails { IsErrOf result DiskFault.Device
+            ↔ (IsInRange (sectors_of self.old) first (length bytes.now)
+            × IsSome (fault_met (faults_of self.old))) }
         ensures failed { IsErrOf result DiskFault.Device → content_of self.new ≡ content_of self.old }
-        ensures faults { ¬ (IsErrOf result DiskFault.Range) → faults_of self.new ≡ after_call (faults_of self.old) }
-        ensures doubt { ¬ (IsErrOf result DiskFault.Range) → doubt_of self.new ≡ marked first (length bytes.now / 512) (doubt_of self.old) }
+        ensures faults { ¬ (IsErrOf result DiskFault.Range)
+            → faults_of self.new ≡ after_call (faults_of self.old) }
+        ensures doubt { ¬ (IsErrOf result DiskFault.Range)
+            → doubt_of self.new ≡ marked first (length bytes.now / 512) (doubt_of self.old) }
     {
         if !is_in_range(self.doubt.flags.len(), first, bytes.len()) {
             return Err(DiskFault::Range);
@@ -187,7 +199,7 @@ impl Disk for MemDisk {
         ensures durable { OnOk result (Only (content_of self.old) (may_leave_of self.new)) }
         ensures content { content_of self.new ≡ content_of self.old }
         ensures crash { (c : List ℕ) → may_leave_of self.new c → may_leave_of self.old c }
-        ensures time { Elapses (moment_of self.old) (moment_of self.new) (left_since_of self.old) (left_since_of self.new) (may_leave_of self.new) }
+        ensures time { TimePasses moment_of left_since_of may_leave_of self.old self.new }
         ensures cause { HasCause (failures_of self.old) (failures_of self.new) result }
         ensures counted { calls_of self.new ≡ count_after result (calls_of self.old) }
         ensures size { sectors_of self.new ≡ sectors_of self.old }
@@ -210,14 +222,15 @@ impl Disk for MemDisk {
     fn crash(&mut self, fill: Option<u8>)
         ensures left { may_leave_of self.old (content_of self.new) }
         ensures durable { Only (content_of self.new) (may_leave_of self.new) }
-        ensures time { Elapses (moment_of self.old) (moment_of self.new) (left_since_of self.old) (left_since_of self.new) (may_leave_of self.new) }
+        ensures time { TimePasses moment_of left_since_of may_leave_of self.old self.new }
         ensures failures { failures_of self.new ≡ failures_of self.old }
         ensures counted { calls_of self.new ≡ calls_of self.old }
         ensures size { sectors_of self.new ≡ sectors_of self.old }
         ensures armed { armed_of self.new ≡ armed_of self.old }
 
         // Each sector in doubt holds copies of the fill byte: the one given, or that of the last fault met, or 0.
-        ensures settled { IsSettledBy (fill_or fill (faults_of self.old).fill) (doubt_of self.old) (content_of self.old) (content_of self.new) }
+        ensures settled { IsSettledBy (fill_or fill (faults_of self.old).fill)
+            (doubt_of self.old) (content_of self.old) (content_of self.new) }
         ensures faults { faults_of self.new ≡ record (faults_of self.old) { fill = 0 } }
         ensures doubt { NoneInDoubt (doubt_of self.new) }
     {
@@ -234,14 +247,15 @@ impl Disk for MemDisk {
     fn arm(&mut self, fault: ArmedFault) -> Result<(), AllocError>
         ensures content { content_of self.new ≡ content_of self.old }
         ensures crash { (c : List ℕ) → may_leave_of self.new c → may_leave_of self.old c }
-        ensures time { Elapses (moment_of self.old) (moment_of self.new) (left_since_of self.old) (left_since_of self.new) (may_leave_of self.new) }
+        ensures time { TimePasses moment_of left_since_of may_leave_of self.old self.new }
         ensures failures { failures_of self.new ≡ failures_of self.old }
         ensures counted { calls_of self.new ≡ calls_of self.old }
         ensures size { sectors_of self.new ≡ sectors_of self.old }
         ensures armed { OnOk result (armed_of self.new ≡ armed_of self.old ++ fault ∷ []) }
         ensures not_armed { OnErr result (armed_of self.new ≡ armed_of self.old) }
 
-        ensures faults { OnOk result (faults_of self.new ≡ record (faults_of self.old) { armed = (faults_of self.old).armed ++ fault ∷ [] }) }
+        ensures faults { OnOk result
+            (faults_of self.new ≡ record (faults_of self.old) { armed = (faults_of self.old).armed ++ fault ∷ [] }) }
         ensures same_faults { OnErr result (faults_of self.new ≡ faults_of self.old) }
         ensures doubt { doubt_of self.new ≡ doubt_of self.old }
     {
@@ -251,7 +265,7 @@ impl Disk for MemDisk {
     fn recount(&mut self)
         ensures content { content_of self.new ≡ content_of self.old }
         ensures crash { (c : List ℕ) → may_leave_of self.new c → may_leave_of self.old c }
-        ensures time { Elapses (moment_of self.old) (moment_of self.new) (left_since_of self.old) (left_since_of self.new) (may_leave_of self.new) }
+        ensures time { TimePasses moment_of left_since_of may_leave_of self.old self.new }
         ensures failures { failures_of self.new ≡ failures_of self.old }
         ensures counted { calls_of self.new ≡ 0 }
         ensures size { sectors_of self.new ≡ sectors_of self.old }

@@ -57,7 +57,8 @@ impl FaultSchedule {
     }
 
     pub fn arm(&mut self, fault: ArmedFault) -> Result<(), AllocError>
-        ensures ok { OnOk result (state_of self.new ≡ record (state_of self.old) { armed = self.old.armed.items ++ fault ∷ [] }) }
+        ensures ok { OnOk result (state_of self.new
+            ≡ record (state_of self.old) { armed = self.old.armed.items ++ fault ∷ [] }) }
         ensures err { OnErr result (state_of self.new ≡ state_of self.old) }
     {
         self.armed.push(fault)?;
