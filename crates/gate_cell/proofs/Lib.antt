@@ -1,0 +1,4 @@
+mod Areas
+mod Lift
+mod OnePut
+mod Found

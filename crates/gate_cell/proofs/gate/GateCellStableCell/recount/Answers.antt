@@ -1,0 +1,9 @@
+use Rattle.gate_cell.proofs.Lift.{lifted_call}
+use Rattle.gate_cell.proofs.gate.GateCellStableCell.recount.Goals as goal
+
+pub returns-clause-any_moment : goal.returns-clause-any_moment
+returns-clause-any_moment g c =
+    let D = g.D.Disk in
+    let old = c.args.self.now.disk in
+    let up = lifted_call D.may_leave D.moment D.left_since D.sector_count old c.recount.new.self c.recount.ensures.size (g.met.D.Disk.only_now old) c.recount.ensures.time c.recount.ensures.crash in
+    record { later = up.later; each = up.each; before = up.before }

@@ -1,0 +1,4 @@
+pub mod CellFault
+pub mod Layout
+pub mod Stands
+pub mod GateCell

@@ -1,0 +1,41 @@
+-- The contents of a disk, and the values for which they stand.
+use Rattle.std.specs.Prelude.{◌≡◌, ℕ, ◌+◌, ◌-◌, ◌^◌, ◌≤◌, ◌<◌, min, if◌then◌else◌, List, Option, Some, None}
+use Rattle.sector_disk.specs.Clock.{LeavesOnly}
+use Rattle.std.proofs.Common.{sym, ◌∙◌, ap, subst}
+use Rattle.std.proofs.lemmas.Bool.{le-leb, lt-leb}
+use Rattle.gate_cell.specs.Layout.{room_on, length_in, value_in, in_area, named, stands_for, value_on, IsSettled}
+
+-- a crash of this disk now may leave what stands for this
+abbrev pub MayStand : {D : Type 0} → (D → List ℕ → Type 0) → (D → ℕ) → D → Option (List ℕ) → Type 0
+MayStand may_leave size disk left = (c : List ℕ) × may_leave disk c × (stands_for (size disk) c ≡ left)
+
+-- a crash at some moment since t might have left what stands for this
+abbrev pub StoodSince : {D : Type 0} → (D → ℕ → List ℕ → Type 0) → (D → ℕ) → D → ℕ → Option (List ℕ) → Type 0
+StoodSince left_since size disk t left = (c : List ℕ) × left_since disk t c × (stands_for (size disk) c ≡ left)
+
+-- calls that change nothing that reads give: a crash at any moment of them leaves what one before them might have left
+pub record Looks {D : Type 0} (content : D → List ℕ) (may_leave : D → List ℕ → Type 0) (moment : D → ℕ) (left_since : D → ℕ → List ℕ → Type 0) (size : D → ℕ) (old new : D) : Type 0 where
+  pub same : content new ≡ content old
+  pub crash : (c : List ℕ) → may_leave new c → may_leave old c
+  pub any_moment : LeavesOnly moment left_since old new (may_leave old)
+  pub same_size : size new ≡ size old
+
+-- the count of device calls after so many more of them: it stops at 2^63 - 1
+abbrev pub count_after_calls : ℕ → ℕ → ℕ
+count_after_calls more calls = min (calls + more) (2 ^ 63 - 1)
+
+pub in_area_fits : (size : ℕ) (bytes : List ℕ) → length_in bytes ≤ room_on size → in_area size bytes ≡ Some (value_in bytes)
+in_area_fits size bytes le = ap (λ b. if b then Some (value_in bytes) else None) (le-leb (length_in bytes) (room_on size) le)
+
+pub in_area_none : (size : ℕ) (bytes : List ℕ) → room_on size < length_in bytes → in_area size bytes ≡ None
+in_area_none size bytes lt = ap (λ b. if b then Some (value_in bytes) else None) (lt-leb (length_in bytes) (room_on size) lt)
+
+-- a settled disk stands for its value
+pub settled_value : (seen : List ℕ) (may_leave : List ℕ → Type 0) (size active value_len : ℕ) → IsSettled seen may_leave size active value_len → stands_for size seen ≡ Some (value_on size seen)
+settled_value seen may_leave size active value_len settled = in_area_fits size (named size seen) (subst (λ n. n ≤ room_on size) (sym settled.long) settled.fits)
+
+-- and a crash leaves nothing else
+pub only_value : (seen : List ℕ) (may_leave : List ℕ → Type 0) (size active value_len : ℕ) → IsSettled seen may_leave size active value_len
+    → (left : _) → (c : List ℕ) × may_leave c × (stands_for size c ≡ left) → left ≡ Some (value_on size seen)
+only_value seen may_leave size active value_len settled left might =
+    sym might.2 ∙ ap (stands_for size) (settled.durable might.0 might.1) ∙ settled_value seen may_leave size active value_len settled

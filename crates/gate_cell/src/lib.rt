@@ -1,0 +1,18 @@
+//! One value that outlives a crash at any moment.
+//!
+//! `StableCell` is the model: a cell holds one value, and a crash at any moment of a `put` leaves the old value or the
+//! new one. `GateCell` meets it over any disk.
+#![tactic(auto)]
+
+mod access;
+mod cell;
+mod fault;
+mod frame;
+mod gate;
+
+pub use cell::StableCell;
+pub use fault::CellFault;
+pub use gate::GateCell;
+
+#[cfg(test)]
+mod tests;

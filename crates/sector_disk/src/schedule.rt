@@ -1,0 +1,85 @@
+// The counts of a disk's calls and failures, and the failures that are to come.
+ghost use Rattle.std.specs.Prelude.{◌≡◌, ◌-◌, ◌^◌, ◌≤◌, ◌∷◌, [], ◌++◌, ◌↔◌, IsTrue, IsSome, OnOk, OnErr, find, ◌==◌};
+ghost use Rattle.sector_disk.specs.Schedule.{fault_at};
+
+use crate::disk::ArmedFault;
+use std::alloc::{AllocError, Global};
+
+const COUNT_LIMIT: u64 = (1 << 63) - 1;
+
+/// Faults armed for device calls, by the count of calls since the last recount.
+#[derive(Drop)]
+pub struct FaultSchedule {
+    pub armed: Vec<ArmedFault>,
+    pub calls: u64,
+    pub failures: u64,
+    /// The byte by which a crash fills, unless it is given one: that of the last fault met since the last crash, or 0.
+    pub fill: u8,
+    ghost calls_countable: { calls ≤ 2 ^ 63 - 1 },
+    ghost failures_countable: { failures ≤ 2 ^ 63 - 1 },
+}
+
+// The first fault that is armed for the call with this count.
+fn armed_for(armed: &[ArmedFault], call: u64) -> Option<ArmedFault>
+    ensures { result ≡ find (λ fault. fault.call == call) armed.now }
+{
+    for fault in armed {
+        if fault.call == call {
+            return Some(*fault);
+        }
+    }
+    None
+}
+
+fn fault_due(armed: &[ArmedFault], call: u64, failures: u64) -> Option<ArmedFault>
+    ensures { result ≡ fault_at armed.now call failures }
+{
+    if failures < COUNT_LIMIT {
+        armed_for(armed, call)
+    } else {
+        None
+    }
+}
+
+impl FaultSchedule {
+    ghost use Rattle.sector_disk.specs.FaultSchedule.{state_of};
+    ghost use Rattle.sector_disk.specs.Schedule.{fault_met, after_call};
+
+    pub fn new(alloc: Global) -> FaultSchedule
+        ensures { state_of result ≡ record { armed = []; calls = 0; failures = 0; fill = 0 } }
+    {
+        FaultSchedule {
+            armed: Vec::new(alloc),
+            calls: 0,
+            failures: 0,
+            fill: 0,
+        }
+    }
+
+    pub fn arm(&mut self, fault: ArmedFault) -> Result<(), AllocError>
+        ensures ok { OnOk result (state_of self.new
+            ≡ record (state_of self.old) { armed = self.old.armed.items ++ fault ∷ [] }) }
+        ensures err { OnErr result (state_of self.new ≡ state_of self.old) }
+    {
+        self.armed.push(fault)?;
+        Ok(())
+    }
+
+    /// Counts a device call, and says whether it fails.
+    pub fn count_call(&mut self) -> bool
+        ensures fails { IsTrue result ↔ IsSome (fault_met (state_of self.old)) }
+        ensures counted { state_of self.new ≡ after_call (state_of self.old) }
+    {
+        if self.calls < COUNT_LIMIT {
+            self.calls += 1;
+        }
+        match fault_due(&self.armed, self.calls, self.failures) {
+            Some(fault) => {
+                self.failures += 1;
+                self.fill = fault.fill;
+                true
+            }
+            None => false,
+        }
+    }
+}
