@@ -1,18 +1,14 @@
 -- What is in the grammar is read, whatever tokens follow it that can't be part of it.
-use Rattle.std.proofs.Common.{◌≡◌, ℕ, zero, suc, ◌+◌, ◌<◌, ◌≤◌, ◌⊎◌, inl, inr, Bool, true, false, cond, ◌||◌, List, [], ◌∷◌, ◌++◌, length, Option, Some, None, Result, Ok, Err, ℤ, pos, neg_ℤ, refl, sym, ap, subst, ◌∙◌, append_assoc, arith, length-append}
-use Rattle.std.specs.Prelude.{◌==◌}
-use Rattle.std.specs.Str.{bytes_eq}
+use Rattle.std.proofs.Common.{◌≡◌, ℕ, zero, suc, ◌<◌, ◌≤◌, inl, inr, Bool, true, false, List, [], ◌∷◌, ◌++◌, length, Option, Some, None, Ok, ℤ, refl, sym, ap, subst, ◌∙◌, append_assoc, arith, length-append}
 use Rattle.std.proofs.lemmas.Slice.Eq.{bytes_eq-Decides}
 use Rattle.std.proofs.lemmas.List.{append-nil}
 use Rattle.net_text.specs.Names.{NameTree}
 use Rattle.net_text.specs.Spellings.{keyword_spelling, symbol_spelling}
-use Rattle.net_text.specs.Trees.{ExprTree, LiteralTree, VariableTree, BinaryTree, BlockTree, NothingTree, GetTree, AssignTree, PutTree, LoopTree, ProcessTree, DeclarationTree, ChannelTree, ProcessDeclared}
+use Rattle.net_text.specs.Trees.{ExprTree, LiteralTree, VariableTree, BinaryTree, BlockTree, NothingTree, GetTree, AssignTree, PutTree, LoopTree, ProcessTree, DeclarationTree}
 use Rattle.net_text.specs.Tokens.{Lexeme}
-use Rattle.net_text.specs.Grammar.{◌>>◌, IsWordOn, IsWord, IsSymbol, IsName, IsNumberOn, IsNumber, IsNothing, IsEach, IsFactor, sum_of, IsAddend, IsExpr, IsGet, IsAssign, IsPut, IsStatements, IsBlock, IsInitial, IsVariable, IsLoop, IsProcess, first_word, IsChannel, IsText}
-use Rattle.net_text.specs.Reading.{◌>>=◌, Read, has_word, has_symbol, is_name, begins, word_at, symbol_at, name_at, number_in, number_at, factor_in, factor_at, many, addend_at, addends_at, sum_at, expr_at, get_at, assign_at, named_at, put_at, statement_at, starts_statement, append_block, joined, statements_at, block_at, value_at, initial_at, variable_at, variables_at, loop_at, HeadTree, head_at, process_at, channel_at, edition_at, text_at, no_more, whole_text}
-use Rattle.net_text.proofs.Sound.{IsSingle, single_first, then_first, symbol_first, word_first, name_first}
-use Rattle.net_text.specs.declared.parser.Stuck.{Stuck}
-use Rattle.net_text.specs.declared.parser.Stuck.TheVariants.{At, AtEnd}
+use Rattle.net_text.specs.Grammar.{◌>>◌, IsWordOn, IsWord, IsSymbol, IsName, IsNumberOn, IsEach, IsFactor, IsAddend, IsExpr, IsGet, IsAssign, IsPut, IsStatements, IsBlock, IsInitial, IsVariable, IsLoop, IsProcess, first_word, IsChannel, IsText}
+use Rattle.net_text.specs.Reading.{Read, has_word, has_symbol, is_name, begins, word_at, symbol_at, name_at, number_in, number_at, factor_in, factor_at, many, addend_at, addends_at, expr_at, get_at, assign_at, named_at, put_at, statement_at, starts_statement, joined, statements_at, block_at, value_at, initial_at, variable_at, variables_at, loop_at, head_at, process_at, channel_at, edition_at, text_at, whole_text}
+use Rattle.net_text.proofs.Sound.{IsSingle, single_first, then_first, symbol_first, word_first}
 use Rattle.net_text.specs.declared.token.Keyword.{Keyword}
 use Rattle.net_text.specs.declared.token.Keyword.TheVariants as keyword
 use Rattle.net_text.specs.declared.token.Symbol.{Symbol}

@@ -1,19 +1,18 @@
 -- What is read of an inputs text is in its grammar, and what is in the grammar is read.
-use Rattle.std.proofs.Common.{◌≡◌, ℕ, zero, suc, ◌+◌, ◌-◌, ◌^◌, ◌<◌, ◌≤◌, ◌⊎◌, inl, inr, Bool, true, false, cond, ◌||◌, ◌&&◌, eqb, ltb, leb, List, [], ◌∷◌, ◌++◌, length, take, drop, get_or, Option, Some, None, Result, Ok, Err, ℤ, pos, neg_ℤ, refl, sym, ap, subst, ◌∙◌, append_assoc, arith, length-append, length-take, length-drop, take-append-drop, add-zero, add-one, drop-cons, map}
-use Rattle.std.specs.Prelude.{◌==◌, slice_index, IsTrue}
+use Rattle.std.proofs.Common.{◌≡◌, ℕ, zero, suc, ◌+◌, ◌^◌, ◌<◌, ◌≤◌, ◌⊎◌, inl, inr, Bool, true, false, cond, ◌||◌, ltb, leb, List, [], ◌∷◌, ◌++◌, length, take, drop, get_or, Option, Some, None, Result, Ok, Err, ℤ, pos, neg_ℤ, refl, sym, ap, subst, ◌∙◌, arith, length-append, length-take, length-drop, take-append-drop, add-zero, drop-cons, map}
+use Rattle.std.specs.Prelude.{◌==◌, slice_index}
 use Rattle.std.specs.List.{list_all, slice_split}
 use Rattle.std.specs.Str.Lines.{strip_carriage_return}
 use Rattle.std.specs.Char.{is_ascii_digit}
-use Rattle.std.proofs.lemmas.Bool.{and_parts, and_from, eqb-true, eqb-false, eq-eqb, ne_eqb, cases_lt, cases_Bool, le-ltb, lt-ltb, le-leb, lt-leb, ltb-true, ltb-false, leb-true, both_ways, or_left, or_right, or_from, or_cases}
-use Rattle.std.proofs.lemmas.List.{append-nil, take_at, drop_at, drop-take, get_or-take}
-use Rattle.net_text.specs.Names.{NameTree}
-use Rattle.net_text.specs.Numbers.{is_numeral, numeral_value}
+use Rattle.std.proofs.lemmas.Bool.{and_parts, eqb-true, eqb-false, eq-eqb, ne_eqb, cases_lt, le-ltb, lt-ltb, le-leb, ltb-true, ltb-false, leb-true, both_ways, or_left, or_right, or_from, or_cases}
+use Rattle.std.proofs.lemmas.List.{take_at, drop_at, get_or-take}
+use Rattle.net_text.specs.Numbers.{numeral_value}
 use Rattle.net_text.specs.Spellings.{starts_word, continues_word, is_word}
 use Rattle.net_text.specs.Trees.{InputTree}
 use Rattle.net_text.specs.InputLines.{is_space, is_comment, IsBlank, IsItem, IsItems, IsEntry, AreEntries, lines_of, IsBadLine, IsInputsFault, IsInputsText, inputs_limit}
 use Rattle.net_text.specs.InputReading.{◌>>=◌, Fails, run, signed, sign_len, item_in, item_at, items_from, items_at, after_name, entry_at, with_entry, line_at, lines_at}
-use Rattle.net_text.proofs.Runs.{run_le, run_all, run_stops, run_whole, whole_run, run_is}
-use Rattle.net_text.proofs.Lexemes.{passes_at, numeral_digits, numeral_from_run, numeral_some, word_continues, word_from_run, first_of_word, first_of_numeral, digit_bounds, starts_bounds, starts_continues}
+use Rattle.net_text.proofs.Runs.{run_le, run_all, run_stops, run_whole, whole_run}
+use Rattle.net_text.proofs.Lexemes.{numeral_digits, numeral_from_run, numeral_some, word_continues, word_from_run, first_of_word, digit_bounds, starts_bounds, starts_continues}
 use Rattle.net_text.proofs.Items.{bind_ok, ok_is, item_shortens}
 use Rattle.net_text.specs.declared.fault.TextFault.{TextFault}
 use Rattle.net_text.specs.declared.fault.TextFault.TheVariants.{NoMemory, BadToken, Unexpected, NumberRange, TooLong}

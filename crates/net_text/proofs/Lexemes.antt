@@ -1,11 +1,10 @@
 -- What a lexeme's bytes are: printable ASCII, one at least.
-use Rattle.std.proofs.Common.{◌≡◌, ℕ, zero, suc, ◌+◌, ◌<◌, ◌≤◌, ◌⊎◌, Bool, true, false, cond, ◌&&◌, ◌||◌, eqb, ltb, leb, List, [], ◌∷◌, ◌++◌, length, take, drop, get_or, ap, sym, refl, ◌∙◌, arith, inl, inr, length-take}
-use Rattle.std.specs.Prelude.{count_by, IsTrue, ◌==◌}
+use Rattle.std.proofs.Common.{◌≡◌, ℕ, zero, suc, ◌<◌, ◌≤◌, ◌⊎◌, Bool, true, false, ◌&&◌, eqb, ltb, leb, List, [], ◌∷◌, length, take, get_or, ap, sym, refl, ◌∙◌, arith, inl, inr, length-take}
+use Rattle.std.specs.Prelude.{count_by, ◌==◌}
 use Rattle.std.specs.List.{list_all}
 use Rattle.std.specs.Int.{is_in_range}
-use Rattle.std.specs.Char.{is_ascii_digit, is_ascii_alphabetic, is_ascii_uppercase, is_ascii_lowercase}
-use Rattle.std.proofs.lemmas.Bool.{and_parts, or_cases, leb-true, eqb-true, ltb-true, le-leb, lt-ltb, and_from, both_ways, ne_eqb, eq-eqb, or_left, cases_lt}
-use Rattle.std.proofs.lemmas.List.Folds.{list_all_at}
+use Rattle.std.specs.Char.{is_ascii_digit, is_ascii_alphabetic}
+use Rattle.std.proofs.lemmas.Bool.{and_parts, or_cases, leb-true, eqb-true, ltb-true, le-leb, lt-ltb, and_from, both_ways, ne_eqb, or_left, cases_lt}
 use Rattle.std.proofs.lemmas.List.{get_or-take}
 use Rattle.net_text.proofs.Symbols.{spelling_length}
 use Rattle.net_text.specs.Numbers.{is_numeral}

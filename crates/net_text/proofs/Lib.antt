@@ -2,6 +2,7 @@ pub mod Symbols
 pub mod Lexemes
 pub mod Numerals
 pub mod Steps
+pub mod Stuck
 pub mod Readings
 pub mod Many
 pub mod Sound

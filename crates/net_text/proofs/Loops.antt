@@ -1,5 +1,5 @@
 -- The parser's loops: a turn leaves what is read as it was, and so do their ends.
-use Rattle.std.proofs.Common.{◌≡◌, ℕ, ◌<◌, Bool, true, false, List, [], ◌∷◌, ◌++◌, length, Result, Ok, Err, refl, sym, ap, ◌∙◌, append_assoc}
+use Rattle.std.proofs.Common.{◌≡◌, true, false, List, [], ◌∷◌, ◌++◌, length, Ok, Err, refl, sym, ap, ◌∙◌, append_assoc}
 use Rattle.std.proofs.lemmas.List.{append-nil}
 use Rattle.net_text.specs.Trees.{ExprTree, BinaryTree, BlockTree, NothingTree, GetTree, AssignTree, PutTree, then_tree, block_tree, expr_tree}
 use Rattle.net_text.specs.Tokens.{Lexeme}
@@ -7,7 +7,6 @@ use Rattle.net_text.specs.Grammar.{sum_of}
 use Rattle.net_text.specs.Reading.{◌>>=◌, Read, Fails, begins, has_word, has_symbol, many, addend_at, addends_at, sum_at, statement_at, starts_statement, append_block, joined, statements_at, variable_at, variables_at}
 use Rattle.net_text.proofs.Many.{with_first, after_items, after_block, many_step, many_stop, many_fail}
 use Rattle.net_text.proofs.Sound.{addend_shortens, statement_shortens, variable_shortens}
-use Rattle.net_text.specs.declared.parser.Stuck.{Stuck}
 use Rattle.net_text.specs.declared.parser.ParseError.{ParseError}
 use Rattle.net_text.specs.declared.parser.ParseError.TheVariants as error
 use Rattle.net_text.specs.declared.token.Keyword.TheVariants as keyword

@@ -1,12 +1,11 @@
 -- A text has one reading.
-use Rattle.std.proofs.Common.{◌≡◌, ℕ, zero, suc, ◌+◌, ◌-◌, ◌^◌, ◌<◌, ◌≤◌, Bool, true, false, cond, List, [], ◌∷◌, ◌++◌, length, take, drop, get_or, Option, Some, None, ap, sym, refl, ◌∙◌, subst, arith, length-take, length-drop, inl, inr, ◌⊎◌}
-use Rattle.std.specs.Prelude.{IsTrue, ◌==◌}
+use Rattle.std.proofs.Common.{◌≡◌, ℕ, suc, ◌+◌, ◌^◌, ◌<◌, ◌≤◌, Bool, true, false, cond, List, [], ◌∷◌, ◌++◌, length, take, drop, get_or, Option, Some, None, ap, sym, refl, ◌∙◌, subst, arith, length-take, length-drop, inl, inr}
+use Rattle.std.specs.Prelude.{◌==◌}
 use Rattle.std.specs.Str.{bytes_eq}
-use Rattle.std.specs.Char.{is_ascii_digit}
 use Rattle.net_text.specs.Numbers.{is_numeral, numeral_value}
-use Rattle.net_text.specs.Spellings.{keyword_spelling, symbol_spelling, starts_word, is_word, IsLexeme, IsLongest, Spells}
+use Rattle.net_text.specs.Spellings.{keyword_spelling, symbol_spelling, is_word, IsLexeme, IsLongest, Spells}
 use Rattle.net_text.proofs.Steps.{lexeme_line}
-use Rattle.net_text.specs.Tokens.{line_at, is_white, after_gap, after_gap_in, Lexeme, IsTokenFrom, AreTokensTo, EndsAt, IsBadAt, IsBadFrom, StopsAt}
+use Rattle.net_text.specs.Tokens.{line_at, is_white, after_gap_in, Lexeme, IsTokenFrom, AreTokensTo, EndsAt, IsBadAt, IsBadFrom, StopsAt}
 use Rattle.net_text.proofs.Lexemes.{digit_bounds, starts_bounds, first_of_word, first_of_numeral, first_of_symbol, lexeme_some}
 use Rattle.net_text.specs.declared.lexer.End.{End}
 use Rattle.net_text.specs.declared.lexer.End.TheVariants as end

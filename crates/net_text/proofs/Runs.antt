@@ -1,5 +1,5 @@
 -- Bytes at the front that pass a test.
-use Rattle.std.proofs.Common.{◌≡◌, ℕ, zero, suc, ◌+◌, ◌-◌, ◌^◌, ◌<◌, ◌≤◌, ◌⊎◌, inl, inr, Bool, true, false, cond, ◌&&◌, eqb, ltb, leb, List, [], ◌∷◌, ◌++◌, length, take, drop, get_or, Result, Ok, Err, ℤ, pos, neg_ℤ, refl, sym, ap, subst, ◌∙◌, arith, rules, length-take, length-drop}
+use Rattle.std.proofs.Common.{◌≡◌, ℕ, zero, suc, ◌+◌, ◌-◌, ◌^◌, ◌<◌, ◌≤◌, inl, inr, Bool, true, false, cond, List, [], ◌∷◌, length, take, drop, get_or, Result, Ok, Err, ℤ, pos, neg_ℤ, refl, sym, ap, subst, ◌∙◌, arith, rules, length-take}
 use Rattle.std.proofs.lemmas.List.{take_all, get_or-take, drop-take}
 use Rattle.std.specs.Prelude.{◌==◌, slice_index, MatchResult}
 use Rattle.std.specs.List.{list_all}
@@ -8,16 +8,15 @@ use Rattle.std.specs.Result.{OkIff}
 use Rattle.std.specs.Char.{is_ascii_digit}
 use Rattle.std.specs.Str.{IsCharBoundary, IsUtf8}
 use Rattle.std.specs.Str.Parse.{ParsesSigned, digits_value}
-use Rattle.std.proofs.lemmas.Bool.{and_parts, and_from, eqb-true, eq-eqb, cases_lt, le-ltb, lt-ltb, lt-leb, le-leb, cases_Bool, ne_eqb}
+use Rattle.std.proofs.lemmas.Bool.{and_parts, and_from, eqb-true, cases_lt, le-ltb, lt-ltb, lt-leb, le-leb, ne_eqb}
 use Rattle.std.proofs.lemmas.Str.Parse.{IsNumeralModel, numerals_by_value, parse_signed_digits, parse_signed_minus}
-use Rattle.net_text.specs.Numbers.{is_numeral, numeral_value}
-use Rattle.net_text.specs.InputReading.{◌>>=◌, run, signed, sign_len, item_in, item_at}
+use Rattle.net_text.specs.Numbers.{numeral_value}
+use Rattle.net_text.specs.InputReading.{run, signed, sign_len, item_in, item_at}
 use Rattle.net_text.proofs.Lexemes.{numeral_from_run, passes_at}
 use Rattle.std.proofs.lemmas.Str.{IsCharBoundary-after_ascii}
 use Rattle.net_text.specs.InputLines.{is_space}
 use Rattle.net_text.proofs.Steps.{lexeme_ends}
-use Rattle.net_text.specs.declared.fault.TextFault.{TextFault}
-use Rattle.net_text.specs.declared.fault.TextFault.TheVariants.{NoMemory, BadToken, Unexpected, NumberRange, TooLong}
+use Rattle.net_text.specs.declared.fault.TextFault.TheVariants.{NumberRange}
 
 pub run_le : (p : ℕ → Bool) (bs : List ℕ) → run p bs ≤ length bs
 run_le p [] = omega arith

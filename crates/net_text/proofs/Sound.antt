@@ -1,20 +1,19 @@
 -- What a reader reads is the grammar's for the tokens that it takes.
-use Rattle.std.proofs.Common.{◌≡◌, ℕ, zero, suc, ◌+◌, ◌<◌, ◌≤◌, ◌⊎◌, inl, inr, Bool, true, false, cond, ◌||◌, List, [], ◌∷◌, ◌++◌, length, Option, Some, None, Result, Ok, Err, ℤ, pos, neg_ℤ, refl, sym, ap, subst, ◌∙◌, append_assoc, arith, length-append}
+use Rattle.std.proofs.Common.{◌≡◌, ℕ, zero, suc, ◌<◌, ◌⊎◌, inl, inr, Bool, true, false, cond, List, [], ◌∷◌, ◌++◌, length, Option, Some, None, Result, Ok, Err, ℤ, pos, neg_ℤ, refl, sym, ap, subst, ◌∙◌, append_assoc, arith, length-append}
 use Rattle.std.specs.Prelude.{◌==◌}
-use Rattle.std.specs.Str.{bytes_eq}
 use Rattle.std.proofs.lemmas.Slice.Eq.{bytes_eq-Decides}
-use Rattle.std.proofs.lemmas.Bool.{or_cases, eqb-true}
+use Rattle.std.proofs.lemmas.Bool.{eqb-true}
 use Rattle.std.proofs.lemmas.List.{append-nil}
 use Rattle.net_text.specs.Names.{NameTree}
 use Rattle.net_text.specs.Spellings.{keyword_spelling, symbol_spelling}
-use Rattle.net_text.specs.Trees.{ExprTree, LiteralTree, VariableTree, BinaryTree, BlockTree, NothingTree, GetTree, AssignTree, PutTree, LoopTree, ProcessTree, DeclarationTree, ChannelTree, ProcessDeclared}
+use Rattle.net_text.specs.Trees.{ExprTree, LiteralTree, VariableTree, BlockTree, NothingTree, GetTree, AssignTree, PutTree, LoopTree, ProcessTree, DeclarationTree, ChannelTree, ProcessDeclared}
 use Rattle.net_text.specs.Tokens.{Lexeme}
-use Rattle.net_text.specs.Grammar.{◌>>◌, IsWordOn, IsWord, IsSymbol, IsName, IsNumberOn, IsNumber, IsNothing, IsEach, IsFactor, sum_of, IsAddend, IsExpr, IsGet, IsAssign, IsPut, IsStatements, IsBlock, IsInitial, IsVariable, IsLoop, IsProcess, first_word, IsChannel, IsText}
+use Rattle.net_text.specs.Grammar.{◌>>◌, IsWordOn, IsWord, IsSymbol, IsName, IsNumberOn, IsNumber, IsEach, IsFactor, sum_of, IsAddend, IsExpr, IsGet, IsAssign, IsPut, IsStatements, IsBlock, IsInitial, IsVariable, IsLoop, IsProcess, first_word, IsChannel, IsText}
 use Rattle.net_text.specs.Reading.{◌>>=◌, Read, has_word, has_symbol, is_name, begins, word_at, symbol_at, name_at, number_in, number_at, factor_in, factor_at, many, addend_at, addends_at, sum_at, expr_at, get_at, assign_at, named_at, put_at, statement_at, starts_statement, append_block, joined, statements_at, block_at, value_at, initial_at, variable_at, variables_at, loop_at, HeadTree, head_at, process_at, channel_at, edition_at, text_at, no_more, whole_text}
 use Rattle.net_text.proofs.Readings.{one_keyword, one_symbol}
 use Rattle.net_text.proofs.Many.{IsShortening}
 use Rattle.net_text.specs.declared.parser.Stuck.{Stuck}
-use Rattle.net_text.specs.declared.parser.Stuck.TheVariants.{At, AtEnd}
+use Rattle.net_text.specs.declared.parser.Stuck.TheVariants.{At}
 use Rattle.net_text.specs.declared.token.Keyword.{Keyword}
 use Rattle.net_text.specs.declared.token.Keyword.TheVariants as keyword
 use Rattle.net_text.specs.declared.token.Symbol.{Symbol}
@@ -26,7 +25,6 @@ use Rattle.net_text.specs.declared.tree.Role.TheVariants.{Input, Output}
 use Rattle.net_text.specs.declared.tree.ChannelText.{ChannelText}
 use Rattle.net_text.specs.declared.tree.VariableText.{VariableText}
 use Rattle.net_text.specs.declared.tree.NodeText.{NodeText}
-use Rattle.net_text.specs.declared.tree.Operator.TheVariants.{Add}
 
 -- the front of these tokens is such a part, and this is the rest
 pub record Took (ts : List Lexeme) (P : List Lexeme → Type 0) (rest : List Lexeme) : Type 0 where

@@ -1,15 +1,15 @@
 -- One step of the lexer: past a gap, and over a token.
-use Rattle.std.proofs.Common.{◌≡◌, ℕ, zero, suc, ◌+◌, ◌-◌, ◌<◌, ◌≤◌, true, List, [], ◌∷◌, ◌++◌, length, take, drop, get_or, count_by, ap, sym, refl, ◌∙◌, subst, arith, length-take, length-drop, length-append, add-zero}
-use Rattle.std.specs.Prelude.{◌==◌, slice_index}
-use Rattle.std.specs.List.{list_all, slice_range}
+use Rattle.std.proofs.Common.{◌≡◌, ℕ, ◌+◌, ◌-◌, ◌<◌, ◌≤◌, List, length, take, drop, get_or, count_by, ap, sym, ◌∙◌, subst, arith, length-take, length-drop, add-zero}
+use Rattle.std.specs.Prelude.{◌==◌}
+use Rattle.std.specs.List.{slice_range}
 use Rattle.std.specs.Str.{IsCharBoundary, IsUtf8}
 use Rattle.std.proofs.Math.Seq.{take-add}
 use Rattle.std.proofs.lemmas.List.{drop-drop, get_or-drop, get_or-take}
 use Rattle.std.proofs.lemmas.List.Sums.{sum_by-append}
 use Rattle.std.proofs.lemmas.Str.{IsCharBoundary-before_ascii, IsCharBoundary-after_ascii}
-use Rattle.net_text.specs.Spellings.{IsLexeme, IsLongest, IsShape, Spells, IsPastLimit}
-use Rattle.net_text.specs.Tokens.{line_at, after_gap, IsAfterGap, Lexeme, IsTokenFrom, IsBadFrom, IsBadAt, EndsAt}
-use Rattle.net_text.proofs.Lexemes.{is_plain, lexeme_plain, lexeme_some, plain_at, plain_no_line_feed}
+use Rattle.net_text.specs.Spellings.{IsLexeme, IsLongest, IsPastLimit}
+use Rattle.net_text.specs.Tokens.{line_at, after_gap, IsAfterGap, IsBadFrom}
+use Rattle.net_text.proofs.Lexemes.{lexeme_plain, lexeme_some, plain_at, plain_no_line_feed}
 use Rattle.net_text.specs.declared.fault.TextFault.{TextFault}
 use Rattle.net_text.specs.declared.fault.TextFault.TheVariants.{NoMemory, BadToken, Unexpected, NumberRange, TooLong}
 

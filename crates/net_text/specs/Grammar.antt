@@ -21,7 +21,6 @@ use Rattle.net_text.specs.declared.tree.Role.{Role}
 use Rattle.net_text.specs.declared.tree.Role.TheVariants.{Input, Inner, Output}
 use Rattle.net_text.specs.declared.tree.ChannelText.{ChannelText}
 use Rattle.net_text.specs.declared.tree.VariableText.{VariableText}
-use Rattle.net_text.specs.declared.tree.NodeText.{NodeText}
 
 infixr 6 ◌>>◌
 abbrev pub ◌>>◌ : (List Lexeme → Type 0) → (List Lexeme → Type 0) → List Lexeme → Type 0

@@ -1,6 +1,5 @@
 -- Reading the lines of an inputs text from left to right, as the code does, with the first fault that is met.
-use Rattle.std.specs.Prelude.{◌≡◌, ℕ, zero, suc, ◌+◌, ◌^◌, Bool, true, false, ◌==◌, if◌then◌else◌, List, [], ◌∷◌, ◌++◌, length, take, drop, slice_index, Option, Some, None, Result, Ok, Err, ℤ, pos, neg_ℤ, nat_lt, nat_le, ◌||◌}
-use Rattle.std.specs.List.{list_all}
+use Rattle.std.specs.Prelude.{◌≡◌, ℕ, zero, suc, ◌+◌, ◌^◌, Bool, true, false, ◌==◌, if◌then◌else◌, List, [], ◌∷◌, length, take, drop, slice_index, Option, Some, None, Result, Ok, Err, ℤ, pos, neg_ℤ, nat_lt, nat_le, ◌||◌}
 use Rattle.std.specs.Char.{is_ascii_digit}
 use Rattle.net_text.specs.Numbers.{numeral_value}
 use Rattle.net_text.specs.Spellings.{starts_word, continues_word}

@@ -1,10 +1,10 @@
 -- Reading tokens from left to right, as the parser does: the value that is read and the tokens after it, or where the tokens can't go on.
 -- The grammar itself stands in Grammar; these are its readers, which the parser's private functions cite.
-use Rattle.std.specs.Prelude.{◌≡◌, ℕ, zero, suc, ◌+◌, Bool, true, false, ◌||◌, if◌then◌else◌, ◌==◌, List, [], ◌∷◌, ◌++◌, length, Option, Some, None, Result, Ok, Err, ℤ, pos, neg_ℤ}
+use Rattle.std.specs.Prelude.{◌≡◌, ℕ, zero, suc, Bool, true, false, ◌||◌, if◌then◌else◌, ◌==◌, List, [], ◌∷◌, length, Option, Some, None, Result, Ok, Err, ℤ, pos, neg_ℤ}
 use Rattle.std.specs.Str.{bytes_eq}
 use Rattle.net_text.specs.Names.{NameTree}
 use Rattle.net_text.specs.Spellings.{keyword_spelling, symbol_spelling}
-use Rattle.net_text.specs.Trees.{ExprTree, LiteralTree, VariableTree, BinaryTree, BlockTree, NothingTree, GetTree, AssignTree, PutTree, LoopTree, ProcessTree, DeclarationTree, ChannelTree, ProcessDeclared}
+use Rattle.net_text.specs.Trees.{ExprTree, LiteralTree, VariableTree, BlockTree, NothingTree, GetTree, AssignTree, PutTree, LoopTree, ProcessTree, DeclarationTree, ChannelTree, ProcessDeclared}
 use Rattle.net_text.specs.Tokens.{Lexeme}
 use Rattle.net_text.specs.Grammar.{sum_of, first_word}
 use Rattle.net_text.specs.declared.parser.Head.{Head}
@@ -12,6 +12,10 @@ use Rattle.net_text.specs.declared.parser.Stuck.{Stuck}
 use Rattle.net_text.specs.declared.parser.Stuck.TheVariants.{At, AtEnd}
 use Rattle.net_text.specs.declared.parser.ParseError.{ParseError}
 use Rattle.net_text.specs.declared.parser.ParseError.TheVariants as error
+use Rattle.net_text.specs.declared.fault.TextFault.{TextFault}
+use Rattle.net_text.specs.declared.fault.TextFault.TheVariants.{Unexpected}
+use Rattle.net_text.specs.declared.lexer.End.{End}
+use Rattle.net_text.specs.declared.lexer.End.TheVariants as end
 use Rattle.net_text.specs.declared.token.Keyword.{Keyword}
 use Rattle.net_text.specs.declared.token.Keyword.TheVariants as keyword
 use Rattle.net_text.specs.declared.token.Symbol.{Symbol}
@@ -265,3 +269,9 @@ unfoldable pub whole_text : List Lexeme → Result (List DeclarationTree) Stuck
 whole_text ts = do
   text ← text_at ts
   no_more text.0 text.1
+
+-- the fault of a text whose tokens, which end so, are stuck there
+abbrev pub fault_at : Stuck → End → TextFault
+fault_at (At line) stop = Unexpected line
+fault_at AtEnd (end.Text line) = Unexpected line
+fault_at AtEnd (end.Bad fault) = fault

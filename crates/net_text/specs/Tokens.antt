@@ -1,5 +1,5 @@
 -- The tokens of a text: between them stand white space and comments, and each is the longest that can stand at its place.
-use Rattle.std.specs.Prelude.{◌≡◌, ◌⊎◌, ℕ, suc, ◌+◌, ◌^◌, ◌<◌, ◌≤◌, Bool, true, false, ◌||◌, ◌==◌, if◌then◌else◌, List, [], ◌∷◌, length, take, drop, count_by, IsTrue, map, Option, Some, None}
+use Rattle.std.specs.Prelude.{◌≡◌, ◌⊎◌, ℕ, suc, ◌+◌, ◌^◌, ◌<◌, ◌≤◌, Bool, true, false, ◌||◌, ◌==◌, if◌then◌else◌, List, [], ◌∷◌, length, take, drop, count_by, IsTrue, map}
 use Rattle.net_text.specs.Numbers.{is_numeral, numeral_value}
 use Rattle.net_text.specs.Spellings.{IsLexeme, IsLongest, Spells, is_word}
 use Rattle.net_text.specs.declared.fault.TextFault.{TextFault}

@@ -4,6 +4,7 @@ ghost use Rattle.std.specs.Prelude.{◌≡◌, ◌≤◌, List, length, IfOk, If
 ghost use Rattle.net_text.specs.Trees.{DeclarationTree, net_tree};
 ghost use Rattle.net_text.specs.Tokens.{Lexeme, lexemes, text_limit, AreTokens, IsTokensFault};
 ghost use Rattle.net_text.specs.Grammar.{IsTextOf};
+ghost use Rattle.net_text.specs.Reading.{fault_at};
 ghost use Rattle.net_text.specs.Texts.{Answers, IsParseFault};
 
 use crate::fault::TextFault;
@@ -53,10 +54,19 @@ pub fn parse(alloc: Global, text: &str) -> Result<NetText, TextFault>
             End::Bad(fault) => Err(fault),
         },
         Err(ParseError::NoMemory) => Err(TextFault::NoMemory),
-        Err(ParseError::Stuck(Stuck::At { line })) => Err(TextFault::Unexpected { line }),
-        Err(ParseError::Stuck(Stuck::AtEnd)) => match reading.end {
-            End::Text { line } => Err(TextFault::Unexpected { line }),
-            End::Bad(fault) => Err(fault),
+        Err(ParseError::Stuck(stuck)) => Err(fault_at(stuck, reading.end)),
+    }
+}
+
+// The fault of a text whose tokens, which end so, are stuck there.
+fn fault_at(stuck: Stuck, end: End) -> TextFault
+    ensures { result ≡ fault_at stuck end }
+{
+    match stuck {
+        Stuck::At { line } => TextFault::Unexpected { line },
+        Stuck::AtEnd => match end {
+            End::Text { line } => TextFault::Unexpected { line },
+            End::Bad(fault) => fault,
         },
     }
 }

@@ -1,8 +1,6 @@
-use Rattle.std.proofs.Common.{◌≡◌, ◌+◌, ◌<◌, ◌≤◌, ℕ, List, ℤ, suc, length, take, drop, get_or, Ok, Result, ap, sym, ◌∙◌, subst, arith, add-one}
+use Rattle.std.proofs.Common.{◌≡◌, ℕ, List, suc, length, take, drop, get_or, ap, sym, ◌∙◌, arith, add-one}
 use Rattle.std.proofs.lemmas.Result.{err_from_is_err_and}
 use Rattle.net_text.specs.Spellings.{continues_word}
-use Rattle.net_text.specs.Trees.{input_tree}
-use Rattle.net_text.specs.InputReading.{◌>>=◌, run, items_at, after_name}
 use Rattle.net_text.proofs.Runs.{run_le, colon_cut}
 use Rattle.net_text.specs.Names.{NameTree}
 use Rattle.net_text.proofs.Items.{after_name_done, after_name_fails}

@@ -1,8 +1,8 @@
-use Rattle.std.proofs.Common.{ap, sym, ◌∙◌, map}
+use Rattle.std.proofs.Common.{map}
 use Rattle.std.proofs.lemmas.Result.{err_from_is_err_and}
 use Rattle.std.specs.Str.Lines.{strip_carriage_return}
 use Rattle.net_text.specs.Trees.{input_tree}
-use Rattle.net_text.specs.InputReading.{entry_tree, lines_at}
+use Rattle.net_text.specs.InputReading.{entry_tree}
 use Rattle.net_text.proofs.Items.{loop_fails, loop_goes_on, loop_ends}
 use Rattle.net_text.proofs.inputs.entries.Goals as goal
 

@@ -1,6 +1,6 @@
-use Rattle.std.proofs.Common.{◌≡◌, true, get_or, ℕ, List, ap, sym, ◌∙◌, subst, arith}
+use Rattle.std.proofs.Common.{◌≡◌, true, get_or, ℕ, List, ap, sym, ◌∙◌}
 use Rattle.net_text.specs.Spellings.{starts_word, continues_word}
-use Rattle.net_text.specs.InputReading.{run, after_name, entry_at}
+use Rattle.net_text.specs.InputReading.{run}
 use Rattle.net_text.proofs.Runs.{run_is}
 use Rattle.net_text.specs.Trees.{input_tree}
 use Rattle.net_text.proofs.Items.{entry_along}

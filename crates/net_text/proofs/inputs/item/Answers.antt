@@ -1,4 +1,4 @@
-use Rattle.std.proofs.Common.{◌≡◌, ◌<◌, ◌≤◌, ap, sym, ◌∙◌, length, arith, rules, w64, FitsSigned, Ok, Err, Result, ℤ, ℕ}
+use Rattle.std.proofs.Common.{arith, rules, w64, FitsSigned, Ok, Err, Result, ℤ, ℕ}
 use Rattle.std.proofs.lemmas.Int.{to_z-of_z}
 use Rattle.net_text.proofs.Runs.{item_cut, item_done, sign_le}
 use Rattle.net_text.proofs.inputs.item.Goals as goal

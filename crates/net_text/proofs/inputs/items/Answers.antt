@@ -1,7 +1,7 @@
-use Rattle.std.proofs.Common.{◌≡◌, ◌<◌, ◌++◌, ◌∷◌, [], ℕ, ℤ, List, length, drop, Ok, ap, sym, ◌∙◌, subst, arith, rules, length-drop, w64, FitsSigned}
+use Rattle.std.proofs.Common.{◌≡◌, ◌++◌, ◌∷◌, [], ℕ, ℤ, List, length, drop, ap, sym, ◌∙◌, arith, rules, length-drop, w64, FitsSigned}
 use Rattle.std.proofs.lemmas.Int.{to_z-of_z}
 use Rattle.net_text.specs.InputLines.{is_space}
-use Rattle.net_text.specs.InputReading.{run, item_at, items_at}
+use Rattle.net_text.specs.InputReading.{run, item_at}
 use Rattle.net_text.proofs.Runs.{spaces_cut}
 use Rattle.net_text.proofs.Items.{items_more, item_shortens}
 use Rattle.net_text.proofs.inputs.items.Goals as goal

@@ -1,4 +1,3 @@
-use Rattle.std.proofs.Common.{◌+◌, ap, sym, ◌∙◌, arith, rules}
 use Rattle.net_text.proofs.Steps.{past_gap}
 use Rattle.net_text.proofs.lexer.after_gap.Goals as goal
 

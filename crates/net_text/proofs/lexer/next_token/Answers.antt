@@ -1,5 +1,5 @@
-use Rattle.std.proofs.Common.{◌≡◌, ◌+◌, ◌<◌, ◌≤◌, List, ℕ, ap, sym, ◌∙◌, subst, arith, length, take, drop, length-drop, false-eqb}
-use Rattle.net_text.specs.Spellings.{IsLongest, IsShape, IsPastLimit}
+use Rattle.std.proofs.Common.{◌≡◌, ◌≤◌, List, ℕ, ap, sym, ◌∙◌, subst, arith, length, take, drop, length-drop, false-eqb}
+use Rattle.net_text.specs.Spellings.{IsShape, IsPastLimit}
 use Rattle.net_text.proofs.Steps.{lexeme_begins, lexeme_ends, slice_is, past_limit}
 use Rattle.net_text.proofs.lexer.next_token.Goals as goal
 

@@ -1,4 +1,4 @@
-use Rattle.std.proofs.Common.{◌≡◌, ◌<◌, length, refl, arith, rules}
+use Rattle.std.proofs.Common.{refl, arith}
 use Rattle.net_text.proofs.Numerals.{too_large}
 use Rattle.net_text.proofs.Lexemes.{numeral_some}
 use Rattle.net_text.proofs.lexer.numeral_kind.Goals as goal

@@ -1,6 +1,6 @@
-use Rattle.std.proofs.Common.{◌≡◌, ◌++◌, ◌∷◌, [], ap, sym, ◌∙◌, subst, arith, rules}
+use Rattle.std.proofs.Common.{◌≡◌, ◌++◌, ◌∷◌, [], arith}
 use Rattle.std.proofs.lemmas.List.{map_push}
-use Rattle.net_text.specs.Tokens.{lexeme_of, lexemes, AreTokensTo}
+use Rattle.net_text.specs.Tokens.{lexeme_of, lexemes}
 use Rattle.net_text.proofs.Readings.{tokens_push, token_step}
 use Rattle.net_text.proofs.lexer.read.Goals as goal
 

@@ -1,4 +1,4 @@
-use Rattle.std.proofs.Common.{◌<◌, length, arith, false-eqb}
+use Rattle.std.proofs.Common.{arith, false-eqb}
 use Rattle.net_text.proofs.Symbols.{two_longest, one_longest}
 use Rattle.net_text.proofs.lexer.symbol_at.Goals as goal
 

@@ -1,9 +1,10 @@
-use Rattle.std.proofs.Common.{◌≡◌, Ok, Err, List, sym, ap, subst, ◌∙◌, arith}
-use Rattle.net_text.specs.Trees.{DeclarationTree, net_tree}
+use Rattle.std.proofs.Common.{◌≡◌, Ok, List, sym, ap, subst, ◌∙◌, arith}
+use Rattle.net_text.specs.Trees.{net_tree}
 use Rattle.net_text.specs.Tokens.{Lexeme, lexemes}
 use Rattle.net_text.specs.Reading.{whole_text}
+use Rattle.net_text.specs.Texts.{IsParseFault}
 use Rattle.net_text.proofs.Sound.{whole_took}
-use Rattle.net_text.proofs.Texts.{tokens_of, tree_read, one_tree, not_both, no_bad_end}
+use Rattle.net_text.proofs.Texts.{tokens_of, tree_read, one_tree, no_bad_end, refused}
 use Rattle.net_text.proofs.text.parse.Goals as goal
 
 pub returns-in-Text-clause-ok : goal.returns-in-Text-clause-ok
@@ -28,23 +29,14 @@ returns-in-Ok-clause-only c =
     let reading = c.in_ok-reading.reading in
     λ tree is. absurd (no_bad_end reading.end c.in-Bad.fault _ c.in-Bad.is (tree_read c.args.text.now tree (lexemes reading.tokens.items) reading.end is c.in_ok-reading.ensures).1)
 
-pub returns-in-Err-Stuck-At-clause-err : goal.returns-in-Err-Stuck-At-clause-err
-returns-in-Err-Stuck-At-clause-err c =
+pub returns-clause-err : goal.returns-clause-err
+returns-clause-err c =
     let reading = c.in_ok-reading.reading in
-    λ tree is. not_both c.new.result (lexemes reading.tokens.items) c.in-Err-Stuck-At.field-0 c.in-Err-Stuck-At.field-0-0 tree c.in-Err-Stuck-At.field-0-is c.in-Err-Stuck-At.ensures (c.new.ensures ∙ ap lexemes c.deref.ensures.value) (tree_read c.args.text.now tree (lexemes reading.tokens.items) reading.end is c.in_ok-reading.ensures).0
-
-pub returns-in-Err-Stuck-At-clause-only : goal.returns-in-Err-Stuck-At-clause-only
-returns-in-Err-Stuck-At-clause-only c = λ tree is. absurd (returns-in-Err-Stuck-At-clause-err c tree is)
-
-pub returns-in-Text-end-clause-err : goal.returns-in-Text-end-clause-err
-returns-in-Text-end-clause-err c =
-    let reading = c.in_ok-reading.reading in
-    λ tree is. not_both c.new.result (lexemes reading.tokens.items) c.in-Err-Stuck-AtEnd.field-0 c.in-Err-Stuck-AtEnd.field-0-0 tree c.in-Err-Stuck-AtEnd.field-0-is c.in-Err-Stuck-AtEnd.ensures (c.new.ensures ∙ ap lexemes c.deref.ensures.value) (tree_read c.args.text.now tree (lexemes reading.tokens.items) reading.end is c.in_ok-reading.ensures).0
-
-pub returns-in-Text-end-clause-only : goal.returns-in-Text-end-clause-only
-returns-in-Text-end-clause-only c = λ tree is. absurd (returns-in-Text-end-clause-err c tree is)
+    let why = refused c.args.text.now c.new.result (lexemes reading.tokens.items) reading.end c.in-Err-Stuck.field-0 c.in-Err-Stuck.stuck (omega arith) c.in-Err-Stuck.field-0-is c.in-Err-Stuck.ensures (c.new.ensures ∙ ap lexemes c.deref.ensures.value) c.in_ok-reading.ensures in
+    subst (IsParseFault c.args.text.now) (sym c.fault_at.ensures) why.0
 
 pub returns-clause-only : goal.returns-clause-only
 returns-clause-only c =
     let reading = c.in_ok-reading.reading in
-    λ tree is. absurd (no_bad_end reading.end c.in-Bad-end.fault _ c.in-Bad-end.is (tree_read c.args.text.now tree (lexemes reading.tokens.items) reading.end is c.in_ok-reading.ensures).1)
+    let why = refused c.args.text.now c.new.result (lexemes reading.tokens.items) reading.end c.in-Err-Stuck.field-0 c.in-Err-Stuck.stuck (omega arith) c.in-Err-Stuck.field-0-is c.in-Err-Stuck.ensures (c.new.ensures ∙ ap lexemes c.deref.ensures.value) c.in_ok-reading.ensures in
+    λ tree is. absurd (why.1 tree is)

@@ -1,5 +1,5 @@
 use Rattle.net_text.specs.Tokens.{lexemes}
-use Rattle.std.proofs.Common.{sym, ◌∙◌}
+use Rattle.std.proofs.Common.{sym}
 use Rattle.net_text.proofs.Texts.{tokens_read, no_bad_end}
 use Rattle.net_text.proofs.text.tokens.Goals as goal
 

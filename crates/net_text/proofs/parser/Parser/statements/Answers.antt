@@ -1,7 +1,7 @@
 use Rattle.std.proofs.Common.{sym, ◌∙◌}
 use Rattle.net_text.specs.Trees.{block_tree, then_tree, NothingTree}
 use Rattle.net_text.proofs.Sound.{statement_shortens}
-use Rattle.net_text.proofs.Loops.{statements_more, statements_end, statements_fail}
+use Rattle.net_text.proofs.Loops.{statements_more, statements_end}
 use Rattle.net_text.proofs.parser.Parser.statements.Goals as goal
 
 pub loop-self-smaller : goal.loop-self-smaller

@@ -1,6 +1,6 @@
 use Rattle.std.proofs.Common.{sym, ◌∙◌}
 use Rattle.net_text.proofs.Sound.{variable_shortens}
-use Rattle.net_text.proofs.Loops.{variables_more, variables_end, variables_fail}
+use Rattle.net_text.proofs.Loops.{variables_more}
 use Rattle.net_text.proofs.parser.Parser.variables.Goals as goal
 
 pub loop-self-smaller : goal.loop-self-smaller
