@@ -77,17 +77,6 @@ items_step line bytes x some gap e =
     let l = length-drop (run is_space bytes) bytes in
     rw (not_all, not_none, e) (ap (with_item x.0) (items_same line (length bytes) (suc (length x.1)) x.1 (omega arith) (omega arith)))
 
-pub items_end : (line : ℕ) (bytes : List ℕ) → run is_space bytes ≡ length bytes → items_at line bytes ≡ Ok []
-unfolding items_at
-items_end line bytes e = let all : (run is_space bytes == length bytes) ≡ true = eq-eqb _ _ e in rw all refl
-
-pub items_no_gap : (line : ℕ) (bytes : List ℕ) → (run is_space bytes ≡ length bytes → ⊥) → run is_space bytes ≡ 0 → items_at line bytes ≡ Err (BadToken line)
-unfolding items_at
-items_no_gap line bytes some none =
-    let not_all : (run is_space bytes == length bytes) ≡ false = ne_eqb _ _ some in
-    let is_none : (run is_space bytes == 0) ≡ true = eq-eqb _ _ none in
-    rw (not_all, is_none) refl
-
 pub items_fail : (line : ℕ) (bytes : List ℕ) (e : TextFault) → (run is_space bytes ≡ length bytes → ⊥) → (run is_space bytes ≡ 0 → ⊥) → item_at line (drop (run is_space bytes) bytes) ≡ Err e → items_at line bytes ≡ Err e
 unfolding items_at
 items_fail line bytes e some gap h =
@@ -118,14 +107,6 @@ fails_along (BadToken line) r s k h = sym k ∙ h
 fails_along (Unexpected line) r s k h = sym k ∙ h
 fails_along (NumberRange line) r s k h = sym k ∙ h
 fails_along (TooLong line) r s k h = sym k ∙ h
-
--- reading fails where its next item does
-pub items_fails : (line : ℕ) (bytes : List ℕ) (e : TextFault) → (run is_space bytes ≡ length bytes → ⊥) → (run is_space bytes ≡ 0 → ⊥) → Fails e (item_at line (drop (run is_space bytes) bytes)) → Fails e (items_at line bytes)
-items_fails line bytes NoMemory some gap h = tt
-items_fails line bytes (BadToken at) some gap h = items_fail line bytes (BadToken at) some gap h
-items_fails line bytes (Unexpected at) some gap h = items_fail line bytes (Unexpected at) some gap h
-items_fails line bytes (NumberRange at) some gap h = items_fail line bytes (NumberRange at) some gap h
-items_fails line bytes (TooLong at) some gap h = items_fail line bytes (TooLong at) some gap h
 
 -- ---- a name and what follows it
 

@@ -1,6 +1,5 @@
 -- The parser's loops: a turn leaves what is read as it was, and so do their ends.
 use Rattle.std.proofs.Common.{◌≡◌, true, false, List, [], ◌∷◌, ◌++◌, length, Ok, Err, refl, sym, ap, ◌∙◌, append_assoc}
-use Rattle.std.proofs.lemmas.List.{append-nil}
 use Rattle.net_text.specs.Trees.{ExprTree, BinaryTree, BlockTree, NothingTree, GetTree, AssignTree, PutTree, then_tree, block_tree, expr_tree}
 use Rattle.net_text.specs.Tokens.{Lexeme}
 use Rattle.net_text.specs.Grammar.{sum_of}
@@ -54,15 +53,6 @@ variables_more front v ts rest b h =
     ap (after_items front) (many_step (has_word keyword.Var) variable_at variable_shortens ts (v, rest) b h)
     ∙ items_regroup front v (many (has_word keyword.Var) variable_at (length rest) rest)
 
-pub variables_end : (front : List VariableText) (ts : List Lexeme) → begins (has_word keyword.Var) ts ≡ false → after_items front (variables_at ts) ≡ Ok (front, ts)
-unfolding variables_at
-variables_end front ts b = ap (after_items front) (many_stop (has_word keyword.Var) variable_at ts b) ∙ ap (λ (xs : List VariableText). Ok (xs, ts)) (append-nil front)
-
-pub variables_fail : (e : ParseError) (front : List VariableText) (ts : List Lexeme) (all : Read (List VariableText)) → begins (has_word keyword.Var) ts ≡ true → Fails e (variable_at ts) → after_items front (variables_at ts) ≡ all → Fails e all
-unfolding variables_at
-variables_fail error.NoMemory front ts all b h so_far = tt
-variables_fail (error.Stuck s) front ts all b h so_far = sym so_far ∙ ap (after_items front) (many_fail (has_word keyword.Var) variable_at ts s b h)
-
 -- ---- statements
 
 append_block_assoc : (a b c : BlockTree) → append_block (append_block a b) c ≡ append_block a (append_block b c)
@@ -104,9 +94,3 @@ unfolding statements_at
 statements_end front ts b =
     ap (λ (r : Read (List BlockTree)). after_block front (as_block r)) (many_stop starts_statement statement_at ts b)
     ∙ ap (λ (x : BlockTree). Ok (x, ts)) (append_block-nothing front)
-
-pub statements_fail : (e : ParseError) (front : BlockTree) (ts : List Lexeme) (all : Read BlockTree) → begins starts_statement ts ≡ true → Fails e (statement_at ts) → after_block front (statements_at ts) ≡ all → Fails e all
-unfolding statements_at
-statements_fail error.NoMemory front ts all b h so_far = tt
-statements_fail (error.Stuck s) front ts all b h so_far =
-    sym so_far ∙ ap (λ (r : Read (List BlockTree)). after_block front (as_block r)) (many_fail starts_statement statement_at ts s b h)

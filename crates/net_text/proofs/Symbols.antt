@@ -58,6 +58,3 @@ no_symbol bytes within no_single no_double s n le front =
       | inl e ↦ no_single s (sym front ∙ ap (λ (k : ℕ). take k bytes) e ∙ take_one bytes within)
       | inr e ↦ no_double s (omega arith) (ap (λ (k : ℕ). take k bytes) (sym e) ∙ front)
     ]
-
-pub no_symbol_in_nothing : (bytes : List ℕ) → length bytes ≡ 0 → (s : Symbol) (n : ℕ) → n ≤ length bytes → take n bytes ≡ symbol_spelling s → ⊥
-no_symbol_in_nothing bytes empty s n le front = elim (front_length s n bytes le front) as (λ _. ⊥) [ inl e ↦ omega arith | inr e ↦ omega arith ]
