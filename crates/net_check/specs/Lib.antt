@@ -2,7 +2,10 @@ pub use Rattle.net_text.specs.Names
 pub use Rattle.net_text.specs.Trees
 pub mod Faults
 pub mod Fits
+pub mod NetFaults
+pub mod Ready
 pub mod Resolution
 pub mod Syntax
+pub mod Texts
 pub mod Uses
 pub mod Valid

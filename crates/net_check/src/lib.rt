@@ -1,9 +1,11 @@
 //! Checked networks: channels and variables by number, validity kept in the types, and what they mean.
 #![tactic(auto)]
 
+mod declared;
 mod fault;
 mod history;
 mod inputs;
+mod lookup;
 mod net;
 mod program;
 
