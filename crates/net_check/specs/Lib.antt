@@ -1,5 +1,6 @@
 pub use Rattle.net_text.specs.Names
 pub use Rattle.net_text.specs.Trees
+pub mod Claims
 pub mod Faults
 pub mod Fits
 pub mod NetFaults

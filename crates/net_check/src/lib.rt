@@ -2,6 +2,7 @@
 #![tactic(auto)]
 
 mod declared;
+mod ends;
 mod fault;
 mod history;
 mod inputs;

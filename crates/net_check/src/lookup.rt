@@ -1,7 +1,7 @@
 //! Names among the names declared. At most 256 channels and 64 variables are declared, so each use is looked up by
 //! going through them.
 
-ghost use Rattle.std.specs.Prelude.{◌≡◌, ℕ, MatchOption, map};
+ghost use Rattle.std.specs.Prelude.{◌≡◌, ℕ, ◌<◌, IfSome, MatchOption, length, map};
 ghost use Rattle.net_check.specs.Resolution.{Reads, channel_names, process_names, variable_names};
 ghost use Rattle.net_text.specs.Trees.{process_tree};
 
@@ -9,7 +9,8 @@ use net_text::{ChannelText, Name, ProcessText, VariableText};
 
 /// The number of the channel that reads like this name.
 pub(crate) fn find_channel(channels: &[ChannelText], name: &Name) -> Option<usize>
-    ensures { MatchOption result ((i : ℕ) → Reads (channel_names channels.now) i name.now.text → ⊥) (λ i. Reads (channel_names channels.now) i name.now.text) }
+    ensures within { IfSome result (λ i. i < length channels.now) }
+    ensures found { MatchOption result ((i : ℕ) → Reads (channel_names channels.now) i name.now.text → ⊥) (λ i. Reads (channel_names channels.now) i name.now.text) }
 {
     for (i, channel) in channels.iter().enumerate() {
         if channel.name.is_same(name) {
