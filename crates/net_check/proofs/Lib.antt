@@ -1,3 +1,5 @@
 pub mod Places
 pub mod Declaring
 pub mod Claiming
+pub mod Using
+pub mod Resolving

@@ -6,7 +6,9 @@ pub mod Fits
 pub mod NetFaults
 pub mod Ready
 pub mod Resolution
+pub mod ResolutionLaws
 pub mod Syntax
 pub mod Texts
+pub mod UseLaws
 pub mod Uses
 pub mod Valid

@@ -9,6 +9,7 @@ mod inputs;
 mod lookup;
 mod net;
 mod program;
+mod resolve;
 
 pub use fault::NetFault;
 pub use history::History;

@@ -1,0 +1,97 @@
+//! Names replaced by numbers, use by use in order of the text: 11, 12 and 13.
+
+ghost use Rattle.std.specs.Prelude.{◌≡◌, ◌<◌, ◌≤◌, ℕ, map, length, slice_get, Some, IfErr, IfOk, MatchResult, false, true};
+ghost use Rattle.net_text.specs.Trees.{NothingTree, block_tree, expr_tree, process_tree, then_tree, repeated_tree};
+ghost use Rattle.net_text.specs.declared.tree.Role.TheVariants.{Input, Output};
+ghost use Rattle.net_check.specs.Claims.{Claims, NameFault, UseFault};
+ghost use Rattle.net_check.specs.Resolution.{ResolvesBlock, ResolvesExpr, ResolvesLoop, ResolvesProcess, channel_names, initials, variable_names};
+ghost use Rattle.net_check.specs.Syntax.{Nothing, block_of, body_of, code_of, then_of, tree_of};
+ghost use Rattle.net_check.specs.Uses.{block_uses, expr_uses, loop_uses, process_uses};
+ghost use Rattle.net_check.specs.Valid.{block_gets, block_puts, body_gets, body_puts, code_gets, code_puts};
+
+use crate::ends::{Ends, Scope};
+use crate::fault::NetFault;
+use crate::program::{Expr, Process, Statement};
+use net_text::{ExprText, LoopText, ProcessText, StatementText, VariableText};
+use std::alloc::{AllocError, Global};
+
+fn resolve_expr(alloc: Global, scope: &Scope, expr: &ExprText) -> Result<Expr, NetFault>
+    ensures ok { IfOk result (λ e. ResolvesExpr (variable_names scope.now.variables.now) (expr_tree expr.now) (tree_of e)) }
+    ensures err { IfErr result (NameFault (channel_names scope.now.channels.now) (variable_names scope.now.variables.now) (expr_uses (expr_tree expr.now))) }
+{
+    match expr {
+        ExprText::Literal(n) => Ok(Expr::Literal(*n)),
+        ExprText::Variable(name) => {
+            let variable = scope.variable(name)?;
+            Ok(Expr::Variable(variable))
+        }
+        ExprText::Binary {
+            operator,
+            left,
+            right,
+        } => {
+            let left = resolve_expr(alloc, scope, left)?;
+            let right = resolve_expr(alloc, scope, right)?;
+            let left = Box::new(alloc, left)?;
+            let right = Box::new(alloc, right)?;
+            Ok(Expr::Binary {
+                operator: *operator,
+                left,
+                right,
+            })
+        }
+    }
+}
+
+fn resolve_statement(
+    alloc: Global,
+    scope: &Scope,
+    ends: &mut Ends,
+    statement: &StatementText,
+) -> Result<Statement, NetFault>
+    requires producers { length ends.old.producers ≡ length scope.now.channels.now }
+    requires consumers { length ends.old.consumers ≡ length scope.now.channels.now }
+    ensures ok { IfOk result (λ s. ResolvesBlock (channel_names scope.now.channels.now) (variable_names scope.now.variables.now) (then_tree statement.now NothingTree) (then_of s Nothing)) }
+    ensures puts { IfOk result (λ s. Claims scope.now.channels.now Input scope.now.process (λ c. block_puts c (then_of s Nothing)) ends.old.producers ends.new.producers) }
+    ensures gets { IfOk result (λ s. Claims scope.now.channels.now Output scope.now.process (λ c. block_gets c (then_of s Nothing)) ends.old.consumers ends.new.consumers) }
+    ensures err { IfErr result (UseFault scope.now.channels.now (variable_names scope.now.variables.now) scope.now.process ends.old.producers ends.old.consumers (block_uses (then_tree statement.now NothingTree))) }
+{
+    match statement {
+        StatementText::Get { variable, channel } => {
+            let variable = scope.variable(variable)?;
+            let channel = ends.get_from(scope, channel)?;
+            Ok(Statement::Get { variable, channel })
+        }
+        StatementText::Assign { variable, value } => {
+            let variable = scope.variable(variable)?;
+            let value = resolve_expr(alloc, scope, value)?;
+            Ok(Statement::Assign { variable, value })
+        }
+        StatementText::Put { value, channel } => {
+            let value = resolve_expr(alloc, scope, value)?;
+            let channel = ends.put_on(scope, channel)?;
+            Ok(Statement::Put { value, channel })
+        }
+    }
+}
+
+fn resolve_statements(
+    alloc: Global,
+    scope: &Scope,
+    ends: &mut Ends,
+    statements: &[StatementText],
+) -> Result<Vec<Statement>, NetFault>
+    requires producers { length ends.old.producers ≡ length scope.now.channels.now }
+    requires consumers { length ends.old.consumers ≡ length scope.now.channels.now }
+    ensures ok { IfOk result (λ ss. ResolvesBlock (channel_names scope.now.channels.now) (variable_names scope.now.variables.now) (block_tree statements.now) (block_of ss.items)) }
+    ensures puts { IfOk result (λ ss. Claims scope.now.channels.now Input scope.now.process (λ c. block_puts c (block_of ss.items)) ends.old.producers ends.new.producers) }
+    ensures gets { IfOk result (λ ss. Claims scope.now.channels.now Output scope.now.process (λ c. block_gets c (block_of ss.items)) ends.old.consumers ends.new.consumers) }
+    ensures err { IfErr result (UseFault scope.now.channels.now (variable_names scope.now.variables.now) scope.now.process ends.old.producers ends.old.consumers (block_uses (block_tree statements.now))) }
+{
+    let mut resolved = Vec::new(alloc);
+    for statement in statements {
+        let next = resolve_statement(alloc, scope, ends, statement)?;
+        resolved.push(next)?;
+    }
+    Ok(resolved)
+}
