@@ -10,7 +10,8 @@ use Rattle.net_check.specs.declared.fault.NetFault.{NetFault}
 use Rattle.net_check.specs.declared.fault.NetFault.TheVariants.{NoMemory, UnknownName, TwoProducers, TwoConsumers}
 use Rattle.net_check.specs.declared.program.Port.{Port}
 use Rattle.net_check.specs.Claims.{IsUnknown, IsRefused, stands_outside, is_taken, UseFault, NameFault}
-use Rattle.net_check.specs.Resolution.{channel_names}
+use Rattle.net_check.specs.Resolution.{channel_names, variable_names}
+use Rattle.net_text.specs.declared.tree.VariableText.{VariableText}
 use Rattle.net_check.specs.UseLaws.{has_left, has_right, has_cases}
 use Rattle.net_check.specs.Uses.{Use, OfVariable, GetFrom, PutOn, Has, expr_uses, block_uses}
 
@@ -88,3 +89,7 @@ pub within_statement : (ts : List StatementText) (i : ℕ) (t : StatementText) �
 within_statement [] i t lt e = absurd (omega arith)
 within_statement (s ∷ ss) zero t lt e = subst (λ (x : StatementText). Within (block_uses (then_tree t NothingTree)) (block_uses (then_tree x (block_tree ss)))) e (within_statement_first t (block_tree ss))
 within_statement (s ∷ ss) (suc i) t lt e = within_then _ _ _ (within_statement ss i t (omega arith) e) (within_statement_after s (block_tree ss))
+
+-- the same faults, where the variables are the same and more is used
+pub use_as : (channels : List ChannelText) (xs ys : List VariableText) (p : ℕ) (producers consumers : List Port) (few many : List Use) (f : NetFault) → xs ≡ ys → Within few many → UseFault channels (variable_names xs) p producers consumers few f → UseFault channels (variable_names ys) p producers consumers many f
+use_as channels xs ys p producers consumers few many f e w h = subst (λ (zs : List VariableText). UseFault channels (variable_names zs) p producers consumers many f) e (use_more channels (variable_names xs) p producers consumers few many f w h)

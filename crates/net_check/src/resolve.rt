@@ -1,6 +1,6 @@
 //! Names replaced by numbers, use by use in order of the text: 11, 12 and 13.
 
-ghost use Rattle.std.specs.Prelude.{◌≡◌, ◌<◌, ◌≤◌, ℕ, map, length, slice_get, Some, IfErr, IfOk, MatchResult, false, true};
+ghost use Rattle.std.specs.Prelude.{◌≡◌, ◌<◌, ◌≤◌, ◌||◌, ℕ, map, length, slice_get, Some, IfErr, IfOk, MatchResult, false, true};
 ghost use Rattle.net_text.specs.Trees.{NothingTree, block_tree, expr_tree, process_tree, then_tree, repeated_tree};
 ghost use Rattle.net_text.specs.declared.tree.Role.TheVariants.{Input, Output};
 ghost use Rattle.net_check.specs.Claims.{Claims, NameFault, UseFault};
@@ -12,7 +12,7 @@ ghost use Rattle.net_check.specs.Valid.{block_gets, block_puts, body_gets, body_
 use crate::ends::{Ends, Scope};
 use crate::fault::NetFault;
 use crate::program::{Expr, Process, Statement};
-use net_text::{ExprText, LoopText, ProcessText, StatementText, VariableText};
+use net_text::{ChannelText, ExprText, LoopText, ProcessText, StatementText, VariableText};
 use std::alloc::{AllocError, Global};
 
 fn resolve_expr(alloc: Global, scope: &Scope, expr: &ExprText) -> Result<Expr, NetFault>
@@ -94,4 +94,63 @@ fn resolve_statements(
         resolved.push(next)?;
     }
     Ok(resolved)
+}
+
+fn resolve_loop(
+    alloc: Global,
+    scope: &Scope,
+    ends: &mut Ends,
+    repeated: &Option<LoopText>,
+) -> Result<Option<Vec<Statement>>, NetFault>
+    requires producers { length ends.old.producers ≡ length scope.now.channels.now }
+    requires consumers { length ends.old.consumers ≡ length scope.now.channels.now }
+    ensures ok { IfOk result (λ body. ResolvesLoop (channel_names scope.now.channels.now) (variable_names scope.now.variables.now) (repeated_tree repeated.now) (body_of body)) }
+    ensures puts { IfOk result (λ body. Claims scope.now.channels.now Input scope.now.process (λ c. body_puts c (body_of body)) ends.old.producers ends.new.producers) }
+    ensures gets { IfOk result (λ body. Claims scope.now.channels.now Output scope.now.process (λ c. body_gets c (body_of body)) ends.old.consumers ends.new.consumers) }
+    ensures err { IfErr result (UseFault scope.now.channels.now (variable_names scope.now.variables.now) scope.now.process ends.old.producers ends.old.consumers (loop_uses (repeated_tree repeated.now))) }
+{
+    match repeated {
+        None => Ok(None),
+        Some(repeated) => {
+            let body = resolve_statements(alloc, scope, ends, &repeated.body)?;
+            Ok(Some(body))
+        }
+    }
+}
+
+fn initial_values(alloc: Global, variables: &[VariableText]) -> Result<Vec<i64>, AllocError>
+    ensures { IfOk result (λ values. values.items ≡ initials variables.now) }
+{
+    variables.iter().map(|v| v.initial).collect(alloc)
+}
+
+fn resolve_process(
+    alloc: Global,
+    channels: &[ChannelText],
+    number: usize,
+    ends: &mut Ends,
+    process: &ProcessText,
+) -> Result<Process, NetFault>
+    requires producers { length ends.old.producers ≡ length channels.now }
+    requires consumers { length ends.old.consumers ≡ length channels.now }
+    requires node { process.now.node.number < 256 }
+    ensures ok { IfOk result (λ p. ResolvesProcess (channel_names channels.now) (process_tree process.now) (code_of p)) }
+    ensures puts { IfOk result (λ p. Claims channels.now Input number (λ c. code_puts c (code_of p)) ends.old.producers ends.new.producers) }
+    ensures gets { IfOk result (λ p. Claims channels.now Output number (λ c. code_gets c (code_of p)) ends.old.consumers ends.new.consumers) }
+    ensures err { IfErr result (UseFault channels.now (variable_names process.now.variables.items) number ends.old.producers ends.old.consumers (process_uses (process_tree process.now))) }
+{
+    let scope = Scope {
+        channels,
+        variables: &process.variables,
+        process: number,
+    };
+    let prelude = resolve_statements(alloc, &scope, ends, &process.prelude)?;
+    let body = resolve_loop(alloc, &scope, ends, &process.repeated)?;
+    let variables = initial_values(alloc, &process.variables)?;
+    Ok(Process {
+        node: process.node.number as u8,
+        variables,
+        prelude,
+        body,
+    })
 }
