@@ -3,3 +3,4 @@ pub mod Declaring
 pub mod Claiming
 pub mod Using
 pub mod Resolving
+pub mod Joining

@@ -10,8 +10,10 @@ use Rattle.net_check.specs.declared.program.Port.{Port}
 use Rattle.net_check.specs.declared.program.Port.TheVariants.{Outside, Process}
 use Rattle.net_check.specs.Syntax.{Code}
 use Rattle.net_check.specs.Uses.{Use, GetFrom, PutOn, Has}
-use Rattle.net_check.specs.NetFaults.{name_of, space_of}
-use Rattle.net_check.specs.Resolution.{channel_names, Reads}
+use Rattle.net_check.specs.NetFaults.{HasFault, name_of, space_of}
+use Rattle.net_check.specs.Resolution.{channel_names, channels_of, processes_of, Reads, ResolvesProcess}
+use Rattle.net_check.specs.Valid.{code_puts, code_gets}
+use Rattle.net_text.specs.Trees.{DeclarationTree, ProcessTree}
 
 abbrev pub AreOutside : List Port → Type 0
 AreOutside ports = (c : ℕ) (port : Port) → slice_get ports c ≡ Some port → port ≡ Outside
@@ -46,6 +48,17 @@ pub record Joined (channels : List ChannelText) (role : Role) (uses : ℕ → Co
   pub there : (c q : ℕ) (code : Code) → slice_get codes q ≡ Some code → IsTrue (uses c code) → slice_get ports c ≡ Some (Process q)
   pub back : (c q : ℕ) → slice_get ports c ≡ Some (Process q) → (code : Code) × (slice_get codes q ≡ Some code) × IsTrue (uses c code)
   pub allowed : (c q : ℕ) (channel : ChannelText) → slice_get ports c ≡ Some (Process q) → slice_get channels c ≡ Some channel → channel.role ≢ role
+
+-- these processes of a text are resolved to these codes, and so the ends of the channels are joined
+pub record AreResolved (channels : List ChannelText) (processes : List ProcessTree) (codes : List Code) (producers consumers : List Port) : Type 0 where
+  pub count : length codes ≡ length processes
+  pub codes_of : (p : ℕ) (process : ProcessTree) (code : Code) → slice_get processes p ≡ Some process → slice_get codes p ≡ Some code → ResolvesProcess (channel_names channels) process code
+  pub producers_of : Joined channels Input code_puts codes producers
+  pub consumers_of : Joined channels Output code_gets codes consumers
+
+-- each text with these channels and processes has the fault
+abbrev pub FaultOfText : List ChannelText → List ProcessTree → NetFault → Type 0
+FaultOfText channels processes fault = (text : List DeclarationTree) → channels_of text ≡ channels → processes_of text ≡ processes → HasFault text fault
 
 -- one of these uses names nothing
 pub record IsUnknown (channels variables : List NameTree) (uses : List Use) (line : ℕ) : Type 0 where

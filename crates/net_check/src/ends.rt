@@ -92,6 +92,21 @@ pub(crate) struct Ends {
 }
 
 impl Ends {
+    /// No process stands at any end.
+    pub(crate) fn outside(alloc: Global, count: usize) -> Result<Self, AllocError>
+        ensures producers { IfOk result (λ ends. length ends.producers ≡ count) }
+        ensures consumers { IfOk result (λ ends. length ends.consumers ≡ count) }
+        ensures no_producers { IfOk result (λ ends. AreOutside ends.producers) }
+        ensures no_consumers { IfOk result (λ ends. AreOutside ends.consumers) }
+    {
+        let producers = Ports::outside(alloc, count)?;
+        let consumers = Ports::outside(alloc, count)?;
+        Ok(Ends {
+            producers,
+            consumers,
+        })
+    }
+
     /// The number of the channel on which the process puts.
     pub(crate) fn put_on(&mut self, scope: &Scope, name: &Name) -> Result<usize, NetFault>
         requires { length self.old.producers ≡ length scope.now.channels.now }

@@ -3,12 +3,15 @@
 ghost use Rattle.std.specs.Prelude.{◌≡◌, ◌<◌, ◌≤◌, ◌||◌, ℕ, map, length, slice_get, Some, IfErr, IfOk, MatchResult, false, true};
 ghost use Rattle.net_text.specs.Trees.{NothingTree, block_tree, expr_tree, process_tree, then_tree, repeated_tree};
 ghost use Rattle.net_text.specs.declared.tree.Role.TheVariants.{Input, Output};
-ghost use Rattle.net_check.specs.Claims.{Claims, NameFault, UseFault};
+ghost use Rattle.net_check.specs.Claims.{AreResolved, Claims, FaultOfText, NameFault, UseFault};
+ghost use Rattle.net_check.specs.Ready.{AreDeclared};
+ghost use Rattle.net_text.specs.Trees.{ProcessTree};
 ghost use Rattle.net_check.specs.Resolution.{ResolvesBlock, ResolvesExpr, ResolvesLoop, ResolvesProcess, channel_names, initials, variable_names};
 ghost use Rattle.net_check.specs.Syntax.{Nothing, block_of, body_of, code_of, then_of, tree_of};
 ghost use Rattle.net_check.specs.Uses.{block_uses, expr_uses, loop_uses, process_uses};
 ghost use Rattle.net_check.specs.Valid.{block_gets, block_puts, body_gets, body_puts, code_gets, code_puts};
 
+use crate::declared::Declared;
 use crate::ends::{Ends, Scope};
 use crate::fault::NetFault;
 use crate::program::{Expr, Process, Statement};
@@ -152,5 +155,42 @@ fn resolve_process(
         variables,
         prelude,
         body,
+    })
+}
+
+/// The processes of a text by number, and what stands at the ends of its channels.
+#[derive(Debug, Drop)]
+pub(crate) struct Resolved {
+    pub processes: Vec<Process>,
+    pub ends: Ends,
+}
+
+/// Resolves each process, in order of the text: 11, 12 and 13 in order of the uses.
+pub(crate) fn resolve(alloc: Global, declared: &Declared) -> Result<Resolved, NetFault>
+    requires { AreDeclared declared.now.channels.items (map process_tree declared.now.processes.items) }
+    ensures ok { IfOk result (λ r. AreResolved declared.now.channels.items (map process_tree declared.now.processes.items) (map code_of r.processes.items) r.ends.producers r.ends.consumers) }
+    ensures err { IfErr result (FaultOfText declared.now.channels.items (map process_tree declared.now.processes.items)) }
+{
+    resolve_all(alloc, &declared.channels, &declared.processes)
+}
+
+fn resolve_all(
+    alloc: Global,
+    channels: &[ChannelText],
+    processes: &[ProcessText],
+) -> Result<Resolved, NetFault>
+    requires { (p : ℕ) (process : ProcessTree) → slice_get (map process_tree processes.now) p ≡ Some process → process.node.number < 256 }
+    ensures ok { IfOk result (λ r. AreResolved channels.now (map process_tree processes.now) (map code_of r.processes.items) r.ends.producers r.ends.consumers) }
+    ensures err { IfErr result (FaultOfText channels.now (map process_tree processes.now)) }
+{
+    let mut ends = Ends::outside(alloc, channels.len())?;
+    let mut resolved = Vec::new(alloc);
+    for (number, process) in processes.iter().enumerate() {
+        let next = resolve_process(alloc, channels, number, &mut ends, process)?;
+        resolved.push(next)?;
+    }
+    Ok(Resolved {
+        processes: resolved,
+        ends,
     })
 }
