@@ -4,3 +4,4 @@ pub mod Claiming
 pub mod Using
 pub mod Resolving
 pub mod Joining
+pub mod Fitting

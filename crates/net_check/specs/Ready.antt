@@ -1,6 +1,7 @@
 -- What a process has to keep to before its statements are looked at, and how far a text has been read.
-use Rattle.std.specs.Prelude.{◌≡◌, ℕ, ◌≤◌, length, List, ◌∷◌, ◌++◌, slice_get, Some}
-use Rattle.net_text.specs.Trees.{ProcessTree, DeclarationTree}
+use Rattle.std.specs.Prelude.{◌≡◌, ℕ, ◌≤◌, length, List, ◌∷◌, ◌++◌, slice_get, Some, true}
+use Rattle.net_text.specs.Trees.{LoopTree, ProcessTree, DeclarationTree}
+use Rattle.net_check.specs.Texts.{is_passing_text, process_units_text}
 use Rattle.net_text.specs.declared.tree.ChannelText.{ChannelText}
 use Rattle.net_check.specs.declared.fault.NetFault.{NetFault}
 use Rattle.net_check.specs.Resolution.{AllDifferent, channels_of, processes_of, channel_names, process_names, variable_names}
@@ -11,6 +12,11 @@ pub record IsReady (process : ProcessTree) : Type 0 where
   pub node : process.node.number ≡ 0
   pub few : length process.variables ≤ 64
   pub different : AllDifferent (variable_names process.variables)
+
+-- a process of at most 4,096 units whose loop gets an item in each pass
+pub record IsFit (process : ProcessTree) : Type 0 where
+  pub units : process_units_text process ≤ 4096
+  pub passes : (repeated : LoopTree) → process.repeated ≡ Some repeated → is_passing_text repeated.body ≡ true
 
 -- the channels and processes of a text, as far as it has been read
 pub record AreDeclared (channels : List ChannelText) (processes : List ProcessTree) : Type 0 where
@@ -31,3 +37,7 @@ FaultAtProcess front process fault = (text : List DeclarationTree) (more : List 
 -- each text that has this process has the fault
 abbrev pub FaultOfProcess : ProcessTree → NetFault → Type 0
 FaultOfProcess process fault = (text : List DeclarationTree) (p : ℕ) → slice_get (processes_of text) p ≡ Some process → HasFault text fault
+
+-- each text with these processes has the fault
+abbrev pub FaultOfProcesses : List ProcessTree → NetFault → Type 0
+FaultOfProcesses processes fault = (text : List DeclarationTree) → processes_of text ≡ processes → HasFault text fault
