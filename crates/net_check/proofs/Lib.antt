@@ -5,3 +5,4 @@ pub mod Using
 pub mod Resolving
 pub mod Joining
 pub mod Fitting
+pub mod Ending

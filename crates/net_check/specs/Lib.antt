@@ -3,6 +3,7 @@ pub use Rattle.net_text.specs.Trees
 pub mod Claims
 pub mod Faults
 pub mod Fits
+pub mod Joints
 pub mod NetFaults
 pub mod Ready
 pub mod Resolution

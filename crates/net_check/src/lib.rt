@@ -6,6 +6,7 @@ mod ends;
 mod fault;
 mod history;
 mod inputs;
+mod join;
 mod limits;
 mod lookup;
 mod net;
