@@ -131,7 +131,7 @@ front_got [] (suc i) q p h = absurd (cc)
 front_got (x ∷ xs) (suc i) zero p h = h
 front_got (x ∷ xs) (suc i) (suc q) p h = front_got xs i q p h
 
-process_there : (ps : List ProcessTree) (codes : List Code) (q : ℕ) (code : Code) → length codes ≡ length ps → slice_get codes q ≡ Some code → (p : ProcessTree) × (slice_get ps q ≡ Some p)
+pub process_there : (ps : List ProcessTree) (codes : List Code) (q : ℕ) (code : Code) → length codes ≡ length ps → slice_get codes q ≡ Some code → (p : ProcessTree) × (slice_get ps q ≡ Some p)
 process_there [] [] q code n h = absurd (cc)
 process_there [] (x ∷ xs) q code n h = absurd (omega arith)
 process_there (p ∷ ps) [] q code n h = absurd (omega arith)

@@ -6,3 +6,4 @@ pub mod Resolving
 pub mod Joining
 pub mod Fitting
 pub mod Ending
+pub mod Checked

@@ -5,6 +5,7 @@ pub mod Faults
 pub mod Fits
 pub mod Joints
 pub mod NetFaults
+pub mod Nodes
 pub mod Ready
 pub mod Resolution
 pub mod ResolutionLaws

@@ -1,6 +1,7 @@
 //! Checked networks: channels and variables by number, validity kept in the types, and what they mean.
 #![tactic(auto)]
 
+mod checks;
 mod declared;
 mod ends;
 mod fault;
@@ -9,10 +10,12 @@ mod inputs;
 mod join;
 mod limits;
 mod lookup;
+mod names;
 mod net;
 mod program;
 mod resolve;
 
+pub use checks::check;
 pub use fault::NetFault;
 pub use history::History;
 pub use inputs::{Inputs, fits};
