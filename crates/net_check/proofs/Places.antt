@@ -85,3 +85,23 @@ when_some (Some x) P Q m e = (x, m)
 pub when_none : {X : Type 0} (r : Option X) (P : Type 0) (Q : X → Type 0) → MatchOption r P Q → is_some r ≡ false → P
 when_none None P Q m e = m
 when_none (Some x) P Q m e = absurd (false≢true (sym e))
+
+-- names themselves
+pub name_read_of : (names : List NameTree) (i : ℕ) (t : List ℕ) → Reads names i t → (n : NameTree) × (slice_get names i ≡ Some n) × (n.text ≡ t)
+name_read_of [] i t e = absurd (cc)
+name_read_of (n ∷ names) zero t e = (n, refl, cc)
+name_read_of (n ∷ names) (suc i) t e = name_read_of names i t e
+
+pub name_reads_from : (names : List NameTree) (i : ℕ) (n : NameTree) → slice_get names i ≡ Some n → Reads names i n.text
+name_reads_from [] i n e = absurd (cc)
+name_reads_from (m ∷ names) zero n e = let k : m ≡ n = cc in ap (λ (x : NameTree). Some x.text) k
+name_reads_from (m ∷ names) (suc i) n e = name_reads_from names i n e
+
+pub name_reads_at : (names : List NameTree) (i : ℕ) (n : NameTree) (t : List ℕ) → i < length names → n ≡ get_or names i n → n.text ≡ t → Reads names i t
+name_reads_at names i n t lt e same = name_reads_from names i n (got_at names i n lt e) ∙ ap Some same
+
+pub name_reads_apart : (names : List NameTree) (i : ℕ) (n : NameTree) (t : List ℕ) → i < length names → n ≡ get_or names i n → (n.text ≡ t → ⊥) → Reads names i t → ⊥
+name_reads_apart names i n t lt e other h = let r = name_read_of names i t h in other (ap (λ (z : NameTree). z.text) (same_got names i n r.0 (got_at names i n lt e) r.1) ∙ r.2)
+
+pub name_reads_within : (names : List NameTree) (i : ℕ) (t : List ℕ) → Reads names i t → i < length names
+name_reads_within names i t h = let r = name_read_of names i t h in slice_get_within names i r.0 r.1

@@ -1,5 +1,7 @@
 pub use Rattle.net_text.specs.Names
 pub use Rattle.net_text.specs.Trees
+pub mod Binding
+pub mod Bound
 pub mod Claims
 pub mod Faults
 pub mod Fits

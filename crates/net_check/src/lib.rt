@@ -1,6 +1,7 @@
 //! Checked networks: channels and variables by number, validity kept in the types, and what they mean.
 #![tactic(auto)]
 
+mod bind;
 mod checks;
 mod declared;
 mod ends;

@@ -43,3 +43,16 @@ pub(crate) fn find_variable(variables: &[VariableText], name: &Name) -> Option<u
     }
     None
 }
+
+/// The number of the name that reads like this one.
+pub(crate) fn find_name(names: &[Name], name: &Name) -> Option<usize>
+    ensures within { IfSome result (λ i. i < length names.now) }
+    ensures found { MatchOption result ((i : ℕ) → Reads names.now i name.now.text → ⊥) (λ i. Reads names.now i name.now.text) }
+{
+    for (i, known) in names.iter().enumerate() {
+        if known.is_same(name) {
+            return Some(i);
+        }
+    }
+    None
+}
