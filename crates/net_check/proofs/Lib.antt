@@ -7,3 +7,4 @@ pub mod Joining
 pub mod Fitting
 pub mod Ending
 pub mod Checked
+pub mod Lines

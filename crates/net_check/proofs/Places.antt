@@ -1,6 +1,6 @@
 -- Places of lists, and the names that stand there.
-use Rattle.std.proofs.Common.{◌≡◌, ℕ, zero, suc, ◌<◌, List, [], ◌∷◌, ◌++◌, length, get_or, map, Option, Some, None, refl, sym, ap, ◌∙◌, arith, slice_get, ◌⊎◌, inl, inr, true, false, is_some, MatchOption}
-use Rattle.std.proofs.lemmas.Bool.{false≢true}
+use Rattle.std.proofs.Common.{◌≡◌, ℕ, zero, suc, ◌<◌, List, [], ◌∷◌, ◌++◌, length, get_or, map, Option, Some, None, refl, sym, ap, ◌∙◌, arith, slice_get, set, ◌⊎◌, inl, inr, true, false, is_some, MatchOption}
+use Rattle.std.proofs.lemmas.Bool.{false≢true, cases_lt}
 use Rattle.std.proofs.lemmas.Option.{slice_get_within}
 use Rattle.net_text.specs.Names.{NameTree}
 use Rattle.net_check.specs.Resolution.{Reads, process_names}
@@ -105,3 +105,23 @@ name_reads_apart names i n t lt e other h = let r = name_read_of names i t h in 
 
 pub name_reads_within : (names : List NameTree) (i : ℕ) (t : List ℕ) → Reads names i t → i < length names
 name_reads_within names i t h = let r = name_read_of names i t h in slice_get_within names i r.0 r.1
+
+pub length-set_at : {A : Type 0} (xs : List A) (i : ℕ) (x : A) → length (set xs i x) ≡ length xs
+length-set_at [] i x = refl
+length-set_at (y ∷ ys) zero x = refl
+length-set_at (y ∷ ys) (suc i) x = ap suc (length-set_at ys i x)
+
+pub got_set_here : {A : Type 0} (xs : List A) (i : ℕ) (x : A) → i < length xs → slice_get (set xs i x) i ≡ Some x
+got_set_here [] i x lt = absurd (omega arith)
+got_set_here (y ∷ ys) zero x lt = refl
+got_set_here (y ∷ ys) (suc i) x lt = got_set_here ys i x (omega arith)
+
+pub got_set_there : {A : Type 0} (xs : List A) (i j : ℕ) (x : A) → (i ≡ j → ⊥) → slice_get (set xs i x) j ≡ slice_get xs j
+got_set_there [] i j x other = refl
+got_set_there (y ∷ ys) zero zero x other = absurd (other refl)
+got_set_there (y ∷ ys) zero (suc j) x other = refl
+got_set_there (y ∷ ys) (suc i) zero x other = refl
+got_set_there (y ∷ ys) (suc i) (suc j) x other = got_set_there ys i j x (λ e. other (ap suc e))
+
+pub same_or_not : (i j : ℕ) → (i ≡ j) ⊎ (i ≡ j → ⊥)
+same_or_not i j = elim (cases_lt i j) [ inl h ↦ inr (λ e. omega arith) | inr h ↦ elim (cases_lt j i) [ inl k ↦ inr (λ e. omega arith) | inr k ↦ inl (omega arith) ] ]

@@ -4,6 +4,8 @@ use Rattle.net_text.specs.Names.{NameTree}
 use Rattle.net_text.specs.Trees.{InputTree}
 use Rattle.net_check.specs.declared.fault.NetFault.{NetFault}
 use Rattle.net_check.specs.declared.fault.NetFault.TheVariants.{NoMemory, TwiceNamed, UnknownName, TwoProducers, TwoConsumers, LoopWithoutGet, Limit, NoProducer, NoConsumer, MissingInput}
+use Rattle.net_check.specs.declared.program.Channel.{Channel}
+use Rattle.net_check.specs.declared.program.Port.TheVariants.{Outside}
 use Rattle.net_check.specs.Syntax.{Network}
 use Rattle.net_check.specs.Resolution.{AllDifferent, Reads}
 use Rattle.net_check.specs.Binding.{IsGiven, IsInput, IsNamedIn, line_names}
@@ -19,6 +21,14 @@ AreEmpty lists = (c : ℕ) (items : List ℤ) → slice_get lists c ≡ Some ite
 
 abbrev pub AreFalse : List Bool → Type 0
 AreFalse marks = (c : ℕ) (mark : Bool) → slice_get marks c ≡ Some mark → mark ≡ false
+
+-- each input has been named
+abbrev pub AreNamed : List Channel → List Bool → Type 0
+AreNamed channels named = (c : ℕ) (channel : Channel) → slice_get channels c ≡ Some channel → channel.producer ≡ Outside → slice_get named c ≡ Some true
+
+-- an input hasn't
+abbrev pub HasUnnamed : List Channel → List Bool → Type 0
+HasUnnamed channels named = (c : ℕ) × (channel : Channel) × (slice_get channels c ≡ Some channel) × (channel.producer ≡ Outside) × (slice_get named c ≡ Some false)
 
 -- the lists after these lines, and which channels they have named
 pub record AreBound (names : List NameTree) (net : Network) (lines : List InputTree) (lists : List (List ℤ)) (named : List Bool) : Type 0 where

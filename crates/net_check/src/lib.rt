@@ -1,7 +1,7 @@
 //! Checked networks: channels and variables by number, validity kept in the types, and what they mean.
 #![tactic(auto)]
 
-mod bind;
+mod binding;
 mod checks;
 mod declared;
 mod ends;
@@ -16,6 +16,7 @@ mod net;
 mod program;
 mod resolve;
 
+pub use binding::bind;
 pub use checks::check;
 pub use fault::NetFault;
 pub use history::History;

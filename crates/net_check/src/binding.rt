@@ -1,9 +1,11 @@
 //! The lines of an inputs text bound to the inputs of a network.
 
-ghost use Rattle.std.specs.Prelude.{◌≡◌, ℕ, MatchOption, OnOk, IfErr, IfOk, length};
+ghost use Rattle.std.specs.Prelude.{◌≡◌, ℕ, MatchOption, OnOk, IfErr, IfOk, length, true, false};
+ghost use Rattle.std.specs.Bool.{MatchBool};
+ghost use Rattle.net_check.specs.declared.program.Port.TheVariants.{Outside};
 ghost use Rattle.net_text.specs.Trees.{input_tree, inputs_tree};
 ghost use Rattle.net_check.specs.Binding.{Binds, HasInputFault, IsInput};
-ghost use Rattle.net_check.specs.Bound.{AreBound, AreEmpty, AreFalse, Binds1, LineFault, MarkedInput};
+ghost use Rattle.net_check.specs.Bound.{AreBound, AreEmpty, AreFalse, Binds1, LineFault, AreNamed, HasUnnamed, MarkedInput};
 ghost use Rattle.net_check.specs.Fits.{Fits};
 ghost use Rattle.net_check.specs.Resolution.{Reads};
 ghost use Rattle.net_check.specs.Syntax.{network_of};
@@ -78,4 +80,49 @@ impl Binding {
         self.named[channel] = true;
         Ok(())
     }
+}
+
+/// Whether the channel is no input or has been named.
+fn is_named_if_input(channel: &Channel, named: bool) -> bool
+    ensures { MatchBool result (channel.now.producer ≡ Outside → named ≡ true) ((channel.now.producer ≡ Outside) × (named ≡ false)) }
+{
+    match channel.producer {
+        Port::Outside => named,
+        Port::Process(_) => true,
+    }
+}
+
+/// Whether each input has been named.
+fn are_inputs_named(channels: &[Channel], named: &[bool]) -> bool
+    requires { length named.now ≡ length channels.now }
+    ensures { MatchBool result (AreNamed channels.now named.now) (HasUnnamed channels.now named.now) }
+{
+    for (c, channel) in channels.iter().enumerate() {
+        if !is_named_if_input(channel, named[c]) {
+            return false;
+        }
+    }
+    true
+}
+
+/// The items of a network's inputs, from the lines of an inputs text.
+///
+/// The first fault counts, line by line: 11 for a name that is no input, 10 for one named already, 15 for more than
+/// 1,048,576 items. At the end 18, on no line, for an input that no line names.
+pub fn bind(alloc: Global, net: &Net, inputs: RawInputs) -> Result<Inputs, NetFault>
+    // Each input has exactly the items of its line.
+    ensures bound { IfOk result (Binds net.now.channel_names.items (network_of net.now.program) (inputs_tree inputs)) }
+    // They are inputs for this network.
+    ensures fitting { IfOk result (Fits (network_of net.now.program)) }
+    // What is refused has the fault, on its line.
+    ensures fault { IfErr result (HasInputFault net.now.channel_names.items (network_of net.now.program) (inputs_tree inputs)) }
+{
+    let mut binding = Binding::new(alloc, net.program.channels.len())?;
+    for line in inputs.lines {
+        binding.bind_line(net, line)?;
+    }
+    if !are_inputs_named(&net.program.channels, &binding.named) {
+        return Err(NetFault::MissingInput);
+    }
+    Ok(Inputs::from_lists(binding.lists))
 }
