@@ -1,5 +1,5 @@
 -- A text with a fault has no valid resolution, and lines with a fault don't bind.
-use Rattle.std.proofs.Common.{◌≡◌, ◌≢◌, ◌∙◌, sym, ap, subst, refl, ℕ, ℤ, zero, suc, ◌+◌, ◌<◌, ◌≤◌, List, [], ◌∷◌, ◌++◌, length, map, slice_get, Option, Some, None, Result, Ok, Err, IfErr, IsOkUnless, arith, inl, inr, ◌⊎◌, Bool, true, false, IsTrue}
+use Rattle.std.proofs.Common.{◌≡◌, ◌∙◌, sym, ap, subst, refl, ℕ, ℤ, zero, suc, ◌<◌, List, [], ◌∷◌, length, slice_get, Option, Some, None, Result, Ok, Err, IfErr, IsOkUnless, arith, inl, inr, ◌⊎◌, IsTrue}
 use Rattle.std.proofs.lemmas.Bool.{false≢true}
 use Rattle.std.proofs.lemmas.Option.{slice_get_within}
 use Rattle.std.proofs.lemmas.List.{length-map}
@@ -7,7 +7,6 @@ use Rattle.net_text.specs.Names.{NameTree}
 use Rattle.net_text.specs.Trees.{ExprTree, LiteralTree, VariableTree, BinaryTree, BlockTree, NothingTree, GetTree, AssignTree, PutTree, LoopTree, DeclarationTree, InputTree, ProcessTree}
 use Rattle.net_text.specs.declared.tree.ChannelText.{ChannelText}
 use Rattle.net_text.specs.declared.tree.VariableText.{VariableText}
-use Rattle.net_text.specs.declared.tree.Role.{Role}
 use Rattle.net_text.specs.declared.tree.Role.TheVariants.{Input, Output}
 use Rattle.net_check.specs.declared.fault.NetFault.{NetFault}
 use Rattle.net_check.specs.declared.fault.NetFault.TheVariants.{NoMemory, TwiceNamed, UnknownName, TwoProducers, TwoConsumers, LoopWithoutGet, Limit, NoProducer, NoConsumer, MissingInput}
@@ -15,15 +14,15 @@ use Rattle.net_check.specs.declared.program.Channel.{Channel}
 use Rattle.net_check.specs.declared.program.Port.{Port}
 use Rattle.net_check.specs.declared.program.Port.TheVariants.{Outside, Process}
 use Rattle.net_check.specs.Syntax.{Tree, Number, Name, Binary, Block, Nothing, GetThen, AssignThen, PutThen, Code, Network}
-use Rattle.net_check.specs.Valid.{IsValid, code_gets, code_puts, is_passing}
+use Rattle.net_check.specs.Valid.{IsValid, code_gets, code_puts}
 use Rattle.net_check.specs.Nodes.{IsOnOneNode}
 use Rattle.net_check.specs.NetFaults.{HasFault, HasLoopWithoutGet, HasNoUser, HasPastLimit, HasTwiceNamed, HasTwoUsers, HasUnknownName, SecondUse, another_too, many_channels, many_processes, many_units, many_variables, name_of, other_node, outside_too, space_of, two_channels, two_processes, two_variables}
-use Rattle.net_check.specs.Uses.{Use, OfVariable, GetFrom, PutOn, Has, block_uses, expr_uses, loop_uses, process_uses}
+use Rattle.net_check.specs.Uses.{Use, GetFrom, PutOn, Has, block_uses, expr_uses, loop_uses, process_uses}
 use Rattle.net_check.specs.UseLaws.{has_cases}
 use Rattle.net_check.specs.Resolution.{AllDifferent, Reads, Resolves, ResolvesBlock, ResolvesExpr, ResolvesLoop, ResolvesProcess, channel_names, channels_of, processes_of, variable_names}
-use Rattle.net_check.specs.ResolutionLaws.{Named, Numbered, put_named, get_named, put_numbered, get_numbered, units_kept, passes_kept_text}
+use Rattle.net_check.specs.ResolutionLaws.{put_named, get_named, put_numbered, get_numbered, units_kept, passes_kept_text}
 use Rattle.net_check.specs.Binding.{Binds, HasInputFault, line_names}
-use Rattle.net_check.proofs.Places.{name_reads_from, read_of, reads_from, same_got}
+use Rattle.net_check.proofs.Places.{name_reads_from, read_of, reads_from}
 use Rattle.net_check.proofs.Claiming.{reads_same}
 
 -- among names that differ none is a second use
@@ -51,34 +50,34 @@ block_declared : (cs vs : List NameTree) (tree : BlockTree) (block : Block) (u :
 block_declared cs vs NothingTree block u r h = absurd h
 block_declared cs vs (GetTree v n rest) Nothing u r h = absurd r
 block_declared cs vs (GetTree v n rest) (GetThen x d b) u r h = elim h [
-    inl e ↦ subst (IsDeclared cs vs) e record { i = x; reads = r.0 }
+  | inl e ↦ subst (IsDeclared cs vs) e record { i = x; reads = r.0 }
   | inr k ↦ elim k [
-      inl e ↦ subst (IsDeclared cs vs) e record { i = d; reads = r.1 }
+    | inl e ↦ subst (IsDeclared cs vs) e record { i = d; reads = r.1 }
     | inr m ↦ block_declared cs vs rest b u r.2 m
-    ]
   ]
+]
 block_declared cs vs (GetTree v n rest) (AssignThen x t b) u r h = absurd r
 block_declared cs vs (GetTree v n rest) (PutThen t d b) u r h = absurd r
 block_declared cs vs (AssignTree v e rest) Nothing u r h = absurd r
 block_declared cs vs (AssignTree v e rest) (GetThen x d b) u r h = absurd r
 block_declared cs vs (AssignTree v e rest) (AssignThen x t b) u r h = elim h [
-    inl e' ↦ subst (IsDeclared cs vs) e' record { i = x; reads = r.0 }
+  | inl e' ↦ subst (IsDeclared cs vs) e' record { i = x; reads = r.0 }
   | inr k ↦ elim (has_cases (expr_uses e) (block_uses rest) u k) [
-      inl m ↦ expr_declared cs vs e t u r.1 m
+    | inl m ↦ expr_declared cs vs e t u r.1 m
     | inr m ↦ block_declared cs vs rest b u r.2 m
-    ]
   ]
+]
 block_declared cs vs (AssignTree v e rest) (PutThen t d b) u r h = absurd r
 block_declared cs vs (PutTree e n rest) Nothing u r h = absurd r
 block_declared cs vs (PutTree e n rest) (GetThen x d b) u r h = absurd r
 block_declared cs vs (PutTree e n rest) (AssignThen x t b) u r h = absurd r
 block_declared cs vs (PutTree e n rest) (PutThen t d b) u r h = elim (has_cases (expr_uses e) (PutOn n ∷ block_uses rest) u h) [
-    inl m ↦ expr_declared cs vs e t u r.0 m
+  | inl m ↦ expr_declared cs vs e t u r.0 m
   | inr m ↦ elim m [
-      inl e' ↦ subst (IsDeclared cs vs) e' record { i = d; reads = r.1 }
+    | inl e' ↦ subst (IsDeclared cs vs) e' record { i = d; reads = r.1 }
     | inr k ↦ block_declared cs vs rest b u r.2 k
-    ]
   ]
+]
 
 loop_declared : (cs vs : List NameTree) (repeated : Option LoopTree) (body : Option Block) (u : Use) → ResolvesLoop cs vs repeated body → Has (loop_uses repeated) u → IsDeclared cs vs u
 loop_declared cs vs None body u r h = absurd h
@@ -87,9 +86,9 @@ loop_declared cs vs (Some l) (Some b) u r h = block_declared cs vs l.body b u r 
 
 use_declared : (cs : List NameTree) (process : ProcessTree) (code : Code) (u : Use) → ResolvesProcess cs process code → Has (process_uses process) u → IsDeclared cs (variable_names process.variables) u
 use_declared cs process code u r h = elim (has_cases (block_uses process.prelude) (loop_uses process.repeated) u h) [
-    inl k ↦ block_declared cs _ process.prelude code.prelude u r.prelude k
+  | inl k ↦ block_declared cs _ process.prelude code.prelude u r.prelude k
   | inr k ↦ loop_declared cs _ process.repeated code.body u r.body k
-  ]
+]
 
 got_within : {A : Type 0} (xs : List A) (i : ℕ) → i < length xs → (x : A) × (slice_get xs i ≡ Some x)
 got_within [] i lt = absurd (omega arith)
@@ -101,7 +100,6 @@ port_either Outside = inl refl
 port_either (Process q) = inr (q, refl)
 
 module _ (text : List DeclarationTree) (cs ps : List NameTree) (net : Network) (r : Resolves text cs ps net) (v : IsValid net) (one : IsOnOneNode net) where
-
   names : channel_names (channels_of text) ≡ cs
   names = sym r.channels_named
 
@@ -204,28 +202,28 @@ module _ (text : List DeclarationTree) (cs ps : List NameTree) (net : Network) (
   no_missing_producer line h =
       let k = channel_at h.c h.channel h.here in
       elim (port_either k.0.producer) [
-        inl e ↦ h.inside ((r.inputs h.c h.channel k.0 h.here k.1).1 e)
-      | inr q ↦
-          let lt = v.producer_is_here h.c q.0 k.0 k.1 q.1 in
-          let n = processes_counted in
-          let p = got_within (processes_of text) q.0 (omega arith) in
-          let x = code_of_process q.0 p.0 p.1 in
-          let m = put_named cs p.0 x.0 h.c x.2 ((v.producer h.c q.0 k.0 x.0 k.1 x.1).1 q.1) in
-          h.unused q.0 p.0 m.name p.1 m.used (reads_same cs h.c m.name.text h.channel.name.text m.reads (name_read h.c h.channel h.channel.name.text h.here refl))
+        | inl e ↦ h.inside ((r.inputs h.c h.channel k.0 h.here k.1).1 e)
+        | inr q ↦
+            let lt = v.producer_is_here h.c q.0 k.0 k.1 q.1 in
+            let n = processes_counted in
+            let p = got_within (processes_of text) q.0 (omega arith) in
+            let x = code_of_process q.0 p.0 p.1 in
+            let m = put_named cs p.0 x.0 h.c x.2 ((v.producer h.c q.0 k.0 x.0 k.1 x.1).1 q.1) in
+            h.unused q.0 p.0 m.name p.1 m.used (reads_same cs h.c m.name.text h.channel.name.text m.reads (name_read h.c h.channel h.channel.name.text h.here refl))
       ]
 
   no_missing_consumer : (line : ℕ) → HasNoUser Output GetFrom text line → ⊥
   no_missing_consumer line h =
       let k = channel_at h.c h.channel h.here in
       elim (port_either k.0.consumer) [
-        inl e ↦ h.inside ((r.outputs h.c h.channel k.0 h.here k.1).1 e)
-      | inr q ↦
-          let lt = v.consumer_is_here h.c q.0 k.0 k.1 q.1 in
-          let n = processes_counted in
-          let p = got_within (processes_of text) q.0 (omega arith) in
-          let x = code_of_process q.0 p.0 p.1 in
-          let m = get_named cs p.0 x.0 h.c x.2 ((v.consumer h.c q.0 k.0 x.0 k.1 x.1).1 q.1) in
-          h.unused q.0 p.0 m.name p.1 m.used (reads_same cs h.c m.name.text h.channel.name.text m.reads (name_read h.c h.channel h.channel.name.text h.here refl))
+        | inl e ↦ h.inside ((r.outputs h.c h.channel k.0 h.here k.1).1 e)
+        | inr q ↦
+            let lt = v.consumer_is_here h.c q.0 k.0 k.1 q.1 in
+            let n = processes_counted in
+            let p = got_within (processes_of text) q.0 (omega arith) in
+            let x = code_of_process q.0 p.0 p.1 in
+            let m = get_named cs p.0 x.0 h.c x.2 ((v.consumer h.c q.0 k.0 x.0 k.1 x.1).1 q.1) in
+            h.unused q.0 p.0 m.name p.1 m.used (reads_same cs h.c m.name.text h.channel.name.text m.reads (name_read h.c h.channel h.channel.name.text h.here refl))
       ]
 
   pub no_fault : (f : NetFault) → HasFault text f → f ≡ NoMemory

@@ -16,3 +16,4 @@ pub mod Texts
 pub mod UseLaws
 pub mod Uses
 pub mod Valid
+pub mod ValidLaws

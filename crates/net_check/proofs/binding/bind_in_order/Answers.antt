@@ -1,4 +1,4 @@
-use Rattle.std.proofs.Common.{◌≡◌, ◌∙◌, sym, ap, subst, ◌++◌, ◌∷◌, [], List, map, Bool, rules, length}
+use Rattle.std.proofs.Common.{◌≡◌, ◌∙◌, sym, ap, subst, ◌∷◌, [], List, map, Bool}
 use Rattle.std.proofs.lemmas.Result.{err_from_is_err_and}
 use Rattle.std.proofs.lemmas.List.{map-append}
 use Rattle.std.proofs.lemmas.Iterator.Consumers.{YieldsList-end}
@@ -16,7 +16,7 @@ loop-line-preserved c =
     let i = c.loop-line.invariant in
     record {
       bound = subst (λ (xs : List InputTree). AreBound c.args.net.now.channel_names.items (network_of c.args.net.now.program) xs c.bind_line.new.self.lists.items c.bind_line.new.self.named.items) (sym (map-append input_tree c.loop-line.yielded (c.in-Some.line ∷ [])))
-        (bound_push c.args.net.now.channel_names.items (network_of c.args.net.now.program) (map input_tree c.loop-line.yielded) (input_tree c.in-Some.line) _ _ _ _ c.args.net.now.channels_differ i.bound c.in_ok-bind_line.ensures.ok);
+          (bound_push c.args.net.now.channel_names.items (network_of c.args.net.now.program) (map input_tree c.loop-line.yielded) (input_tree c.in-Some.line) _ _ _ _ c.args.net.now.channels_differ i.bound c.in_ok-bind_line.ensures.ok);
       lines = lines_next c.loop-line.yielded _ _ c.in-Some.line _ (c.in-Some.ensures.steps).0 i.lines;
     }
 

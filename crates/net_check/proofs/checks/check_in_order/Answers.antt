@@ -1,14 +1,13 @@
 use Rattle.std.proofs.Common.{◌≡◌, ◌∙◌, sym, ap, subst, ℕ, List, map, length, slice_get, Some}
 use Rattle.std.proofs.lemmas.Result.{err_from_is_err_and}
 use Rattle.std.proofs.lemmas.List.{length-map}
-use Rattle.net_text.specs.Names.{NameTree}
 use Rattle.net_text.specs.Trees.{ProcessTree, net_tree, process_tree}
 use Rattle.net_text.specs.declared.tree.ChannelText.{ChannelText}
 use Rattle.net_text.specs.declared.tree.ProcessText.{ProcessText}
 use Rattle.net_check.specs.Joints.{AreJoined, EndFaultAmong}
 use Rattle.net_check.specs.Ready.{IsFit}
-use Rattle.net_check.specs.Resolution.{AllDifferent, Resolves, channel_names, process_names}
-use Rattle.net_check.specs.Syntax.{code_of, network_of}
+use Rattle.net_check.specs.Resolution.{AllDifferent}
+use Rattle.net_check.specs.Syntax.{code_of}
 use Rattle.net_check.proofs.Checked.{end_fault_in, node_zero, one_node, resolves, valid}
 use Rattle.net_check.proofs.checks.check_in_order.Goals as goal
 
