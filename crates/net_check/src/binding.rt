@@ -111,13 +111,16 @@ fn are_inputs_named(channels: &[Channel], named: &[bool]) -> bool
 /// 1,048,576 items. At the end 18, on no line, for an input that no line names.
 pub fn bind(alloc: Global, net: &Net, inputs: RawInputs) -> Result<Inputs, NetFault>
     // Each input has exactly the items of its line.
-    ensures bound { IfOk result (Binds net.now.channel_names.items (network_of net.now.program) (inputs_tree inputs)) }
+    ensures bound { IfOk result
+        (Binds net.now.channel_names.items (network_of net.now.program) (inputs_tree inputs)) }
     // They are inputs for this network.
     ensures fitting { IfOk result (Fits (network_of net.now.program)) }
     // What is refused has the fault, on its line.
-    ensures fault { IfErr result (HasInputFault net.now.channel_names.items (network_of net.now.program) (inputs_tree inputs)) }
+    ensures fault { IfErr result
+        (HasInputFault net.now.channel_names.items (network_of net.now.program) (inputs_tree inputs)) }
     // Lines that give lists to the network are accepted.
-    ensures accepted { (lists : List (List ℤ)) → Binds net.now.channel_names.items (network_of net.now.program) (inputs_tree inputs) lists
+    ensures accepted { (lists : List (List ℤ))
+        → Binds net.now.channel_names.items (network_of net.now.program) (inputs_tree inputs) lists
         → IsOkUnless result NetFault.NoMemory }
 {
     bind_in_order(alloc, net, inputs)

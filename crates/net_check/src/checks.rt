@@ -26,13 +26,16 @@ use std::alloc::Global;
 /// the uses, in order of the text; 15 and 14 process by process; 16 and 17 channel by channel.
 pub fn check(alloc: Global, text: NetText) -> Result<Net, NetFault>
     // The network is the resolution of the text.
-    ensures resolved { IfOk result (λ net. Resolves (net_tree text) net.channel_names.items net.process_names.items (network_of net.program)) }
+    ensures resolved { IfOk result
+        (λ net. Resolves (net_tree text) net.channel_names.items net.process_names.items
+            (network_of net.program)) }
     // There is one node.
     ensures one_node { IfOk result (λ net. IsOnOneNode (network_of net.program)) }
     // What is refused has the fault, on its line.
     ensures fault { IfErr result (HasFault (net_tree text)) }
     // A text that has a valid resolution on one node is accepted.
-    ensures accepted { (channels processes : List NameTree) (net : Network) → Resolves (net_tree text) channels processes net → IsValid net → IsOnOneNode net
+    ensures accepted { (channels processes : List NameTree) (net : Network)
+        → Resolves (net_tree text) channels processes net → IsValid net → IsOnOneNode net
         → IsOkUnless result NetFault.NoMemory }
 {
     check_in_order(alloc, text)

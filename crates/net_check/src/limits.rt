@@ -101,12 +101,12 @@ fn check_limits(process: &ProcessText) -> Result<(), NetFault>
     if !has_few_units(process) {
         return Err(NetFault::Limit { line: process.line });
     }
-    if let Some(repeated) = &process.repeated {
-        if !is_passing(&repeated.body) {
-            return Err(NetFault::LoopWithoutGet {
-                line: repeated.line,
-            });
-        }
+    if let Some(repeated) = &process.repeated
+        && !is_passing(&repeated.body)
+    {
+        return Err(NetFault::LoopWithoutGet {
+            line: repeated.line,
+        });
     }
     Ok(())
 }

@@ -230,8 +230,12 @@ fn refuses_declarations(rt: HostRuntime) -> Result<(), Fail> {
     let variables = [(2, Process("p", 0)), (3, Variable("v")), (4, Variable("v"))];
     assert_eq!(rt; outcome_of(alloc, &variables)?, (10, Some(4)));
     // Only node 0, for now.
-    let node = [(2, Process("p", 1))];
-    assert_eq!(rt; outcome_of(alloc, &node)?, (15, Some(2)));
+    for node in [1, 15, 16] {
+        assert_eq!(rt; outcome_of(alloc, &[(2, Process("p", node))])?, (15, Some(2)), "{node}");
+    }
+    // The name of a process before its node.
+    let both = [(2, Process("p", 0)), (3, Process("p", 1))];
+    assert_eq!(rt; outcome_of(alloc, &both)?, (10, Some(3)));
     // A declaration in order of the text, and all of them before the uses.
     let order = [
         (2, Process("p", 0)),
