@@ -16,7 +16,7 @@ use Rattle.net_check.specs.Fits.{Fits}
 use Rattle.net_check.specs.NetFaults.{SecondUse}
 use Rattle.net_check.specs.Resolution.{AllDifferent, Reads}
 use Rattle.net_check.specs.Binding.{Binds, HasInputFault, IsGiven, IsInput, line_names}
-use Rattle.net_check.specs.Bound.{AreBound, AreEmpty, AreFalse, AreNamed, Binds1, HasUnnamed, LineFault}
+use Rattle.net_check.specs.Bound.{AreBound, AreEmpty, AreFalse, AreNamed, BindsLine, HasUnnamed, LineFault}
 use Rattle.net_check.proofs.Places.{got_append_left, got_push_cases, got_seam, got_set_here, got_set_there, length-set_at, read_of, reads_from, same_got, same_or_not}
 use Rattle.net_check.proofs.Claiming.{reads_same}
 use Rattle.net_check.proofs.Declaring.{different_none, different_push, second_use}
@@ -45,7 +45,7 @@ bound_none names net lists named n m empty none = record {
     empty_at (l ∷ ls) (x ∷ xs) (suc c) n e h = empty_at ls xs c (omega arith) (λ k items g. e (suc k) items g) h
 
 module _ (names : List NameTree) (net : Network) (lines : List InputTree) (line : InputTree) (lists : List (List ℤ)) (named : List Bool) (lists' : List (List ℤ)) (named' : List Bool) (differ : AllDifferent names)
-    (b : AreBound names net lines lists named) (s : Binds1 names net line lists named lists' named') where
+    (b : AreBound names net lines lists named) (s : BindsLine names net line lists named lists' named') where
   within : s.c < length named
   within = slice_get_within named s.c false s.fresh
 

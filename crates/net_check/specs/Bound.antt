@@ -43,7 +43,7 @@ pub record AreBound (names : List NameTree) (net : Network) (lines : List InputT
   pub few : (c : ℕ) (items : List ℤ) → slice_get lists c ≡ Some items → length items ≤ 1048576
 
 -- a line that names an input which none has named
-pub record Binds1 (names : List NameTree) (net : Network) (line : InputTree) (lists : List (List ℤ)) (named : List Bool) (lists' : List (List ℤ)) (named' : List Bool) : Type 0 where
+pub record BindsLine (names : List NameTree) (net : Network) (line : InputTree) (lists : List (List ℤ)) (named : List Bool) (lists' : List (List ℤ)) (named' : List Bool) : Type 0 where
   pub c : ℕ
   pub reads : Reads names c line.name.text
   pub input : IsInput net c

@@ -5,7 +5,7 @@ ghost use Rattle.std.specs.Bool.{MatchBool};
 ghost use Rattle.net_check.specs.declared.program.Port.TheVariants.{Outside};
 ghost use Rattle.net_text.specs.Trees.{input_tree, inputs_tree};
 ghost use Rattle.net_check.specs.Binding.{Binds, HasInputFault, IsInput};
-ghost use Rattle.net_check.specs.Bound.{AreBound, AreEmpty, AreFalse, Binds1, LineFault, AreNamed, HasUnnamed, MarkedInput};
+ghost use Rattle.net_check.specs.Bound.{AreBound, AreEmpty, AreFalse, BindsLine, LineFault, AreNamed, HasUnnamed, MarkedInput};
 ghost use Rattle.net_check.specs.Fits.{Fits};
 ghost use Rattle.net_check.specs.Resolution.{Reads};
 ghost use Rattle.net_check.specs.Syntax.{network_of};
@@ -58,7 +58,7 @@ impl Binding {
     fn bind_line(&mut self, net: &Net, line: InputLine) -> Result<(), NetFault>
         requires lists { length self.old.lists.items ≡ length net.now.program.channels.items }
         requires named { length self.old.named.items ≡ length net.now.program.channels.items }
-        ensures ok { OnOk result (Binds1 net.now.channel_names.items (network_of net.now.program) (input_tree line) self.old.lists.items self.old.named.items self.new.lists.items self.new.named.items) }
+        ensures ok { OnOk result (BindsLine net.now.channel_names.items (network_of net.now.program) (input_tree line) self.old.lists.items self.old.named.items self.new.lists.items self.new.named.items) }
         ensures err { IfErr result (LineFault net.now.channel_names.items (network_of net.now.program) (input_tree line) self.old.named.items) }
     {
         let Some(channel) = find_input(net, &line.name) else {

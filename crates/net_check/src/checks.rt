@@ -28,7 +28,7 @@ pub fn check(alloc: Global, text: NetText) -> Result<Net, NetFault>
     // The network is the resolution of the text.
     ensures resolved { IfOk result
         (λ net. Resolves (net_tree text) net.channel_names.items net.process_names.items
-            (network_of net.program)) }
+        (network_of net.program)) }
     // There is one node.
     ensures one_node { IfOk result (λ net. IsOnOneNode (network_of net.program)) }
     // What is refused has the fault, on its line.

@@ -55,6 +55,7 @@ fn join_all(
     Ok(joined)
 }
 
+/// The channels of a network, in order of declaration: 16, then 17, channel by channel.
 pub(crate) fn join(
     alloc: Global,
     channels: &[ChannelText],

@@ -231,7 +231,11 @@ fn refuses_declarations(rt: HostRuntime) -> Result<(), Fail> {
     assert_eq!(rt; outcome_of(alloc, &variables)?, (10, Some(4)));
     // Only node 0, for now.
     for node in [1, 15, 16] {
-        assert_eq!(rt; outcome_of(alloc, &[(2, Process("p", node))])?, (15, Some(2)), "{node}");
+        assert_eq!(rt;
+            outcome_of(alloc, &[(2, Process("p", node))])?,
+            (15, Some(2)),
+            "{node}"
+        );
     }
     // The name of a process before its node.
     let both = [(2, Process("p", 0)), (3, Process("p", 1))];
