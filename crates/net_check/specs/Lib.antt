@@ -6,3 +6,7 @@ pub mod Streams
 pub mod Statements
 pub mod Processes
 pub mod Approximations
+pub mod PassLaws
+pub mod PutLaws
+pub mod StreamLaws
+pub mod ApproximationLaws
