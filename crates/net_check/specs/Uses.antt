@@ -1,0 +1,34 @@
+-- What the statements of a text use, in order of the text.
+use Rattle.std.specs.Prelude.{◌≡◌, List, [], ◌∷◌, ◌++◌, Option, Some, None, ◌⊎◌}
+use Rattle.net_text.specs.Names.{NameTree}
+use Rattle.net_text.specs.Trees.{ExprTree, LiteralTree, VariableTree, BinaryTree, BlockTree, NothingTree, GetTree, AssignTree, PutTree, LoopTree, ProcessTree}
+
+-- a variable that is read or written, a channel from which an item is got, a channel on which one is put
+pub data Use : Type 0 where
+  OfVariable : (name : NameTree) → Use
+  GetFrom : (name : NameTree) → Use
+  PutOn : (name : NameTree) → Use
+
+abbrev pub expr_uses : ExprTree → List Use
+expr_uses (LiteralTree n) = []
+expr_uses (VariableTree name) = OfVariable name ∷ []
+expr_uses (BinaryTree operator a b) = expr_uses a ++ expr_uses b
+
+abbrev pub block_uses : BlockTree → List Use
+block_uses NothingTree = []
+block_uses (GetTree variable channel rest) = OfVariable variable ∷ GetFrom channel ∷ block_uses rest
+block_uses (AssignTree variable value rest) = OfVariable variable ∷ (expr_uses value ++ block_uses rest)
+block_uses (PutTree value channel rest) = expr_uses value ++ (PutOn channel ∷ block_uses rest)
+
+abbrev pub loop_uses : Option LoopTree → List Use
+loop_uses None = []
+loop_uses (Some repeated) = block_uses repeated.body
+
+-- what a process uses
+abbrev pub process_uses : ProcessTree → List Use
+process_uses p = block_uses p.prelude ++ loop_uses p.repeated
+
+-- one of these uses is this one
+abbrev pub Has : List Use → Use → Type 0
+Has [] use' = ⊥
+Has (u ∷ uses) use' = (u ≡ use') ⊎ Has uses use'

@@ -1,0 +1,67 @@
+//! The items for a network's inputs.
+
+ghost use Rattle.std.specs.Prelude.{◌≡◌, ◌↔◌, IsTrue, length};
+ghost use Rattle.net_check.specs.Fits.{Fits, IsEmptyInside, IsEmptyWhereMade};
+ghost use Rattle.net_check.specs.Syntax.{network_of};
+
+use crate::history::History;
+use crate::net::Net;
+use crate::program::{Channel, Port};
+use std::marker::Model;
+
+/// The items that come from outside: one list for each channel number, empty where the channel is no input.
+#[derive(Debug, Drop)]
+pub struct Inputs {
+    lists: Vec<History>,
+}
+
+impl Model for Inputs {
+    ghost use Rattle.std.specs.Prelude.{List, ℤ, ℕ, ◌≡◌, ◌≤◌, Some, length, slice_get};
+
+    ghost Value = { List (List ℤ) };
+
+    ghost view = { λ i. i.lists.items };
+
+    ghost invariant = { λ i. (c : ℕ) (items : List ℤ) → slice_get i.lists.items c ≡ Some items → length items ≤ 1048576 };
+}
+
+impl Inputs {
+    /// The list of each channel.
+    pub fn as_slice(&self) -> &[History]
+        ensures { result.now ≡ self.now }
+    {
+        self.lists.as_slice()
+    }
+}
+
+/// Whether these are inputs for this network: a list for each channel, and none but an empty one for a channel on
+/// which a process puts.
+pub fn fits(net: &Net, inputs: &Inputs) -> bool
+    ensures { IsTrue result ↔ Fits (network_of net.now.program) inputs.now }
+{
+    net.program.channels.len() == inputs.lists.len()
+        && are_inner_empty(&net.program.channels, inputs.as_slice())
+}
+
+/// Whether the list is empty if a process puts on the channel.
+fn is_empty_where_made(channel: &Channel, list: &History) -> bool
+    ensures { IsTrue result ↔ IsEmptyWhereMade channel.now list.now }
+{
+    match channel.producer {
+        Port::Outside => true,
+        Port::Process(_) => list.is_empty(),
+    }
+}
+
+/// Whether each channel on which a process puts has an empty list.
+fn are_inner_empty(channels: &[Channel], lists: &[History]) -> bool
+    requires { length channels.now ≡ length lists.now }
+    ensures { IsTrue result ↔ IsEmptyInside channels.now lists.now }
+{
+    for (c, channel) in channels.iter().enumerate() {
+        if !is_empty_where_made(channel, &lists[c]) {
+            return false;
+        }
+    }
+    true
+}
