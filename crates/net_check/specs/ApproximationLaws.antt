@@ -3,8 +3,9 @@ use Rattle.std.proofs.Common.{◌≡◌, ◌⊎◌, ℕ, zero, suc, ◌+◌, ◌
 use Rattle.std.specs.Prelude.{slice_get}
 use Rattle.std.proofs.lemmas.Bool.{cases_lt}
 use Rattle.std.proofs.lemmas.List.{ext_get_or, get_or_past}
-use Rattle.std.proofs.lemmas.Option.{slice_get_cases}
-use Rattle.net_check.specs.Streams.{history_of, IsPrefix, ArePrefixes, FitsInputs}
+use Rattle.std.proofs.lemmas.Option.{slice_get_cases, get_or_from_slice_get}
+use Rattle.net_check.specs.Streams.{history_of, IsPrefix, ArePrefixes}
+use Rattle.net_check.specs.Fits.{Fits}
 use Rattle.net_check.specs.Syntax.{Code, Network}
 use Rattle.net_check.specs.Valid.{IsValid}
 use Rattle.net_check.specs.Approximations.{output_at, next_history, next_from, next_histories, approximation, Belongs, IsReached, IsSolution}
@@ -103,14 +104,22 @@ module _ (net : Network) (valid : IsValid net) where
       at c (inl here) = prefix_along _ _ _ _ (next_histories-at net inputs small c here.0 here.2) (next_histories-at net inputs big c here.0 here.2) (next_grows inputs small big c here.0.producer m)
       at c (inr past) = prefix_nil _ _ (next_histories_past net inputs small c past.0)
 
-  module _ (inputs : List (List ℤ)) (fits : FitsInputs net inputs) where
+  -- nothing comes from outside where a process puts
+  inner_empty : (inputs : List (List ℤ)) → Fits net inputs → (c p : ℕ) (channel : Channel) → slice_get net.channels c ≡ Some channel → channel.producer ≡ Process p → history_of inputs c ≡ []
+  inner_empty inputs fits c p channel is from = at (slice_get_cases inputs c).1
+    where
+      at : ((x : List ℤ) × (c < length inputs) × (slice_get inputs c ≡ Some x) × (get_or inputs c x ≡ x)) ⊎ ((length inputs ≤ c) × (slice_get inputs c ≡ None)) → history_of inputs c ≡ []
+      at (inl here) = get_or_from_slice_get inputs c here.0 [] here.2 ∙ fits.inside c channel here.0 is here.2 p from
+      at (inr past) = get_or_past inputs c [] past.0
+
+  module _ (inputs : List (List ℤ)) (fits : Fits net inputs) where
     -- the first approximation is below whatever keeps the inputs
     first_below : (histories : List (List ℤ)) → ((c : ℕ) (channel : Channel) → slice_get net.channels c ≡ Some channel → channel.producer ≡ Outside → history_of histories c ≡ history_of inputs c) → ArePrefixes inputs histories
     first_below histories keeps = record { at = λ c. at c (slice_get_cases net.channels c).1 }
       where
         by_port : (c : ℕ) (channel : Channel) (port : Port) → slice_get net.channels c ≡ Some channel → channel.producer ≡ port → IsPrefix (history_of inputs c) (history_of histories c)
         by_port c channel Outside is from = prefix_along _ _ _ _ refl (keeps c channel is from) (prefix_refl (history_of inputs c))
-        by_port c channel (Process p) is from = prefix_nil _ _ (fits.inner c p channel is from)
+        by_port c channel (Process p) is from = prefix_nil _ _ (inner_empty inputs fits c p channel is from)
 
         at : (c : ℕ) → ((x : Channel) × (c < length net.channels) × (slice_get net.channels c ≡ Some x) × (get_or net.channels c x ≡ x)) ⊎ ((length net.channels ≤ c) × (slice_get net.channels c ≡ None)) → IsPrefix (history_of inputs c) (history_of histories c)
         at c (inl here) = by_port c here.0 here.0.producer here.2 refl
@@ -186,7 +195,7 @@ module _ (net : Network) (valid : IsValid net) where
   reached_is_solution inputs n reached = next_is_solution inputs (approximation net inputs n) reached
 
   -- and every approximation is below every solution
-  pub below_solutions : (inputs : List (List ℤ)) → FitsInputs net inputs → (n : ℕ) (histories : List (List ℤ)) → IsSolution net inputs histories → ArePrefixes (approximation net inputs n) histories
+  pub below_solutions : (inputs : List (List ℤ)) → Fits net inputs → (n : ℕ) (histories : List (List ℤ)) → IsSolution net inputs histories → ArePrefixes (approximation net inputs n) histories
   below_solutions inputs fits zero histories s = first_below inputs fits histories s.inputs_agree
   below_solutions inputs fits (suc n) histories s =
       subst (λ (h : List (List ℤ)). ArePrefixes (approximation net inputs (suc n)) h) (sym (solution_is_next inputs histories s)) (next_histories_grow inputs (approximation net inputs n) histories (below_solutions inputs fits n histories s))

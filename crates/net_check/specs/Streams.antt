@@ -1,9 +1,6 @@
 -- Histories: the items that go over each channel, by the channel's number. After Kahn, "The semantics of a simple language for
 -- parallel programming" (1974): a network means the histories of its channels, whole lists without machine or schedule.
-use Rattle.std.specs.Prelude.{◌≡◌, ℕ, ◌+◌, ◌≤◌, ℤ, List, [], ◌∷◌, ◌++◌, length, slice_get, slice_index_or, Some}
-use Rattle.net_check.specs.Syntax.{Network}
-use Rattle.net_check.specs.declared.program.Channel.{Channel}
-use Rattle.net_check.specs.declared.program.Port.TheVariants.{Process}
+use Rattle.std.specs.Prelude.{◌≡◌, ℕ, ◌+◌, ℤ, List, [], ◌∷◌, ◌++◌, length, slice_index_or}
 
 -- A history is a list of items, in order. This is the history of a channel, empty where there is no such channel.
 abbrev pub history_of : List (List ℤ) → ℕ → List ℤ
@@ -22,9 +19,3 @@ pub record ArePrefixes (small big : List (List ℤ)) : Type 0 where
 abbrev pub total : List (List ℤ) → ℕ
 total [] = 0
 total (history ∷ histories) = length history + total histories
-
--- Inputs fit a network: a list for each channel, empty where a process puts, each of at most 1,048,576 items.
-pub record FitsInputs (net : Network) (inputs : List (List ℤ)) : Type 0 where
-  pub count : length inputs ≡ length net.channels
-  pub short : (c : ℕ) → length (history_of inputs c) ≤ 1048576
-  pub inner : (c p : ℕ) (channel : Channel) → slice_get net.channels c ≡ Some channel → channel.producer ≡ Process p → history_of inputs c ≡ []
