@@ -10,6 +10,7 @@ pub mod Streams
 pub mod Statements
 pub mod Processes
 pub mod Approximations
+pub mod Puts
 pub mod PassLaws
 pub mod PutLaws
 pub mod StreamLaws

@@ -1,9 +1,12 @@
 -- Laws of what is put: after these steps and those, and by statements that put nothing on a channel.
-use Rattle.std.proofs.Common.{◌≡◌, ℕ, zero, suc, ◌+◌, Bool, true, false, cond, ◌||◌, List, ℤ, [], ◌∷◌, ◌++◌, Option, Some, None, set, refl, ap, ◌∙◌, ◌==◌}
+use Rattle.std.proofs.Common.{◌≡◌, ◌≢◌, ◌⊎◌, inl, inr, ℕ, zero, suc, ◌+◌, ◌<◌, Bool, true, false, cond, eqb, ◌||◌, List, ℤ, [], ◌∷◌, ◌++◌, Option, Some, None, length, set, refl, subst, sym, ap, ◌∙◌, append_assoc, append-nil, arith, ◌==◌}
+use Rattle.std.proofs.lemmas.List.{get_or-set_same, get_or-set_other, length-set}
+use Rattle.std.proofs.lemmas.Bool.Decides.{eqb_tells}
 use Rattle.net_check.specs.Streams.{history_of, total}
 use Rattle.net_check.specs.Syntax.{Block, Nothing, GetThen, AssignThen, PutThen, Code}
 use Rattle.net_check.specs.Valid.{block_puts, body_puts, code_puts}
 use Rattle.net_check.specs.Statements.{Act, Got, Sent, Step, Trace, End, Ended, Waits, trace_of, on_get, from_end, then_do, value_of, sites_of}
+use Rattle.net_check.specs.Puts.{put_by, put_after}
 use Rattle.net_check.specs.Processes.{passes, loop_trace, sent_by, sent_on, output_of}
 
 pub sent_on-append : (channel : ℕ) (xs ys : List Step) → sent_on channel (xs ++ ys) ≡ sent_on channel xs ++ sent_on channel ys
@@ -60,3 +63,39 @@ silent code inputs channel h =
     let both = either_false (block_puts channel code.prelude) (body_puts channel code.body) h in
     silent_then channel (trace_of 0 code.prelude code.vars inputs) (loop_trace (sites_of code.prelude) code.body)
     (silent_block channel 0 code.prelude code.vars inputs both.0) (λ v u. silent_loop channel (sites_of code.prelude) code.body v u both.1)
+
+-- After steps and then others
+pub put_after-append : (xs ys : List Step) (histories : List (List ℤ)) → put_after (xs ++ ys) histories ≡ put_after ys (put_after xs histories)
+put_after-append [] ys histories = refl
+put_after-append (x ∷ xs) ys histories = put_after-append xs ys (put_by x.act histories)
+
+length-put_by : (a : Act) (histories : List (List ℤ)) → length (put_by a histories) ≡ length histories
+length-put_by (Got c item) histories = refl
+length-put_by (Sent c item) histories = length-set histories c (history_of histories c ++ item ∷ [])
+
+pub length-put_after : (steps : List Step) (histories : List (List ℤ)) → length (put_after steps histories) ≡ length histories
+length-put_after [] histories = refl
+length-put_after (s ∷ steps) histories = length-put_after steps (put_by s.act histories) ∙ length-put_by s.act histories
+
+-- each channel has then what it had, and what is put on it
+pub put_after-at : (steps : List Step) (histories : List (List ℤ)) (channel : ℕ) → channel < length histories → history_of (put_after steps histories) channel ≡ history_of histories channel ++ sent_on channel steps
+put_after-at [] histories channel h = sym (append-nil (history_of histories channel))
+put_after-at (s ∷ steps) histories channel h =
+    let n = length-put_by s.act histories in
+    put_after-at steps (put_by s.act histories) channel (omega arith) ∙ at_act s.act
+  where
+    at_put : (c : ℕ) (item : ℤ) → ((eqb c channel ≡ true) × (c ≡ channel)) ⊎ ((eqb c channel ≡ false) × (c ≢ channel))
+        → history_of (set histories c (history_of histories c ++ item ∷ [])) channel ++ sent_on channel steps ≡ history_of histories channel ++ cond (eqb c channel) (item ∷ sent_on channel steps) (sent_on channel steps)
+    at_put c item (inl same) =
+        subst (λ (n : ℕ). history_of (set histories c (history_of histories c ++ item ∷ [])) n ++ sent_on channel steps ≡ history_of histories n ++ cond (eqb c channel) (item ∷ sent_on channel steps) (sent_on channel steps)) same.1
+        (let lt : c < length histories = omega arith in
+            ap (λ (x : List ℤ). x ++ sent_on channel steps) (get_or-set_same histories c (history_of histories c ++ item ∷ []) [] lt)
+            ∙ (append_assoc (history_of histories c) (item ∷ []) (sent_on channel steps) ∙ ap (λ (t : Bool). history_of histories c ++ cond t (item ∷ sent_on channel steps) (sent_on channel steps)) (sym same.0)))
+    at_put c item (inr other) =
+        let ne : channel ≡ c → ⊥ = λ e. other.1 (sym e) in
+        ap (λ (x : List ℤ). x ++ sent_on channel steps) (get_or-set_other histories c channel (history_of histories c ++ item ∷ []) [] ne)
+        ∙ ap (λ (t : Bool). history_of histories channel ++ cond t (item ∷ sent_on channel steps) (sent_on channel steps)) (sym other.0)
+
+    at_act : (a : Act) → history_of (put_by a histories) channel ++ sent_on channel steps ≡ history_of histories channel ++ sent_by channel a (sent_on channel steps)
+    at_act (Got c item) = refl
+    at_act (Sent c item) = at_put c item (eqb_tells c channel)
