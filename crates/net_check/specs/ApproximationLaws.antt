@@ -105,7 +105,7 @@ module _ (net : Network) (valid : IsValid net) where
       at c (inr past) = prefix_nil _ _ (next_histories_past net inputs small c past.0)
 
   -- nothing comes from outside where a process puts
-  inner_empty : (inputs : List (List ℤ)) → Fits net inputs → (c p : ℕ) (channel : Channel) → slice_get net.channels c ≡ Some channel → channel.producer ≡ Process p → history_of inputs c ≡ []
+  pub inner_empty : (inputs : List (List ℤ)) → Fits net inputs → (c p : ℕ) (channel : Channel) → slice_get net.channels c ≡ Some channel → channel.producer ≡ Process p → history_of inputs c ≡ []
   inner_empty inputs fits c p channel is from = at (slice_get_cases inputs c).1
     where
       at : ((x : List ℤ) × (c < length inputs) × (slice_get inputs c ≡ Some x) × (get_or inputs c x ≡ x)) ⊎ ((length inputs ≤ c) × (slice_get inputs c ≡ None)) → history_of inputs c ≡ []
