@@ -1,11 +1,11 @@
 -- The prelude, and then one pass of the body after another.
-use Rattle.std.proofs.Common.{◌≡◌, ℕ, suc, ◌+◌, ◌<◌, Bool, true, false, List, ℤ, [], ◌∷◌, ◌++◌, Option, Some, None, refl, sym, ap, subst, ◌∙◌, append-nil, arith}
+use Rattle.std.proofs.Common.{◌≡◌, ℕ, suc, ◌<◌, Bool, true, false, List, ℤ, [], ◌++◌, Option, Some, refl, sym, ap, subst, ◌∙◌, append-nil, arith}
 use Rattle.std.specs.Prelude.{IsTrue}
 use Rattle.net_check.specs.Streams.{total}
-use Rattle.net_check.specs.Syntax.{Block, Code}
+use Rattle.net_check.specs.Syntax.{Block}
 use Rattle.net_check.specs.Valid.{is_passing}
-use Rattle.net_check.specs.Statements.{Trace, Step, End, Ended, Waits, trace_of, from_end, then_do, sites_of}
-use Rattle.net_check.specs.Processes.{passes, loop_trace, process_trace}
+use Rattle.net_check.specs.Statements.{Trace, Step, End, Ended, Waits, trace_of, from_end, then_do}
+use Rattle.net_check.specs.Processes.{passes, loop_trace}
 use Rattle.net_check.specs.PassLaws.{fewer_left, one_pass}
 use Rattle.net_check.specs.Puts.{put_after}
 use Rattle.net_check.specs.PutLaws.{put_after-append}

@@ -1,8 +1,5 @@
 -- The refusals of the plain solver.
-use Rattle.std.specs.Prelude.{ℕ, ℤ, List, ◌≤◌, ◌<◌, length}
-use Rattle.net_check.specs.Streams.{history_of}
-use Rattle.net_check.specs.Syntax.{Network}
-use Rattle.net_check.specs.Approximations.{approximation}
+use Rattle.std.specs.Prelude.{ℕ}
 use Rattle.stream_eq.specs.declared.fault.Fault.{Fault}
 use Rattle.stream_eq.specs.declared.fault.Fault.TheVariants.{NoMemory, Long}
 

@@ -1,3 +1,4 @@
 pub mod Faults
 pub mod Limits
 pub mod Play
+pub mod Laws

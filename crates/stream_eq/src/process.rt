@@ -50,12 +50,7 @@ fn set_variable(variables: &mut [i64], variable: usize, value: i64)
 }
 
 /// Puts an item on a channel, unless that goes past the channel's limit.
-fn put_item(
-    sent: &mut [History],
-    limits: &[usize],
-    channel: usize,
-    item: i64,
-) -> Result<(), Fault>
+fn put_item(sent: &mut [History], limits: &[usize], channel: usize, item: i64) -> Result<(), Fault>
     requires { length limits.now ≡ length sent.old }
     ensures ok { OnOk result (sent.new ≡ slice_set sent.old channel (history_of sent.old channel ++ item ∷ [])) }
     ensures room { OnOk result (channel < length sent.old → length (history_of sent.old channel) < slice_index limits.now channel) }

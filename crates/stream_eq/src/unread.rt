@@ -46,7 +46,10 @@ impl<'a> Unread<'a> {
 }
 
 /// All of these histories, unread.
-pub fn all_unread<'a>(alloc: Global, histories: &'a [History]) -> Result<Vec<Unread<'a>>, AllocError>
+pub fn all_unread<'a>(
+    alloc: Global,
+    histories: &'a [History],
+) -> Result<Vec<Unread<'a>>, AllocError>
     ensures { IfOk result (λ all. all.items ≡ histories.now) }
 {
     let mut all = Vec::new(alloc);

@@ -1,10 +1,10 @@
-use Rattle.std.proofs.Common.{◌≡◌, ℕ, suc, List, ℤ, length, sym, ap, subst, ◌∙◌}
+use Rattle.std.proofs.Common.{sym, subst, ◌∙◌}
 use Rattle.std.proofs.lemmas.Result.{err_from_is_err_and}
 use Rattle.net_check.specs.Streams.{total}
 use Rattle.net_check.specs.Syntax.{block_of}
 use Rattle.net_check.specs.Statements.{trace_of}
 use Rattle.net_check.specs.Processes.{passes}
-use Rattle.stream_eq.specs.Limits.{IsWithin, GoesPast}
+use Rattle.stream_eq.specs.Limits.{GoesPast}
 use Rattle.stream_eq.proofs.Errors.{other_err}
 use Rattle.stream_eq.proofs.Loops.{smaller, goes_on, past_then}
 use Rattle.stream_eq.proofs.process.play_loop.Goals as goal
@@ -15,7 +15,7 @@ returns-in_err-play_statements-clause-long c =
     let b = block_of c.args.body.now in
     let e = c.in_err-play_statements.ensures in
     rw (p.1, p.2) (λ h site. subst (GoesPast c.args.limits.now) (c.loop.invariant.leads site)
-        (past_then c.args.limits.now (trace_of site b c.loop.variables c.loop.unread) (passes (total c.loop.unread) site b) c.loop.sent (e.long (other_err _ _ h) site)))
+    (past_then c.args.limits.now (trace_of site b c.loop.variables c.loop.unread) (passes (total c.loop.unread) site b) c.loop.sent (e.long (other_err _ _ h) site)))
 
 pub loop-smaller : goal.loop-smaller
 loop-smaller c =

@@ -1,11 +1,10 @@
-use Rattle.std.proofs.Common.{◌≡◌, ℕ, ◌+◌, ◌∷◌, [], ◌++◌, List, ℤ, drop, length, set, sym, ap, ◌∙◌, refl, subst, FitsSigned, rules}
+use Rattle.std.proofs.Common.{◌≡◌, ◌+◌, ◌∷◌, [], ◌++◌, List, ℤ, drop, length, set, sym, ap, ◌∙◌, refl, subst, FitsSigned, rules}
 use Rattle.std.specs.Int.{w64}
-use Rattle.std.specs.Prelude.{IsErrOf}
 use Rattle.std.proofs.lemmas.Int.{to_z-of_z}
 use Rattle.std.proofs.lemmas.List.{length-set}
 use Rattle.std.proofs.lemmas.Result.{err_from_is_err_and}
 use Rattle.net_check.specs.Streams.{history_of}
-use Rattle.net_check.specs.Syntax.{Block, block_of, then_of}
+use Rattle.net_check.specs.Syntax.{block_of, then_of}
 use Rattle.net_check.specs.declared.program.Statement.{Statement}
 use Rattle.stream_eq.specs.Limits.{IsWithin}
 use Rattle.stream_eq.proofs.Errors.{other_err}

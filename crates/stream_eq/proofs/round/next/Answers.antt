@@ -1,4 +1,4 @@
-use Rattle.std.proofs.Common.{◌≡◌, ◌++◌, ℕ, List, ℤ, drop, take, length, map, sym, ap, subst, ◌∙◌, arith}
+use Rattle.std.proofs.Common.{◌≡◌, ◌++◌, List, drop, take, length, map, sym, ap, subst, ◌∙◌, arith}
 use Rattle.std.specs.Prelude.{slice_get}
 use Rattle.std.proofs.lemmas.Grind.{common_steps}
 use Rattle.std.proofs.lemmas.Result.{err_from_is_err_and}
@@ -21,7 +21,7 @@ returns-in_err-put_all-clause-long c =
     let histories = c.args.histories.now in
     let start = c.deref_mut.ensures.value ∙ c.in_ok-after.ensures in
     let same = ap (λ (ps : List Process). put_by_all (map code_of ps) histories c.deref_mut.result.now) c.deref.ensures.value
-        ∙ (ap (put_by_all net.codes histories) start ∙ put_by_all_is_next net c.args.net.now.valid c.args.inputs.now c.requires.fits histories) in
+    ∙ (ap (put_by_all net.codes histories) start ∙ put_by_all_is_next net c.args.net.now.valid c.args.inputs.now c.requires.fits histories) in
     rw (p.1, p.2) (λ h. subst (GoesPast c.args.limits.now) same (c.in_err-put_all.ensures.long (other_err _ _ h)))
 
 pub returns-clause-next : goal.returns-clause-next
@@ -30,6 +30,6 @@ returns-clause-next c =
     let histories = c.args.histories.now in
     let start = c.deref_mut.ensures.value ∙ c.in_ok-after.ensures in
     let same = ap (λ (ps : List Process). put_by_all (map code_of ps) histories c.deref_mut.result.now) c.deref.ensures.value
-        ∙ (ap (put_by_all net.codes histories) start ∙ put_by_all_is_next net c.args.net.now.valid c.args.inputs.now c.requires.fits histories) in
+    ∙ (ap (put_by_all net.codes histories) start ∙ put_by_all_is_next net c.args.net.now.valid c.args.inputs.now c.requires.fits histories) in
     let whole : take c.in_ok-after.after.len (c.put_all.new.after ++ drop (length c.put_all.new.after) c.in_ok-after.after.items) ≡ c.put_all.new.after = grind (arith, common_steps) in
     whole ∙ (c.in_ok-put_all.ensures.put ∙ same)

@@ -1,4 +1,4 @@
-use Rattle.std.proofs.Common.{◌≡◌, ◌+◌, ℕ, List, ℤ, drop, length, map, sym, ap, subst, ◌∙◌}
+use Rattle.std.proofs.Common.{◌+◌, drop, map, subst, ◌∙◌}
 use Rattle.std.proofs.lemmas.Result.{err_from_is_err_and}
 use Rattle.net_check.specs.Syntax.{code_of}
 use Rattle.net_check.specs.Processes.{process_trace}
@@ -20,4 +20,4 @@ returns-in_err-put_outputs-clause-long c =
     let histories = c.args.histories.now in
     let more = all_more ps i c.process-item.result histories c.loop-process.after c.loop-process-test.true c.process-item.is ∙ c.loop-process.invariant.leads in
     rw (p.1, p.2) (λ h. subst (GoesPast c.args.limits.now) more
-        (past_all c.args.limits.now (map code_of (drop (i + 1) ps)) histories (put_after (process_trace (code_of c.process-item.result) histories).steps c.loop-process.after) (c.in_err-put_outputs.ensures.long (other_err _ _ h))))
+    (past_all c.args.limits.now (map code_of (drop (i + 1) ps)) histories (put_after (process_trace (code_of c.process-item.result) histories).steps c.loop-process.after) (c.in_err-put_outputs.ensures.long (other_err _ _ h))))
