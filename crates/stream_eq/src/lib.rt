@@ -17,3 +17,6 @@ pub use laws::{
     agreement_law, growth_law, least_solution_law, monotone_law, one_item_law, well_founded_law,
 };
 pub use solution::is_solution;
+
+#[cfg(test)]
+mod tests;
