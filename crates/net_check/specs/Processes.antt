@@ -35,8 +35,8 @@ abbrev pub output_of : Code → List (List ℤ) → ℕ → List ℤ
 output_of code inputs channel = sent_on channel (process_trace code inputs).steps
 
 -- the loop's body passes: one of its statements gets an item
-abbrev pub Passes : Code → Type 0
-Passes code = (body : Block) → code.body ≡ Some body → IsTrue (is_passing body)
+abbrev pub HasPassingLoop : Code → Type 0
+HasPassingLoop code = (body : Block) → code.body ≡ Some body → IsTrue (is_passing body)
 
 -- where a process stands: before the get or put of a site, or past its last statement
 pub data Standing : Type 0 where

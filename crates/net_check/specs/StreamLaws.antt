@@ -7,7 +7,7 @@ use Rattle.net_check.specs.Streams.{history_of, total, IsPrefix, ArePrefixes}
 use Rattle.net_check.specs.Syntax.{Block, Nothing, GetThen, AssignThen, PutThen, Code}
 use Rattle.net_check.specs.Valid.{is_passing}
 use Rattle.net_check.specs.Statements.{Got, Sent, Step, Trace, End, Ended, Waits, trace_of, on_get, from_end, then_do, value_of, sites_of}
-use Rattle.net_check.specs.Processes.{At, Done, standing_at, Passes, passes, loop_trace, process_trace, sent_on, output_of}
+use Rattle.net_check.specs.Processes.{At, Done, standing_at, HasPassingLoop, passes, loop_trace, process_trace, sent_on, output_of}
 use Rattle.net_check.specs.PassLaws.{fewer_left}
 use Rattle.net_check.specs.PutLaws.{sent_on-append}
 
@@ -123,13 +123,13 @@ longer_loop site None v u w passing p = longer 0 Nothing v u w p
 longer_loop site (Some b) v u w passing p = longer_passes (total u) (total w) site b v u w (passing b refl) (omega arith) (omega arith) p
 
 -- a process
-pub longer_process : (code : Code) (small big : List (List ℤ)) → Passes code → ArePrefixes small big → IsLonger (process_trace code small) (process_trace code big)
+pub longer_process : (code : Code) (small big : List (List ℤ)) → HasPassingLoop code → ArePrefixes small big → IsLonger (process_trace code small) (process_trace code big)
 longer_process code small big passing p =
     longer_then (trace_of 0 code.prelude code.vars small) (trace_of 0 code.prelude code.vars big) (loop_trace (sites_of code.prelude) code.body) (loop_trace (sites_of code.prelude) code.body)
     (longer 0 code.prelude code.vars small big p) (λ v u w e e' p'. longer_loop (sites_of code.prelude) code.body v u w passing p')
 
 -- more unread gives the same, and then more
-pub monotone : (code : Code) (small big : List (List ℤ)) (channel : ℕ) → Passes code → ArePrefixes small big → IsPrefix (output_of code small channel) (output_of code big channel)
+pub monotone : (code : Code) (small big : List (List ℤ)) (channel : ℕ) → HasPassingLoop code → ArePrefixes small big → IsPrefix (output_of code small channel) (output_of code big channel)
 monotone code small big channel passing p =
     let l = longer_process code small big passing p in
     record { rest = sent_on channel l.more; is = ap (sent_on channel) l.steps ∙ sent_on-append channel (process_trace code small).steps l.more }

@@ -1,7 +1,7 @@
 -- Small networks, on which the tests compute the definitions.
-use Rattle.std.specs.Prelude.{ℕ, ℤ, pos, List, [], ◌∷◌, Option, Some, None}
+use Rattle.std.specs.Prelude.{ℕ, ℤ, pos, [], ◌∷◌, Some}
 use Rattle.net_text.specs.declared.tree.Operator.TheVariants.{Add}
-use Rattle.net_check.specs.Syntax.{Number, Name, Binary, Block, Nothing, GetThen, AssignThen, PutThen, Code, Network}
+use Rattle.net_check.specs.Syntax.{Number, Name, Binary, Nothing, GetThen, AssignThen, PutThen, Code, Network}
 use Rattle.net_check.specs.declared.program.Channel.{Channel}
 use Rattle.net_check.specs.declared.program.Port.{Port}
 use Rattle.net_check.specs.declared.program.Port.TheVariants.{Outside, Process}
@@ -10,23 +10,20 @@ abbrev pub channel_from : Port → Port → Channel
 channel_from producer consumer = record { producer = producer; consumer = consumer }
 
 -- The running sum: input 0, output 1, and `process sum on 0 { var a; var v; loop { v = get i; a = a + v; put a to o; } }`.
-abbrev pub sum_code : Code
-sum_code = record { node = 0; vars = pos 0 ∷ pos 0 ∷ []; prelude = Nothing; body = Some (GetThen 1 0 (AssignThen 0 (Binary Add (Name 0) (Name 1)) (PutThen (Name 0) 1 Nothing))) }
+abbrev pub summing_code : ℕ → ℕ → Code
+summing_code from to = record { node = 0; vars = pos 0 ∷ pos 0 ∷ []; prelude = Nothing; body = Some (GetThen 1 from (AssignThen 0 (Binary Add (Name 0) (Name 1)) (PutThen (Name 0) to Nothing))) }
 
 abbrev pub sum_net : Network
-sum_net = record { channels = channel_from Outside (Process 0) ∷ channel_from (Process 0) Outside ∷ []; codes = sum_code ∷ [] }
+sum_net = record { channels = channel_from Outside (Process 0) ∷ channel_from (Process 0) Outside ∷ []; codes = summing_code 0 1 ∷ [] }
 
 -- Two inputs, 0 and 1, whose items are added in pairs onto channel 2, and their running sum on output 3.
 abbrev pub add_code : Code
 add_code = record { node = 0; vars = pos 0 ∷ pos 0 ∷ []; prelude = Nothing; body = Some (GetThen 0 0 (GetThen 1 1 (PutThen (Binary Add (Name 0) (Name 1)) 2 Nothing))) }
 
-abbrev pub total_code : Code
-total_code = record { node = 0; vars = pos 0 ∷ pos 0 ∷ []; prelude = Nothing; body = Some (GetThen 1 2 (AssignThen 0 (Binary Add (Name 0) (Name 1)) (PutThen (Name 0) 3 Nothing))) }
-
 abbrev pub pair_net : Network
 pair_net = record {
   channels = channel_from Outside (Process 0) ∷ channel_from Outside (Process 0) ∷ channel_from (Process 0) (Process 1) ∷ channel_from (Process 1) Outside ∷ [];
-  codes = add_code ∷ total_code ∷ [];
+  codes = add_code ∷ summing_code 2 3 ∷ [];
 }
 
 -- Kahn's example: channels X, Y, Z, T1, T2 and the output, numbered from 0. The process f takes from Y and Z in turn and sends each item
@@ -46,3 +43,11 @@ cycle_net = record {
   channels = channel_from (Process 0) (Process 1) ∷ channel_from (Process 2) (Process 0) ∷ channel_from (Process 3) (Process 0) ∷ channel_from (Process 1) (Process 2) ∷ channel_from (Process 1) (Process 3) ∷ channel_from (Process 0) Outside ∷ [];
   codes = merge_code ∷ split_code ∷ delay_code (pos 0) 3 1 ∷ delay_code (pos 1) 4 2 ∷ [];
 }
+
+-- One process that puts each item that it gets twice on the channel from which it gets, after one first item: the n-th approximation has
+-- 2 ^ n - 1 items.
+abbrev pub doubling_code : Code
+doubling_code = record { node = 0; vars = pos 0 ∷ []; prelude = PutThen (Number (pos 0)) 0 Nothing; body = Some (GetThen 0 0 (PutThen (Name 0) 0 (PutThen (Name 0) 0 Nothing))) }
+
+abbrev pub doubling_net : Network
+doubling_net = record { channels = channel_from (Process 0) (Process 0) ∷ []; codes = doubling_code ∷ [] }

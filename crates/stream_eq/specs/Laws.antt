@@ -4,7 +4,7 @@ use Rattle.net_check.specs.Streams.{IsPrefix, ArePrefixes, total}
 use Rattle.net_check.specs.Fits.{Fits}
 use Rattle.net_check.specs.Syntax.{Block, Code, Network}
 use Rattle.net_check.specs.Valid.{IsValid, is_passing}
-use Rattle.net_check.specs.Processes.{Passes, passes, output_of}
+use Rattle.net_check.specs.Processes.{HasPassingLoop, passes, output_of}
 use Rattle.net_check.specs.Approximations.{approximation, Belongs, IsReached, IsSolution}
 
 -- a body that passes is at rest after as many passes as there are items unread, and one: more passes make no more acts
@@ -13,7 +13,7 @@ WellFounded = (n m site : ℕ) (body : Block) (vars : List ℤ) (unread : List (
 
 -- from longer input histories a process puts the same on each channel, and then more
 abbrev pub Monotone : Type 0
-Monotone = (code : Code) (small big : List (List ℤ)) (channel : ℕ) → Passes code → ArePrefixes small big → IsPrefix (output_of code small channel) (output_of code big channel)
+Monotone = (code : Code) (small big : List (List ℤ)) (channel : ℕ) → HasPassingLoop code → ArePrefixes small big → IsPrefix (output_of code small channel) (output_of code big channel)
 
 -- each approximation's histories are prefixes of every later one's
 abbrev pub Growing : Type 0

@@ -2,7 +2,7 @@
 use Rattle.std.specs.Prelude.{◌≡◌, ℕ, Bool, true, false, List, ℤ, [], ◌∷◌, slice_get, Some}
 use Rattle.net_check.specs.Syntax.{Code}
 use Rattle.net_check.specs.Statements.{Trace, End, Ended, Waits}
-use Rattle.net_check.specs.Processes.{Passes, process_trace}
+use Rattle.net_check.specs.Processes.{HasPassingLoop, process_trace}
 use Rattle.net_check.specs.Puts.{put_after}
 
 -- whether statements ended, and with which variables and unread items
@@ -21,5 +21,5 @@ put_by_all [] histories after = after
 put_by_all (code ∷ codes) histories after = put_by_all codes histories (put_after (process_trace code histories).steps after)
 
 -- the loop's body of each of these processes passes
-abbrev pub AllPass : List Code → Type 0
-AllPass codes = (p : ℕ) (code : Code) → slice_get codes p ≡ Some code → Passes code
+abbrev pub AllHavePassingLoops : List Code → Type 0
+AllHavePassingLoops codes = (p : ℕ) (code : Code) → slice_get codes p ≡ Some code → HasPassingLoop code

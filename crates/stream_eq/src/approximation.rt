@@ -23,7 +23,12 @@ fn same_limits(alloc: Global, channels: usize) -> Result<Vec<usize>, AllocError>
 }
 
 /// The n-th approximation, from a list of items for each channel.
-fn approximate(alloc: Global, net: &Net, inputs: &[History], n: u64) -> Result<Histories, Fault>
+pub(crate) fn approximate(
+    alloc: Global,
+    net: &Net,
+    inputs: &[History],
+    n: u64,
+) -> Result<Histories, Fault>
     requires { Fits (network_of net.now.program) inputs.now }
     ensures value { IfOk result (λ histories. histories ≡ approximation (network_of net.now.program) inputs.now n) }
     ensures long { IsErrOf result Fault.Long → HasLongHistory (network_of net.now.program) inputs.now n }

@@ -5,7 +5,7 @@ ghost use Rattle.net_check.specs.Streams.{history_of, total};
 ghost use Rattle.net_check.specs.Syntax.{tree_of, block_of, code_of};
 ghost use Rattle.net_check.specs.Valid.{is_passing};
 ghost use Rattle.net_check.specs.Statements.{apply, value_of, trace_of};
-ghost use Rattle.net_check.specs.Processes.{Passes, passes, process_trace};
+ghost use Rattle.net_check.specs.Processes.{HasPassingLoop, passes, process_trace};
 ghost use Rattle.net_check.specs.Puts.{put_after};
 ghost use Rattle.stream_eq.specs.Limits.{IsWithin, GoesPast};
 ghost use Rattle.stream_eq.specs.Play.{IsPlayed};
@@ -135,7 +135,7 @@ fn play(
     sent: &mut [History],
 ) -> Result<(), Fault>
     requires first { variables.old ≡ (code_of process.now).vars }
-    requires passing { Passes (code_of process.now) }
+    requires passing { HasPassingLoop (code_of process.now) }
     requires count { length limits.now ≡ length sent.old }
     ensures played { OnOk result (sent.new ≡ put_after (process_trace (code_of process.now) unread.old).steps sent.old) }
     ensures within { OnOk result (IsWithin limits.now sent.old → IsWithin limits.now sent.new) }
@@ -159,7 +159,7 @@ pub fn put_outputs(
     limits: &[usize],
     sent: &mut [History],
 ) -> Result<(), Fault>
-    requires passing { Passes (code_of process.now) }
+    requires passing { HasPassingLoop (code_of process.now) }
     requires count { length limits.now ≡ length sent.old }
     ensures played { OnOk result (sent.new ≡ put_after (process_trace (code_of process.now) histories.now).steps sent.old) }
     ensures within { OnOk result (IsWithin limits.now sent.old → IsWithin limits.now sent.new) }

@@ -5,7 +5,7 @@ ghost use Rattle.net_check.specs.Syntax.{code_of, network_of};
 ghost use Rattle.net_check.specs.Fits.{Fits};
 ghost use Rattle.net_check.specs.Approximations.{next_histories};
 ghost use Rattle.stream_eq.specs.Limits.{IsWithin, GoesPast};
-ghost use Rattle.stream_eq.specs.Play.{AllPass, put_by_all};
+ghost use Rattle.stream_eq.specs.Play.{AllHavePassingLoops, put_by_all};
 
 use crate::fault::Fault;
 use crate::histories::copies;
@@ -21,7 +21,7 @@ fn put_all(
     limits: &[usize],
     after: &mut [History],
 ) -> Result<(), Fault>
-    requires passing { AllPass (map code_of processes.now) }
+    requires passing { AllHavePassingLoops (map code_of processes.now) }
     requires count { length limits.now ≡ length after.old }
     ensures put { OnOk result (after.new ≡ put_by_all (map code_of processes.now) histories.now after.old) }
     ensures within { OnOk result (IsWithin limits.now after.old → IsWithin limits.now after.new) }
