@@ -1,13 +1,13 @@
 -- A process's function is monotone: where more is unread, it does what it did, and then more.
-use Rattle.std.proofs.Common.{true, false, eqb, ◌≡◌, ◌≢◌, ◌⊎◌, ℕ, zero, suc, ◌+◌, ◌<◌, ◌≤◌, List, ℤ, [], ◌∷◌, ◌++◌, refl, sym, ap, ◌∙◌, subst, arith, set, length, append-nil, append_assoc, Option, Some, None, inl, inr}
-use Rattle.std.proofs.lemmas.List.{get_or-set_same, get_or-set_other}
+use Rattle.std.proofs.Common.{true, false, eqb, ◌≡◌, ◌≢◌, ◌⊎◌, ℕ, zero, suc, ◌+◌, ◌<◌, ◌≤◌, List, ℤ, [], ◌∷◌, ◌++◌, refl, sym, ap, ◌∙◌, subst, arith, set, length, append-nil, append_assoc, length-append, drop, Option, Some, None, inl, inr}
+use Rattle.std.proofs.lemmas.List.{get_or-set_same, get_or-set_other, drop-append-le}
 use Rattle.std.proofs.lemmas.Bool.Decides.{eqb_tells}
 use Rattle.std.specs.Prelude.{IsTrue}
 use Rattle.net_check.specs.Streams.{history_of, total, IsPrefix, ArePrefixes}
 use Rattle.net_check.specs.Syntax.{Block, Nothing, GetThen, AssignThen, PutThen, Code}
 use Rattle.net_check.specs.Valid.{is_passing}
 use Rattle.net_check.specs.Statements.{Got, Sent, Step, Trace, End, Ended, Waits, trace_of, on_get, from_end, then_do, value_of, sites_of}
-use Rattle.net_check.specs.Processes.{At, Done, standing_at, HasPassingLoop, passes, loop_trace, process_trace, sent_on, output_of}
+use Rattle.net_check.specs.Processes.{Standing, At, Done, standing_at, StandsAt, HasPassingLoop, passes, loop_trace, process_trace, sent_on, output_of}
 use Rattle.net_check.specs.PassLaws.{fewer_left}
 use Rattle.net_check.specs.PutLaws.{sent_on-append}
 
@@ -133,3 +133,25 @@ pub monotone : (code : Code) (small big : List (List ℤ)) (channel : ℕ) → H
 monotone code small big channel passing p =
     let l = longer_process code small big passing p in
     record { rest = sent_on channel l.more; is = ap (sent_on channel) l.steps ∙ sent_on-append channel (process_trace code small).steps l.more }
+
+-- where a process stands on fewer items, before steps that it still has to make, it stands on more
+still_stands : (t long : Trace) (l : IsLonger t long) (rest : List Step) → standing_at (rest ++ l.more) long.end ≡ standing_at rest t.end
+still_stands t long l (x ∷ rest) = refl
+still_stands t long l [] = at t.end refl
+  where
+    at : (e : End) → t.end ≡ e → standing_at l.more long.end ≡ standing_at [] t.end
+    at (Waits s v c) is = l.stands s v (ap (standing_at []) is) ∙ ap (standing_at []) (sym is)
+    at (Ended v u) is = let e = l.ends v u is in ap (λ (m : List Step). standing_at m long.end) e.0 ∙ (ap (standing_at []) e.1.1 ∙ ap (standing_at []) (sym is))
+
+-- where a process stands after m acts doesn't depend on what comes later on its inputs
+pub stands_on : (code : Code) (small big : List (List ℤ)) (m : ℕ) (standing : Standing) → HasPassingLoop code → ArePrefixes small big → StandsAt code small m standing → StandsAt code big m standing
+stands_on code small big m standing passing p s =
+    let t = process_trace code small in
+    let long = process_trace code big in
+    let l = longer_process code small big passing p in
+    let n = length-append t.steps l.more in
+    let le = s.within in
+    record {
+      within = omega (arith, ap (length {A = Step}) l.steps);
+      here = s.here ∙ (sym (still_stands t long l (drop m t.steps)) ∙ ap (λ (x : List Step). standing_at x long.end) (sym (ap (drop m) l.steps ∙ drop-append-le m t.steps l.more s.within)));
+    }

@@ -4,7 +4,7 @@ use Rattle.net_check.specs.Streams.{IsPrefix, ArePrefixes, total}
 use Rattle.net_check.specs.Fits.{Fits}
 use Rattle.net_check.specs.Syntax.{Block, Code, Network}
 use Rattle.net_check.specs.Valid.{IsValid, is_passing}
-use Rattle.net_check.specs.Processes.{HasPassingLoop, passes, output_of}
+use Rattle.net_check.specs.Processes.{HasPassingLoop, passes, output_of, Standing, StandsAt}
 use Rattle.net_check.specs.Approximations.{approximation, Belongs, IsReached, IsSolution}
 
 -- a body that passes is at rest after as many passes as there are items unread, and one: more passes make no more acts
@@ -34,3 +34,7 @@ RestIsSolution = (net : Network) (inputs : List (List ℤ)) (n : ℕ) → IsVali
 -- of which each history is a prefix of that in every other solution, since so is each approximation's
 abbrev pub BelowSolutions : Type 0
 BelowSolutions = (net : Network) (inputs : List (List ℤ)) (n : ℕ) (histories : List (List ℤ)) → IsValid net → Fits net inputs → IsSolution net inputs histories → ArePrefixes (approximation net inputs n) histories
+
+-- where a process stands after m acts doesn't depend on what comes later on its inputs
+abbrev pub StandsStill : Type 0
+StandsStill = (code : Code) (small big : List (List ℤ)) (m : ℕ) (standing : Standing) → HasPassingLoop code → ArePrefixes small big → StandsAt code small m standing → StandsAt code big m standing

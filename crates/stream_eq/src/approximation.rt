@@ -30,7 +30,8 @@ pub(crate) fn approximate(
     n: u64,
 ) -> Result<Histories, Fault>
     requires { Fits (network_of net.now.program) inputs.now }
-    ensures value { IfOk result (λ histories. histories ≡ approximation (network_of net.now.program) inputs.now n) }
+    ensures value { IfOk result (λ histories.
+        histories ≡ approximation (network_of net.now.program) inputs.now n) }
     ensures long { IsErrOf result Fault.Long → HasLongHistory (network_of net.now.program) inputs.now n }
     ensures not_long { OnOk result (¬ HasLongHistory (network_of net.now.program) inputs.now n) }
 {
@@ -47,13 +48,16 @@ pub(crate) fn approximate(
     Ok(Histories::from_vec(histories))
 }
 
-/// The n-th approximation of a network's histories, slow and plain: at first the inputs are whole and every other history is empty; then,
-/// n times, each process puts what its function gives on the approximation before.
+/// The n-th approximation of a network's histories, slow and plain: at first the inputs are whole
+/// and every other history is empty; then, n times, each process puts what its function gives on
+/// the approximation before.
 ///
-/// Refused with 19 exactly where an approximation up to the n-th has a history of more than 1,048,576 items, unless memory is refused.
+/// Refused with 19 exactly where an approximation up to the n-th has a history of more than
+/// 1,048,576 items, unless memory is refused.
 pub fn approx(alloc: Global, net: &Net, inputs: &Inputs, n: u64) -> Result<Histories, Fault>
     requires { Fits (network_of net.now.program) inputs.now }
-    ensures value { IfOk result (λ histories. histories ≡ approximation (network_of net.now.program) inputs.now n) }
+    ensures value { IfOk result (λ histories.
+        histories ≡ approximation (network_of net.now.program) inputs.now n) }
     ensures long { IsErrOf result Fault.Long → HasLongHistory (network_of net.now.program) inputs.now n }
     ensures not_long { OnOk result (¬ HasLongHistory (network_of net.now.program) inputs.now n) }
 {

@@ -1,4 +1,5 @@
-//! Kahn's equations of a network, solved plainly: the approximations of its histories, and whether histories are a solution.
+//! Kahn's equations of a network, solved plainly: the approximations of its histories, and whether
+//! histories are a solution.
 #![tactic(auto)]
 
 mod approximation;
@@ -14,7 +15,8 @@ pub use approximation::approx;
 pub use fault::Fault;
 pub use histories::Histories;
 pub use laws::{
-    agreement_law, growth_law, least_solution_law, monotone_law, one_item_law, well_founded_law,
+    agreement_law, growth_law, least_solution_law, monotone_law, one_item_law, standing_law,
+    well_founded_law,
 };
 pub use solution::is_solution;
 

@@ -1,14 +1,15 @@
 //! A process on whole histories: what it puts on each channel.
 
-ghost use Rattle.std.specs.Prelude.{◌≡◌, ℕ, suc, ◌+◌, ◌<◌, ◌≤◌, true, [], ◌∷◌, ◌++◌, length, slice_index, slice_set, IsTrue, IfOk, OnOk, IsErrOf};
-ghost use Rattle.net_check.specs.Streams.{history_of, total};
+ghost use Rattle.std.specs.Prelude.{◌≡◌, ℕ, ◌<◌, ◌≤◌, [], ◌∷◌, ◌++◌, length, slice_index, slice_set};
+ghost use Rattle.std.specs.Prelude.{IsTrue, IfOk, OnOk, IsErrOf};
+ghost use Rattle.net_check.specs.Streams.{history_of};
 ghost use Rattle.net_check.specs.Syntax.{tree_of, block_of, code_of};
 ghost use Rattle.net_check.specs.Valid.{is_passing};
 ghost use Rattle.net_check.specs.Statements.{apply, value_of, trace_of};
-ghost use Rattle.net_check.specs.Processes.{HasPassingLoop, passes, process_trace};
+ghost use Rattle.net_check.specs.Processes.{HasPassingLoop};
 ghost use Rattle.net_check.specs.Puts.{put_after};
 ghost use Rattle.stream_eq.specs.Limits.{IsWithin, GoesPast};
-ghost use Rattle.stream_eq.specs.Play.{IsPlayed};
+ghost use Rattle.stream_eq.specs.Play.{IsPlayed, put_by_passes, put_by_process};
 
 use crate::fault::Fault;
 use crate::unread::{Unread, all_unread, take_item};
@@ -52,10 +53,14 @@ fn set_variable(variables: &mut [i64], variable: usize, value: i64)
 /// Puts an item on a channel, unless that goes past the channel's limit.
 fn put_item(sent: &mut [History], limits: &[usize], channel: usize, item: i64) -> Result<(), Fault>
     requires { length limits.now ≡ length sent.old }
-    ensures ok { OnOk result (sent.new ≡ slice_set sent.old channel (history_of sent.old channel ++ item ∷ [])) }
-    ensures room { OnOk result (channel < length sent.old → length (history_of sent.old channel) < slice_index limits.now channel) }
+    ensures ok { OnOk result (
+        sent.new ≡ slice_set sent.old channel (history_of sent.old channel ++ item ∷ [])) }
+    ensures room { OnOk result (
+        channel < length sent.old →
+        length (history_of sent.old channel) < slice_index limits.now channel) }
     ensures long_here { IsErrOf result Fault.Long → channel < length sent.old }
-    ensures long { IsErrOf result Fault.Long → slice_index limits.now channel ≤ length (history_of sent.old channel) }
+    ensures long { IsErrOf result Fault.Long →
+        slice_index limits.now channel ≤ length (history_of sent.old channel) }
 {
     if channel >= sent.len() {
         return Ok(());
@@ -68,7 +73,8 @@ fn put_item(sent: &mut [History], limits: &[usize], channel: usize, item: i64) -
     Ok(())
 }
 
-/// Makes the acts of these statements until one waits, and puts their items. Answers whether they ended.
+/// Makes the acts of these statements until one waits, and puts their items. Answers whether they
+/// ended.
 fn play_statements(
     statements: &[Statement],
     variables: &mut [i64],
@@ -77,9 +83,12 @@ fn play_statements(
     sent: &mut [History],
 ) -> Result<bool, Fault>
     requires { length limits.now ≡ length sent.old }
-    ensures played { IfOk result (λ ended. (site : ℕ) → IsPlayed (trace_of site (block_of statements.now) variables.old unread.old) sent.old sent.new ended variables.new unread.new) }
+    ensures played { IfOk result (λ ended.
+        (site : ℕ) → IsPlayed (trace_of site (block_of statements.now) variables.old unread.old)
+        sent.old sent.new ended variables.new unread.new) }
     ensures within { OnOk result (IsWithin limits.now sent.old → IsWithin limits.now sent.new) }
-    ensures long { IsErrOf result Fault.Long → (site : ℕ) → GoesPast limits.now (put_after (trace_of site (block_of statements.now) variables.old unread.old).steps sent.old) }
+    ensures long { IsErrOf result Fault.Long → (site : ℕ) → GoesPast limits.now
+        (put_after (trace_of site (block_of statements.now) variables.old unread.old).steps sent.old) }
 {
     for statement in statements {
         match statement {
@@ -118,9 +127,11 @@ fn play_loop(
 ) -> Result<(), Fault>
     requires passing { IsTrue (is_passing (block_of body.now)) }
     requires count { length limits.now ≡ length sent.old }
-    ensures played { OnOk result ((site : ℕ) → sent.new ≡ put_after (passes (suc (total unread.old)) site (block_of body.now) variables.old unread.old).steps sent.old) }
+    ensures played { OnOk result (
+        (site : ℕ) → sent.new ≡ put_by_passes site (block_of body.now) variables.old unread.old sent.old) }
     ensures within { OnOk result (IsWithin limits.now sent.old → IsWithin limits.now sent.new) }
-    ensures long { IsErrOf result Fault.Long → (site : ℕ) → GoesPast limits.now (put_after (passes (suc (total unread.old)) site (block_of body.now) variables.old unread.old).steps sent.old) }
+    ensures long { IsErrOf result Fault.Long → (site : ℕ) → GoesPast limits.now
+        (put_by_passes site (block_of body.now) variables.old unread.old sent.old) }
 {
     while play_statements(body, variables, unread, limits, sent)? {}
     Ok(())
@@ -137,9 +148,11 @@ fn play(
     requires first { variables.old ≡ (code_of process.now).vars }
     requires passing { HasPassingLoop (code_of process.now) }
     requires count { length limits.now ≡ length sent.old }
-    ensures played { OnOk result (sent.new ≡ put_after (process_trace (code_of process.now) unread.old).steps sent.old) }
+    ensures played { OnOk result (
+        sent.new ≡ put_by_process (code_of process.now) unread.old sent.old) }
     ensures within { OnOk result (IsWithin limits.now sent.old → IsWithin limits.now sent.new) }
-    ensures long { IsErrOf result Fault.Long → GoesPast limits.now (put_after (process_trace (code_of process.now) unread.old).steps sent.old) }
+    ensures long { IsErrOf result Fault.Long →
+        GoesPast limits.now (put_by_process (code_of process.now) unread.old sent.old) }
 {
     let ended = play_statements(&process.prelude, variables, unread, limits, sent)?;
     if !ended {
@@ -151,7 +164,8 @@ fn play(
     play_loop(body, variables, unread, limits, sent)
 }
 
-/// Puts what a process puts on each channel by its function of these histories, unless that goes past a channel's limit.
+/// Puts what a process puts on each channel by its function of these histories, unless that goes
+/// past a channel's limit.
 pub fn put_outputs(
     alloc: Global,
     process: &Process,
@@ -161,9 +175,11 @@ pub fn put_outputs(
 ) -> Result<(), Fault>
     requires passing { HasPassingLoop (code_of process.now) }
     requires count { length limits.now ≡ length sent.old }
-    ensures played { OnOk result (sent.new ≡ put_after (process_trace (code_of process.now) histories.now).steps sent.old) }
+    ensures played { OnOk result (
+        sent.new ≡ put_by_process (code_of process.now) histories.now sent.old) }
     ensures within { OnOk result (IsWithin limits.now sent.old → IsWithin limits.now sent.new) }
-    ensures long { IsErrOf result Fault.Long → GoesPast limits.now (put_after (process_trace (code_of process.now) histories.now).steps sent.old) }
+    ensures long { IsErrOf result Fault.Long →
+        GoesPast limits.now (put_by_process (code_of process.now) histories.now sent.old) }
 {
     let mut variables = Vec::from_slice(alloc, process.variables.as_slice())?;
     let mut unread = all_unread(alloc, histories)?;

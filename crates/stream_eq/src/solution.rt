@@ -30,7 +30,8 @@ pub(crate) fn solves(
     histories: &[History],
 ) -> Result<bool, Fault>
     requires { Fits (network_of net.now.program) inputs.now }
-    ensures answer { IfOk result (λ answer. IsTrue answer ↔ IsSolution (network_of net.now.program) inputs.now histories.now) }
+    ensures answer { IfOk result (λ answer.
+        IsTrue answer ↔ IsSolution (network_of net.now.program) inputs.now histories.now) }
     ensures memory { IfErr result (λ fault. fault ≡ Fault.NoMemory) }
 {
     let limits = lengths(alloc, histories)?;
@@ -45,8 +46,9 @@ pub(crate) fn solves(
     }
 }
 
-/// Whether these histories solve a network's equations on these inputs: there is one for each channel, the inputs are as they came, and
-/// each other channel has what its process's function gives on these histories.
+/// Whether these histories solve a network's equations on these inputs: there is one for each
+/// channel, the inputs are as they came, and each other channel has what its process's function
+/// gives on these histories.
 ///
 /// Histories of any length are judged; only want of memory is refused.
 pub fn is_solution(
@@ -56,7 +58,8 @@ pub fn is_solution(
     histories: &Histories,
 ) -> Result<bool, Fault>
     requires { Fits (network_of net.now.program) inputs.now }
-    ensures answer { IfOk result (λ answer. IsTrue answer ↔ IsSolution (network_of net.now.program) inputs.now histories.now) }
+    ensures answer { IfOk result (λ answer.
+        IsTrue answer ↔ IsSolution (network_of net.now.program) inputs.now histories.now) }
     ensures memory { IfErr result (λ fault. fault ≡ Fault.NoMemory) }
 {
     solves(alloc, net, inputs.as_slice(), histories.as_slice())

@@ -1,11 +1,17 @@
 //! The definitions and the solver on small networks, with values worked out by hand.
 
-ghost use Rattle.std.specs.Prelude.{◌≡◌, ◌≤◌, pos, negsuc, [], ◌∷◌, length, replicate, IfOk};
+ghost use Rattle.std.specs.Prelude.{◌≡◌, ◌≤◌, pos, negsuc, [], ◌∷◌, ◌++◌, length, replicate, IfOk};
 ghost use Rattle.net_text.specs.declared.tree.Operator.TheVariants.{Add};
-ghost use Rattle.net_check.specs.Approximations.{approximation};
-ghost use Rattle.net_check.specs.Syntax.{Name, Binary, Block, GetThen, PutThen, tree_of, then_of, code_of, network_of};
+ghost use Rattle.net_check.specs.Approximations.{approximation, Belongs, IsReached};
+ghost use Rattle.net_check.specs.Processes.{At, StandsAt};
+ghost use Rattle.net_check.specs.Syntax.{Name, Binary, Block, GetThen, PutThen};
+ghost use Rattle.net_check.specs.Syntax.{tree_of, then_of, code_of, network_of};
 ghost use Rattle.net_check.specs.Valid.{IsValid};
-ghost use Rattle.stream_eq.specs.Examples.{channel_from, summing_code, sum_net, add_code, pair_net, merge_code, split_code, delay_code, cycle_net, doubling_net};
+ghost use Rattle.stream_eq.specs.Examples.{channel_from, summing_code, sum_net, sum_inputs};
+ghost use Rattle.stream_eq.specs.Examples.{sum_solution, at_the_end, add_code, pair_net};
+ghost use Rattle.stream_eq.specs.Examples.{pair_inputs, one_two, tens, merge_code, split_code};
+ghost use Rattle.stream_eq.specs.Examples.{delay_code, cycle_net, cycle_after, zeros, ones};
+ghost use Rattle.stream_eq.specs.Examples.{zero_one, doubling_net};
 
 use crate::approximation::approximate;
 use crate::fault::Fault;
@@ -16,31 +22,45 @@ use net_text::Operator;
 use std::alloc::{AllocError, Global};
 use std::test::Fail;
 
-/// The running sum of 1 2 3 is 1 3 6, from the first approximation on.
+/// The running sum of 1 2 3 is 1 3 6, from the first approximation on, which is then at rest.
 fn running_sum_by_definition()
-    ensures at_first { approximation sum_net ((pos 1 ∷ pos 2 ∷ pos 3 ∷ []) ∷ [] ∷ []) 0 ≡ (pos 1 ∷ pos 2 ∷ pos 3 ∷ []) ∷ [] ∷ [] }
-    ensures then { approximation sum_net ((pos 1 ∷ pos 2 ∷ pos 3 ∷ []) ∷ [] ∷ []) 1 ≡ (pos 1 ∷ pos 2 ∷ pos 3 ∷ []) ∷ (pos 1 ∷ pos 3 ∷ pos 6 ∷ []) ∷ [] }
-    ensures rest { approximation sum_net ((pos 1 ∷ pos 2 ∷ pos 3 ∷ []) ∷ [] ∷ []) 2 ≡ (pos 1 ∷ pos 2 ∷ pos 3 ∷ []) ∷ (pos 1 ∷ pos 3 ∷ pos 6 ∷ []) ∷ [] }
+    ensures at_first { approximation sum_net sum_inputs 0 ≡ sum_inputs }
+    ensures then { approximation sum_net sum_inputs 1 ≡ sum_solution }
+    ensures for_ever { approximation sum_net sum_inputs 2 ≡ sum_solution }
+    ensures reached { IsReached sum_net sum_inputs 1 }
+    ensures belongs { Belongs sum_net sum_inputs 1 2 (pos 6) }
+{}
+
+/// After its first act the running sum stands at its put, and after all six at its get.
+fn standing_by_definition()
+    ensures at_first { StandsAt (summing_code 0 1) sum_inputs 0 (At 0 (pos 0 ∷ pos 0 ∷ [])) }
+    ensures then { StandsAt (summing_code 0 1) sum_inputs 1 (At 1 (pos 1 ∷ pos 1 ∷ [])) }
+    ensures at_last { StandsAt (summing_code 0 1) sum_inputs 6 (At 0 (pos 6 ∷ pos 3 ∷ [])) }
 {}
 
 /// A sum that leaves the range wraps round.
 fn wrapping_sum_by_definition()
-    ensures { approximation sum_net ((pos 9223372036854775807 ∷ pos 1 ∷ []) ∷ [] ∷ []) 1 ≡ (pos 9223372036854775807 ∷ pos 1 ∷ []) ∷ (pos 9223372036854775807 ∷ negsuc 9223372036854775807 ∷ []) ∷ [] }
+    ensures { approximation sum_net (at_the_end ∷ [] ∷ []) 1
+        ≡ at_the_end ∷ (pos 9223372036854775807 ∷ negsuc 9223372036854775807 ∷ []) ∷ [] }
 {}
 
-/// Items of two inputs, added in pairs by one process and summed up by another: an input's last item waits for a partner.
+/// Items of two inputs, added in pairs by one process and summed up by another: an input's last
+/// item waits for a partner.
 fn pair_by_definition()
-    ensures first { approximation pair_net ((pos 1 ∷ pos 2 ∷ []) ∷ (pos 10 ∷ pos 20 ∷ pos 30 ∷ []) ∷ [] ∷ [] ∷ []) 1 ≡ (pos 1 ∷ pos 2 ∷ []) ∷ (pos 10 ∷ pos 20 ∷ pos 30 ∷ []) ∷ (pos 11 ∷ pos 22 ∷ []) ∷ [] ∷ [] }
-    ensures second { approximation pair_net ((pos 1 ∷ pos 2 ∷ []) ∷ (pos 10 ∷ pos 20 ∷ pos 30 ∷ []) ∷ [] ∷ [] ∷ []) 2 ≡ (pos 1 ∷ pos 2 ∷ []) ∷ (pos 10 ∷ pos 20 ∷ pos 30 ∷ []) ∷ (pos 11 ∷ pos 22 ∷ []) ∷ (pos 11 ∷ pos 33 ∷ []) ∷ [] }
+    ensures first { approximation pair_net pair_inputs 1 ≡ one_two ∷ tens ∷ (pos 11 ∷ pos 22 ∷ []) ∷ [] ∷ [] }
+    ensures second { approximation pair_net pair_inputs 2
+        ≡ one_two ∷ tens ∷ (pos 11 ∷ pos 22 ∷ []) ∷ (pos 11 ∷ pos 33 ∷ []) ∷ [] }
 {}
 
-/// Kahn's example: the two first items go to Y and Z, on to X and out, over T1 and T2 back to Y and Z, and out again.
+/// Kahn's example: the two first items go to Y and Z, on to X and out, over T1 and T2 back to Y and
+/// Z, and out again.
 fn cycle_by_definition()
-    ensures first { approximation cycle_net ([] ∷ [] ∷ [] ∷ [] ∷ [] ∷ [] ∷ []) 1 ≡ [] ∷ (pos 0 ∷ []) ∷ (pos 1 ∷ []) ∷ [] ∷ [] ∷ [] ∷ [] }
-    ensures second { approximation cycle_net ([] ∷ [] ∷ [] ∷ [] ∷ [] ∷ [] ∷ []) 2 ≡ (pos 0 ∷ pos 1 ∷ []) ∷ (pos 0 ∷ []) ∷ (pos 1 ∷ []) ∷ [] ∷ [] ∷ (pos 0 ∷ pos 1 ∷ []) ∷ [] }
-    ensures third { approximation cycle_net ([] ∷ [] ∷ [] ∷ [] ∷ [] ∷ [] ∷ []) 3 ≡ (pos 0 ∷ pos 1 ∷ []) ∷ (pos 0 ∷ []) ∷ (pos 1 ∷ []) ∷ (pos 0 ∷ []) ∷ (pos 1 ∷ []) ∷ (pos 0 ∷ pos 1 ∷ []) ∷ [] }
-    ensures fourth { approximation cycle_net ([] ∷ [] ∷ [] ∷ [] ∷ [] ∷ [] ∷ []) 4 ≡ (pos 0 ∷ pos 1 ∷ []) ∷ (pos 0 ∷ pos 0 ∷ []) ∷ (pos 1 ∷ pos 1 ∷ []) ∷ (pos 0 ∷ []) ∷ (pos 1 ∷ []) ∷ (pos 0 ∷ pos 1 ∷ []) ∷ [] }
-    ensures fifth { approximation cycle_net ([] ∷ [] ∷ [] ∷ [] ∷ [] ∷ [] ∷ []) 5 ≡ (pos 0 ∷ pos 1 ∷ pos 0 ∷ pos 1 ∷ []) ∷ (pos 0 ∷ pos 0 ∷ []) ∷ (pos 1 ∷ pos 1 ∷ []) ∷ (pos 0 ∷ []) ∷ (pos 1 ∷ []) ∷ (pos 0 ∷ pos 1 ∷ pos 0 ∷ pos 1 ∷ []) ∷ [] }
+    ensures first { cycle_after 1 ≡ [] ∷ zeros 1 ∷ ones 1 ∷ [] ∷ [] ∷ [] ∷ [] }
+    ensures second { cycle_after 2 ≡ zero_one ∷ zeros 1 ∷ ones 1 ∷ [] ∷ [] ∷ zero_one ∷ [] }
+    ensures third { cycle_after 3 ≡ zero_one ∷ zeros 1 ∷ ones 1 ∷ zeros 1 ∷ ones 1 ∷ zero_one ∷ [] }
+    ensures fourth { cycle_after 4 ≡ zero_one ∷ zeros 2 ∷ ones 2 ∷ zeros 1 ∷ ones 1 ∷ zero_one ∷ [] }
+    ensures fifth { cycle_after 5
+        ≡ (zero_one ++ zero_one) ∷ zeros 2 ∷ ones 2 ∷ zeros 1 ∷ ones 1 ∷ (zero_one ++ zero_one) ∷ [] }
 {}
 
 /// The sum of two variables.
@@ -297,7 +317,7 @@ fn nothing(alloc: Global, channels: usize) -> Result<Vec<History>, AllocError>
 }
 
 /// The n-th approximation of Kahn's example.
-fn cycle_after(alloc: Global, n: u64) -> Result<Histories, Fault> {
+fn cycle_at(alloc: Global, n: u64) -> Result<Histories, Fault> {
     let net = cycle(alloc)?;
     let inputs = nothing(alloc, 6)?;
     approximate(alloc, &net, &inputs, n)
@@ -403,7 +423,7 @@ fn a_cycle_of_four_processes(rt: HostRuntime) -> Result<(), Fail> {
         (4, once.as_slice()),
         (5, twice.as_slice()),
     ] {
-        assert_eq!(rt; items_of(&cycle_after(alloc, n)?, 5), out, "at {n}");
+        assert_eq!(rt; items_of(&cycle_at(alloc, n)?, 5), out, "at {n}");
     }
     Ok(())
 }
