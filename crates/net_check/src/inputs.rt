@@ -1,6 +1,6 @@
 //! The items for a network's inputs.
 
-ghost use Rattle.std.specs.Prelude.{◌≡◌, ◌↔◌, IsTrue, length};
+ghost use Rattle.std.specs.Prelude.{◌≡◌, ◌↔◌, ◌≤◌, ℕ, ℤ, IsTrue, List, Some, length, slice_get};
 ghost use Rattle.net_check.specs.Fits.{Fits, IsEmptyInside, IsEmptyWhereMade};
 ghost use Rattle.net_check.specs.Syntax.{network_of};
 
@@ -26,6 +26,13 @@ impl Model for Inputs {
 }
 
 impl Inputs {
+    pub(crate) fn from_lists(lists: Vec<History>) -> Self
+        requires { (c : ℕ) (items : List ℤ) → slice_get lists.items c ≡ Some items → length items ≤ 1048576 }
+        ensures { result ≡ lists.items }
+    {
+        Inputs { lists }
+    }
+
     /// The list of each channel.
     pub fn as_slice(&self) -> &[History]
         ensures { result.now ≡ self.now }

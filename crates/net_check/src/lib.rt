@@ -1,12 +1,23 @@
 //! Checked networks: channels and variables by number, validity kept in the types, and what they mean.
 #![tactic(auto)]
 
+mod binding;
+mod checks;
+mod declared;
+mod ends;
 mod fault;
 mod history;
 mod inputs;
+mod join;
+mod limits;
+mod lookup;
+mod names;
 mod net;
 mod program;
+mod resolve;
 
+pub use binding::bind;
+pub use checks::check;
 pub use fault::NetFault;
 pub use history::History;
 pub use inputs::{Inputs, fits};

@@ -1,5 +1,7 @@
 //! A network that is valid, by its type.
 
+ghost use Rattle.std.specs.Prelude.{◌≡◌, length};
+ghost use Rattle.net_check.specs.Resolution.{AllDifferent};
 ghost use Rattle.net_check.specs.Syntax.{network_of};
 ghost use Rattle.net_check.specs.Valid.{IsValid};
 
@@ -13,4 +15,8 @@ pub struct Net {
     pub channel_names: Vec<Name>,
     pub process_names: Vec<Name>,
     pub ghost valid: { IsValid (network_of program) },
+    pub ghost channels_named: { length channel_names.items ≡ length program.channels.items },
+    pub ghost processes_named: { length process_names.items ≡ length program.processes.items },
+    pub ghost channels_differ: { AllDifferent channel_names.items },
+    pub ghost processes_differ: { AllDifferent process_names.items },
 }

@@ -1,0 +1,10 @@
+pub mod Places
+pub mod Declaring
+pub mod Claiming
+pub mod Using
+pub mod Resolving
+pub mod Joining
+pub mod Fitting
+pub mod Ending
+pub mod Checked
+pub mod Lines

@@ -1,0 +1,306 @@
+-- Laws of resolution: what the statements of a text use, the statements of its network use, by number, and the other way.
+use Rattle.std.proofs.Common.{◌≡◌, ◌∙◌, sym, ap, subst, ℕ, List, [], ◌∷◌, ◌⊎◌, inl, inr, refl, Bool, true, false, ◌||◌, ◌&&◌, eqb, IsTrue, ◌+◌, ◌<◌, suc, zero, length, nat_lt, Option, Some, None, arith}
+use Rattle.std.proofs.lemmas.Bool.{false≢true, eq-eqb}
+use Rattle.std.proofs.lemmas.Bool.Decides.{nat_tests}
+use Rattle.net_text.specs.Names.{NameTree}
+use Rattle.net_text.specs.Trees.{ExprTree, LiteralTree, VariableTree, BinaryTree, BlockTree, NothingTree, GetTree, AssignTree, PutTree, LoopTree, ProcessTree}
+use Rattle.net_check.specs.Syntax.{Tree, Number, Name, Binary, Block, Nothing, GetThen, AssignThen, PutThen, Code}
+use Rattle.net_check.specs.Resolution.{Reads, ResolvesExpr, ResolvesBlock, ResolvesLoop, ResolvesProcess, variable_names}
+use Rattle.net_check.specs.Valid.{block_gets, block_puts, body_gets, body_puts, code_gets, code_puts, expr_units, block_units, body_units, is_passing, expr_within, block_within, body_within}
+use Rattle.net_check.specs.Texts.{expr_units_text, block_units_text, loop_units_text, process_units_text, is_passing_text}
+use Rattle.net_check.specs.Uses.{Use, OfVariable, GetFrom, PutOn, expr_uses, block_uses, loop_uses, process_uses, Has}
+use Rattle.net_check.specs.UseLaws.{has_left, has_right, has_cases, expr_no_put, expr_no_get}
+
+same_number : (c d : ℕ) → IsTrue (eqb c d) → c ≡ d
+same_number c d h = grind (arith, nat_tests)
+
+or_cases : (a b : Bool) → IsTrue (a || b) → IsTrue a ⊎ IsTrue b
+or_cases true b h = inl refl
+or_cases false b h = inr h
+
+or_left : (a b : Bool) → IsTrue a → IsTrue (a || b)
+or_left true b h = refl
+or_left false b h = absurd (false≢true h)
+
+or_right : (a b : Bool) → IsTrue b → IsTrue (a || b)
+or_right true b h = refl
+or_right false b h = h
+
+-- a use of a text, and the name that it is of, as a channel's number reads
+pub record Named (names : List NameTree) (uses : List Use) (use' : NameTree → Use) (c : ℕ) : Type 0 where
+  pub name : NameTree
+  pub used : Has uses (use' name)
+  pub reads : Reads names c name.text
+
+-- a channel that a name reads as, and that is used
+pub record Numbered (names : List NameTree) (name : NameTree) (test : ℕ → Bool) : Type 0 where
+  pub c : ℕ
+  pub reads : Reads names c name.text
+  pub used : IsTrue (test c)
+
+-- what is put on by number is put on by name
+pub block_put_named : (cs vs : List NameTree) (tree : BlockTree) (block : Block) (c : ℕ) → ResolvesBlock cs vs tree block → IsTrue (block_puts c block) → Named cs (block_uses tree) PutOn c
+block_put_named cs vs NothingTree Nothing c r h = absurd (false≢true h)
+block_put_named cs vs NothingTree (GetThen x d b) c r h = absurd r
+block_put_named cs vs NothingTree (AssignThen x t b) c r h = absurd r
+block_put_named cs vs NothingTree (PutThen t d b) c r h = absurd r
+block_put_named cs vs (GetTree v n rest) Nothing c r h = absurd r
+block_put_named cs vs (GetTree v n rest) (GetThen x d b) c r h = let k = block_put_named cs vs rest b c r.2 h in record { name = k.name; used = inr (inr k.used); reads = k.reads }
+block_put_named cs vs (GetTree v n rest) (AssignThen x t b) c r h = absurd r
+block_put_named cs vs (GetTree v n rest) (PutThen t d b) c r h = absurd r
+block_put_named cs vs (AssignTree v e rest) Nothing c r h = absurd r
+block_put_named cs vs (AssignTree v e rest) (GetThen x d b) c r h = absurd r
+block_put_named cs vs (AssignTree v e rest) (AssignThen x t b) c r h = let k = block_put_named cs vs rest b c r.2 h in record { name = k.name; used = inr (has_right (expr_uses e) (block_uses rest) (PutOn k.name) k.used); reads = k.reads }
+block_put_named cs vs (AssignTree v e rest) (PutThen t d b) c r h = absurd r
+block_put_named cs vs (PutTree e n rest) Nothing c r h = absurd r
+block_put_named cs vs (PutTree e n rest) (GetThen x d b) c r h = absurd r
+block_put_named cs vs (PutTree e n rest) (AssignThen x t b) c r h = absurd r
+block_put_named cs vs (PutTree e n rest) (PutThen t d b) c r h = elim (or_cases (eqb d c) (block_puts c b) h) [
+    inl k ↦ record { name = n; used = has_right (expr_uses e) (PutOn n ∷ block_uses rest) (PutOn n) (inl refl); reads = subst (λ (i : ℕ). Reads cs i n.text) (same_number d c k) r.1 }
+  | inr k ↦ let m = block_put_named cs vs rest b c r.2 k in record { name = m.name; used = has_right (expr_uses e) (PutOn n ∷ block_uses rest) (PutOn m.name) (inr m.used); reads = m.reads }
+  ]
+
+-- what is got from by number is got from by name
+pub block_get_named : (cs vs : List NameTree) (tree : BlockTree) (block : Block) (c : ℕ) → ResolvesBlock cs vs tree block → IsTrue (block_gets c block) → Named cs (block_uses tree) GetFrom c
+block_get_named cs vs NothingTree Nothing c r h = absurd (false≢true h)
+block_get_named cs vs NothingTree (GetThen x d b) c r h = absurd r
+block_get_named cs vs NothingTree (AssignThen x t b) c r h = absurd r
+block_get_named cs vs NothingTree (PutThen t d b) c r h = absurd r
+block_get_named cs vs (GetTree v n rest) Nothing c r h = absurd r
+block_get_named cs vs (GetTree v n rest) (GetThen x d b) c r h = elim (or_cases (eqb d c) (block_gets c b) h) [
+    inl k ↦ record { name = n; used = inr (inl refl); reads = subst (λ (i : ℕ). Reads cs i n.text) (same_number d c k) r.1 }
+  | inr k ↦ let m = block_get_named cs vs rest b c r.2 k in record { name = m.name; used = inr (inr m.used); reads = m.reads }
+  ]
+block_get_named cs vs (GetTree v n rest) (AssignThen x t b) c r h = absurd r
+block_get_named cs vs (GetTree v n rest) (PutThen t d b) c r h = absurd r
+block_get_named cs vs (AssignTree v e rest) Nothing c r h = absurd r
+block_get_named cs vs (AssignTree v e rest) (GetThen x d b) c r h = absurd r
+block_get_named cs vs (AssignTree v e rest) (AssignThen x t b) c r h = let k = block_get_named cs vs rest b c r.2 h in record { name = k.name; used = inr (has_right (expr_uses e) (block_uses rest) (GetFrom k.name) k.used); reads = k.reads }
+block_get_named cs vs (AssignTree v e rest) (PutThen t d b) c r h = absurd r
+block_get_named cs vs (PutTree e n rest) Nothing c r h = absurd r
+block_get_named cs vs (PutTree e n rest) (GetThen x d b) c r h = absurd r
+block_get_named cs vs (PutTree e n rest) (AssignThen x t b) c r h = absurd r
+block_get_named cs vs (PutTree e n rest) (PutThen t d b) c r h = let k = block_get_named cs vs rest b c r.2 h in record { name = k.name; used = has_right (expr_uses e) (PutOn n ∷ block_uses rest) (GetFrom k.name) (inr k.used); reads = k.reads }
+
+-- what is put on by name is put on by number
+pub block_put_numbered : (cs vs : List NameTree) (tree : BlockTree) (block : Block) (name : NameTree) → ResolvesBlock cs vs tree block → Has (block_uses tree) (PutOn name) → Numbered cs name (λ c. block_puts c block)
+block_put_numbered cs vs NothingTree Nothing name r h = absurd h
+block_put_numbered cs vs NothingTree (GetThen x d b) name r h = absurd r
+block_put_numbered cs vs NothingTree (AssignThen x t b) name r h = absurd r
+block_put_numbered cs vs NothingTree (PutThen t d b) name r h = absurd r
+block_put_numbered cs vs (GetTree v n rest) Nothing name r h = absurd r
+block_put_numbered cs vs (GetTree v n rest) (GetThen x d b) name r h = elim h [
+    inl e ↦ absurd (cc)
+  | inr k ↦ elim k [
+      inl e ↦ absurd (cc)
+    | inr m ↦ let s = block_put_numbered cs vs rest b name r.2 m in record { c = s.c; reads = s.reads; used = s.used }
+    ]
+  ]
+block_put_numbered cs vs (GetTree v n rest) (AssignThen x t b) name r h = absurd r
+block_put_numbered cs vs (GetTree v n rest) (PutThen t d b) name r h = absurd r
+block_put_numbered cs vs (AssignTree v e rest) Nothing name r h = absurd r
+block_put_numbered cs vs (AssignTree v e rest) (GetThen x d b) name r h = absurd r
+block_put_numbered cs vs (AssignTree v e rest) (AssignThen x t b) name r h = elim h [
+    inl e' ↦ absurd (cc)
+  | inr k ↦ elim (has_cases (expr_uses e) (block_uses rest) (PutOn name) k) [
+      inl m ↦ absurd (expr_no_put e name m)
+    | inr m ↦ let s = block_put_numbered cs vs rest b name r.2 m in record { c = s.c; reads = s.reads; used = s.used }
+    ]
+  ]
+block_put_numbered cs vs (AssignTree v e rest) (PutThen t d b) name r h = absurd r
+block_put_numbered cs vs (PutTree e n rest) Nothing name r h = absurd r
+block_put_numbered cs vs (PutTree e n rest) (GetThen x d b) name r h = absurd r
+block_put_numbered cs vs (PutTree e n rest) (AssignThen x t b) name r h = absurd r
+block_put_numbered cs vs (PutTree e n rest) (PutThen t d b) name r h = elim (has_cases (expr_uses e) (PutOn n ∷ block_uses rest) (PutOn name) h) [
+    inl m ↦ absurd (expr_no_put e name m)
+  | inr m ↦ elim m [
+      inl e' ↦ let k : n ≡ name = cc in record { c = d; reads = subst (λ (z : NameTree). Reads cs d z.text) k r.1; used = or_left (eqb d d) (block_puts d b) (eq-eqb d d refl) }
+    | inr k ↦ let s = block_put_numbered cs vs rest b name r.2 k in record { c = s.c; reads = s.reads; used = or_right (eqb d s.c) (block_puts s.c b) s.used }
+    ]
+  ]
+
+-- what is got from by name is got from by number
+pub block_get_numbered : (cs vs : List NameTree) (tree : BlockTree) (block : Block) (name : NameTree) → ResolvesBlock cs vs tree block → Has (block_uses tree) (GetFrom name) → Numbered cs name (λ c. block_gets c block)
+block_get_numbered cs vs NothingTree Nothing name r h = absurd h
+block_get_numbered cs vs NothingTree (GetThen x d b) name r h = absurd r
+block_get_numbered cs vs NothingTree (AssignThen x t b) name r h = absurd r
+block_get_numbered cs vs NothingTree (PutThen t d b) name r h = absurd r
+block_get_numbered cs vs (GetTree v n rest) Nothing name r h = absurd r
+block_get_numbered cs vs (GetTree v n rest) (GetThen x d b) name r h = elim h [
+    inl e ↦ absurd (cc)
+  | inr m ↦ elim m [
+      inl e' ↦ let k : n ≡ name = cc in record { c = d; reads = subst (λ (z : NameTree). Reads cs d z.text) k r.1; used = or_left (eqb d d) (block_gets d b) (eq-eqb d d refl) }
+    | inr k ↦ let s = block_get_numbered cs vs rest b name r.2 k in record { c = s.c; reads = s.reads; used = or_right (eqb d s.c) (block_gets s.c b) s.used }
+    ]
+  ]
+block_get_numbered cs vs (GetTree v n rest) (AssignThen x t b) name r h = absurd r
+block_get_numbered cs vs (GetTree v n rest) (PutThen t d b) name r h = absurd r
+block_get_numbered cs vs (AssignTree v e rest) Nothing name r h = absurd r
+block_get_numbered cs vs (AssignTree v e rest) (GetThen x d b) name r h = absurd r
+block_get_numbered cs vs (AssignTree v e rest) (AssignThen x t b) name r h = elim h [
+    inl e' ↦ absurd (cc)
+  | inr k ↦ elim (has_cases (expr_uses e) (block_uses rest) (GetFrom name) k) [
+      inl m ↦ absurd (expr_no_get e name m)
+    | inr m ↦ let s = block_get_numbered cs vs rest b name r.2 m in record { c = s.c; reads = s.reads; used = s.used }
+    ]
+  ]
+block_get_numbered cs vs (AssignTree v e rest) (PutThen t d b) name r h = absurd r
+block_get_numbered cs vs (PutTree e n rest) Nothing name r h = absurd r
+block_get_numbered cs vs (PutTree e n rest) (GetThen x d b) name r h = absurd r
+block_get_numbered cs vs (PutTree e n rest) (AssignThen x t b) name r h = absurd r
+block_get_numbered cs vs (PutTree e n rest) (PutThen t d b) name r h = elim (has_cases (expr_uses e) (PutOn n ∷ block_uses rest) (GetFrom name) h) [
+    inl m ↦ absurd (expr_no_get e name m)
+  | inr m ↦ elim m [
+      inl e' ↦ absurd (cc)
+    | inr k ↦ let s = block_get_numbered cs vs rest b name r.2 k in record { c = s.c; reads = s.reads; used = s.used }
+    ]
+  ]
+
+loop_put_named : (cs vs : List NameTree) (repeated : Option LoopTree) (body : Option Block) (c : ℕ) → ResolvesLoop cs vs repeated body → IsTrue (body_puts c body) → Named cs (loop_uses repeated) PutOn c
+loop_put_named cs vs None None c r h = absurd (false≢true h)
+loop_put_named cs vs None (Some b) c r h = absurd r
+loop_put_named cs vs (Some l) None c r h = absurd r
+loop_put_named cs vs (Some l) (Some b) c r h = block_put_named cs vs l.body b c r h
+
+loop_get_named : (cs vs : List NameTree) (repeated : Option LoopTree) (body : Option Block) (c : ℕ) → ResolvesLoop cs vs repeated body → IsTrue (body_gets c body) → Named cs (loop_uses repeated) GetFrom c
+loop_get_named cs vs None None c r h = absurd (false≢true h)
+loop_get_named cs vs None (Some b) c r h = absurd r
+loop_get_named cs vs (Some l) None c r h = absurd r
+loop_get_named cs vs (Some l) (Some b) c r h = block_get_named cs vs l.body b c r h
+
+loop_put_numbered : (cs vs : List NameTree) (repeated : Option LoopTree) (body : Option Block) (name : NameTree) → ResolvesLoop cs vs repeated body → Has (loop_uses repeated) (PutOn name) → Numbered cs name (λ c. body_puts c body)
+loop_put_numbered cs vs None None name r h = absurd h
+loop_put_numbered cs vs None (Some b) name r h = absurd r
+loop_put_numbered cs vs (Some l) None name r h = absurd r
+loop_put_numbered cs vs (Some l) (Some b) name r h = block_put_numbered cs vs l.body b name r h
+
+loop_get_numbered : (cs vs : List NameTree) (repeated : Option LoopTree) (body : Option Block) (name : NameTree) → ResolvesLoop cs vs repeated body → Has (loop_uses repeated) (GetFrom name) → Numbered cs name (λ c. body_gets c body)
+loop_get_numbered cs vs None None name r h = absurd h
+loop_get_numbered cs vs None (Some b) name r h = absurd r
+loop_get_numbered cs vs (Some l) None name r h = absurd r
+loop_get_numbered cs vs (Some l) (Some b) name r h = block_get_numbered cs vs l.body b name r h
+
+-- the same of a process
+pub put_named : (cs : List NameTree) (process : ProcessTree) (code : Code) (c : ℕ) → ResolvesProcess cs process code → IsTrue (code_puts c code) → Named cs (process_uses process) PutOn c
+put_named cs process code c r h = elim (or_cases (block_puts c code.prelude) (body_puts c code.body) h) [
+    inl k ↦ let n = block_put_named cs _ process.prelude code.prelude c r.prelude k in record { name = n.name; used = has_left (block_uses process.prelude) (loop_uses process.repeated) (PutOn n.name) n.used; reads = n.reads }
+  | inr k ↦ let n = loop_put_named cs _ process.repeated code.body c r.body k in record { name = n.name; used = has_right (block_uses process.prelude) (loop_uses process.repeated) (PutOn n.name) n.used; reads = n.reads }
+  ]
+
+pub get_named : (cs : List NameTree) (process : ProcessTree) (code : Code) (c : ℕ) → ResolvesProcess cs process code → IsTrue (code_gets c code) → Named cs (process_uses process) GetFrom c
+get_named cs process code c r h = elim (or_cases (block_gets c code.prelude) (body_gets c code.body) h) [
+    inl k ↦ let n = block_get_named cs _ process.prelude code.prelude c r.prelude k in record { name = n.name; used = has_left (block_uses process.prelude) (loop_uses process.repeated) (GetFrom n.name) n.used; reads = n.reads }
+  | inr k ↦ let n = loop_get_named cs _ process.repeated code.body c r.body k in record { name = n.name; used = has_right (block_uses process.prelude) (loop_uses process.repeated) (GetFrom n.name) n.used; reads = n.reads }
+  ]
+
+pub put_numbered : (cs : List NameTree) (process : ProcessTree) (code : Code) (name : NameTree) → ResolvesProcess cs process code → Has (process_uses process) (PutOn name) → Numbered cs name (λ c. code_puts c code)
+put_numbered cs process code name r h = elim (has_cases (block_uses process.prelude) (loop_uses process.repeated) (PutOn name) h) [
+    inl k ↦ let n = block_put_numbered cs _ process.prelude code.prelude name r.prelude k in record { c = n.c; reads = n.reads; used = or_left (block_puts n.c code.prelude) (body_puts n.c code.body) n.used }
+  | inr k ↦ let n = loop_put_numbered cs _ process.repeated code.body name r.body k in record { c = n.c; reads = n.reads; used = or_right (block_puts n.c code.prelude) (body_puts n.c code.body) n.used }
+  ]
+
+pub get_numbered : (cs : List NameTree) (process : ProcessTree) (code : Code) (name : NameTree) → ResolvesProcess cs process code → Has (process_uses process) (GetFrom name) → Numbered cs name (λ c. code_gets c code)
+get_numbered cs process code name r h = elim (has_cases (block_uses process.prelude) (loop_uses process.repeated) (GetFrom name) h) [
+    inl k ↦ let n = block_get_numbered cs _ process.prelude code.prelude name r.prelude k in record { c = n.c; reads = n.reads; used = or_left (block_gets n.c code.prelude) (body_gets n.c code.body) n.used }
+  | inr k ↦ let n = loop_get_numbered cs _ process.repeated code.body name r.body k in record { c = n.c; reads = n.reads; used = or_right (block_gets n.c code.prelude) (body_gets n.c code.body) n.used }
+  ]
+
+-- a text and its network have as many units
+pub expr_units_kept : (vs : List NameTree) (e : ExprTree) (t : Tree) → ResolvesExpr vs e t → expr_units t ≡ expr_units_text e
+expr_units_kept vs (LiteralTree n) (Number m) r = refl
+expr_units_kept vs (LiteralTree n) (Name x) r = absurd r
+expr_units_kept vs (LiteralTree n) (Binary o a b) r = absurd r
+expr_units_kept vs (VariableTree v) (Number m) r = absurd r
+expr_units_kept vs (VariableTree v) (Name x) r = refl
+expr_units_kept vs (VariableTree v) (Binary o a b) r = absurd r
+expr_units_kept vs (BinaryTree o a b) (Number m) r = absurd r
+expr_units_kept vs (BinaryTree o a b) (Name x) r = absurd r
+expr_units_kept vs (BinaryTree o a b) (Binary p c d) r = let h = expr_units_kept vs a c r.1 in let k = expr_units_kept vs b d r.2 in cc
+
+pub block_units_kept : (cs vs : List NameTree) (tree : BlockTree) (block : Block) → ResolvesBlock cs vs tree block → (block_units block ≡ block_units_text tree) × (is_passing block ≡ is_passing_text tree)
+block_units_kept cs vs NothingTree Nothing r = (refl, refl)
+block_units_kept cs vs NothingTree (GetThen x d b) r = absurd r
+block_units_kept cs vs NothingTree (AssignThen x t b) r = absurd r
+block_units_kept cs vs NothingTree (PutThen t d b) r = absurd r
+block_units_kept cs vs (GetTree v n rest) Nothing r = absurd r
+block_units_kept cs vs (GetTree v n rest) (GetThen x d b) r = let k = block_units_kept cs vs rest b r.2 in (ap suc k.0, refl)
+block_units_kept cs vs (GetTree v n rest) (AssignThen x t b) r = absurd r
+block_units_kept cs vs (GetTree v n rest) (PutThen t d b) r = absurd r
+block_units_kept cs vs (AssignTree v e rest) Nothing r = absurd r
+block_units_kept cs vs (AssignTree v e rest) (GetThen x d b) r = absurd r
+block_units_kept cs vs (AssignTree v e rest) (AssignThen x t b) r = let k = block_units_kept cs vs rest b r.2 in let h = expr_units_kept vs e t r.1 in let i = k.0 in (cc, k.1)
+block_units_kept cs vs (AssignTree v e rest) (PutThen t d b) r = absurd r
+block_units_kept cs vs (PutTree e n rest) Nothing r = absurd r
+block_units_kept cs vs (PutTree e n rest) (GetThen x d b) r = absurd r
+block_units_kept cs vs (PutTree e n rest) (AssignThen x t b) r = absurd r
+block_units_kept cs vs (PutTree e n rest) (PutThen t d b) r = let k = block_units_kept cs vs rest b r.2 in let h = expr_units_kept vs e t r.0 in let i = k.0 in (cc, k.1)
+
+loop_units_kept : (cs vs : List NameTree) (repeated : Option LoopTree) (body : Option Block) → ResolvesLoop cs vs repeated body → body_units body ≡ loop_units_text repeated
+loop_units_kept cs vs None None r = refl
+loop_units_kept cs vs None (Some b) r = absurd r
+loop_units_kept cs vs (Some l) None r = absurd r
+loop_units_kept cs vs (Some l) (Some b) r = (block_units_kept cs vs l.body b r).0
+
+pub units_kept : (cs : List NameTree) (process : ProcessTree) (code : Code) → ResolvesProcess cs process code → block_units code.prelude + body_units code.body ≡ process_units_text process
+units_kept cs process code r = let h = (block_units_kept cs _ process.prelude code.prelude r.prelude).0 in let k = loop_units_kept cs _ process.repeated code.body r.body in cc
+
+-- a loop of the text is a loop of the network, and passes as it does
+pub passes_kept : (cs vs : List NameTree) (repeated : Option LoopTree) (code_body : Option Block) (body : Block) → ResolvesLoop cs vs repeated code_body → code_body ≡ Some body → (l : LoopTree) × (repeated ≡ Some l) × (is_passing body ≡ is_passing_text l.body)
+passes_kept cs vs None None body r e = absurd (cc)
+passes_kept cs vs None (Some b) body r e = absurd r
+passes_kept cs vs (Some l) None body r e = absurd r
+passes_kept cs vs (Some l) (Some b) body r e = let k : body ≡ b = cc in (l, refl, ap is_passing k ∙ (block_units_kept cs vs l.body b r).1)
+
+pub passes_kept_text : (cs vs : List NameTree) (repeated : Option LoopTree) (code_body : Option Block) (l : LoopTree) → ResolvesLoop cs vs repeated code_body → repeated ≡ Some l → (body : Block) × (code_body ≡ Some body) × (is_passing body ≡ is_passing_text l.body)
+passes_kept_text cs vs None None l r e = absurd (cc)
+passes_kept_text cs vs None (Some b) l r e = absurd r
+passes_kept_text cs vs (Some m) None l r e = absurd r
+passes_kept_text cs vs (Some m) (Some b) l r e = let k : m ≡ l = cc in (b, refl, (block_units_kept cs vs m.body b r).1 ∙ ap (λ (z : LoopTree). is_passing_text z.body) k)
+
+-- numbers stay within the names
+pub reads_below : (names : List NameTree) (i : ℕ) (t : List ℕ) → Reads names i t → i < length names
+reads_below [] i t h = absurd (cc)
+reads_below (n ∷ names) zero t h = omega arith
+reads_below (n ∷ names) (suc i) t h = let k = reads_below names i t h in omega arith
+
+below_test : (a b : ℕ) → a < b → IsTrue (nat_lt a b)
+below_test a b h = grind (arith, nat_tests)
+
+and_true : (a b : Bool) → IsTrue a → IsTrue b → IsTrue (a && b)
+and_true true b h k = k
+and_true false b h k = absurd (false≢true h)
+
+expr_kept_within : (vs : List NameTree) (e : ExprTree) (t : Tree) → ResolvesExpr vs e t → IsTrue (expr_within (length vs) t)
+expr_kept_within vs (LiteralTree n) (Number m) r = refl
+expr_kept_within vs (LiteralTree n) (Name x) r = absurd r
+expr_kept_within vs (LiteralTree n) (Binary o a b) r = absurd r
+expr_kept_within vs (VariableTree v) (Number m) r = absurd r
+expr_kept_within vs (VariableTree v) (Name x) r = below_test x (length vs) (reads_below vs x v.text r)
+expr_kept_within vs (VariableTree v) (Binary o a b) r = absurd r
+expr_kept_within vs (BinaryTree o a b) (Number m) r = absurd r
+expr_kept_within vs (BinaryTree o a b) (Name x) r = absurd r
+expr_kept_within vs (BinaryTree o a b) (Binary p c d) r = and_true (expr_within (length vs) c) (expr_within (length vs) d) (expr_kept_within vs a c r.1) (expr_kept_within vs b d r.2)
+
+pub block_kept_within : (cs vs : List NameTree) (tree : BlockTree) (block : Block) → ResolvesBlock cs vs tree block → IsTrue (block_within (length vs) (length cs) block)
+block_kept_within cs vs NothingTree Nothing r = refl
+block_kept_within cs vs NothingTree (GetThen x d b) r = absurd r
+block_kept_within cs vs NothingTree (AssignThen x t b) r = absurd r
+block_kept_within cs vs NothingTree (PutThen t d b) r = absurd r
+block_kept_within cs vs (GetTree v n rest) Nothing r = absurd r
+block_kept_within cs vs (GetTree v n rest) (GetThen x d b) r = and_true (nat_lt x (length vs)) _ (below_test x (length vs) (reads_below vs x v.text r.0)) (and_true (nat_lt d (length cs)) _ (below_test d (length cs) (reads_below cs d n.text r.1)) (block_kept_within cs vs rest b r.2))
+block_kept_within cs vs (GetTree v n rest) (AssignThen x t b) r = absurd r
+block_kept_within cs vs (GetTree v n rest) (PutThen t d b) r = absurd r
+block_kept_within cs vs (AssignTree v e rest) Nothing r = absurd r
+block_kept_within cs vs (AssignTree v e rest) (GetThen x d b) r = absurd r
+block_kept_within cs vs (AssignTree v e rest) (AssignThen x t b) r = and_true (nat_lt x (length vs)) _ (below_test x (length vs) (reads_below vs x v.text r.0)) (and_true (expr_within (length vs) t) _ (expr_kept_within vs e t r.1) (block_kept_within cs vs rest b r.2))
+block_kept_within cs vs (AssignTree v e rest) (PutThen t d b) r = absurd r
+block_kept_within cs vs (PutTree e n rest) Nothing r = absurd r
+block_kept_within cs vs (PutTree e n rest) (GetThen x d b) r = absurd r
+block_kept_within cs vs (PutTree e n rest) (AssignThen x t b) r = absurd r
+block_kept_within cs vs (PutTree e n rest) (PutThen t d b) r = and_true (expr_within (length vs) t) _ (expr_kept_within vs e t r.0) (and_true (nat_lt d (length cs)) _ (below_test d (length cs) (reads_below cs d n.text r.1)) (block_kept_within cs vs rest b r.2))
+
+pub loop_kept_within : (cs vs : List NameTree) (repeated : Option LoopTree) (body : Option Block) → ResolvesLoop cs vs repeated body → IsTrue (body_within (length vs) (length cs) body)
+loop_kept_within cs vs None None r = refl
+loop_kept_within cs vs None (Some b) r = absurd r
+loop_kept_within cs vs (Some l) None r = absurd r
+loop_kept_within cs vs (Some l) (Some b) r = block_kept_within cs vs l.body b r

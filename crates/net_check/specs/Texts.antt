@@ -1,0 +1,30 @@
+-- The units of a text's statements, and whether they pass, counted over the text as over the network that it is resolved to.
+use Rattle.std.specs.Prelude.{ℕ, suc, ◌+◌, Bool, true, false, Option, Some, None}
+use Rattle.net_text.specs.Trees.{ExprTree, LiteralTree, VariableTree, BinaryTree, BlockTree, NothingTree, GetTree, AssignTree, PutTree, LoopTree, ProcessTree}
+
+-- each literal, each variable in an expression and each operator is one unit
+abbrev pub expr_units_text : ExprTree → ℕ
+expr_units_text (LiteralTree n) = 1
+expr_units_text (VariableTree name) = 1
+expr_units_text (BinaryTree operator a b) = suc (expr_units_text a + expr_units_text b)
+
+-- and so is each statement
+abbrev pub block_units_text : BlockTree → ℕ
+block_units_text NothingTree = 0
+block_units_text (GetTree v c rest) = suc (block_units_text rest)
+block_units_text (AssignTree v e rest) = suc (expr_units_text e + block_units_text rest)
+block_units_text (PutTree e c rest) = suc (expr_units_text e + block_units_text rest)
+
+abbrev pub loop_units_text : Option LoopTree → ℕ
+loop_units_text None = 0
+loop_units_text (Some repeated) = block_units_text repeated.body
+
+abbrev pub process_units_text : ProcessTree → ℕ
+process_units_text p = block_units_text p.prelude + loop_units_text p.repeated
+
+-- statements pass where one of them gets an item
+abbrev pub is_passing_text : BlockTree → Bool
+is_passing_text NothingTree = false
+is_passing_text (GetTree v c rest) = true
+is_passing_text (AssignTree v e rest) = is_passing_text rest
+is_passing_text (PutTree e c rest) = is_passing_text rest

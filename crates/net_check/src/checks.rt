@@ -1,0 +1,47 @@
+//! The checks of a network's text.
+
+ghost use Rattle.std.specs.Prelude.{◌≡◌, ℕ, IfErr, IfOk, Some, length, slice_get};
+ghost use Rattle.net_text.specs.Trees.{net_tree};
+ghost use Rattle.net_check.specs.NetFaults.{HasFault};
+ghost use Rattle.net_check.specs.Resolution.{Resolves};
+ghost use Rattle.net_check.specs.Syntax.{network_of};
+ghost use Rattle.net_check.specs.Nodes.{IsOnOneNode};
+
+use crate::declared::Declared;
+use crate::fault::NetFault;
+use crate::join::join;
+use crate::limits::check_all_limits;
+use crate::names::{names_of_channels, names_of_processes};
+use crate::net::Net;
+use crate::program::Program;
+use crate::resolve::resolve;
+use net_text::NetText;
+use std::alloc::Global;
+
+/// The network of a text: valid, by its type.
+///
+/// The first fault counts, in this order: 10 and 15 over the declarations, in order of the text; 11, 12 and 13 over
+/// the uses, in order of the text; 15 and 14 process by process; 16 and 17 channel by channel.
+pub fn check(alloc: Global, text: NetText) -> Result<Net, NetFault>
+    // The network is the resolution of the text.
+    ensures resolved { IfOk result (λ net. Resolves (net_tree text) net.channel_names.items net.process_names.items (network_of net.program)) }
+    // There is one node.
+    ensures one_node { IfOk result (λ net. IsOnOneNode (network_of net.program)) }
+    // What is refused has the fault, on its line.
+    ensures fault { IfErr result (HasFault (net_tree text)) }
+{
+    let declared = Declared::of(alloc, text)?;
+    let resolved = resolve(alloc, &declared)?;
+    check_all_limits(&declared.processes)?;
+    let channels = join(alloc, &declared.channels, &resolved.ends)?;
+    let channel_names = names_of_channels(alloc, declared.channels)?;
+    let process_names = names_of_processes(alloc, declared.processes)?;
+    Ok(Net {
+        program: Program {
+            channels,
+            processes: resolved.processes,
+        },
+        channel_names,
+        process_names,
+    })
+}
