@@ -4,4 +4,3 @@ pub mod Going
 pub mod Loops
 pub mod Rounds
 pub mod Lengths
-pub mod Validity

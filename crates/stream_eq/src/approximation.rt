@@ -23,12 +23,7 @@ fn same_limits(alloc: Global, channels: usize) -> Result<Vec<usize>, AllocError>
 }
 
 /// The n-th approximation, from a list of items for each channel.
-pub(crate) fn approximate(
-    alloc: Global,
-    net: &Net,
-    inputs: &[History],
-    n: u64,
-) -> Result<Histories, Fault>
+fn approximate(alloc: Global, net: &Net, inputs: &[History], n: u64) -> Result<Histories, Fault>
     requires { Fits (network_of net.now.program) inputs.now }
     ensures value { IfOk result (λ histories.
         histories ≡ approximation (network_of net.now.program) inputs.now n) }

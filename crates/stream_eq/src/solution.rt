@@ -23,7 +23,7 @@ fn lengths(alloc: Global, histories: &[History]) -> Result<Vec<usize>, AllocErro
 }
 
 /// Whether a list of items for each channel is a solution.
-pub(crate) fn solves(
+fn solves(
     alloc: Global,
     net: &Net,
     inputs: &[History],

@@ -1,24 +1,21 @@
 //! The definitions and the solver on small networks, with values worked out by hand.
 
-ghost use Rattle.std.specs.Prelude.{◌≡◌, ◌≤◌, pos, negsuc, [], ◌∷◌, ◌++◌, length, replicate, IfOk};
-ghost use Rattle.net_text.specs.declared.tree.Operator.TheVariants.{Add};
+ghost use Rattle.std.specs.Prelude.{◌≡◌, pos, negsuc, [], ◌∷◌, ◌++◌};
 ghost use Rattle.net_check.specs.Approximations.{approximation, Belongs, IsReached};
 ghost use Rattle.net_check.specs.Processes.{At, StandsAt};
-ghost use Rattle.net_check.specs.Syntax.{Name, Binary, Block, GetThen, PutThen};
-ghost use Rattle.net_check.specs.Syntax.{tree_of, then_of, code_of, network_of};
-ghost use Rattle.net_check.specs.Valid.{IsValid};
-ghost use Rattle.stream_eq.specs.Examples.{channel_from, summing_code, sum_net, sum_inputs};
-ghost use Rattle.stream_eq.specs.Examples.{sum_solution, at_the_end, add_code, pair_net};
-ghost use Rattle.stream_eq.specs.Examples.{pair_inputs, one_two, tens, merge_code, split_code};
-ghost use Rattle.stream_eq.specs.Examples.{delay_code, cycle_net, cycle_after, zeros, ones};
-ghost use Rattle.stream_eq.specs.Examples.{zero_one, doubling_net};
+ghost use Rattle.stream_eq.specs.Examples.{summing_code, sum_net, sum_inputs, sum_solution};
+ghost use Rattle.stream_eq.specs.Examples.{at_the_end, pair_net, pair_inputs, one_two, tens};
+ghost use Rattle.stream_eq.specs.Examples.{cycle_after, zeros, ones, zero_one};
 
-use crate::approximation::approximate;
+use crate::approximation::approx;
 use crate::fault::Fault;
 use crate::histories::Histories;
-use crate::solution::solves;
-use net_check::{Channel, Expr, History, Net, Port, Process, Program, Statement};
-use net_text::Operator;
+use crate::solution::is_solution;
+use net_check::{History, Net, NetFault, bind, check};
+use net_text::{
+    ChannelText, Declaration, ExprText, InputLine, LoopText, Name, NetText, NodeText, Operator,
+    ProcessText, RawInputs, Role, StatementText, VariableText,
+};
 use std::alloc::{AllocError, Global};
 use std::test::Fail;
 
@@ -63,283 +60,202 @@ fn cycle_by_definition()
         ≡ (zero_one ++ zero_one) ∷ zeros 2 ∷ ones 2 ∷ zeros 1 ∷ ones 1 ∷ (zero_one ++ zero_one) ∷ [] }
 {}
 
-/// The sum of two variables.
-fn sum_of(alloc: Global, left: usize, right: usize) -> Result<Expr, AllocError>
-    ensures { IfOk result (λ expr. tree_of expr ≡ Binary Add (Name left) (Name right)) }
-{
-    Ok(Expr::Binary {
-        operator: Operator::Add,
-        left: Box::new(alloc, Expr::Variable(left))?,
-        right: Box::new(alloc, Expr::Variable(right))?,
+fn name(alloc: Global, text: &str) -> Result<Name, AllocError> {
+    Ok(Name::new(String::from_str(alloc, text)?, 1))
+}
+
+fn channel(alloc: Global, role: Role, text: &str) -> Result<Declaration, AllocError> {
+    Ok(Declaration::Channel(ChannelText {
+        role,
+        name: name(alloc, text)?,
+        line: 1,
+    }))
+}
+
+fn get(alloc: Global, variable: &str, channel: &str) -> Result<StatementText, AllocError> {
+    Ok(StatementText::Get {
+        variable: name(alloc, variable)?,
+        channel: name(alloc, channel)?,
     })
+}
+
+fn put(alloc: Global, value: ExprText, channel: &str) -> Result<StatementText, AllocError> {
+    Ok(StatementText::Put {
+        value,
+        channel: name(alloc, channel)?,
+    })
+}
+
+fn put_variable(alloc: Global, variable: &str, channel: &str) -> Result<StatementText, AllocError> {
+    put(alloc, ExprText::Variable(name(alloc, variable)?), channel)
+}
+
+fn sum(alloc: Global, left: &str, right: &str) -> Result<ExprText, AllocError> {
+    Ok(ExprText::Binary {
+        operator: Operator::Add,
+        left: Box::new(alloc, ExprText::Variable(name(alloc, left)?))?,
+        right: Box::new(alloc, ExprText::Variable(name(alloc, right)?))?,
+    })
+}
+
+/// A process with the variables a and v, which begin with 0.
+fn process(
+    alloc: Global,
+    text: &str,
+    prelude: Vec<StatementText>,
+    body: Vec<StatementText>,
+) -> Result<Declaration, AllocError> {
+    let mut variables = Vec::new(alloc);
+    for variable in ["a", "v"] {
+        variables.push(VariableText {
+            name: name(alloc, variable)?,
+            initial: 0,
+            line: 1,
+        })?;
+    }
+    Ok(Declaration::Process(ProcessText {
+        name: name(alloc, text)?,
+        node: NodeText { number: 0, line: 1 },
+        variables,
+        prelude,
+        repeated: Some(LoopText { body, line: 1 }),
+        line: 1,
+    }))
 }
 
 /// The process of the running sum, from one channel to another.
-fn summing(alloc: Global, from: usize, to: usize) -> Result<Process, AllocError>
-    ensures { IfOk result (λ process. code_of process ≡ summing_code from to) }
-{
-    let sum = sum_of(alloc, 0, 1)?;
-    Ok(Process {
-        node: 0,
-        variables: vec![in alloc; 0; 2]?,
-        prelude: Vec::new(alloc),
-        body: Some(vec![in alloc;
-            Statement::Get {
-                variable: 1,
-                channel: from
-            },
-            Statement::Assign {
-                variable: 0,
-                value: sum
-            },
-            Statement::Put {
-                value: Expr::Variable(0),
-                channel: to
-            },
-        ]?),
-    })
-}
-
-/// A channel by its ends.
-fn channel(producer: Port, consumer: Port) -> Channel
-    ensures { result ≡ channel_from producer consumer }
-{
-    Channel { producer, consumer }
-}
-
-/// A net without names.
-fn net_from(alloc: Global, program: Program) -> Net
-    requires { IsValid (network_of program) }
-    ensures { result.program ≡ program }
-{
-    Net {
-        program,
-        channel_names: Vec::new(alloc),
-        process_names: Vec::new(alloc),
-    }
-}
-
-/// The running sum as a net.
-fn running_sum(alloc: Global) -> Result<Net, AllocError>
-    ensures { IfOk result (λ net. network_of net.program ≡ sum_net) }
-{
-    let sum = summing(alloc, 0, 1)?;
-    let program = Program {
-        channels: vec![in alloc;
-            channel(Port::Outside, Port::Process(0)),
-            channel(Port::Process(0), Port::Outside),
-        ]?,
-        processes: vec![in alloc; sum]?,
+fn summing(alloc: Global, from: &str, to: &str) -> Result<Declaration, AllocError> {
+    let assign = StatementText::Assign {
+        variable: name(alloc, "a")?,
+        value: sum(alloc, "a", "v")?,
     };
-    Ok(net_from(alloc, program))
+    let body = vec![in alloc;
+        get(alloc, "v", from)?,
+        assign,
+        put_variable(alloc, "a", to)?,
+    ]?;
+    process(alloc, "sum", Vec::new(alloc), body)
 }
 
-/// The process that adds the items of channels 0 and 1 in pairs onto channel 2.
-fn adding(alloc: Global) -> Result<Process, AllocError>
-    ensures { IfOk result (λ process. code_of process ≡ add_code) }
-{
-    let sum = sum_of(alloc, 0, 1)?;
-    Ok(Process {
-        node: 0,
-        variables: vec![in alloc; 0; 2]?,
-        prelude: Vec::new(alloc),
-        body: Some(vec![in alloc;
-            Statement::Get {
-                variable: 0,
-                channel: 0
-            },
-            Statement::Get {
-                variable: 1,
-                channel: 1
-            },
-            Statement::Put {
-                value: sum,
-                channel: 2
-            },
-        ]?),
-    })
+fn running_sum(alloc: Global) -> Result<Net, NetFault> {
+    let declarations = vec![in alloc;
+        channel(alloc, Role::Input, "i")?,
+        channel(alloc, Role::Output, "o")?,
+        summing(alloc, "i", "o")?,
+    ]?;
+    check(alloc, NetText { declarations })
 }
 
-/// Pairs added and summed up, as a net.
-fn pair(alloc: Global) -> Result<Net, AllocError>
-    ensures { IfOk result (λ net. network_of net.program ≡ pair_net) }
-{
-    let add = adding(alloc)?;
-    let sum = summing(alloc, 2, 3)?;
-    let program = Program {
-        channels: vec![in alloc;
-            channel(Port::Outside, Port::Process(0)),
-            channel(Port::Outside, Port::Process(0)),
-            channel(Port::Process(0), Port::Process(1)),
-            channel(Port::Process(1), Port::Outside),
-        ]?,
-        processes: vec![in alloc; add, sum]?,
-    };
-    Ok(net_from(alloc, program))
-}
-
-/// A get into variable 0.
-fn get(channel: usize) -> Statement
-    ensures { (rest : Block) → then_of result rest ≡ GetThen 0 channel rest }
-{
-    Statement::Get {
-        variable: 0,
-        channel,
-    }
-}
-
-/// A put of variable 0.
-fn put(channel: usize) -> Statement
-    ensures { (rest : Block) → then_of result rest ≡ PutThen (Name 0) channel rest }
-{
-    Statement::Put {
-        value: Expr::Variable(0),
-        channel,
-    }
-}
-
-/// The process that takes from two channels in turn and sends each item to two.
-fn merging(alloc: Global) -> Result<Process, AllocError>
-    ensures { IfOk result (λ process. code_of process ≡ merge_code) }
-{
-    Ok(Process {
-        node: 0,
-        variables: vec![in alloc; 0]?,
-        prelude: Vec::new(alloc),
-        body: Some(vec![in alloc; get(1), put(0), put(5), get(2), put(0), put(5)]?),
-    })
-}
-
-/// The process that sends items to two channels in turn.
-fn splitting(alloc: Global) -> Result<Process, AllocError>
-    ensures { IfOk result (λ process. code_of process ≡ split_code) }
-{
-    Ok(Process {
-        node: 0,
-        variables: vec![in alloc; 0]?,
-        prelude: Vec::new(alloc),
-        body: Some(vec![in alloc; get(0), put(3), get(0), put(4)]?),
-    })
+/// Two inputs, whose items one process adds in pairs and another sums up.
+fn pair(alloc: Global) -> Result<Net, NetFault> {
+    let add = vec![in alloc;
+        get(alloc, "a", "x")?,
+        get(alloc, "v", "y")?,
+        put(alloc, sum(alloc, "a", "v")?, "c")?,
+    ]?;
+    let declarations = vec![in alloc;
+        channel(alloc, Role::Input, "x")?,
+        channel(alloc, Role::Input, "y")?,
+        channel(alloc, Role::Inner, "c")?,
+        channel(alloc, Role::Output, "o")?,
+        process(alloc, "add", Vec::new(alloc), add)?,
+        summing(alloc, "c", "o")?,
+    ]?;
+    check(alloc, NetText { declarations })
 }
 
 /// The process that sends an item first, and then what comes.
-fn delaying(alloc: Global, first: i64, from: usize, to: usize) -> Result<Process, AllocError>
-    ensures { IfOk result (λ process. code_of process ≡ delay_code first from to) }
-{
-    Ok(Process {
-        node: 1,
-        variables: vec![in alloc; 0]?,
-        prelude: vec![in alloc;
-            Statement::Put {
-                value: Expr::Literal(first),
-                channel: to
-            },
-        ]?,
-        body: Some(vec![in alloc; get(from), put(to)]?),
+fn delaying(
+    alloc: Global,
+    text: &str,
+    first: i64,
+    from: &str,
+    to: &str,
+) -> Result<Declaration, AllocError> {
+    let prelude = vec![in alloc; put(alloc, ExprText::Literal(first), to)?]?;
+    let body = vec![in alloc; get(alloc, "v", from)?, put_variable(alloc, "v", to)?]?;
+    process(alloc, text, prelude, body)
+}
+
+/// Kahn's example: a process takes from Y and Z in turn and sends each item to X and out, another
+/// takes from X and sends to T1 and T2 in turn, from where two more send to Y and Z.
+fn cycle(alloc: Global) -> Result<Net, NetFault> {
+    let merge = vec![in alloc;
+        get(alloc, "v", "Y")?,
+        put_variable(alloc, "v", "X")?,
+        put_variable(alloc, "v", "out")?,
+        get(alloc, "v", "Z")?,
+        put_variable(alloc, "v", "X")?,
+        put_variable(alloc, "v", "out")?,
+    ]?;
+    let split = vec![in alloc;
+        get(alloc, "v", "X")?,
+        put_variable(alloc, "v", "T1")?,
+        get(alloc, "v", "X")?,
+        put_variable(alloc, "v", "T2")?,
+    ]?;
+    let mut declarations = Vec::new(alloc);
+    for text in ["X", "Y", "Z", "T1", "T2"] {
+        declarations.push(channel(alloc, Role::Inner, text)?)?;
+    }
+    declarations.push(channel(alloc, Role::Output, "out")?)?;
+    declarations.push(process(alloc, "f", Vec::new(alloc), merge)?)?;
+    declarations.push(process(alloc, "g", Vec::new(alloc), split)?)?;
+    declarations.push(delaying(alloc, "h0", 0, "T1", "Y")?)?;
+    declarations.push(delaying(alloc, "h1", 1, "T2", "Z")?)?;
+    check(alloc, NetText { declarations })
+}
+
+/// A process that puts each item that it gets twice on the channel from which it gets, after one
+/// first item: the n-th approximation has 2^n - 1 items.
+fn doubling(alloc: Global) -> Result<Net, NetFault> {
+    let prelude = vec![in alloc; put(alloc, ExprText::Literal(0), "c")?]?;
+    let body = vec![in alloc;
+        get(alloc, "v", "c")?,
+        put_variable(alloc, "v", "c")?,
+        put_variable(alloc, "v", "c")?,
+    ]?;
+    let declarations = vec![in alloc;
+        channel(alloc, Role::Inner, "c")?,
+        process(alloc, "double", prelude, body)?,
+    ]?;
+    check(alloc, NetText { declarations })
+}
+
+fn line(alloc: Global, text: &str, items: &[i64]) -> Result<InputLine, AllocError> {
+    Ok(InputLine {
+        name: name(alloc, text)?,
+        items: Vec::from_slice(alloc, items)?,
     })
 }
 
-/// Kahn's example as a net.
-fn cycle(alloc: Global) -> Result<Net, AllocError>
-    ensures { IfOk result (λ net. network_of net.program ≡ cycle_net) }
-{
-    let merge = merging(alloc)?;
-    let split = splitting(alloc)?;
-    let zero = delaying(alloc, 0, 3, 1)?;
-    let one = delaying(alloc, 1, 4, 2)?;
-    let program = Program {
-        channels: vec![in alloc;
-            channel(Port::Process(0), Port::Process(1)),
-            channel(Port::Process(2), Port::Process(0)),
-            channel(Port::Process(3), Port::Process(0)),
-            channel(Port::Process(1), Port::Process(2)),
-            channel(Port::Process(1), Port::Process(3)),
-            channel(Port::Process(0), Port::Outside),
-        ]?,
-        processes: vec![in alloc; merge, split, zero, one]?,
-    };
-    Ok(net_from(alloc, program))
-}
-
-/// The process that doubles, as a net.
-fn doubling(alloc: Global) -> Result<Net, AllocError>
-    ensures { IfOk result (λ net. network_of net.program ≡ doubling_net) }
-{
-    let process = Process {
-        node: 0,
-        variables: vec![in alloc; 0]?,
-        prelude: vec![in alloc;
-            Statement::Put {
-                value: Expr::Literal(0),
-                channel: 0
-            },
-        ]?,
-        body: Some(vec![in alloc; get(0), put(0), put(0)]?),
-    };
-    let program = Program {
-        channels: vec![in alloc; channel(Port::Process(0), Port::Process(0))]?,
-        processes: vec![in alloc; process]?,
-    };
-    Ok(net_from(alloc, program))
+/// The n-th approximation, on the inputs of these lines.
+fn approximation(
+    alloc: Global,
+    net: &Net,
+    lines: Vec<InputLine>,
+    n: u64,
+) -> Result<Histories, Fail> {
+    let inputs = bind(alloc, net, RawInputs { lines })?;
+    Ok(approx(alloc, net, &inputs, n)?)
 }
 
 /// The running sum's n-th approximation.
-fn sum_after(alloc: Global, items: &[i64], n: u64) -> Result<Histories, Fault>
-    requires { length items.now ≤ 1048576 }
-{
+fn sum_after(alloc: Global, items: &[i64], n: u64) -> Result<Histories, Fail> {
     let net = running_sum(alloc)?;
-    let input = History::from_vec(Vec::from_slice(alloc, items)?);
-    let inputs = vec![in alloc; input, History::new(alloc)]?;
-    approximate(alloc, &net, &inputs, n)
-}
-
-/// The n-th approximation of pairs added and summed up.
-fn pair_after(alloc: Global, left: &[i64], right: &[i64], n: u64) -> Result<Histories, Fault>
-    requires left { length left.now ≤ 1048576 }
-    requires right { length right.now ≤ 1048576 }
-{
-    let net = pair(alloc)?;
-    let first = History::from_vec(Vec::from_slice(alloc, left)?);
-    let second = History::from_vec(Vec::from_slice(alloc, right)?);
-    let inputs = vec![in alloc; first, second, History::new(alloc), History::new(alloc)]?;
-    approximate(alloc, &net, &inputs, n)
-}
-
-/// So many empty histories.
-fn nothing(alloc: Global, channels: usize) -> Result<Vec<History>, AllocError>
-    ensures { IfOk result (λ all. all.items ≡ replicate channels []) }
-{
-    let mut all = Vec::new(alloc);
-    for _ in 0..channels {
-        all.push(History::new(alloc))?;
-    }
-    Ok(all)
-}
-
-/// The n-th approximation of Kahn's example.
-fn cycle_at(alloc: Global, n: u64) -> Result<Histories, Fault> {
-    let net = cycle(alloc)?;
-    let inputs = nothing(alloc, 6)?;
-    approximate(alloc, &net, &inputs, n)
-}
-
-/// The n-th approximation of the process that doubles.
-fn doubled_after(alloc: Global, n: u64) -> Result<Histories, Fault> {
-    let net = doubling(alloc)?;
-    let inputs = nothing(alloc, 1)?;
-    approximate(alloc, &net, &inputs, n)
+    approximation(alloc, &net, vec![in alloc; line(alloc, "i", items)?]?, n)
 }
 
 /// Whether these histories solve the running sum of 1 2 3.
-fn solves_sum(alloc: Global, histories: &[&[i64]]) -> Result<bool, Fault> {
+fn solves_sum(alloc: Global, histories: &[&[i64]]) -> Result<bool, Fail> {
     let net = running_sum(alloc)?;
-    let input = History::from_vec(vec![in alloc; 1, 2, 3]?);
-    let inputs = vec![in alloc; input, History::new(alloc)]?;
+    let lines = vec![in alloc; line(alloc, "i", &[1, 2, 3])?]?;
+    let inputs = bind(alloc, &net, RawInputs { lines })?;
     let mut all = Vec::new(alloc);
     for history in histories {
         all.push(History::from_vec(Vec::from_slice(alloc, history)?))?;
     }
-    solves(alloc, &net, &inputs, &all)
+    Ok(is_solution(alloc, &net, &inputs, &Histories::from_vec(all))?)
 }
 
 /// The items of a channel, none where there is no such channel.
@@ -354,27 +270,21 @@ fn items_of(histories: &Histories, channel: usize) -> &[i64] {
 fn running_sums(rt: HostRuntime) -> Result<(), Fail> {
     let alloc = rt.alloc();
     let empty: [i64; 0] = [];
-    assert_eq!(rt;
-        items_of(&sum_after(alloc, &empty, 0)?, 1),
-        empty.as_slice()
-    );
-    assert_eq!(rt;
-        items_of(&sum_after(alloc, &empty, 1)?, 1),
-        empty.as_slice()
-    );
-    assert_eq!(rt;
-        items_of(&sum_after(alloc, &empty, 2)?, 1),
-        empty.as_slice()
-    );
-    assert_eq!(rt;
-        items_of(&sum_after(alloc, &[1, 2, 3], 0)?, 1),
-        empty.as_slice()
-    );
-    for n in 1..4 {
-        assert_eq!(rt;
-            items_of(&sum_after(alloc, &[1, 2, 3], n)?, 1),
-            [1, 3, 6].as_slice()
-        );
+    for n in 0..3 {
+        let histories = sum_after(alloc, &empty, n)?;
+        assert_eq!(rt; items_of(&histories, 1), empty.as_slice(), "at {n}");
+    }
+    let items = [1, 2, 3];
+    let sums = [1, 3, 6];
+    for (n, out) in [
+        (0, empty.as_slice()),
+        (1, sums.as_slice()),
+        (2, sums.as_slice()),
+        (u64::MAX, sums.as_slice()),
+    ] {
+        let histories = sum_after(alloc, &items, n)?;
+        assert_eq!(rt; items_of(&histories, 0), items.as_slice(), "in, at {n}");
+        assert_eq!(rt; items_of(&histories, 1), out, "out, at {n}");
     }
     Ok(())
 }
@@ -395,14 +305,21 @@ fn sums_at_the_ends_of_the_range(rt: HostRuntime) -> Result<(), Fail> {
 #[test]
 fn two_processes_joined_by_a_channel(rt: HostRuntime) -> Result<(), Fail> {
     let alloc = rt.alloc();
+    let net = pair(alloc)?;
     let empty: [i64; 0] = [];
+    let added = [11, 22];
+    let sums = [11, 33];
     for (n, between, out) in [
         (0, empty.as_slice(), empty.as_slice()),
-        (1, [11, 22].as_slice(), empty.as_slice()),
-        (2, [11, 22].as_slice(), [11, 33].as_slice()),
-        (3, [11, 22].as_slice(), [11, 33].as_slice()),
+        (1, added.as_slice(), empty.as_slice()),
+        (2, added.as_slice(), sums.as_slice()),
+        (3, added.as_slice(), sums.as_slice()),
     ] {
-        let histories = pair_after(alloc, &[1, 2], &[10, 20, 30], n)?;
+        let lines = vec![in alloc;
+            line(alloc, "y", &[10, 20, 30])?,
+            line(alloc, "x", &[1, 2])?,
+        ]?;
+        let histories = approximation(alloc, &net, lines, n)?;
         assert_eq!(rt; items_of(&histories, 2), between, "between, at {n}");
         assert_eq!(rt; items_of(&histories, 3), out, "out, at {n}");
     }
@@ -412,6 +329,7 @@ fn two_processes_joined_by_a_channel(rt: HostRuntime) -> Result<(), Fail> {
 #[test]
 fn a_cycle_of_four_processes(rt: HostRuntime) -> Result<(), Fail> {
     let alloc = rt.alloc();
+    let net = cycle(alloc)?;
     let empty: [i64; 0] = [];
     let once = [0, 1];
     let twice = [0, 1, 0, 1];
@@ -423,7 +341,8 @@ fn a_cycle_of_four_processes(rt: HostRuntime) -> Result<(), Fail> {
         (4, once.as_slice()),
         (5, twice.as_slice()),
     ] {
-        assert_eq!(rt; items_of(&cycle_at(alloc, n)?, 5), out, "at {n}");
+        let histories = approximation(alloc, &net, Vec::new(alloc), n)?;
+        assert_eq!(rt; items_of(&histories, 5), out, "at {n}");
     }
     Ok(())
 }
@@ -431,11 +350,18 @@ fn a_cycle_of_four_processes(rt: HostRuntime) -> Result<(), Fail> {
 #[test]
 fn histories_up_to_the_limit(rt: HostRuntime) -> Result<(), Fail> {
     let alloc = rt.alloc();
-    assert_eq!(rt; items_of(&doubled_after(alloc, 20)?, 0).len(), 1_048_575);
-    match doubled_after(alloc, 21) {
-        Ok(_) => assert!(rt; false, "no fault"),
-        Err(fault) => assert_eq!(rt; fault.number(), 19),
-    }
+    let net = doubling(alloc)?;
+    let inputs = bind(
+        alloc,
+        &net,
+        RawInputs {
+            lines: Vec::new(alloc),
+        },
+    )?;
+    let longest = approx(alloc, &net, &inputs, 20)?;
+    assert_eq!(rt; items_of(&longest, 0).len(), 1_048_575);
+    let refused = approx(alloc, &net, &inputs, 21).map_err(Fault::number);
+    assert!(rt; matches!(refused, Err(19)));
     Ok(())
 }
 
