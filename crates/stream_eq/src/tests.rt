@@ -65,56 +65,64 @@ fn name(alloc: Global, text: &str) -> Result<Name, AllocError> {
 }
 
 fn channel(alloc: Global, role: Role, text: &str) -> Result<Declaration, AllocError> {
+    let name = name(alloc, text)?;
     Ok(Declaration::Channel(ChannelText {
         role,
-        name: name(alloc, text)?,
+        name,
         line: 1,
     }))
 }
 
 fn get(alloc: Global, variable: &str, channel: &str) -> Result<StatementText, AllocError> {
-    Ok(StatementText::Get {
-        variable: name(alloc, variable)?,
-        channel: name(alloc, channel)?,
-    })
+    let variable = name(alloc, variable)?;
+    let channel = name(alloc, channel)?;
+    Ok(StatementText::Get { variable, channel })
 }
 
 fn put(alloc: Global, value: ExprText, channel: &str) -> Result<StatementText, AllocError> {
-    Ok(StatementText::Put {
-        value,
-        channel: name(alloc, channel)?,
-    })
+    let channel = name(alloc, channel)?;
+    Ok(StatementText::Put { value, channel })
 }
 
-fn put_variable(alloc: Global, variable: &str, channel: &str) -> Result<StatementText, AllocError> {
-    put(alloc, ExprText::Variable(name(alloc, variable)?), channel)
+fn variable(alloc: Global, text: &str) -> Result<ExprText, AllocError> {
+    Ok(ExprText::Variable(name(alloc, text)?))
 }
 
-fn sum(alloc: Global, left: &str, right: &str) -> Result<ExprText, AllocError> {
+/// The expression a + v.
+fn sum(alloc: Global) -> Result<ExprText, AllocError> {
+    let left = Box::new(alloc, variable(alloc, "a")?)?;
+    let right = Box::new(alloc, variable(alloc, "v")?)?;
     Ok(ExprText::Binary {
         operator: Operator::Add,
-        left: Box::new(alloc, ExprText::Variable(name(alloc, left)?))?,
-        right: Box::new(alloc, ExprText::Variable(name(alloc, right)?))?,
+        left,
+        right,
     })
 }
 
-/// A process with the variables a and v, which begin with 0.
+/// The variables a and v, which begin with 0.
+fn variables(alloc: Global) -> Result<Vec<VariableText>, AllocError> {
+    let mut variables = Vec::new(alloc);
+    for text in ["a", "v"] {
+        let name = name(alloc, text)?;
+        variables.push(VariableText {
+            name,
+            initial: 0,
+            line: 1,
+        })?;
+    }
+    Ok(variables)
+}
+
 fn process(
     alloc: Global,
     text: &str,
     prelude: Vec<StatementText>,
     body: Vec<StatementText>,
 ) -> Result<Declaration, AllocError> {
-    let mut variables = Vec::new(alloc);
-    for variable in ["a", "v"] {
-        variables.push(VariableText {
-            name: name(alloc, variable)?,
-            initial: 0,
-            line: 1,
-        })?;
-    }
+    let name = name(alloc, text)?;
+    let variables = variables(alloc)?;
     Ok(Declaration::Process(ProcessText {
-        name: name(alloc, text)?,
+        name,
         node: NodeText { number: 0, line: 1 },
         variables,
         prelude,
@@ -123,139 +131,193 @@ fn process(
     }))
 }
 
+/// What a statement of `moves` does with the variable v.
+#[derive(Clone, Copy)]
+enum Move {
+    Get,
+    Put,
+}
+
+/// Gets into v and puts of v, on these channels.
+fn moves(alloc: Global, parts: &[(Move, &str)]) -> Result<Vec<StatementText>, AllocError> {
+    let mut statements = Vec::new(alloc);
+    for (part, channel) in parts {
+        let statement = match part {
+            Move::Get => get(alloc, "v", channel)?,
+            Move::Put => put(alloc, variable(alloc, "v")?, channel)?,
+        };
+        statements.push(statement)?;
+    }
+    Ok(statements)
+}
+
 /// The process of the running sum, from one channel to another.
 fn summing(alloc: Global, from: &str, to: &str) -> Result<Declaration, AllocError> {
-    let assign = StatementText::Assign {
-        variable: name(alloc, "a")?,
-        value: sum(alloc, "a", "v")?,
-    };
-    let body = vec![in alloc;
-        get(alloc, "v", from)?,
-        assign,
-        put_variable(alloc, "a", to)?,
-    ]?;
+    let mut body = Vec::new(alloc);
+    body.push(get(alloc, "v", from)?)?;
+    let variable_name = name(alloc, "a")?;
+    let value = sum(alloc)?;
+    body.push(StatementText::Assign {
+        variable: variable_name,
+        value,
+    })?;
+    body.push(put(alloc, variable(alloc, "a")?, to)?)?;
     process(alloc, "sum", Vec::new(alloc), body)
 }
 
+/// The process that adds the items of x and y in pairs.
+fn adding(alloc: Global) -> Result<Declaration, AllocError> {
+    let mut body = Vec::new(alloc);
+    body.push(get(alloc, "a", "x")?)?;
+    body.push(get(alloc, "v", "y")?)?;
+    body.push(put(alloc, sum(alloc)?, "c")?)?;
+    process(alloc, "add", Vec::new(alloc), body)
+}
+
+/// The process that puts an item first, and then again and again makes these moves.
+fn beginning(
+    alloc: Global,
+    text: &str,
+    first: i64,
+    to: &str,
+    parts: &[(Move, &str)],
+) -> Result<Declaration, AllocError> {
+    let mut prelude = Vec::new(alloc);
+    prelude.push(put(alloc, ExprText::Literal(first), to)?)?;
+    let body = moves(alloc, parts)?;
+    process(alloc, text, prelude, body)
+}
+
+/// The declarations of these channels.
+fn channels(alloc: Global, parts: &[(Role, &str)]) -> Result<Vec<Declaration>, AllocError> {
+    let mut declarations = Vec::new(alloc);
+    for (role, text) in parts {
+        declarations.push(channel(alloc, *role, text)?)?;
+    }
+    Ok(declarations)
+}
+
 fn running_sum(alloc: Global) -> Result<Net, NetFault> {
-    let declarations = vec![in alloc;
-        channel(alloc, Role::Input, "i")?,
-        channel(alloc, Role::Output, "o")?,
-        summing(alloc, "i", "o")?,
-    ]?;
+    let mut declarations = channels(alloc, &[(Role::Input, "i"), (Role::Output, "o")])?;
+    declarations.push(summing(alloc, "i", "o")?)?;
     check(alloc, NetText { declarations })
 }
 
 /// Two inputs, whose items one process adds in pairs and another sums up.
 fn pair(alloc: Global) -> Result<Net, NetFault> {
-    let add = vec![in alloc;
-        get(alloc, "a", "x")?,
-        get(alloc, "v", "y")?,
-        put(alloc, sum(alloc, "a", "v")?, "c")?,
-    ]?;
-    let declarations = vec![in alloc;
-        channel(alloc, Role::Input, "x")?,
-        channel(alloc, Role::Input, "y")?,
-        channel(alloc, Role::Inner, "c")?,
-        channel(alloc, Role::Output, "o")?,
-        process(alloc, "add", Vec::new(alloc), add)?,
-        summing(alloc, "c", "o")?,
-    ]?;
+    let parts = [
+        (Role::Input, "x"),
+        (Role::Input, "y"),
+        (Role::Inner, "c"),
+        (Role::Output, "o"),
+    ];
+    let mut declarations = channels(alloc, &parts)?;
+    declarations.push(adding(alloc)?)?;
+    declarations.push(summing(alloc, "c", "o")?)?;
     check(alloc, NetText { declarations })
 }
 
-/// The process that sends an item first, and then what comes.
-fn delaying(
-    alloc: Global,
-    text: &str,
-    first: i64,
-    from: &str,
-    to: &str,
-) -> Result<Declaration, AllocError> {
-    let prelude = vec![in alloc; put(alloc, ExprText::Literal(first), to)?]?;
-    let body = vec![in alloc; get(alloc, "v", from)?, put_variable(alloc, "v", to)?]?;
-    process(alloc, text, prelude, body)
+/// Kahn's example: f takes from Y and Z in turn and sends each item to X and out, g takes from X and
+/// sends to T1 and T2 in turn.
+fn turning(alloc: Global) -> Result<Declaration, AllocError> {
+    let parts = [
+        (Move::Get, "Y"),
+        (Move::Put, "X"),
+        (Move::Put, "out"),
+        (Move::Get, "Z"),
+        (Move::Put, "X"),
+        (Move::Put, "out"),
+    ];
+    let body = moves(alloc, &parts)?;
+    process(alloc, "f", Vec::new(alloc), body)
 }
 
-/// Kahn's example: a process takes from Y and Z in turn and sends each item to X and out, another
-/// takes from X and sends to T1 and T2 in turn, from where two more send to Y and Z.
+fn dealing(alloc: Global) -> Result<Declaration, AllocError> {
+    let parts = [
+        (Move::Get, "X"),
+        (Move::Put, "T1"),
+        (Move::Get, "X"),
+        (Move::Put, "T2"),
+    ];
+    let body = moves(alloc, &parts)?;
+    process(alloc, "g", Vec::new(alloc), body)
+}
+
 fn cycle(alloc: Global) -> Result<Net, NetFault> {
-    let merge = vec![in alloc;
-        get(alloc, "v", "Y")?,
-        put_variable(alloc, "v", "X")?,
-        put_variable(alloc, "v", "out")?,
-        get(alloc, "v", "Z")?,
-        put_variable(alloc, "v", "X")?,
-        put_variable(alloc, "v", "out")?,
-    ]?;
-    let split = vec![in alloc;
-        get(alloc, "v", "X")?,
-        put_variable(alloc, "v", "T1")?,
-        get(alloc, "v", "X")?,
-        put_variable(alloc, "v", "T2")?,
-    ]?;
-    let mut declarations = Vec::new(alloc);
-    for text in ["X", "Y", "Z", "T1", "T2"] {
-        declarations.push(channel(alloc, Role::Inner, text)?)?;
-    }
-    declarations.push(channel(alloc, Role::Output, "out")?)?;
-    declarations.push(process(alloc, "f", Vec::new(alloc), merge)?)?;
-    declarations.push(process(alloc, "g", Vec::new(alloc), split)?)?;
-    declarations.push(delaying(alloc, "h0", 0, "T1", "Y")?)?;
-    declarations.push(delaying(alloc, "h1", 1, "T2", "Z")?)?;
+    let parts = [
+        (Role::Inner, "X"),
+        (Role::Inner, "Y"),
+        (Role::Inner, "Z"),
+        (Role::Inner, "T1"),
+        (Role::Inner, "T2"),
+        (Role::Output, "out"),
+    ];
+    let mut declarations = channels(alloc, &parts)?;
+    declarations.push(turning(alloc)?)?;
+    declarations.push(dealing(alloc)?)?;
+    let zeros = [(Move::Get, "T1"), (Move::Put, "Y")];
+    declarations.push(beginning(alloc, "h0", 0, "Y", &zeros)?)?;
+    let ones = [(Move::Get, "T2"), (Move::Put, "Z")];
+    declarations.push(beginning(alloc, "h1", 1, "Z", &ones)?)?;
     check(alloc, NetText { declarations })
 }
 
 /// A process that puts each item that it gets twice on the channel from which it gets, after one
 /// first item: the n-th approximation has 2^n - 1 items.
 fn doubling(alloc: Global) -> Result<Net, NetFault> {
-    let prelude = vec![in alloc; put(alloc, ExprText::Literal(0), "c")?]?;
-    let body = vec![in alloc;
-        get(alloc, "v", "c")?,
-        put_variable(alloc, "v", "c")?,
-        put_variable(alloc, "v", "c")?,
-    ]?;
-    let declarations = vec![in alloc;
-        channel(alloc, Role::Inner, "c")?,
-        process(alloc, "double", prelude, body)?,
-    ]?;
+    let mut declarations = channels(alloc, &[(Role::Inner, "c")])?;
+    let parts = [(Move::Get, "c"), (Move::Put, "c"), (Move::Put, "c")];
+    declarations.push(beginning(alloc, "double", 0, "c", &parts)?)?;
     check(alloc, NetText { declarations })
 }
 
 fn line(alloc: Global, text: &str, items: &[i64]) -> Result<InputLine, AllocError> {
-    Ok(InputLine {
-        name: name(alloc, text)?,
-        items: Vec::from_slice(alloc, items)?,
-    })
-}
-
-/// The n-th approximation, on the inputs of these lines.
-fn approximation(
-    alloc: Global,
-    net: &Net,
-    lines: Vec<InputLine>,
-    n: u64,
-) -> Result<Histories, Fail> {
-    let inputs = bind(alloc, net, RawInputs { lines })?;
-    Ok(approx(alloc, net, &inputs, n)?)
+    let name = name(alloc, text)?;
+    let items = Vec::from_slice(alloc, items)?;
+    Ok(InputLine { name, items })
 }
 
 /// The running sum's n-th approximation.
 fn sum_after(alloc: Global, items: &[i64], n: u64) -> Result<Histories, Fail> {
     let net = running_sum(alloc)?;
-    approximation(alloc, &net, vec![in alloc; line(alloc, "i", items)?]?, n)
+    let mut lines = Vec::new(alloc);
+    lines.push(line(alloc, "i", items)?)?;
+    let inputs = bind(alloc, &net, RawInputs { lines })?;
+    Ok(approx(alloc, &net, &inputs, n)?)
+}
+
+/// The n-th approximation of 1 2 and 10 20 30, added in pairs and summed up.
+fn pair_after(alloc: Global, n: u64) -> Result<Histories, Fail> {
+    let net = pair(alloc)?;
+    let mut lines = Vec::new(alloc);
+    lines.push(line(alloc, "y", &[10, 20, 30])?)?;
+    lines.push(line(alloc, "x", &[1, 2])?)?;
+    let inputs = bind(alloc, &net, RawInputs { lines })?;
+    Ok(approx(alloc, &net, &inputs, n)?)
+}
+
+/// The n-th approximation of a net without inputs.
+fn closed_after(alloc: Global, net: &Net, n: u64) -> Result<Histories, Fail> {
+    let lines = Vec::new(alloc);
+    let inputs = bind(alloc, net, RawInputs { lines })?;
+    Ok(approx(alloc, net, &inputs, n)?)
 }
 
 /// Whether these histories solve the running sum of 1 2 3.
-fn solves_sum(alloc: Global, histories: &[&[i64]]) -> Result<bool, Fail> {
+fn solves_sum(alloc: Global, histories: &Histories) -> Result<bool, Fail> {
     let net = running_sum(alloc)?;
-    let lines = vec![in alloc; line(alloc, "i", &[1, 2, 3])?]?;
+    let mut lines = Vec::new(alloc);
+    lines.push(line(alloc, "i", &[1, 2, 3])?)?;
     let inputs = bind(alloc, &net, RawInputs { lines })?;
-    let mut all = Vec::new(alloc);
-    for history in histories {
-        all.push(History::from_vec(Vec::from_slice(alloc, history)?))?;
-    }
-    Ok(is_solution(alloc, &net, &inputs, &Histories::from_vec(all))?)
+    Ok(is_solution(alloc, &net, &inputs, histories)?)
+}
+
+/// The histories of two channels.
+fn two(alloc: Global, first: &[i64], second: &[i64]) -> Result<Histories, AllocError> {
+    let mut histories = Vec::new(alloc);
+    histories.push(History::from_vec(Vec::from_slice(alloc, first)?))?;
+    histories.push(History::from_vec(Vec::from_slice(alloc, second)?))?;
+    Ok(Histories::from_vec(histories))
 }
 
 /// The items of a channel, none where there is no such channel.
@@ -274,7 +336,6 @@ fn running_sums(rt: HostRuntime) -> Result<(), Fail> {
         let histories = sum_after(alloc, &empty, n)?;
         assert_eq!(rt; items_of(&histories, 1), empty.as_slice(), "at {n}");
     }
-    let items = [1, 2, 3];
     let sums = [1, 3, 6];
     for (n, out) in [
         (0, empty.as_slice()),
@@ -282,9 +343,8 @@ fn running_sums(rt: HostRuntime) -> Result<(), Fail> {
         (2, sums.as_slice()),
         (u64::MAX, sums.as_slice()),
     ] {
-        let histories = sum_after(alloc, &items, n)?;
-        assert_eq!(rt; items_of(&histories, 0), items.as_slice(), "in, at {n}");
-        assert_eq!(rt; items_of(&histories, 1), out, "out, at {n}");
+        let histories = sum_after(alloc, &[1, 2, 3], n)?;
+        assert_eq!(rt; items_of(&histories, 1), out, "at {n}");
     }
     Ok(())
 }
@@ -305,24 +365,19 @@ fn sums_at_the_ends_of_the_range(rt: HostRuntime) -> Result<(), Fail> {
 #[test]
 fn two_processes_joined_by_a_channel(rt: HostRuntime) -> Result<(), Fail> {
     let alloc = rt.alloc();
-    let net = pair(alloc)?;
     let empty: [i64; 0] = [];
-    let added = [11, 22];
     let sums = [11, 33];
-    for (n, between, out) in [
-        (0, empty.as_slice(), empty.as_slice()),
-        (1, added.as_slice(), empty.as_slice()),
-        (2, added.as_slice(), sums.as_slice()),
-        (3, added.as_slice(), sums.as_slice()),
+    for (n, out) in [
+        (0, empty.as_slice()),
+        (1, empty.as_slice()),
+        (2, sums.as_slice()),
+        (3, sums.as_slice()),
     ] {
-        let lines = vec![in alloc;
-            line(alloc, "y", &[10, 20, 30])?,
-            line(alloc, "x", &[1, 2])?,
-        ]?;
-        let histories = approximation(alloc, &net, lines, n)?;
-        assert_eq!(rt; items_of(&histories, 2), between, "between, at {n}");
-        assert_eq!(rt; items_of(&histories, 3), out, "out, at {n}");
+        let histories = pair_after(alloc, n)?;
+        assert_eq!(rt; items_of(&histories, 3), out, "at {n}");
     }
+    let first = pair_after(alloc, 1)?;
+    assert_eq!(rt; items_of(&first, 2), [11, 22].as_slice());
     Ok(())
 }
 
@@ -341,7 +396,7 @@ fn a_cycle_of_four_processes(rt: HostRuntime) -> Result<(), Fail> {
         (4, once.as_slice()),
         (5, twice.as_slice()),
     ] {
-        let histories = approximation(alloc, &net, Vec::new(alloc), n)?;
+        let histories = closed_after(alloc, &net, n)?;
         assert_eq!(rt; items_of(&histories, 5), out, "at {n}");
     }
     Ok(())
@@ -351,34 +406,35 @@ fn a_cycle_of_four_processes(rt: HostRuntime) -> Result<(), Fail> {
 fn histories_up_to_the_limit(rt: HostRuntime) -> Result<(), Fail> {
     let alloc = rt.alloc();
     let net = doubling(alloc)?;
-    let inputs = bind(
-        alloc,
-        &net,
-        RawInputs {
-            lines: Vec::new(alloc),
-        },
-    )?;
-    let longest = approx(alloc, &net, &inputs, 20)?;
+    let longest = closed_after(alloc, &net, 20)?;
     assert_eq!(rt; items_of(&longest, 0).len(), 1_048_575);
-    let refused = approx(alloc, &net, &inputs, 21).map_err(Fault::number);
-    assert!(rt; matches!(refused, Err(19)));
+    let lines = Vec::new(alloc);
+    let inputs = bind(alloc, &net, RawInputs { lines })?;
+    let refused = approx(alloc, &net, &inputs, 21);
+    assert!(rt; matches!(refused, Err(Fault::Long)));
+    assert_eq!(rt; Fault::Long.number(), 19);
     Ok(())
 }
 
 #[test]
 fn solutions_of_the_running_sum(rt: HostRuntime) -> Result<(), Fail> {
     let alloc = rt.alloc();
-    assert!(rt; solves_sum(alloc, &[&[1, 2, 3], &[1, 3, 6]])?);
-    assert!(rt;
-        !solves_sum(alloc, &[&[1, 2, 3], &[1, 3, 7]])?,
-        "a wrong item"
-    );
-    assert!(rt; !solves_sum(alloc, &[&[1, 2, 3], &[1, 3]])?, "too short");
-    assert!(rt;
-        !solves_sum(alloc, &[&[1, 2, 3], &[1, 3, 6, 6]])?,
-        "too long"
-    );
-    assert!(rt; !solves_sum(alloc, &[&[1, 2], &[1, 3]])?, "another input");
-    assert!(rt; !solves_sum(alloc, &[&[1, 2, 3]])?, "another number");
+    let right = [1, 3, 6];
+    let wrong = [1, 3, 7];
+    let short = [1, 3];
+    let long = [1, 3, 6, 6];
+    for (second, answer) in [
+        (right.as_slice(), true),
+        (wrong.as_slice(), false),
+        (short.as_slice(), false),
+        (long.as_slice(), false),
+    ] {
+        let histories = two(alloc, &[1, 2, 3], second)?;
+        assert_eq!(rt; solves_sum(alloc, &histories)?, answer, "{second:?}");
+    }
+    let other_input = two(alloc, &[1, 2], &[1, 3])?;
+    assert!(rt; !solves_sum(alloc, &other_input)?);
+    let other_number = Histories::from_vec(Vec::new(alloc));
+    assert!(rt; !solves_sum(alloc, &other_number)?);
     Ok(())
 }
