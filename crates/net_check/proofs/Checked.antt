@@ -1,5 +1,5 @@
 -- The parts of a check together: the network is valid, and the resolution of the text.
-use Rattle.std.proofs.Common.{◌≡◌, ◌≢◌, ◌↔◌, ◌∙◌, sym, ap, subst, refl, ℕ, zero, suc, ◌+◌, ◌<◌, ◌≤◌, max, List, [], ◌∷◌, ◌++◌, length, map, slice_get, Option, Some, None, arith, inl, inr, ◌⊎◌, Bool, true, false, IsTrue}
+use Rattle.std.proofs.Common.{◌≡◌, ◌∙◌, sym, ap, subst, refl, ℕ, zero, suc, ◌≤◌, List, [], ◌∷◌, length, slice_get, Some, arith, inl, inr, ◌⊎◌, Bool, IsTrue}
 use Rattle.std.proofs.lemmas.Option.{slice_get_within}
 use Rattle.std.proofs.lemmas.List.{length-map}
 use Rattle.net_text.specs.Names.{NameTree}
@@ -8,19 +8,19 @@ use Rattle.net_text.specs.declared.tree.ChannelText.{ChannelText}
 use Rattle.net_text.specs.declared.tree.VariableText.{VariableText}
 use Rattle.net_text.specs.declared.tree.Role.TheVariants.{Input, Output}
 use Rattle.net_check.specs.declared.fault.NetFault.{NetFault}
-use Rattle.net_check.specs.declared.fault.NetFault.TheVariants.{NoMemory, TwiceNamed, UnknownName, TwoProducers, TwoConsumers, LoopWithoutGet, Limit, NoProducer, NoConsumer, MissingInput}
+use Rattle.net_check.specs.declared.fault.NetFault.TheVariants.{NoMemory, NoProducer, NoConsumer}
 use Rattle.net_check.specs.declared.program.Channel.{Channel}
 use Rattle.net_check.specs.declared.program.Port.{Port}
 use Rattle.net_check.specs.declared.program.Port.TheVariants.{Outside, Process}
-use Rattle.net_check.specs.Syntax.{Block, Code, Network}
-use Rattle.net_check.specs.Valid.{IsValid, IsValidCode, block_within, body_within, code_gets, code_puts, is_passing}
-use Rattle.net_check.specs.Claims.{AreResolved, Joined}
+use Rattle.net_check.specs.Syntax.{Code, Network}
+use Rattle.net_check.specs.Valid.{IsValid, IsValidCode, block_within, body_within, code_gets, code_puts}
+use Rattle.net_check.specs.Claims.{AreResolved}
 use Rattle.net_check.specs.Joints.{AreJoined, EndFaultAmong}
-use Rattle.net_check.specs.Ready.{AreDeclared, IsFit, IsReady}
+use Rattle.net_check.specs.Ready.{AreDeclared, IsFit}
 use Rattle.net_check.specs.Nodes.{IsOnOneNode, nodes_above}
-use Rattle.net_check.specs.NetFaults.{HasFault, HasNoUser}
+use Rattle.net_check.specs.NetFaults.{HasFault}
 use Rattle.net_check.specs.Uses.{Use, GetFrom, PutOn, Has, process_uses}
-use Rattle.net_check.specs.Resolution.{AllDifferent, Reads, Resolves, ResolvesProcess, channel_names, channels_of, initials, processes_of, process_names, variable_names}
+use Rattle.net_check.specs.Resolution.{AllDifferent, Resolves, ResolvesProcess, channel_names, channels_of, processes_of, process_names, variable_names}
 use Rattle.net_check.specs.ResolutionLaws.{Numbered, put_numbered, get_numbered, units_kept, passes_kept, block_kept_within, loop_kept_within}
 use Rattle.net_check.proofs.Places.{reads_from, same_got}
 use Rattle.net_check.proofs.Joining.{process_there}
@@ -47,8 +47,7 @@ same_some : {A : Type 0} (x y : A) → Some x ≡ Some y → x ≡ y
 same_some x y e = cc
 
 module _ (channels : List ChannelText) (ps : List ProcessTree) (codes : List Code) (producers consumers : List Port) (joined : List Channel) (d : AreDeclared channels ps) (r : AreResolved channels ps codes producers consumers)
-  (fit : (p : ℕ) (process : ProcessTree) → slice_get ps p ≡ Some process → IsFit process) (j : AreJoined channels producers consumers joined) where
-
+    (fit : (p : ℕ) (process : ProcessTree) → slice_get ps p ≡ Some process → IsFit process) (j : AreJoined channels producers consumers joined) where
   abbrev pub net : Network
   net = record { channels = joined; codes = codes }
 
@@ -85,22 +84,22 @@ module _ (channels : List ChannelText) (ps : List ProcessTree) (codes : List Cod
     producer_is_here = λ c p channel hc e. let b = r.producers_of.back c p (j.producer c channel hc ∙ ap Some e) in slice_get_within codes p b.0 b.1;
     consumer_is_here = λ c p channel hc e. let b = r.consumers_of.back c p (j.consumer c channel hc ∙ ap Some e) in slice_get_within codes p b.0 b.1;
     joined = λ c channel hc e e'.
-      let t = channel_there channels joined c channel j.count hc in
-      let ends = j.ends c t.0 channel t.1 hc in
-      let k : Input ≡ Output = sym (ends.input e) ∙ ends.output e' in absurd (cc);
+        let t = channel_there channels joined c channel j.count hc in
+        let ends = j.ends c t.0 channel t.1 hc in
+        let k : Input ≡ Output = sym (ends.input e) ∙ ends.output e' in absurd (cc);
   }
 
   input_outside : (c : ℕ) (declared : ChannelText) (channel : Channel) → slice_get channels c ≡ Some declared → slice_get joined c ≡ Some channel → declared.role ≡ Input → channel.producer ≡ Outside
   input_outside c declared channel hd hc e = elim (port_cases channel.producer) [
-      inl o ↦ o
+    | inl o ↦ o
     | inr q ↦ absurd (r.producers_of.allowed c q.0 declared (j.producer c channel hc ∙ ap Some q.1) hd e)
-    ]
+  ]
 
   output_outside : (c : ℕ) (declared : ChannelText) (channel : Channel) → slice_get channels c ≡ Some declared → slice_get joined c ≡ Some channel → declared.role ≡ Output → channel.consumer ≡ Outside
   output_outside c declared channel hd hc e = elim (port_cases channel.consumer) [
-      inl o ↦ o
+    | inl o ↦ o
     | inr q ↦ absurd (r.consumers_of.allowed c q.0 declared (j.consumer c channel hc ∙ ap Some q.1) hd e)
-    ]
+  ]
 
   resolves_own : (text : List DeclarationTree) (cs : List ChannelText) (qs : List ProcessTree) → channels_of text ≡ cs → processes_of text ≡ qs → channels ≡ cs → ps ≡ qs → Resolves text (channel_names channels) (process_names ps) net
   resolves_own text cs qs a b e f =
@@ -134,11 +133,11 @@ one_node net h = record { node = h; count = let k = nodes_below net.codes h in o
 
 -- a channel that nobody uses at an end
 unused_in : (text : List DeclarationTree) (channels : List ChannelText) (ps : List ProcessTree) (codes : List Code) (uses : ℕ → Code → Bool) (use' : NameTree → Use) (ports : List Port)
-  → (numbered : (process : ProcessTree) (code : Code) (name : NameTree) → ResolvesProcess (channel_names channels) process code → Has (process_uses process) (use' name) → Numbered (channel_names channels) name (λ c. uses c code))
-  → ((p : ℕ) (process : ProcessTree) (code : Code) → slice_get ps p ≡ Some process → slice_get codes p ≡ Some code → ResolvesProcess (channel_names channels) process code)
-  → ((c q : ℕ) (code : Code) → slice_get codes q ≡ Some code → IsTrue (uses c code) → slice_get ports c ≡ Some (Process q))
-  → processes_of text ≡ ps → length codes ≡ length ps → AllDifferent (channel_names channels) → (c : ℕ) (channel : ChannelText) → slice_get channels c ≡ Some channel → slice_get ports c ≡ Some Outside
-  → (p : ℕ) (process : ProcessTree) (name : NameTree) → slice_get (processes_of text) p ≡ Some process → Has (process_uses process) (use' name) → name.text ≡ channel.name.text → ⊥
+    → (numbered : (process : ProcessTree) (code : Code) (name : NameTree) → ResolvesProcess (channel_names channels) process code → Has (process_uses process) (use' name) → Numbered (channel_names channels) name (λ c. uses c code))
+    → ((p : ℕ) (process : ProcessTree) (code : Code) → slice_get ps p ≡ Some process → slice_get codes p ≡ Some code → ResolvesProcess (channel_names channels) process code)
+    → ((c q : ℕ) (code : Code) → slice_get codes q ≡ Some code → IsTrue (uses c code) → slice_get ports c ≡ Some (Process q))
+    → processes_of text ≡ ps → length codes ≡ length ps → AllDifferent (channel_names channels) → (c : ℕ) (channel : ChannelText) → slice_get channels c ≡ Some channel → slice_get ports c ≡ Some Outside
+    → (p : ℕ) (process : ProcessTree) (name : NameTree) → slice_get (processes_of text) p ≡ Some process → Has (process_uses process) (use' name) → name.text ≡ channel.name.text → ⊥
 unused_in text channels ps codes uses use' ports numbered resolved there es n differ c channel here out p process name hp used same =
     let g : slice_get ps p ≡ Some process = ap (λ (xs : List ProcessTree). slice_get xs p) (sym es) ∙ hp in
     let x = code_there ps codes p process n g in
@@ -150,7 +149,7 @@ unused_in text channels ps codes uses use' ports numbered resolved there es n di
     absurd (cc)
 
 pub end_fault_in : (text : List DeclarationTree) (channels : List ChannelText) (ps : List ProcessTree) (codes : List Code) (producers consumers : List Port) (f : NetFault) → channels ≡ channels_of text → ps ≡ processes_of text → AreDeclared channels ps → AreResolved channels ps codes producers consumers
-  → EndFaultAmong channels producers consumers f → HasFault text f
+    → EndFaultAmong channels producers consumers f → HasFault text f
 end_fault_in text channels ps codes producers consumers NoMemory cs es d r h = tt
 end_fault_in text channels ps codes producers consumers (NoProducer line) cs es d r h = record {
   c = h.0;

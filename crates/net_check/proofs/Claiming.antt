@@ -54,13 +54,13 @@ pub reads_same : (names : List NameTree) (i : ℕ) (t u : List ℕ) → Reads na
 reads_same names i t u h k = let e : Some t ≡ Some u = sym h ∙ k in cc
 
 pub refused_outside : (channels : List ChannelText) (role : Role) (use' : NameTree → Use) (p : ℕ) (ports : List Port) (name : NameTree) (c : ℕ) (d : ChannelText) (line : ℕ)
-  → c < length channels → Reads (channel_names channels) c name.text → (get_or channels c d).role ≡ role → name.line ≡ line → IsRefused channels role use' p ports (use' name ∷ []) line
+    → c < length channels → Reads (channel_names channels) c name.text → (get_or channels c d).role ≡ role → name.line ≡ line → IsRefused channels role use' p ports (use' name ∷ []) line
 refused_outside channels role use' p ports name c d line lt reads is at =
     let here = slice_get-get_or channels c d lt in
     stands_outside name c (get_or channels c d) (inl refl) at here (reads_same (channel_names channels) c _ name.text (reads_from (λ (x : ChannelText). x.name) channels c (get_or channels c d) here) reads) is
 
 pub refused_taken : (channels : List ChannelText) (role : Role) (use' : NameTree → Use) (p : ℕ) (ports : List Port) (name : NameTree) (c : ℕ) (line : ℕ)
-  → Reads (channel_names channels) c name.text → IsTaken p c ports → name.line ≡ line → IsRefused channels role use' p ports (use' name ∷ []) line
+    → Reads (channel_names channels) c name.text → IsTaken p c ports → name.line ≡ line → IsRefused channels role use' p ports (use' name ∷ []) line
 refused_taken channels role use' p ports name c line reads taken at = is_taken name c (inl refl) at reads taken
 
 pub unknown_one : (channels variables : List NameTree) (u : Use) (line : ℕ) → ((i : ℕ) → Reads (space_of channels variables u) i (name_of u).text → ⊥) → (name_of u).line ≡ line → IsUnknown channels variables (u ∷ []) line

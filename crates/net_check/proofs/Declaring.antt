@@ -25,13 +25,13 @@ different_none i j t h k = absurd (cc)
 pub different_push : {A : Type 0} (f : A → NameTree) (xs : List A) (x : A) → AllDifferent (map f xs) → ((i : ℕ) → Reads (map f xs) i (f x).text → ⊥) → AllDifferent (map f (xs ++ x ∷ []))
 different_push f xs x apart fresh i j t hi hj =
     elim (reads_push_cases f xs x i t hi) [
-      inl a ↦ elim (reads_push_cases f xs x j t hj) [
-        inl b ↦ apart i j t a b
-      | inr b ↦ absurd (fresh i (a ∙ ap Some (sym b.1)))
+      | inl a ↦ elim (reads_push_cases f xs x j t hj) [
+        | inl b ↦ apart i j t a b
+        | inr b ↦ absurd (fresh i (a ∙ ap Some (sym b.1)))
       ]
-    | inr a ↦ elim (reads_push_cases f xs x j t hj) [
-        inl b ↦ absurd (fresh j (b ∙ ap Some (sym a.1)))
-      | inr b ↦ a.0 ∙ sym b.0
+      | inr a ↦ elim (reads_push_cases f xs x j t hj) [
+        | inl b ↦ absurd (fresh j (b ∙ ap Some (sym a.1)))
+        | inr b ↦ a.0 ∙ sym b.0
       ]
     ]
 
@@ -88,11 +88,11 @@ pub twice_variable : (vs : List VariableText) (k : ℕ) (v : VariableText) (i : 
 twice_variable vs k v i lt e h = subst (λ (xs : List VariableText). SecondUse (variable_names xs) v.name.line) (sym (whole_at vs k v lt e)) (second_use (λ (x : VariableText). x.name) (take k vs) (drop (k + 1) vs) v i h)
 
 pub twice_variable_of : (process : ProcessTree) (vs : List VariableText) (k : ℕ) (v : VariableText) (i : ℕ) → process.variables ≡ vs → k < length vs → v ≡ get_or vs k v → Reads (variable_names (take k vs)) i v.name.text
-  → (text : List DeclarationTree) (p : ℕ) → slice_get (processes_of text) p ≡ Some process → HasTwiceNamed text v.name.line
+    → (text : List DeclarationTree) (p : ℕ) → slice_get (processes_of text) p ≡ Some process → HasTwiceNamed text v.name.line
 twice_variable_of process vs k v i same lt e h text p here = two_variables p process here (subst (λ (xs : List VariableText). SecondUse (variable_names xs) v.name.line) (sym same) (twice_variable vs k v i lt e h))
 
 pub many_variables_of : (process : ProcessTree) (vs : List VariableText) (k : ℕ) (v : VariableText) → process.variables ≡ vs → k < length vs → v ≡ get_or vs k v → k ≡ 64
-  → (text : List DeclarationTree) (p : ℕ) → slice_get (processes_of text) p ≡ Some process → HasPastLimit text v.line
+    → (text : List DeclarationTree) (p : ℕ) → slice_get (processes_of text) p ≡ Some process → HasPastLimit text v.line
 many_variables_of process vs k v same lt e n text p here = many_variables p process v here (subst (λ (xs : List VariableText). slice_get xs 64 ≡ Some v) (sym same) (subst (λ (m : ℕ). slice_get vs m ≡ Some v) n (got_at vs k v lt e))) refl
 
 pub different_more : (vs : List VariableText) (k : ℕ) (v : VariableText) → k < length vs → v ≡ get_or vs k v → AllDifferent (variable_names (take k vs)) → ((i : ℕ) → Reads (variable_names (take k vs)) i v.name.text → ⊥) → AllDifferent (variable_names (take (k + 1) vs))

@@ -1,13 +1,12 @@
 -- Units counted, and processes within their limits.
-use Rattle.std.proofs.Common.{◌≡◌, ◌∙◌, sym, ap, subst, ℕ, zero, suc, ◌+◌, ◌<◌, ◌≤◌, List, [], ◌∷◌, length, get_or, map, slice_get, Some, Bool, true, false, IsTrue, arith, inl, inr, ◌⊎◌}
+use Rattle.std.proofs.Common.{◌≡◌, ◌∙◌, sym, subst, ℕ, ◌<◌, ◌≤◌, List, length, get_or, map, slice_get, Some, Bool, false, IsTrue, arith, inl, inr}
 use Rattle.std.proofs.lemmas.Bool.{false≢true, cases_lt}
-use Rattle.net_text.specs.Trees.{ExprTree, LiteralTree, VariableTree, BinaryTree, BlockTree, NothingTree, DeclarationTree, ProcessTree, process_tree, then_tree, expr_tree}
+use Rattle.net_text.specs.Trees.{ExprTree, LiteralTree, VariableTree, BinaryTree, NothingTree, ProcessTree, process_tree, then_tree}
 use Rattle.net_text.specs.declared.tree.ProcessText.{ProcessText}
 use Rattle.net_text.specs.declared.tree.StatementText.{StatementText}
 use Rattle.net_text.specs.declared.tree.StatementText.TheVariants.{Get, Assign, Put}
 use Rattle.net_check.specs.declared.fault.NetFault.{NetFault}
-use Rattle.net_check.specs.Texts.{expr_units_text, block_units_text, process_units_text}
-use Rattle.net_check.specs.Resolution.{processes_of}
+use Rattle.net_check.specs.Texts.{expr_units_text, block_units_text}
 use Rattle.net_check.specs.Ready.{FaultOfProcess, FaultOfProcesses, IsFit}
 use Rattle.net_check.proofs.Places.{got_at, got_map, same_got}
 

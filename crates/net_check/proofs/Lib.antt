@@ -8,3 +8,4 @@ pub mod Fitting
 pub mod Ending
 pub mod Checked
 pub mod Lines
+pub mod Accepting

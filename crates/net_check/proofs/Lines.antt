@@ -1,5 +1,5 @@
 -- A line more, and the faults of lines.
-use Rattle.std.proofs.Common.{◌≡◌, ◌≢◌, ◌∙◌, sym, ap, subst, refl, ℕ, ℤ, zero, suc, ◌+◌, ◌<◌, ◌≤◌, List, [], ◌∷◌, ◌++◌, length, get_or, map, slice_get, set, Some, arith, inl, inr, ◌⊎◌, Bool, true, false}
+use Rattle.std.proofs.Common.{◌≡◌, ◌∙◌, sym, ap, subst, refl, ℕ, ℤ, zero, suc, ◌<◌, ◌≤◌, List, [], ◌∷◌, ◌++◌, length, map, slice_get, Some, arith, inl, inr, ◌⊎◌, Bool, true, false}
 use Rattle.std.proofs.lemmas.Bool.{false≢true}
 use Rattle.std.proofs.lemmas.Option.{slice_get_within}
 use Rattle.net_text.specs.Names.{NameTree}
@@ -8,14 +8,14 @@ use Rattle.std.proofs.Common.{append_assoc}
 use Rattle.net_text.specs.Trees.{InputTree, input_tree}
 use Rattle.net_text.specs.declared.raw_inputs.InputLine.{InputLine}
 use Rattle.net_check.specs.declared.fault.NetFault.{NetFault}
-use Rattle.net_check.specs.declared.fault.NetFault.TheVariants.{NoMemory, TwiceNamed, UnknownName, TwoProducers, TwoConsumers, LoopWithoutGet, Limit, NoProducer, NoConsumer, MissingInput}
+use Rattle.net_check.specs.declared.fault.NetFault.TheVariants.{NoMemory, TwiceNamed, UnknownName, Limit, MissingInput}
 use Rattle.net_check.specs.declared.program.Channel.{Channel}
 use Rattle.net_check.specs.declared.program.Port.TheVariants.{Outside, Process}
 use Rattle.net_check.specs.Syntax.{Network}
 use Rattle.net_check.specs.Fits.{Fits}
 use Rattle.net_check.specs.NetFaults.{SecondUse}
 use Rattle.net_check.specs.Resolution.{AllDifferent, Reads}
-use Rattle.net_check.specs.Binding.{Binds, HasInputFault, IsGiven, IsInput, IsNamedIn, line_names}
+use Rattle.net_check.specs.Binding.{Binds, HasInputFault, IsGiven, IsInput, line_names}
 use Rattle.net_check.specs.Bound.{AreBound, AreEmpty, AreFalse, AreNamed, Binds1, HasUnnamed, LineFault}
 use Rattle.net_check.proofs.Places.{got_append_left, got_push_cases, got_seam, got_set_here, got_set_there, length-set_at, read_of, reads_from, same_got, same_or_not}
 use Rattle.net_check.proofs.Claiming.{reads_same}
@@ -45,8 +45,7 @@ bound_none names net lists named n m empty none = record {
     empty_at (l ∷ ls) (x ∷ xs) (suc c) n e h = empty_at ls xs c (omega arith) (λ k items g. e (suc k) items g) h
 
 module _ (names : List NameTree) (net : Network) (lines : List InputTree) (line : InputTree) (lists : List (List ℤ)) (named : List Bool) (lists' : List (List ℤ)) (named' : List Bool) (differ : AllDifferent names)
-  (b : AreBound names net lines lists named) (s : Binds1 names net line lists named lists' named') where
-
+    (b : AreBound names net lines lists named) (s : Binds1 names net line lists named lists' named') where
   within : s.c < length named
   within = slice_get_within named s.c false s.fresh
 
@@ -74,32 +73,32 @@ module _ (names : List NameTree) (net : Network) (lines : List InputTree) (line 
     count = ap length s.list ∙ length-set_at lists s.c line.items ∙ b.count;
     marks = ap length s.mark ∙ length-set_at named s.c true ∙ b.marks;
     given = λ i l h. elim (got_push_cases lines line i l h) [
-        inl g ↦ let k = b.given i l g in record { c = k.c; reads = k.reads; input = k.input; items = list_there k.c (unnamed i l k.c g k.reads) ∙ k.items; few = k.few }
+      | inl g ↦ let k = b.given i l g in record { c = k.c; reads = k.reads; input = k.input; items = list_there k.c (unnamed i l k.c g k.reads) ∙ k.items; few = k.few }
       | inr g ↦ subst (λ (x : InputTree). IsGiven names net lists' x) g.1 record { c = s.c; reads = s.reads; input = s.input; items = list_here; few = s.few }
-      ];
+    ];
     marked = λ i l d h reads. elim (got_push_cases lines line i l h) [
-        inl g ↦ mark_kept d (b.marked i l d g reads)
+      | inl g ↦ mark_kept d (b.marked i l d g reads)
       | inr g ↦ subst (λ (k : ℕ). slice_get named' k ≡ Some true) (differ s.c d line.name.text s.reads (reads ∙ ap (λ (x : InputTree). Some x.name.text) (sym g.1))) mark_here
-      ];
+    ];
     once = different_push (λ (x : InputTree). x.name) lines line b.once (λ i h.
-      let r = read_of (λ (x : InputTree). x.name) lines i line.name.text h in
-      unnamed i r.0 s.c r.1 (s.reads ∙ ap Some (sym r.2)) refl);
+        let r = read_of (λ (x : InputTree). x.name) lines i line.name.text h in
+        unnamed i r.0 s.c r.1 (s.reads ∙ ap Some (sym r.2)) refl);
     by = λ d h. elim (same_or_not s.c d) [
-        inl e ↦ record { i = length lines; line = line; here = got_seam lines line []; reads = subst (λ (k : ℕ). Reads names k line.name.text) e s.reads }
+      | inl e ↦ record { i = length lines; line = line; here = got_seam lines line []; reads = subst (λ (k : ℕ). Reads names k line.name.text) e s.reads }
       | inr e ↦ let k = b.by d (sym (mark_there d e) ∙ h) in record { i = k.i; line = k.line; here = got_append_left lines (line ∷ []) k.i k.line k.here; reads = k.reads }
-      ];
+    ];
     input = λ d h. elim (same_or_not s.c d) [
-        inl e ↦ subst (λ (k : ℕ). IsInput net k) e s.input
+      | inl e ↦ subst (λ (k : ℕ). IsInput net k) e s.input
       | inr e ↦ b.input d (sym (mark_there d e) ∙ h)
-      ];
+    ];
     empty = λ d h. elim (same_or_not s.c d) [
-        inl e ↦ absurd (true_is_no_false (subst (λ (k : ℕ). Some true ≡ slice_get named' k) e (sym mark_here) ∙ h))
+      | inl e ↦ absurd (true_is_no_false (subst (λ (k : ℕ). Some true ≡ slice_get named' k) e (sym mark_here) ∙ h))
       | inr e ↦ list_there d e ∙ b.empty d (sym (mark_there d e) ∙ h)
-      ];
+    ];
     few = λ d items h. elim (same_or_not s.c d) [
-        inl e ↦ subst (λ (xs : List ℤ). length xs ≤ 1048576) (same_got lists' s.c line.items items list_here (subst (λ (k : ℕ). slice_get lists' k ≡ Some items) (sym e) h)) s.few
+      | inl e ↦ subst (λ (xs : List ℤ). length xs ≤ 1048576) (same_got lists' s.c line.items items list_here (subst (λ (k : ℕ). slice_get lists' k ≡ Some items) (sym e) h)) s.few
       | inr e ↦ b.few d items (sym (list_there d e) ∙ h)
-      ];
+    ];
   }
 
 -- a fault of a line is one of the lines
@@ -134,9 +133,9 @@ all_bound names net lines lists named b all = record {
   named = λ c input. b.by c (all c input.channel input.here input.outside);
   once = b.once;
   elsewhere = λ c channel items hc hi other. elim (mark_at named c (let lt = slice_get_within net.channels c channel hc in let m = b.marks in omega arith)) [
-      inl k ↦ let i = b.input c k in absurd (other (ap (λ (x : Channel). x.producer) (same_got net.channels c channel i.channel hc i.here) ∙ i.outside))
+    | inl k ↦ let i = b.input c k in absurd (other (ap (λ (x : Channel). x.producer) (same_got net.channels c channel i.channel hc i.here) ∙ i.outside))
     | inr k ↦ same_got lists c items [] hi (b.empty c k)
-    ];
+  ];
 }
 
 pub bound_fits : (names : List NameTree) (net : Network) (lines : List InputTree) (lists : List (List ℤ)) → Binds names net lines lists → ((c : ℕ) (items : List ℤ) → slice_get lists c ≡ Some items → length items ≤ 1048576) → Fits net lists

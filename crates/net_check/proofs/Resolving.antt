@@ -23,7 +23,7 @@ use Rattle.net_check.specs.Uses.{Use}
 
 -- a statement more
 pub resolves_push : (cs vs : List NameTree) (ts : List StatementText) (ss : List Statement) (t : StatementText) (s : Statement) → ResolvesBlock cs vs (block_tree ts) (block_of ss) → ResolvesBlock cs vs (then_tree t NothingTree) (then_of s Nothing)
-  → ResolvesBlock cs vs (block_tree (ts ++ t ∷ [])) (block_of (ss ++ s ∷ []))
+    → ResolvesBlock cs vs (block_tree (ts ++ t ∷ [])) (block_of (ss ++ s ∷ []))
 resolves_push cs vs [] [] t s h k = k
 resolves_push cs vs [] (Gets x c ∷ ss) t s h k = absurd h
 resolves_push cs vs [] (Assigns x e ∷ ss) t s h k = absurd h
@@ -86,9 +86,9 @@ claims_then channels role p f g h old mid new is a b = record {
 
 taken_earlier : (channels : List ChannelText) (role : Role) (p c : ℕ) (uses : ℕ → Bool) (old new : List Port) → Claims channels role p uses old new → IsTaken p c new → IsTaken p c old
 taken_earlier channels role p c uses old new a t = elim (bool_cases (uses c)) [
-    inl k ↦ absurd (t.other (let e : Some (Process t.q) ≡ Some (Process p) = sym t.here ∙ a.claimed c k in cc))
+  | inl k ↦ absurd (t.other (let e : Some (Process t.q) ≡ Some (Process p) = sym t.here ∙ a.claimed c k in cc))
   | inr k ↦ record { q = t.q; here = sym (a.kept c k) ∙ t.here; other = t.other }
-  ]
+]
 
 refused_earlier : (channels : List ChannelText) (role role' : Role) (use' : NameTree → Use) (p : ℕ) (uses : ℕ → Bool) (old new : List Port) (all : List Use) (line : ℕ) → Claims channels role p uses old new → IsRefused channels role' use' p new all line → IsRefused channels role' use' p old all line
 refused_earlier channels role role' use' p uses old new all line a (stands_outside name c channel used at here same is) = stands_outside name c channel used at here same is
@@ -96,7 +96,7 @@ refused_earlier channels role role' use' p uses old new all line a (is_taken nam
 
 -- a fault found after some uses was there before them
 pub use_earlier : (channels : List ChannelText) (variables : List NameTree) (p : ℕ) (f g : ℕ → Bool) (producers consumers producers' consumers' : List Port) (all : List Use) (fault : NetFault) → Claims channels Input p f producers producers' → Claims channels Output p g consumers consumers'
-  → UseFault channels variables p producers' consumers' all fault → UseFault channels variables p producers consumers all fault
+    → UseFault channels variables p producers' consumers' all fault → UseFault channels variables p producers consumers all fault
 use_earlier channels variables p f g producers consumers producers' consumers' all NoMemory a b h = tt
 use_earlier channels variables p f g producers consumers producers' consumers' all (UnknownName line) a b h = h
 use_earlier channels variables p f g producers consumers producers' consumers' all (TwoProducers line) a b h = refused_earlier channels Input Input _ p f producers producers' all line a h
@@ -104,7 +104,7 @@ use_earlier channels variables p f g producers consumers producers' consumers' a
 use_earlier channels variables p f g producers consumers producers' consumers' all _ a b h = absurd h
 
 pub resolves_more : (cs vs : List NameTree) (ts : List StatementText) (i : ℕ) (ss : List Statement) (t : StatementText) (s : Statement) → i < length ts → t ≡ get_or ts i t → ResolvesBlock cs vs (block_tree (take i ts)) (block_of ss) → ResolvesBlock cs vs (then_tree t NothingTree) (then_of s Nothing)
-  → ResolvesBlock cs vs (block_tree (take (i + 1) ts)) (block_of (ss ++ s ∷ []))
+    → ResolvesBlock cs vs (block_tree (take (i + 1) ts)) (block_of (ss ++ s ∷ []))
 resolves_more cs vs ts i ss t s lt e h k =
     let w : take (i + 1) ts ≡ take i ts ++ t ∷ [] = take_more ts i t lt ∙ ap (λ (x : StatementText). take i ts ++ x ∷ []) (sym e) in
     subst (λ (xs : List StatementText). ResolvesBlock cs vs (block_tree xs) (block_of (ss ++ s ∷ []))) (sym w) (resolves_push cs vs (take i ts) ss t s h k)

@@ -1,5 +1,5 @@
 -- When lists of items are those that the lines of an inputs text give to a network, and what is wrong with lines that are refused.
-use Rattle.std.specs.Prelude.{◌≡◌, ◌≢◌, ℕ, ℤ, ◌<◌, ◌≤◌, List, [], ◌∷◌, map, length, slice_get, slice_set, Some, Bool, true, false}
+use Rattle.std.specs.Prelude.{◌≡◌, ◌≢◌, ℕ, ℤ, ◌<◌, ◌≤◌, List, [], map, length, slice_get, Some}
 use Rattle.net_text.specs.Names.{NameTree}
 use Rattle.net_text.specs.Trees.{InputTree}
 use Rattle.net_check.specs.declared.fault.NetFault.{NetFault}

@@ -1,5 +1,5 @@
 -- The lines of an inputs text bound one after another.
-use Rattle.std.specs.Prelude.{◌≡◌, ℕ, ℤ, ◌<◌, ◌≤◌, List, [], ◌∷◌, length, slice_get, slice_set, Some, Bool, true, false}
+use Rattle.std.specs.Prelude.{◌≡◌, ℕ, ℤ, ◌<◌, ◌≤◌, List, [], length, slice_get, slice_set, Some, Bool, true, false}
 use Rattle.net_text.specs.Names.{NameTree}
 use Rattle.net_text.specs.Trees.{InputTree}
 use Rattle.net_check.specs.declared.fault.NetFault.{NetFault}

@@ -16,6 +16,7 @@ pub mod Texts
 pub mod UseLaws
 pub mod Uses
 pub mod Valid
+pub mod ValidLaws
 pub mod Streams
 pub mod Statements
 pub mod Processes

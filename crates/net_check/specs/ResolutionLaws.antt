@@ -1,14 +1,16 @@
 -- Laws of resolution: what the statements of a text use, the statements of its network use, by number, and the other way.
-use Rattle.std.proofs.Common.{◌≡◌, ◌∙◌, sym, ap, subst, ℕ, List, [], ◌∷◌, ◌⊎◌, inl, inr, refl, Bool, true, false, ◌||◌, ◌&&◌, eqb, IsTrue, ◌+◌, ◌<◌, suc, zero, length, nat_lt, Option, Some, None, arith}
+use Rattle.std.proofs.Common.{◌≡◌, ◌∙◌, ap, subst, ℕ, List, [], ◌∷◌, ◌⊎◌, inl, inr, refl, Bool, true, false, ◌||◌, ◌&&◌, eqb, IsTrue, ◌+◌, ◌<◌, suc, zero, length, nat_lt, Option, Some, None, arith}
 use Rattle.std.proofs.lemmas.Bool.{false≢true, eq-eqb}
 use Rattle.std.proofs.lemmas.Bool.Decides.{nat_tests}
 use Rattle.net_text.specs.Names.{NameTree}
-use Rattle.net_text.specs.Trees.{ExprTree, LiteralTree, VariableTree, BinaryTree, BlockTree, NothingTree, GetTree, AssignTree, PutTree, LoopTree, ProcessTree}
-use Rattle.net_check.specs.Syntax.{Tree, Number, Name, Binary, Block, Nothing, GetThen, AssignThen, PutThen, Code}
-use Rattle.net_check.specs.Resolution.{Reads, ResolvesExpr, ResolvesBlock, ResolvesLoop, ResolvesProcess, variable_names}
+use Rattle.net_text.specs.Trees.{ExprTree, LiteralTree, VariableTree, BinaryTree, BlockTree, NothingTree, GetTree, AssignTree, PutTree, LoopTree, DeclarationTree, ProcessTree}
+use Rattle.net_text.specs.declared.tree.ChannelText.{ChannelText}
+use Rattle.std.proofs.lemmas.List.{length-map}
+use Rattle.net_check.specs.Syntax.{Tree, Number, Name, Binary, Block, Nothing, GetThen, AssignThen, PutThen, Code, Network}
+use Rattle.net_check.specs.Resolution.{Reads, Resolves, channels_of, processes_of, ResolvesExpr, ResolvesBlock, ResolvesLoop, ResolvesProcess}
 use Rattle.net_check.specs.Valid.{block_gets, block_puts, body_gets, body_puts, code_gets, code_puts, expr_units, block_units, body_units, is_passing, expr_within, block_within, body_within}
 use Rattle.net_check.specs.Texts.{expr_units_text, block_units_text, loop_units_text, process_units_text, is_passing_text}
-use Rattle.net_check.specs.Uses.{Use, OfVariable, GetFrom, PutOn, expr_uses, block_uses, loop_uses, process_uses, Has}
+use Rattle.net_check.specs.Uses.{Use, GetFrom, PutOn, expr_uses, block_uses, loop_uses, process_uses, Has}
 use Rattle.net_check.specs.UseLaws.{has_left, has_right, has_cases, expr_no_put, expr_no_get}
 
 same_number : (c d : ℕ) → IsTrue (eqb c d) → c ≡ d
@@ -56,9 +58,9 @@ block_put_named cs vs (PutTree e n rest) Nothing c r h = absurd r
 block_put_named cs vs (PutTree e n rest) (GetThen x d b) c r h = absurd r
 block_put_named cs vs (PutTree e n rest) (AssignThen x t b) c r h = absurd r
 block_put_named cs vs (PutTree e n rest) (PutThen t d b) c r h = elim (or_cases (eqb d c) (block_puts c b) h) [
-    inl k ↦ record { name = n; used = has_right (expr_uses e) (PutOn n ∷ block_uses rest) (PutOn n) (inl refl); reads = subst (λ (i : ℕ). Reads cs i n.text) (same_number d c k) r.1 }
+  | inl k ↦ record { name = n; used = has_right (expr_uses e) (PutOn n ∷ block_uses rest) (PutOn n) (inl refl); reads = subst (λ (i : ℕ). Reads cs i n.text) (same_number d c k) r.1 }
   | inr k ↦ let m = block_put_named cs vs rest b c r.2 k in record { name = m.name; used = has_right (expr_uses e) (PutOn n ∷ block_uses rest) (PutOn m.name) (inr m.used); reads = m.reads }
-  ]
+]
 
 -- what is got from by number is got from by name
 pub block_get_named : (cs vs : List NameTree) (tree : BlockTree) (block : Block) (c : ℕ) → ResolvesBlock cs vs tree block → IsTrue (block_gets c block) → Named cs (block_uses tree) GetFrom c
@@ -68,9 +70,9 @@ block_get_named cs vs NothingTree (AssignThen x t b) c r h = absurd r
 block_get_named cs vs NothingTree (PutThen t d b) c r h = absurd r
 block_get_named cs vs (GetTree v n rest) Nothing c r h = absurd r
 block_get_named cs vs (GetTree v n rest) (GetThen x d b) c r h = elim (or_cases (eqb d c) (block_gets c b) h) [
-    inl k ↦ record { name = n; used = inr (inl refl); reads = subst (λ (i : ℕ). Reads cs i n.text) (same_number d c k) r.1 }
+  | inl k ↦ record { name = n; used = inr (inl refl); reads = subst (λ (i : ℕ). Reads cs i n.text) (same_number d c k) r.1 }
   | inr k ↦ let m = block_get_named cs vs rest b c r.2 k in record { name = m.name; used = inr (inr m.used); reads = m.reads }
-  ]
+]
 block_get_named cs vs (GetTree v n rest) (AssignThen x t b) c r h = absurd r
 block_get_named cs vs (GetTree v n rest) (PutThen t d b) c r h = absurd r
 block_get_named cs vs (AssignTree v e rest) Nothing c r h = absurd r
@@ -90,34 +92,34 @@ block_put_numbered cs vs NothingTree (AssignThen x t b) name r h = absurd r
 block_put_numbered cs vs NothingTree (PutThen t d b) name r h = absurd r
 block_put_numbered cs vs (GetTree v n rest) Nothing name r h = absurd r
 block_put_numbered cs vs (GetTree v n rest) (GetThen x d b) name r h = elim h [
-    inl e ↦ absurd (cc)
+  | inl e ↦ absurd (cc)
   | inr k ↦ elim k [
-      inl e ↦ absurd (cc)
+    | inl e ↦ absurd (cc)
     | inr m ↦ let s = block_put_numbered cs vs rest b name r.2 m in record { c = s.c; reads = s.reads; used = s.used }
-    ]
   ]
+]
 block_put_numbered cs vs (GetTree v n rest) (AssignThen x t b) name r h = absurd r
 block_put_numbered cs vs (GetTree v n rest) (PutThen t d b) name r h = absurd r
 block_put_numbered cs vs (AssignTree v e rest) Nothing name r h = absurd r
 block_put_numbered cs vs (AssignTree v e rest) (GetThen x d b) name r h = absurd r
 block_put_numbered cs vs (AssignTree v e rest) (AssignThen x t b) name r h = elim h [
-    inl e' ↦ absurd (cc)
+  | inl e' ↦ absurd (cc)
   | inr k ↦ elim (has_cases (expr_uses e) (block_uses rest) (PutOn name) k) [
-      inl m ↦ absurd (expr_no_put e name m)
+    | inl m ↦ absurd (expr_no_put e name m)
     | inr m ↦ let s = block_put_numbered cs vs rest b name r.2 m in record { c = s.c; reads = s.reads; used = s.used }
-    ]
   ]
+]
 block_put_numbered cs vs (AssignTree v e rest) (PutThen t d b) name r h = absurd r
 block_put_numbered cs vs (PutTree e n rest) Nothing name r h = absurd r
 block_put_numbered cs vs (PutTree e n rest) (GetThen x d b) name r h = absurd r
 block_put_numbered cs vs (PutTree e n rest) (AssignThen x t b) name r h = absurd r
 block_put_numbered cs vs (PutTree e n rest) (PutThen t d b) name r h = elim (has_cases (expr_uses e) (PutOn n ∷ block_uses rest) (PutOn name) h) [
-    inl m ↦ absurd (expr_no_put e name m)
+  | inl m ↦ absurd (expr_no_put e name m)
   | inr m ↦ elim m [
-      inl e' ↦ let k : n ≡ name = cc in record { c = d; reads = subst (λ (z : NameTree). Reads cs d z.text) k r.1; used = or_left (eqb d d) (block_puts d b) (eq-eqb d d refl) }
+    | inl e' ↦ let k : n ≡ name = cc in record { c = d; reads = subst (λ (z : NameTree). Reads cs d z.text) k r.1; used = or_left (eqb d d) (block_puts d b) (eq-eqb d d refl) }
     | inr k ↦ let s = block_put_numbered cs vs rest b name r.2 k in record { c = s.c; reads = s.reads; used = or_right (eqb d s.c) (block_puts s.c b) s.used }
-    ]
   ]
+]
 
 -- what is got from by name is got from by number
 pub block_get_numbered : (cs vs : List NameTree) (tree : BlockTree) (block : Block) (name : NameTree) → ResolvesBlock cs vs tree block → Has (block_uses tree) (GetFrom name) → Numbered cs name (λ c. block_gets c block)
@@ -127,34 +129,34 @@ block_get_numbered cs vs NothingTree (AssignThen x t b) name r h = absurd r
 block_get_numbered cs vs NothingTree (PutThen t d b) name r h = absurd r
 block_get_numbered cs vs (GetTree v n rest) Nothing name r h = absurd r
 block_get_numbered cs vs (GetTree v n rest) (GetThen x d b) name r h = elim h [
-    inl e ↦ absurd (cc)
+  | inl e ↦ absurd (cc)
   | inr m ↦ elim m [
-      inl e' ↦ let k : n ≡ name = cc in record { c = d; reads = subst (λ (z : NameTree). Reads cs d z.text) k r.1; used = or_left (eqb d d) (block_gets d b) (eq-eqb d d refl) }
+    | inl e' ↦ let k : n ≡ name = cc in record { c = d; reads = subst (λ (z : NameTree). Reads cs d z.text) k r.1; used = or_left (eqb d d) (block_gets d b) (eq-eqb d d refl) }
     | inr k ↦ let s = block_get_numbered cs vs rest b name r.2 k in record { c = s.c; reads = s.reads; used = or_right (eqb d s.c) (block_gets s.c b) s.used }
-    ]
   ]
+]
 block_get_numbered cs vs (GetTree v n rest) (AssignThen x t b) name r h = absurd r
 block_get_numbered cs vs (GetTree v n rest) (PutThen t d b) name r h = absurd r
 block_get_numbered cs vs (AssignTree v e rest) Nothing name r h = absurd r
 block_get_numbered cs vs (AssignTree v e rest) (GetThen x d b) name r h = absurd r
 block_get_numbered cs vs (AssignTree v e rest) (AssignThen x t b) name r h = elim h [
-    inl e' ↦ absurd (cc)
+  | inl e' ↦ absurd (cc)
   | inr k ↦ elim (has_cases (expr_uses e) (block_uses rest) (GetFrom name) k) [
-      inl m ↦ absurd (expr_no_get e name m)
+    | inl m ↦ absurd (expr_no_get e name m)
     | inr m ↦ let s = block_get_numbered cs vs rest b name r.2 m in record { c = s.c; reads = s.reads; used = s.used }
-    ]
   ]
+]
 block_get_numbered cs vs (AssignTree v e rest) (PutThen t d b) name r h = absurd r
 block_get_numbered cs vs (PutTree e n rest) Nothing name r h = absurd r
 block_get_numbered cs vs (PutTree e n rest) (GetThen x d b) name r h = absurd r
 block_get_numbered cs vs (PutTree e n rest) (AssignThen x t b) name r h = absurd r
 block_get_numbered cs vs (PutTree e n rest) (PutThen t d b) name r h = elim (has_cases (expr_uses e) (PutOn n ∷ block_uses rest) (GetFrom name) h) [
-    inl m ↦ absurd (expr_no_get e name m)
+  | inl m ↦ absurd (expr_no_get e name m)
   | inr m ↦ elim m [
-      inl e' ↦ absurd (cc)
+    | inl e' ↦ absurd (cc)
     | inr k ↦ let s = block_get_numbered cs vs rest b name r.2 k in record { c = s.c; reads = s.reads; used = s.used }
-    ]
   ]
+]
 
 loop_put_named : (cs vs : List NameTree) (repeated : Option LoopTree) (body : Option Block) (c : ℕ) → ResolvesLoop cs vs repeated body → IsTrue (body_puts c body) → Named cs (loop_uses repeated) PutOn c
 loop_put_named cs vs None None c r h = absurd (false≢true h)
@@ -183,27 +185,27 @@ loop_get_numbered cs vs (Some l) (Some b) name r h = block_get_numbered cs vs l.
 -- the same of a process
 pub put_named : (cs : List NameTree) (process : ProcessTree) (code : Code) (c : ℕ) → ResolvesProcess cs process code → IsTrue (code_puts c code) → Named cs (process_uses process) PutOn c
 put_named cs process code c r h = elim (or_cases (block_puts c code.prelude) (body_puts c code.body) h) [
-    inl k ↦ let n = block_put_named cs _ process.prelude code.prelude c r.prelude k in record { name = n.name; used = has_left (block_uses process.prelude) (loop_uses process.repeated) (PutOn n.name) n.used; reads = n.reads }
+  | inl k ↦ let n = block_put_named cs _ process.prelude code.prelude c r.prelude k in record { name = n.name; used = has_left (block_uses process.prelude) (loop_uses process.repeated) (PutOn n.name) n.used; reads = n.reads }
   | inr k ↦ let n = loop_put_named cs _ process.repeated code.body c r.body k in record { name = n.name; used = has_right (block_uses process.prelude) (loop_uses process.repeated) (PutOn n.name) n.used; reads = n.reads }
-  ]
+]
 
 pub get_named : (cs : List NameTree) (process : ProcessTree) (code : Code) (c : ℕ) → ResolvesProcess cs process code → IsTrue (code_gets c code) → Named cs (process_uses process) GetFrom c
 get_named cs process code c r h = elim (or_cases (block_gets c code.prelude) (body_gets c code.body) h) [
-    inl k ↦ let n = block_get_named cs _ process.prelude code.prelude c r.prelude k in record { name = n.name; used = has_left (block_uses process.prelude) (loop_uses process.repeated) (GetFrom n.name) n.used; reads = n.reads }
+  | inl k ↦ let n = block_get_named cs _ process.prelude code.prelude c r.prelude k in record { name = n.name; used = has_left (block_uses process.prelude) (loop_uses process.repeated) (GetFrom n.name) n.used; reads = n.reads }
   | inr k ↦ let n = loop_get_named cs _ process.repeated code.body c r.body k in record { name = n.name; used = has_right (block_uses process.prelude) (loop_uses process.repeated) (GetFrom n.name) n.used; reads = n.reads }
-  ]
+]
 
 pub put_numbered : (cs : List NameTree) (process : ProcessTree) (code : Code) (name : NameTree) → ResolvesProcess cs process code → Has (process_uses process) (PutOn name) → Numbered cs name (λ c. code_puts c code)
 put_numbered cs process code name r h = elim (has_cases (block_uses process.prelude) (loop_uses process.repeated) (PutOn name) h) [
-    inl k ↦ let n = block_put_numbered cs _ process.prelude code.prelude name r.prelude k in record { c = n.c; reads = n.reads; used = or_left (block_puts n.c code.prelude) (body_puts n.c code.body) n.used }
+  | inl k ↦ let n = block_put_numbered cs _ process.prelude code.prelude name r.prelude k in record { c = n.c; reads = n.reads; used = or_left (block_puts n.c code.prelude) (body_puts n.c code.body) n.used }
   | inr k ↦ let n = loop_put_numbered cs _ process.repeated code.body name r.body k in record { c = n.c; reads = n.reads; used = or_right (block_puts n.c code.prelude) (body_puts n.c code.body) n.used }
-  ]
+]
 
 pub get_numbered : (cs : List NameTree) (process : ProcessTree) (code : Code) (name : NameTree) → ResolvesProcess cs process code → Has (process_uses process) (GetFrom name) → Numbered cs name (λ c. code_gets c code)
 get_numbered cs process code name r h = elim (has_cases (block_uses process.prelude) (loop_uses process.repeated) (GetFrom name) h) [
-    inl k ↦ let n = block_get_numbered cs _ process.prelude code.prelude name r.prelude k in record { c = n.c; reads = n.reads; used = or_left (block_gets n.c code.prelude) (body_gets n.c code.body) n.used }
+  | inl k ↦ let n = block_get_numbered cs _ process.prelude code.prelude name r.prelude k in record { c = n.c; reads = n.reads; used = or_left (block_gets n.c code.prelude) (body_gets n.c code.body) n.used }
   | inr k ↦ let n = loop_get_numbered cs _ process.repeated code.body name r.body k in record { c = n.c; reads = n.reads; used = or_right (block_gets n.c code.prelude) (body_gets n.c code.body) n.used }
-  ]
+]
 
 -- a text and its network have as many units
 pub expr_units_kept : (vs : List NameTree) (e : ExprTree) (t : Tree) → ResolvesExpr vs e t → expr_units t ≡ expr_units_text e
@@ -304,3 +306,10 @@ loop_kept_within cs vs None None r = refl
 loop_kept_within cs vs None (Some b) r = absurd r
 loop_kept_within cs vs (Some l) None r = absurd r
 loop_kept_within cs vs (Some l) (Some b) r = block_kept_within cs vs l.body b r
+
+-- as many channels and processes as the text declares
+pub channels_counted : (text : List DeclarationTree) (channels processes : List NameTree) (net : Network) → Resolves text channels processes net → length net.channels ≡ length (channels_of text)
+channels_counted text channels processes net r = r.channel_count ∙ ap length r.channels_named ∙ length-map (channels_of text) (λ (c : ChannelText). c.name)
+
+pub processes_counted : (text : List DeclarationTree) (channels processes : List NameTree) (net : Network) → Resolves text channels processes net → length net.codes ≡ length (processes_of text)
+processes_counted text channels processes net r = r.process_count ∙ ap length r.processes_named ∙ length-map (processes_of text) (λ (p : ProcessTree). p.name)

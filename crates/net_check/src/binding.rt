@@ -1,6 +1,6 @@
 //! The lines of an inputs text bound to the inputs of a network.
 
-ghost use Rattle.std.specs.Prelude.{◌≡◌, ℕ, MatchOption, OnOk, IfErr, IfOk, length, true, false};
+ghost use Rattle.std.specs.Prelude.{◌≡◌, ℕ, ℤ, MatchOption, OnOk, IfErr, IfOk, IsOkUnless, List, length, true, false};
 ghost use Rattle.std.specs.Bool.{MatchBool};
 ghost use Rattle.net_check.specs.declared.program.Port.TheVariants.{Outside};
 ghost use Rattle.net_text.specs.Trees.{input_tree, inputs_tree};
@@ -115,6 +115,17 @@ pub fn bind(alloc: Global, net: &Net, inputs: RawInputs) -> Result<Inputs, NetFa
     // They are inputs for this network.
     ensures fitting { IfOk result (Fits (network_of net.now.program)) }
     // What is refused has the fault, on its line.
+    ensures fault { IfErr result (HasInputFault net.now.channel_names.items (network_of net.now.program) (inputs_tree inputs)) }
+    // Lines that give lists to the network are accepted.
+    ensures accepted { (lists : List (List ℤ)) → Binds net.now.channel_names.items (network_of net.now.program) (inputs_tree inputs) lists
+        → IsOkUnless result NetFault.NoMemory }
+{
+    bind_in_order(alloc, net, inputs)
+}
+
+fn bind_in_order(alloc: Global, net: &Net, inputs: RawInputs) -> Result<Inputs, NetFault>
+    ensures bound { IfOk result (Binds net.now.channel_names.items (network_of net.now.program) (inputs_tree inputs)) }
+    ensures fitting { IfOk result (Fits (network_of net.now.program)) }
     ensures fault { IfErr result (HasInputFault net.now.channel_names.items (network_of net.now.program) (inputs_tree inputs)) }
 {
     let mut binding = Binding::new(alloc, net.program.channels.len())?;

@@ -1,10 +1,12 @@
 //! The checks of a network's text.
 
-ghost use Rattle.std.specs.Prelude.{◌≡◌, ℕ, IfErr, IfOk, Some, length, slice_get};
+ghost use Rattle.std.specs.Prelude.{IfErr, IfOk, IsOkUnless, List};
+ghost use Rattle.net_text.specs.Names.{NameTree};
 ghost use Rattle.net_text.specs.Trees.{net_tree};
 ghost use Rattle.net_check.specs.NetFaults.{HasFault};
 ghost use Rattle.net_check.specs.Resolution.{Resolves};
-ghost use Rattle.net_check.specs.Syntax.{network_of};
+ghost use Rattle.net_check.specs.Syntax.{Network, network_of};
+ghost use Rattle.net_check.specs.Valid.{IsValid};
 ghost use Rattle.net_check.specs.Nodes.{IsOnOneNode};
 
 use crate::declared::Declared;
@@ -28,6 +30,17 @@ pub fn check(alloc: Global, text: NetText) -> Result<Net, NetFault>
     // There is one node.
     ensures one_node { IfOk result (λ net. IsOnOneNode (network_of net.program)) }
     // What is refused has the fault, on its line.
+    ensures fault { IfErr result (HasFault (net_tree text)) }
+    // A text that has a valid resolution on one node is accepted.
+    ensures accepted { (channels processes : List NameTree) (net : Network) → Resolves (net_tree text) channels processes net → IsValid net → IsOnOneNode net
+        → IsOkUnless result NetFault.NoMemory }
+{
+    check_in_order(alloc, text)
+}
+
+fn check_in_order(alloc: Global, text: NetText) -> Result<Net, NetFault>
+    ensures resolved { IfOk result (λ net. Resolves (net_tree text) net.channel_names.items net.process_names.items (network_of net.program)) }
+    ensures one_node { IfOk result (λ net. IsOnOneNode (network_of net.program)) }
     ensures fault { IfErr result (HasFault (net_tree text)) }
 {
     let declared = Declared::of(alloc, text)?;

@@ -12,7 +12,9 @@ use net_text::{ChannelText, Declaration, NetText, ProcessText, VariableText};
 use std::alloc::Global;
 
 const CHANNELS: usize = 256;
+
 const PROCESSES: usize = 64;
+
 const VARIABLES: usize = 64;
 
 /// The channels and processes of a text.

@@ -23,3 +23,6 @@ pub use history::History;
 pub use inputs::{Inputs, fits};
 pub use net::Net;
 pub use program::{Channel, Expr, Port, Process, Program, Statement};
+
+#[cfg(test)]
+mod tests;

@@ -21,12 +21,6 @@ use Rattle.stream_eq.specs.Limits.{GoesPast}
 use Rattle.stream_eq.specs.Play.{put_by_all}
 use Rattle.stream_eq.proofs.Puts.{past_more}
 
--- the code of the process at a place
-pub code_at : (ps : List Text) (i : ℕ) (p : Text) → i < length ps → p ≡ get_or ps i p → slice_get (map code_of ps) i ≡ Some (code_of p)
-code_at [] i p lt e = absurd (omega arith)
-code_at (q ∷ ps) zero p lt e = ap (λ (x : Text). Some (code_of x)) (sym e)
-code_at (q ∷ ps) (suc i) p lt e = code_at ps i p (omega arith) e
-
 -- this process, and those after it
 pub all_more : (ps : List Text) (i : ℕ) (p : Text) (histories after : List (List ℤ)) → i < length ps → p ≡ get_or ps i p
     → put_by_all (map code_of (drop (i + 1) ps)) histories (put_after (process_trace (code_of p) histories).steps after) ≡ put_by_all (map code_of (drop i ps)) histories after

@@ -1,47 +1,5 @@
-use Rattle.std.proofs.Common.{◌≡◌, ◌∙◌, sym, ap, subst, ◌++◌, ◌∷◌, [], List, map, Bool, rules, length}
-use Rattle.std.proofs.lemmas.Result.{err_from_is_err_and}
-use Rattle.std.proofs.lemmas.List.{map-append}
-use Rattle.std.proofs.lemmas.Iterator.Consumers.{YieldsList-end}
-use Rattle.std.proofs.lemmas.Iterator.Adapters.{YieldsList-from_vec}
-use Rattle.net_text.specs.Trees.{InputTree, input_tree, inputs_tree}
-use Rattle.net_text.specs.declared.raw_inputs.InputLine.{InputLine}
-use Rattle.net_check.specs.Bound.{AreBound, AreNamed}
-use Rattle.net_check.specs.declared.program.Channel.{Channel}
-use Rattle.net_check.specs.Syntax.{network_of}
-use Rattle.net_check.proofs.Lines.{all_bound, bound_fits, bound_push, line_at, line_fault_in, lines_next, map_same}
+use Rattle.net_check.proofs.Accepting.{no_input_fault, ok_unless}
 use Rattle.net_check.proofs.binding.bind.Goals as goal
 
-pub loop-line-preserved : goal.loop-line-preserved
-loop-line-preserved c =
-    let i = c.loop-line.invariant in
-    record {
-      bound = subst (λ (xs : List InputTree). AreBound c.args.net.now.channel_names.items (network_of c.args.net.now.program) xs c.bind_line.new.self.lists.items c.bind_line.new.self.named.items) (sym (map-append input_tree c.loop-line.yielded (c.in-Some.line ∷ [])))
-        (bound_push c.args.net.now.channel_names.items (network_of c.args.net.now.program) (map input_tree c.loop-line.yielded) (input_tree c.in-Some.line) _ _ _ _ c.args.net.now.channels_differ i.bound c.in_ok-bind_line.ensures.ok);
-      lines = lines_next c.loop-line.yielded _ _ c.in-Some.line _ (c.in-Some.ensures.steps).0 i.lines;
-    }
-
-pub returns-in_err-bind_line-clause-fault : goal.returns-in_err-bind_line-clause-fault
-returns-in_err-bind_line-clause-fault c =
-    let i = c.loop-line.invariant in
-    let p = err_from_is_err_and c.from_residual-in_err-bind_line.result c.from_residual-in_err-bind_line.ensures.1 in
-    rw (p.1, p.2) (line_fault_in _ _ (map input_tree c.loop-line.yielded) (input_tree c.in-Some.line) _ _ _ _ _ (line_at c.loop-line.yielded _ _ c.in-Some.line _ (c.in-Some.ensures.steps).0 i.lines) i.bound c.in_err-bind_line.ensures.err)
-
-pub returns-clause-bound : goal.returns-clause-bound
-returns-clause-bound c =
-    let gives = c.into_iter-line-iterator.ensures.into_iter_gives in
-    let end = YieldsList-end (YieldsList-from_vec {s = c.into_iter-line-iterator.result} c.args.inputs.lines.items gives.0 (gives.1 ∙ c.args.inputs.lines.ok.0)) c.loop-line.yielded c.loop-line.line-iterator c.loop-line.yielded_by c.next.result c.next.new.self c.in-None.is c.next.ensures.steps in
-    let e : map input_tree c.loop-line.yielded ≡ inputs_tree c.args.inputs = ap (λ (xs : List InputLine). map input_tree xs) (sym (map_same c.loop-line.yielded) ∙ end.0) in
-    let b = subst (λ (xs : List InputTree). AreBound c.args.net.now.channel_names.items (network_of c.args.net.now.program) xs c.loop-line.binding.lists.items c.loop-line.binding.named.items) e c.loop-line.invariant.bound in
-    let all = subst (λ (xs : List Channel). AreNamed xs c.loop-line.binding.named.items) c.deref.ensures.value (subst (λ (xs : List Bool). AreNamed c.deref.result.now xs) c.deref-2.ensures.value c.if-not-are_inputs_named.ensures) in
-    let binds = all_bound _ _ _ _ _ b all in
-    rw c.from_lists.ensures binds
-
-pub returns-clause-fitting : goal.returns-clause-fitting
-returns-clause-fitting c =
-    let gives = c.into_iter-line-iterator.ensures.into_iter_gives in
-    let end = YieldsList-end (YieldsList-from_vec {s = c.into_iter-line-iterator.result} c.args.inputs.lines.items gives.0 (gives.1 ∙ c.args.inputs.lines.ok.0)) c.loop-line.yielded c.loop-line.line-iterator c.loop-line.yielded_by c.next.result c.next.new.self c.in-None.is c.next.ensures.steps in
-    let e : map input_tree c.loop-line.yielded ≡ inputs_tree c.args.inputs = ap (λ (xs : List InputLine). map input_tree xs) (sym (map_same c.loop-line.yielded) ∙ end.0) in
-    let b = subst (λ (xs : List InputTree). AreBound c.args.net.now.channel_names.items (network_of c.args.net.now.program) xs c.loop-line.binding.lists.items c.loop-line.binding.named.items) e c.loop-line.invariant.bound in
-    let all = subst (λ (xs : List Channel). AreNamed xs c.loop-line.binding.named.items) c.deref.ensures.value (subst (λ (xs : List Bool). AreNamed c.deref.result.now xs) c.deref-2.ensures.value c.if-not-are_inputs_named.ensures) in
-    let binds = all_bound _ _ _ _ _ b all in
-    rw c.from_lists.ensures (bound_fits _ _ _ _ binds b.few)
+pub returns-clause-accepted : goal.returns-clause-accepted
+returns-clause-accepted c = λ lists binds. ok_unless c.bind_in_order.result _ c.bind_in_order.ensures.fault (λ f h. no_input_fault _ _ _ lists f binds h)

@@ -1,54 +1,7 @@
-use Rattle.std.proofs.Common.{◌≡◌, ◌∙◌, sym, ap, subst, ℕ, List, map, length, slice_get, Some}
-use Rattle.std.proofs.lemmas.Result.{err_from_is_err_and}
-use Rattle.std.proofs.lemmas.List.{length-map}
-use Rattle.net_text.specs.Names.{NameTree}
-use Rattle.net_text.specs.Trees.{ProcessTree, net_tree, process_tree}
-use Rattle.net_text.specs.declared.tree.ChannelText.{ChannelText}
-use Rattle.net_text.specs.declared.tree.ProcessText.{ProcessText}
-use Rattle.net_check.specs.Joints.{AreJoined, EndFaultAmong}
-use Rattle.net_check.specs.Ready.{IsFit}
-use Rattle.net_check.specs.Resolution.{AllDifferent, Resolves, channel_names, process_names}
-use Rattle.net_check.specs.Syntax.{code_of, network_of}
-use Rattle.net_check.proofs.Checked.{end_fault_in, node_zero, one_node, resolves, valid}
+use Rattle.net_text.specs.Trees.{net_tree}
+use Rattle.net_check.specs.NetFaults.{HasFault}
+use Rattle.net_check.proofs.Accepting.{no_fault, ok_unless}
 use Rattle.net_check.proofs.checks.check.Goals as goal
 
-pub returns-in_err-channels-clause-fault : goal.returns-in_err-channels-clause-fault
-returns-in_err-channels-clause-fault c =
-    let p = err_from_is_err_and c.from_residual-in_err-channels.result c.from_residual-in_err-channels.ensures.1 in
-    let d = c.in_ok-declared.ensures in
-    let ends = c.in_ok-resolved.resolved.ends in
-    rw (p.1, p.2) (end_fault_in (net_tree c.args.text) c.in_ok-declared.declared.channels.items (map process_tree c.in_ok-declared.declared.processes.items) (map code_of c.in_ok-resolved.resolved.processes.items) ends.producers ends.consumers _ d.channels d.processes d.declared c.in_ok-resolved.ensures.ok
-    (subst (λ (xs : List ChannelText). EndFaultAmong xs ends.producers ends.consumers c.in_err-channels.field-0.0) c.deref-2.ensures.value c.in_err-channels.ensures.err))
-
-pub invariant_of-result : goal.invariant_of-result
-invariant_of-result c =
-    let d = c.in_ok-declared.ensures in
-    let ends = c.in_ok-resolved.resolved.ends in
-    let r = c.in_ok-resolved.ensures.ok in
-    let fit = subst (λ (xs : List ProcessText). (p : ℕ) (process : ProcessTree) → slice_get (map process_tree xs) p ≡ Some process → IsFit process) c.deref.ensures.value c.in_ok-check_all_limits.ensures.ok in
-    let j = subst (λ (xs : List ChannelText). AreJoined xs ends.producers ends.consumers c.in_ok-channels.channels.items) c.deref-2.ensures.value c.in_ok-channels.ensures.ok in
-    record {
-      valid = valid _ _ _ _ _ _ d.declared r fit j;
-      channels_named = ap length c.in_ok-channel_names.ensures ∙ length-map c.in_ok-declared.declared.channels.items (λ (x : ChannelText). x.name) ∙ sym j.count;
-      processes_named = ap length c.in_ok-process_names.ensures ∙ length-map (map process_tree c.in_ok-declared.declared.processes.items) (λ (x : ProcessTree). x.name) ∙ sym r.count ∙ length-map c.in_ok-resolved.resolved.processes.items code_of;
-      channels_differ = subst AllDifferent (sym c.in_ok-channel_names.ensures) d.declared.channels_differ;
-      processes_differ = subst AllDifferent (sym c.in_ok-process_names.ensures) d.declared.processes_differ;
-    }
-
-pub returns-clause-resolved : goal.returns-clause-resolved
-returns-clause-resolved c =
-    let d = c.in_ok-declared.ensures in
-    let ends = c.in_ok-resolved.resolved.ends in
-    let r = c.in_ok-resolved.ensures.ok in
-    let fit = subst (λ (xs : List ProcessText). (p : ℕ) (process : ProcessTree) → slice_get (map process_tree xs) p ≡ Some process → IsFit process) c.deref.ensures.value c.in_ok-check_all_limits.ensures.ok in
-    let j = subst (λ (xs : List ChannelText). AreJoined xs ends.producers ends.consumers c.in_ok-channels.channels.items) c.deref-2.ensures.value c.in_ok-channels.ensures.ok in
-    rw (c.in_ok-channel_names.ensures, c.in_ok-process_names.ensures) (resolves _ _ _ _ _ _ d.declared r fit j (net_tree c.args.text) d.channels d.processes)
-
-pub returns-clause-one_node : goal.returns-clause-one_node
-returns-clause-one_node c =
-    let d = c.in_ok-declared.ensures in
-    let ends = c.in_ok-resolved.resolved.ends in
-    let r = c.in_ok-resolved.ensures.ok in
-    let fit = subst (λ (xs : List ProcessText). (p : ℕ) (process : ProcessTree) → slice_get (map process_tree xs) p ≡ Some process → IsFit process) c.deref.ensures.value c.in_ok-check_all_limits.ensures.ok in
-    let j = subst (λ (xs : List ChannelText). AreJoined xs ends.producers ends.consumers c.in_ok-channels.channels.items) c.deref-2.ensures.value c.in_ok-channels.ensures.ok in
-    one_node _ (node_zero _ _ _ _ _ _ d.declared r fit j)
+pub returns-clause-accepted : goal.returns-clause-accepted
+returns-clause-accepted c = λ channels processes net resolves valid one. ok_unless c.check_in_order.result (HasFault (net_tree c.args.text)) c.check_in_order.ensures.fault (no_fault (net_tree c.args.text) channels processes net resolves valid one)

@@ -1,4 +1,4 @@
-use Rattle.std.proofs.Common.{◌≡◌, take, length}
+use Rattle.std.proofs.Common.{take}
 use Rattle.net_check.specs.Joints.{AreJoined}
 use Rattle.net_check.proofs.join.join_all.Given as goal
 

@@ -1,4 +1,4 @@
-use Rattle.std.proofs.Common.{arith, below_more, map, length, ◌<◌}
+use Rattle.std.proofs.Common.{arith, below_more, map}
 use Rattle.std.proofs.lemmas.Result.{err_from_is_err_and}
 use Rattle.std.proofs.lemmas.Option.{slice_get_within}
 use Rattle.std.proofs.lemmas.List.{length-map}

@@ -1,5 +1,5 @@
-use Rattle.std.proofs.Common.{◌≡◌, sym, ap, subst, arith, List, map, slice_get, Some}
-use Rattle.net_text.specs.Trees.{ProcessTree, process_tree}
+use Rattle.std.proofs.Common.{◌≡◌, subst, arith, List, map, slice_get, Some}
+use Rattle.net_text.specs.Trees.{process_tree}
 use Rattle.net_text.specs.declared.tree.ProcessText.{ProcessText}
 use Rattle.net_check.proofs.resolve.resolve.Goals as goal
 

@@ -1,4 +1,4 @@
-use Rattle.std.proofs.Common.{◌≡◌, ◌∙◌, sym, ap, arith, length, ◌+◌, map, ◌<◌}
+use Rattle.std.proofs.Common.{◌∙◌, sym, ap, arith, length, ◌+◌}
 use Rattle.std.proofs.lemmas.Result.{err_from_is_err_and}
 use Rattle.std.proofs.lemmas.List.{length_push}
 use Rattle.net_text.specs.Trees.{process_tree}

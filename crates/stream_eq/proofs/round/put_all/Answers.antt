@@ -3,9 +3,10 @@ use Rattle.std.proofs.lemmas.Result.{err_from_is_err_and}
 use Rattle.net_check.specs.Syntax.{code_of}
 use Rattle.net_check.specs.Processes.{process_trace}
 use Rattle.net_check.specs.Puts.{put_after}
+use Rattle.net_check.specs.ValidLaws.{code_at}
 use Rattle.stream_eq.specs.Limits.{GoesPast}
 use Rattle.stream_eq.proofs.Errors.{other_err}
-use Rattle.stream_eq.proofs.Rounds.{code_at, all_more, past_all}
+use Rattle.stream_eq.proofs.Rounds.{all_more, past_all}
 use Rattle.stream_eq.proofs.round.put_all.Goals as goal
 
 pub put_outputs-requires-clause-passing : goal.put_outputs-requires-clause-passing
