@@ -89,8 +89,8 @@ put_after-at (s ∷ steps) histories channel h =
     at_put c item (inl same) =
         subst (λ (n : ℕ). history_of (set histories c (history_of histories c ++ item ∷ [])) n ++ sent_on channel steps ≡ history_of histories n ++ cond (eqb c channel) (item ∷ sent_on channel steps) (sent_on channel steps)) same.1
         (let lt : c < length histories = omega arith in
-            ap (λ (x : List ℤ). x ++ sent_on channel steps) (get_or-set_same histories c (history_of histories c ++ item ∷ []) [] lt)
-            ∙ (append_assoc (history_of histories c) (item ∷ []) (sent_on channel steps) ∙ ap (λ (t : Bool). history_of histories c ++ cond t (item ∷ sent_on channel steps) (sent_on channel steps)) (sym same.0)))
+        ap (λ (x : List ℤ). x ++ sent_on channel steps) (get_or-set_same histories c (history_of histories c ++ item ∷ []) [] lt)
+        ∙ (append_assoc (history_of histories c) (item ∷ []) (sent_on channel steps) ∙ ap (λ (t : Bool). history_of histories c ++ cond t (item ∷ sent_on channel steps) (sent_on channel steps)) (sym same.0)))
     at_put c item (inr other) =
         let ne : channel ≡ c → ⊥ = λ e. other.1 (sym e) in
         ap (λ (x : List ℤ). x ++ sent_on channel steps) (get_or-set_other histories c channel (history_of histories c ++ item ∷ []) [] ne)
