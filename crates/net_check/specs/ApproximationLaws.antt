@@ -1,5 +1,5 @@
 -- Laws of approximations: they only grow, they come to rest, and where they do they are the least solution.
-use Rattle.std.proofs.Common.{◌≡◌, ◌⊎◌, ℕ, zero, suc, ◌+◌, ◌<◌, ◌≤◌, List, ℤ, [], ◌∷◌, ◌++◌, refl, sym, ap, ◌∙◌, subst, arith, get_or, length, append-nil, append_assoc, length-append, Option, Some, None, inl, inr}
+use Rattle.std.proofs.Common.{◌≡◌, ◌⊎◌, ℕ, zero, suc, ◌+◌, ◌<◌, ◌≤◌, List, ℤ, [], ◌∷◌, refl, sym, ap, ◌∙◌, subst, arith, get_or, length, Option, Some, None, inl, inr}
 use Rattle.std.specs.Prelude.{slice_get}
 use Rattle.std.proofs.lemmas.Bool.{cases_lt}
 use Rattle.std.proofs.lemmas.List.{ext_get_or, get_or_past}
@@ -9,42 +9,11 @@ use Rattle.net_check.specs.Fits.{Fits}
 use Rattle.net_check.specs.Syntax.{Code, Network}
 use Rattle.net_check.specs.Valid.{IsValid}
 use Rattle.net_check.specs.Approximations.{output_at, next_history, next_from, next_histories, approximation, Belongs, IsReached, IsSolution}
+use Rattle.net_check.specs.PrefixLaws.{prefix_refl, prefix_nil, prefix_along, prefix_item, prefixes_refl, prefixes_trans}
 use Rattle.net_check.specs.StreamLaws.{monotone}
 use Rattle.net_check.specs.declared.program.Channel.{Channel}
 use Rattle.net_check.specs.declared.program.Port.{Port}
 use Rattle.net_check.specs.declared.program.Port.TheVariants.{Outside, Process}
-
--- Prefixes
-
-pub prefix_refl : (xs : List ℤ) → IsPrefix xs xs
-prefix_refl xs = record { rest = []; is = sym (append-nil xs) }
-
-pub prefix_nil : (xs ys : List ℤ) → xs ≡ [] → IsPrefix xs ys
-prefix_nil xs ys e = record { rest = ys; is = ap (λ (x : List ℤ). x ++ ys) (sym e) }
-
-pub prefix_trans : (xs ys zs : List ℤ) → IsPrefix xs ys → IsPrefix ys zs → IsPrefix xs zs
-prefix_trans xs ys zs p q = record { rest = p.rest ++ q.rest; is = q.is ∙ (ap (λ (x : List ℤ). x ++ q.rest) p.is ∙ append_assoc xs p.rest q.rest) }
-
-pub prefix_along : (xs xs' ys ys' : List ℤ) → xs ≡ xs' → ys ≡ ys' → IsPrefix xs' ys' → IsPrefix xs ys
-prefix_along xs xs' ys ys' e f p = record { rest = p.rest; is = f ∙ (p.is ∙ ap (λ (x : List ℤ). x ++ p.rest) (sym e)) }
-
-pub prefix_length : (xs ys : List ℤ) → IsPrefix xs ys → length xs ≤ length ys
-prefix_length xs ys p = omega (arith, ap (length {A = ℤ}) p.is, length-append xs p.rest)
-
--- what stands in a prefix stands there in the whole
-pub prefix_item : (xs ys : List ℤ) (k : ℕ) (v : ℤ) → IsPrefix xs ys → slice_get xs k ≡ Some v → slice_get ys k ≡ Some v
-prefix_item xs ys k v p h = ap (λ (l : List ℤ). slice_get l k) p.is ∙ appended xs k h
-  where
-    appended : (l : List ℤ) (k : ℕ) → slice_get l k ≡ Some v → slice_get (l ++ p.rest) k ≡ Some v
-    appended [] k h = absurd (cc)
-    appended (x ∷ l) zero h = h
-    appended (x ∷ l) (suc k) h = appended l k h
-
-pub prefixes_refl : (all : List (List ℤ)) → ArePrefixes all all
-prefixes_refl all = record { at = λ c. prefix_refl (history_of all c) }
-
-pub prefixes_trans : (a b c : List (List ℤ)) → ArePrefixes a b → ArePrefixes b c → ArePrefixes a c
-prefixes_trans a b c p q = record { at = λ d. prefix_trans (history_of a d) (history_of b d) (history_of c d) (p.at d) (q.at d) }
 
 -- What the producers make
 

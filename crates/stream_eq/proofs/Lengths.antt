@@ -9,7 +9,8 @@ use Rattle.net_check.specs.Fits.{Fits}
 use Rattle.net_check.specs.Syntax.{Network}
 use Rattle.net_check.specs.Valid.{IsValid}
 use Rattle.net_check.specs.Approximations.{approximation, next_histories, IsSolution}
-use Rattle.net_check.specs.ApproximationLaws.{prefix_length, approximations_grow, agreement, length-next_from, solution_is_next}
+use Rattle.net_check.specs.PrefixLaws.{prefix_length}
+use Rattle.net_check.specs.ApproximationLaws.{approximations_grow, agreement, length-next_from, solution_is_next}
 use Rattle.stream_eq.specs.Limits.{HasLongHistory, IsWithin, GoesPast}
 
 limit_most : (k c : ℕ) → slice_index (replicate k 1048576) c ≤ 1048576
