@@ -17,3 +17,13 @@ pub mod UseLaws
 pub mod Uses
 pub mod Valid
 pub mod ValidLaws
+pub mod Streams
+pub mod Statements
+pub mod Processes
+pub mod Approximations
+pub mod Puts
+pub mod PrefixLaws
+pub mod PassLaws
+pub mod PutLaws
+pub mod StreamLaws
+pub mod ApproximationLaws

@@ -1,0 +1,5 @@
+use Rattle.net_check.specs.StreamLaws.{monotone}
+use Rattle.stream_eq.proofs.laws.monotone_law.Goals as goal
+
+pub returns : goal.returns
+returns c code small big channel passing prefixes = monotone code small big channel passing prefixes

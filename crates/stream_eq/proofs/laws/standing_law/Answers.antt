@@ -1,0 +1,5 @@
+use Rattle.net_check.specs.StreamLaws.{stands_on}
+use Rattle.stream_eq.proofs.laws.standing_law.Goals as goal
+
+pub returns : goal.returns
+returns c code small big m standing passing prefixes stands = stands_on code small big m standing passing prefixes stands

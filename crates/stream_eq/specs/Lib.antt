@@ -1,0 +1,5 @@
+pub mod Faults
+pub mod Limits
+pub mod Play
+pub mod Laws
+pub mod Examples

@@ -1,0 +1,21 @@
+-- Histories that are longer than they may be.
+use Rattle.std.specs.Prelude.{ℕ, ℤ, List, ◌≤◌, ◌<◌, length, slice_index}
+use Rattle.net_check.specs.Streams.{history_of}
+use Rattle.net_check.specs.Syntax.{Network}
+use Rattle.net_check.specs.Approximations.{approximation}
+
+-- an approximation up to the n-th has a history of more than 1,048,576 items
+pub record HasLongHistory (net : Network) (inputs : List (List ℤ)) (n : ℕ) : Type 0 where
+  pub round : ℕ
+  pub up_to : round ≤ n
+  pub channel : ℕ
+  pub long : 1048576 < length (history_of (approximation net inputs round) channel)
+
+-- each history has at most as many items as the limit of its channel
+pub record IsWithin (limits : List ℕ) (histories : List (List ℤ)) : Type 0 where
+  pub at : (channel : ℕ) → length (history_of histories channel) ≤ slice_index limits channel
+
+-- some history has more
+pub record GoesPast (limits : List ℕ) (histories : List (List ℤ)) : Type 0 where
+  pub channel : ℕ
+  pub past : slice_index limits channel < length (history_of histories channel)

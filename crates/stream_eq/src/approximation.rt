@@ -1,0 +1,60 @@
+//! The approximations of a network's histories.
+
+ghost use Rattle.std.specs.Prelude.{◌≡◌, length, replicate, IfOk, OnOk, IsErrOf};
+ghost use Rattle.net_check.specs.Syntax.{network_of};
+ghost use Rattle.net_check.specs.Fits.{Fits};
+ghost use Rattle.net_check.specs.Approximations.{approximation};
+ghost use Rattle.stream_eq.specs.Limits.{HasLongHistory};
+
+use crate::fault::Fault;
+use crate::histories::{Histories, are_same, copies};
+use crate::round::next;
+use net_check::{History, Inputs, Net};
+use std::alloc::{AllocError, Global};
+
+/// The most items that a history may have.
+const LONGEST_HISTORY: usize = 1_048_576;
+
+/// The same limit for each of so many channels.
+fn same_limits(alloc: Global, channels: usize) -> Result<Vec<usize>, AllocError>
+    ensures { IfOk result (λ limits. limits.items ≡ replicate channels 1048576) }
+{
+    vec![in alloc; LONGEST_HISTORY; channels]
+}
+
+/// The n-th approximation, from a list of items for each channel.
+fn approximate(alloc: Global, net: &Net, inputs: &[History], n: u64) -> Result<Histories, Fault>
+    requires { Fits (network_of net.now.program) inputs.now }
+    ensures value { IfOk result (λ histories.
+        histories ≡ approximation (network_of net.now.program) inputs.now n) }
+    ensures long { IsErrOf result Fault.Long → HasLongHistory (network_of net.now.program) inputs.now n }
+    ensures not_long { OnOk result (¬ HasLongHistory (network_of net.now.program) inputs.now n) }
+{
+    let limits = same_limits(alloc, inputs.len())?;
+    let mut histories = copies(alloc, inputs)?;
+    for round in 0..n {
+        let after = next(alloc, net, inputs, &histories, &limits)?;
+        if are_same(&histories, &after) {
+            // Once two in a row agree, all later ones do.
+            return Ok(Histories::from_vec(histories));
+        }
+        histories = after;
+    }
+    Ok(Histories::from_vec(histories))
+}
+
+/// The n-th approximation of a network's histories, slow and plain: at first the inputs are whole
+/// and every other history is empty; then, n times, each process puts what its function gives on
+/// the approximation before.
+///
+/// Refused with 19 exactly where an approximation up to the n-th has a history of more than
+/// 1,048,576 items, unless memory is refused.
+pub fn approx(alloc: Global, net: &Net, inputs: &Inputs, n: u64) -> Result<Histories, Fault>
+    requires { Fits (network_of net.now.program) inputs.now }
+    ensures value { IfOk result (λ histories.
+        histories ≡ approximation (network_of net.now.program) inputs.now n) }
+    ensures long { IsErrOf result Fault.Long → HasLongHistory (network_of net.now.program) inputs.now n }
+    ensures not_long { OnOk result (¬ HasLongHistory (network_of net.now.program) inputs.now n) }
+{
+    approximate(alloc, net, inputs.as_slice(), n)
+}

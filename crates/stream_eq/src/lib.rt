@@ -1,0 +1,24 @@
+//! Kahn's equations of a network, solved plainly: the approximations of its histories, and whether
+//! histories are a solution.
+#![tactic(auto)]
+
+mod approximation;
+mod fault;
+mod histories;
+mod laws;
+mod process;
+mod round;
+mod solution;
+mod unread;
+
+pub use approximation::approx;
+pub use fault::Fault;
+pub use histories::Histories;
+pub use laws::{
+    agreement_law, growth_law, least_solution_law, monotone_law, one_item_law, standing_law,
+    well_founded_law,
+};
+pub use solution::is_solution;
+
+#[cfg(test)]
+mod tests;

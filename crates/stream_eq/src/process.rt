@@ -1,0 +1,187 @@
+//! A process on whole histories: what it puts on each channel.
+
+ghost use Rattle.std.specs.Prelude.{◌≡◌, ℕ, ◌<◌, ◌≤◌, [], ◌∷◌, ◌++◌, length, slice_index, slice_set};
+ghost use Rattle.std.specs.Prelude.{IsTrue, IfOk, OnOk, IsErrOf};
+ghost use Rattle.net_check.specs.Streams.{history_of};
+ghost use Rattle.net_check.specs.Syntax.{tree_of, block_of, code_of};
+ghost use Rattle.net_check.specs.Valid.{is_passing};
+ghost use Rattle.net_check.specs.Statements.{apply, value_of, trace_of};
+ghost use Rattle.net_check.specs.Processes.{HasPassingLoop};
+ghost use Rattle.net_check.specs.Puts.{put_after};
+ghost use Rattle.stream_eq.specs.Limits.{IsWithin, GoesPast};
+ghost use Rattle.stream_eq.specs.Play.{IsPlayed, put_by_passes, put_by_process};
+
+use crate::fault::Fault;
+use crate::unread::{Unread, all_unread, take_item};
+use net_check::{Expr, History, Process, Statement};
+use net_text::Operator;
+use std::alloc::Global;
+
+/// The value of an operator on two values.
+fn operate(operator: Operator, left: i64, right: i64) -> i64
+    ensures { result ≡ apply operator left right }
+{
+    match operator {
+        Operator::Add => left.wrapping_add(right),
+    }
+}
+
+/// The value of an expression.
+fn value(expr: &Expr, variables: &[i64]) -> i64
+    ensures { result ≡ value_of (tree_of expr.now) variables.now }
+{
+    match expr {
+        Expr::Literal(number) => *number,
+        Expr::Variable(variable) => variables.get(*variable).copied().unwrap_or(0),
+        Expr::Binary {
+            operator,
+            left,
+            right,
+        } => operate(*operator, value(left, variables), value(right, variables)),
+    }
+}
+
+/// Writes a variable.
+fn set_variable(variables: &mut [i64], variable: usize, value: i64)
+    ensures { variables.new ≡ slice_set variables.old variable value }
+{
+    if variable < variables.len() {
+        variables[variable] = value;
+    }
+}
+
+/// Puts an item on a channel, unless that goes past the channel's limit.
+fn put_item(sent: &mut [History], limits: &[usize], channel: usize, item: i64) -> Result<(), Fault>
+    requires { length limits.now ≡ length sent.old }
+    ensures ok { OnOk result (
+        sent.new ≡ slice_set sent.old channel (history_of sent.old channel ++ item ∷ [])) }
+    ensures room { OnOk result (
+        channel < length sent.old →
+        length (history_of sent.old channel) < slice_index limits.now channel) }
+    ensures long_here { IsErrOf result Fault.Long → channel < length sent.old }
+    ensures long { IsErrOf result Fault.Long →
+        slice_index limits.now channel ≤ length (history_of sent.old channel) }
+{
+    if channel >= sent.len() {
+        return Ok(());
+    }
+    let history = &mut sent[channel];
+    if history.len() >= limits[channel] {
+        return Err(Fault::Long);
+    }
+    history.push(item)?;
+    Ok(())
+}
+
+/// Makes the acts of these statements until one waits, and puts their items. Answers whether they
+/// ended.
+fn play_statements(
+    statements: &[Statement],
+    variables: &mut [i64],
+    unread: &mut [Unread<'_>],
+    limits: &[usize],
+    sent: &mut [History],
+) -> Result<bool, Fault>
+    requires { length limits.now ≡ length sent.old }
+    ensures played { IfOk result (λ ended.
+        (site : ℕ) → IsPlayed (trace_of site (block_of statements.now) variables.old unread.old)
+        sent.old sent.new ended variables.new unread.new) }
+    ensures within { OnOk result (IsWithin limits.now sent.old → IsWithin limits.now sent.new) }
+    ensures long { IsErrOf result Fault.Long → (site : ℕ) → GoesPast limits.now
+        (put_after (trace_of site (block_of statements.now) variables.old unread.old).steps sent.old) }
+{
+    for statement in statements {
+        match statement {
+            Statement::Get { variable, channel } => {
+                let Some(item) = take_item(unread, *channel) else {
+                    return Ok(false);
+                };
+                set_variable(variables, *variable, item);
+            }
+            Statement::Assign {
+                variable,
+                value: expr,
+            } => {
+                let item = value(expr, variables);
+                set_variable(variables, *variable, item);
+            }
+            Statement::Put {
+                value: expr,
+                channel,
+            } => {
+                let item = value(expr, variables);
+                put_item(sent, limits, *channel, item)?;
+            }
+        }
+    }
+    Ok(true)
+}
+
+/// Makes the acts of a loop's body again and again until a get waits, and puts their items.
+fn play_loop(
+    body: &[Statement],
+    variables: &mut [i64],
+    unread: &mut [Unread<'_>],
+    limits: &[usize],
+    sent: &mut [History],
+) -> Result<(), Fault>
+    requires passing { IsTrue (is_passing (block_of body.now)) }
+    requires count { length limits.now ≡ length sent.old }
+    ensures played { OnOk result (
+        (site : ℕ) → sent.new ≡ put_by_passes site (block_of body.now) variables.old unread.old sent.old) }
+    ensures within { OnOk result (IsWithin limits.now sent.old → IsWithin limits.now sent.new) }
+    ensures long { IsErrOf result Fault.Long → (site : ℕ) → GoesPast limits.now
+        (put_by_passes site (block_of body.now) variables.old unread.old sent.old) }
+{
+    while play_statements(body, variables, unread, limits, sent)? {}
+    Ok(())
+}
+
+/// Makes the acts of a process from its first variables on, and puts their items.
+fn play(
+    process: &Process,
+    variables: &mut [i64],
+    unread: &mut [Unread<'_>],
+    limits: &[usize],
+    sent: &mut [History],
+) -> Result<(), Fault>
+    requires first { variables.old ≡ (code_of process.now).vars }
+    requires passing { HasPassingLoop (code_of process.now) }
+    requires count { length limits.now ≡ length sent.old }
+    ensures played { OnOk result (
+        sent.new ≡ put_by_process (code_of process.now) unread.old sent.old) }
+    ensures within { OnOk result (IsWithin limits.now sent.old → IsWithin limits.now sent.new) }
+    ensures long { IsErrOf result Fault.Long →
+        GoesPast limits.now (put_by_process (code_of process.now) unread.old sent.old) }
+{
+    let ended = play_statements(&process.prelude, variables, unread, limits, sent)?;
+    if !ended {
+        return Ok(());
+    }
+    let Some(body) = &process.body else {
+        return Ok(());
+    };
+    play_loop(body, variables, unread, limits, sent)
+}
+
+/// Puts what a process puts on each channel by its function of these histories, unless that goes
+/// past a channel's limit.
+pub fn put_outputs(
+    alloc: Global,
+    process: &Process,
+    histories: &[History],
+    limits: &[usize],
+    sent: &mut [History],
+) -> Result<(), Fault>
+    requires passing { HasPassingLoop (code_of process.now) }
+    requires count { length limits.now ≡ length sent.old }
+    ensures played { OnOk result (
+        sent.new ≡ put_by_process (code_of process.now) histories.now sent.old) }
+    ensures within { OnOk result (IsWithin limits.now sent.old → IsWithin limits.now sent.new) }
+    ensures long { IsErrOf result Fault.Long →
+        GoesPast limits.now (put_by_process (code_of process.now) histories.now sent.old) }
+{
+    let mut variables = Vec::from_slice(alloc, process.variables.as_slice())?;
+    let mut unread = all_unread(alloc, histories)?;
+    play(process, &mut variables, &mut unread, limits, sent)
+}
