@@ -21,18 +21,21 @@ impl Model for Name {
 }
 
 impl Name {
+    /// A name of these letters that stands on this line. Nothing is checked: `parse` makes names of tokens.
     pub fn new(text: String, line: usize) -> Self
         ensures { result ≡ record { text = string_bytes text; line = line } }
     {
         Name { text, line }
     }
 
+    /// Its letters, digits and `_`.
     pub fn as_str(&self) -> &str
         ensures { result.now ≡ self.now.text }
     {
         self.text.as_str()
     }
 
+    /// The line on which it stands, from 1.
     pub fn line(&self) -> usize
         ensures { result ≡ self.now.line }
     {
@@ -43,6 +46,6 @@ impl Name {
     pub fn is_same(&self, other: &Name) -> bool
         ensures { IsTrue result ↔ (self.now.text ≡ other.now.text) }
     {
-        self.text.as_str() == other.text.as_str()
+        self.as_str() == other.as_str()
     }
 }
