@@ -8,6 +8,7 @@ use std::time::CpuClock;
 
 // Statements, and items, of the shortest text.
 const STATEMENTS: usize = 12_000;
+
 const ITEMS: usize = 250_000;
 
 fn network(alloc: Global, statements: usize) -> anyhow::Result<String> {
@@ -71,7 +72,11 @@ fn networks(rt: &(impl Print + CpuClock), alloc: Global) -> anyhow::Result<()> {
         let parse_now = end.saturating_sub(middle);
         print_row(rt, "tokens      ", text.len(), tokens_now, tokens_before)?;
         print_row(rt, "parse       ", text.len(), parse_now, parse_before)?;
-        println!(rt; "    ({} tokens, {} declarations)", cut.len(), tree.declarations.len())?;
+        println!(rt;
+            "    ({} tokens, {} declarations)",
+            cut.len(),
+            tree.declarations.len()
+        )?;
         tokens_before = tokens_now;
         parse_before = parse_now;
     }
