@@ -22,6 +22,7 @@ pub mod Statements
 pub mod Processes
 pub mod Approximations
 pub mod Puts
+pub mod Resuming
 pub mod PrefixLaws
 pub mod PassLaws
 pub mod PutLaws

@@ -30,6 +30,16 @@ abbrev pub sent_on : ℕ → List Step → List ℤ
 sent_on channel [] = []
 sent_on channel (step ∷ steps) = sent_by channel step.act (sent_on channel steps)
 
+-- the item that an act gets from a channel, and those got later
+abbrev pub got_by : ℕ → Act → List ℤ → List ℤ
+got_by channel (Got c item) later = if c == channel then item ∷ later else later
+got_by channel (Sent c item) later = later
+
+-- the items got from a channel, in order
+abbrev pub got_on : ℕ → List Step → List ℤ
+got_on channel [] = []
+got_on channel (step ∷ steps) = got_by channel step.act (got_on channel steps)
+
 -- the function of a process: what it puts on a channel, from its input histories
 abbrev pub output_of : Code → List (List ℤ) → ℕ → List ℤ
 output_of code inputs channel = sent_on channel (process_trace code inputs).steps
@@ -38,8 +48,9 @@ output_of code inputs channel = sent_on channel (process_trace code inputs).step
 abbrev pub HasPassingLoop : Code → Type 0
 HasPassingLoop code = (body : Block) → code.body ≡ Some body → IsTrue (is_passing body)
 
--- where a process stands: before the get or put of a site, or past its last statement
+-- where a process stands: before its first statement, before the get or put of a site, or past its last statement
 pub data Standing : Type 0 where
+  NotBegun : (vars : List ℤ) → Standing
   At : (site : ℕ) (vars : List ℤ) → Standing
   Done : (vars : List ℤ) → Standing
 
@@ -49,7 +60,14 @@ standing_at (step ∷ steps) end = At step.site step.vars
 standing_at [] (Waits site vars channel) = At site vars
 standing_at [] (Ended vars unread) = Done vars
 
+-- Where a process of this trace stands after its first m acts. Before the first one it may also not have begun, and then its variables
+-- are the first ones: what it assigns before its first get or put is no act.
+abbrev pub IsHere : Code → Trace → ℕ → Standing → Type 0
+IsHere code t m (NotBegun vars) = (m ≡ 0) × (vars ≡ code.vars)
+IsHere code t m (At site vars) = At site vars ≡ standing_at (drop m t.steps) t.end
+IsHere code t m (Done vars) = Done vars ≡ standing_at (drop m t.steps) t.end
+
 -- a process stands here after its first m acts on these input histories
 pub record StandsAt (code : Code) (inputs : List (List ℤ)) (m : ℕ) (standing : Standing) : Type 0 where
   pub within : m ≤ length (process_trace code inputs).steps
-  pub here : standing ≡ standing_at (drop m (process_trace code inputs).steps) (process_trace code inputs).end
+  pub here : IsHere code (process_trace code inputs) m standing

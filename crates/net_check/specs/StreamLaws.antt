@@ -7,7 +7,7 @@ use Rattle.net_check.specs.Streams.{history_of, total, IsPrefix, ArePrefixes}
 use Rattle.net_check.specs.Syntax.{Block, Nothing, GetThen, AssignThen, PutThen, Code}
 use Rattle.net_check.specs.Valid.{is_passing}
 use Rattle.net_check.specs.Statements.{Got, Sent, Step, Trace, End, Ended, Waits, trace_of, on_get, from_end, then_do, value_of, sites_of}
-use Rattle.net_check.specs.Processes.{Standing, At, Done, standing_at, StandsAt, HasPassingLoop, passes, loop_trace, process_trace, sent_on, output_of}
+use Rattle.net_check.specs.Processes.{Standing, NotBegun, At, Done, standing_at, IsHere, StandsAt, HasPassingLoop, passes, loop_trace, process_trace, sent_on, output_of}
 use Rattle.net_check.specs.PassLaws.{fewer_left}
 use Rattle.net_check.specs.PutLaws.{sent_on-append}
 
@@ -153,5 +153,12 @@ stands_on code small big m standing passing p s =
     let le = s.within in
     record {
       within = omega (arith, ap (length {A = Step}) l.steps);
-      here = s.here ∙ (sym (still_stands t long l (drop m t.steps)) ∙ ap (λ (x : List Step). standing_at x long.end) (sym (ap (drop m) l.steps ∙ drop-append-le m t.steps l.more s.within)));
+      here = on standing s.here (sym (still_stands t long l (drop m t.steps)) ∙ ap (λ (x : List Step). standing_at x long.end) (sym (ap (drop m) l.steps ∙ drop-append-le m t.steps l.more s.within)));
     }
+  where
+    on : (standing : Standing) → IsHere code (process_trace code small) m standing
+        → standing_at (drop m (process_trace code small).steps) (process_trace code small).end ≡ standing_at (drop m (process_trace code big).steps) (process_trace code big).end
+        → IsHere code (process_trace code big) m standing
+    on (NotBegun vars) h same = h
+    on (At site vars) h same = h ∙ same
+    on (Done vars) h same = h ∙ same

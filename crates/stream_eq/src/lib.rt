@@ -3,6 +3,7 @@
 #![tactic(auto)]
 
 mod approximation;
+mod evaluate;
 mod fault;
 mod histories;
 mod laws;
@@ -12,6 +13,7 @@ mod solution;
 mod unread;
 
 pub use approximation::approx;
+pub use evaluate::{set_variable, value};
 pub use fault::Fault;
 pub use histories::Histories;
 pub use laws::{
@@ -19,6 +21,7 @@ pub use laws::{
     well_founded_law,
 };
 pub use solution::is_solution;
+pub use unread::{Unread, all_unread, take_item};
 
 #[cfg(test)]
 mod tests;

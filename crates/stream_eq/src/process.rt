@@ -3,52 +3,19 @@
 ghost use Rattle.std.specs.Prelude.{◌≡◌, ℕ, ◌<◌, ◌≤◌, [], ◌∷◌, ◌++◌, length, slice_index, slice_set};
 ghost use Rattle.std.specs.Prelude.{IsTrue, IfOk, OnOk, IsErrOf};
 ghost use Rattle.net_check.specs.Streams.{history_of};
-ghost use Rattle.net_check.specs.Syntax.{tree_of, block_of, code_of};
+ghost use Rattle.net_check.specs.Syntax.{block_of, code_of};
 ghost use Rattle.net_check.specs.Valid.{is_passing};
-ghost use Rattle.net_check.specs.Statements.{apply, value_of, trace_of};
+ghost use Rattle.net_check.specs.Statements.{trace_of};
 ghost use Rattle.net_check.specs.Processes.{HasPassingLoop};
 ghost use Rattle.net_check.specs.Puts.{put_after};
 ghost use Rattle.stream_eq.specs.Limits.{IsWithin, GoesPast};
 ghost use Rattle.stream_eq.specs.Play.{IsPlayed, put_by_passes, put_by_process};
 
+use crate::evaluate::{set_variable, value};
 use crate::fault::Fault;
 use crate::unread::{Unread, all_unread, take_item};
-use net_check::{Expr, History, Process, Statement};
-use net_text::Operator;
+use net_check::{History, Process, Statement};
 use std::alloc::Global;
-
-/// The value of an operator on two values.
-fn operate(operator: Operator, left: i64, right: i64) -> i64
-    ensures { result ≡ apply operator left right }
-{
-    match operator {
-        Operator::Add => left.wrapping_add(right),
-    }
-}
-
-/// The value of an expression.
-fn value(expr: &Expr, variables: &[i64]) -> i64
-    ensures { result ≡ value_of (tree_of expr.now) variables.now }
-{
-    match expr {
-        Expr::Literal(number) => *number,
-        Expr::Variable(variable) => variables.get(*variable).copied().unwrap_or(0),
-        Expr::Binary {
-            operator,
-            left,
-            right,
-        } => operate(*operator, value(left, variables), value(right, variables)),
-    }
-}
-
-/// Writes a variable.
-fn set_variable(variables: &mut [i64], variable: usize, value: i64)
-    ensures { variables.new ≡ slice_set variables.old variable value }
-{
-    if variable < variables.len() {
-        variables[variable] = value;
-    }
-}
 
 /// Puts an item on a channel, unless that goes past the channel's limit.
 fn put_item(sent: &mut [History], limits: &[usize], channel: usize, item: i64) -> Result<(), Fault>

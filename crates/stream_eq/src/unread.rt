@@ -7,7 +7,7 @@ use net_check::History;
 use std::alloc::{AllocError, Global};
 use std::marker::Model;
 
-/// Items, of which a front is read.
+/// A list of items, of which a front is read: the items that are left.
 #[derive(Debug, Drop)]
 pub struct Unread<'a> {
     items: &'a [i64],
