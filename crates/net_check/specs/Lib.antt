@@ -23,6 +23,7 @@ pub mod Processes
 pub mod Approximations
 pub mod Puts
 pub mod Resuming
+pub mod States
 pub mod PrefixLaws
 pub mod PassLaws
 pub mod PutLaws

@@ -15,6 +15,7 @@ mod names;
 mod net;
 mod program;
 mod resolve;
+mod state;
 
 pub use binding::bind;
 pub use checks::check;
@@ -23,6 +24,7 @@ pub use history::History;
 pub use inputs::{Inputs, fits};
 pub use net::Net;
 pub use program::{Channel, Expr, Port, Process, Program, Statement};
+pub use state::{Place, ProcState};
 
 #[cfg(test)]
 mod tests;

@@ -1,6 +1,6 @@
 //! What is unread of a history.
 
-ghost use Rattle.std.specs.Prelude.{◌≡◌, [], ◌∷◌, List, ℤ, IfOk, IfSome, IfNone, slice_set};
+ghost use Rattle.std.specs.Prelude.{◌≡◌, ◌==◌, [], ◌∷◌, List, ℤ, IfOk, IfSome, IfNone, length, slice_set};
 ghost use Rattle.net_check.specs.Streams.{history_of};
 
 use net_check::History;
@@ -29,6 +29,19 @@ impl<'a> Unread<'a> {
         ensures { result ≡ items.now }
     {
         Unread { items, next: 0 }
+    }
+
+    /// How many items are left.
+    pub fn len(&self) -> usize
+        ensures { result ≡ length self.now }
+    {
+        self.items.len() - self.next
+    }
+
+    pub fn is_empty(&self) -> bool
+        ensures { result ≡ (length self.now == 0) }
+    {
+        self.next == self.items.len()
     }
 
     /// The next item, if there is one.
