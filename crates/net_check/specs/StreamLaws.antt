@@ -135,7 +135,7 @@ monotone code small big channel passing p =
     record { rest = sent_on channel l.more; is = ap (sent_on channel) l.steps ∙ sent_on-append channel (process_trace code small).steps l.more }
 
 -- where a process stands on fewer items, before steps that it still has to make, it stands on more
-still_stands : (t long : Trace) (l : IsLonger t long) (rest : List Step) → standing_at (rest ++ l.more) long.end ≡ standing_at rest t.end
+pub still_stands : (t long : Trace) (l : IsLonger t long) (rest : List Step) → standing_at (rest ++ l.more) long.end ≡ standing_at rest t.end
 still_stands t long l (x ∷ rest) = refl
 still_stands t long l [] = at t.end refl
   where

@@ -1,0 +1,3 @@
+pub mod Going
+pub mod Stages
+pub mod Units

@@ -1,0 +1,41 @@
+-- Parts of traces: what the walk over a process's statements has made so far, and how it stopped.
+use Rattle.std.specs.Prelude.{◌≡◌, ◌-◌, ℕ, ℤ, List, [], ◌∷◌, ◌++◌, length}
+use Rattle.net_check.specs.Statements.{Step, Trace, End, Ended}
+use Rattle.net_check.specs.Processes.{Standing, At, standing_at}
+use Rattle.net_check.specs.Puts.{put_after}
+use Rattle.net_check.specs.Resuming.{left_after}
+use Rattle.proc_step.specs.declared.statements.Flow.{Flow}
+use Rattle.proc_step.specs.declared.statements.Flow.TheVariants.{RanOut, Stands}
+use Rattle.proc_step.specs.Turns.{CanAllBeMade, IsNextHeldBack}
+
+-- how a part of a trace stopped: it was the whole, or the next act can't be made
+abbrev pub StopsAs : Flow → End → List Step → List ℤ → List ℕ → List (List ℤ) → List (List ℤ) → Type 0
+StopsAs RanOut end rest vars room unread sent = (rest ≡ []) × (end ≡ Ended vars unread)
+StopsAs (Stands site) end rest vars room unread sent = (standing_at rest end ≡ At site vars) × IsNextHeldBack rest room unread sent
+
+-- a beginning of a trace was made, and then it stopped
+pub record Part (t : Trace) (room : List ℕ) (unread sent : List (List ℤ)) (flow : Flow) (vars' : List ℤ) (unread' sent' : List (List ℤ)) : Type 0 where
+  pub done : List Step
+  pub rest : List Step
+  pub whole : t.steps ≡ done ++ rest
+  pub made : CanAllBeMade done room unread sent
+  pub left : unread' ≡ left_after done unread
+  pub put : sent' ≡ put_after done sent
+  pub stop : StopsAs flow t.end rest vars' room unread' sent'
+
+-- a beginning of a trace was made, and this is where the process stands then
+pub record Played (t : Trace) (room : List ℕ) (unread sent : List (List ℤ)) (after : Standing) (unread' sent' : List (List ℤ)) : Type 0 where
+  pub done : List Step
+  pub rest : List Step
+  pub whole : t.steps ≡ done ++ rest
+  pub made : CanAllBeMade done room unread sent
+  pub left : unread' ≡ left_after done unread
+  pub put : sent' ≡ put_after done sent
+  pub stands : after ≡ standing_at rest t.end
+  pub held_back : IsNextHeldBack rest room unread' sent'
+
+-- how many items of each list were taken, where these are left
+abbrev pub taken_of : List (List ℤ) → List (List ℤ) → List ℕ
+taken_of [] left = []
+taken_of (items ∷ all) [] = length items ∷ taken_of all []
+taken_of (items ∷ all) (rest ∷ left) = (length items - length rest) ∷ taken_of all left
