@@ -27,4 +27,5 @@ pub mod PrefixLaws
 pub mod PassLaws
 pub mod PutLaws
 pub mod StreamLaws
+pub mod GotLaws
 pub mod ApproximationLaws
