@@ -1,15 +1,17 @@
 -- Laws of what is got: what a trace got from a channel is a front of what was unread there, and what is left is the rest. Where it waits,
 -- nothing is left on the channel at which it waits.
-use Rattle.std.proofs.Common.{true, false, cond, eqb, Bool, ◌≡◌, ◌≢◌, ◌⊎◌, ℕ, zero, suc, ◌+◌, List, ℤ, [], ◌∷◌, ◌++◌, refl, sym, ap, ◌∙◌, subst, set, drop, append-nil, Option, Some, None, inl, inr, ◌==◌}
-use Rattle.std.proofs.lemmas.List.{get_or-set_same, get_or-set_other, take-append-drop}
+use Rattle.std.proofs.Common.{true, false, cond, eqb, Bool, ◌≡◌, ◌≢◌, ◌⊎◌, ℕ, zero, suc, ◌+◌, ◌≤◌, List, ℤ, [], ◌∷◌, ◌++◌, refl, sym, ap, ◌∙◌, subst, set, drop, append_assoc, append-nil, arith, Option, Some, None, inl, inr, ◌==◌}
+use Rattle.std.proofs.lemmas.List.{get_or-set_same, get_or-set_other, take-append-drop, append_cancel_left}
 use Rattle.std.proofs.lemmas.Bool.Decides.{eqb_tells}
-use Rattle.std.specs.Prelude.{take}
-use Rattle.net_check.specs.Streams.{history_of, total, ArePrefixes}
+use Rattle.std.specs.Prelude.{take, IsTrue}
+use Rattle.net_check.specs.Streams.{history_of, total, IsPrefix, ArePrefixes}
 use Rattle.net_check.specs.Syntax.{Block, Nothing, GetThen, AssignThen, PutThen, Code}
+use Rattle.net_check.specs.Valid.{is_passing}
 use Rattle.net_check.specs.Statements.{Act, Got, Sent, Step, Trace, End, Ended, Waits, trace_of, on_get, from_end, then_do, value_of, sites_of}
-use Rattle.net_check.specs.Processes.{Standing, NotBegun, At, Done, HasPassingLoop, passes, loop_trace, process_trace, got_by, got_on}
+use Rattle.net_check.specs.Processes.{Standing, NotBegun, At, Done, standing_at, HasPassingLoop, passes, loop_trace, process_trace, got_by, got_on}
 use Rattle.net_check.specs.Resuming.{statements_from, trace_from, left_by, left_after}
-use Rattle.net_check.specs.StreamLaws.{IsLonger, within, longer, longer_then, longer_loop}
+use Rattle.net_check.specs.PassLaws.{fewer_left}
+use Rattle.net_check.specs.StreamLaws.{IsLonger, within, prefixes_set, not_done, longer, longer_then, longer_loop}
 
 -- where more is unread, a process does from where it stands what it did, and then more
 pub longer_from : (code : Code) (standing : Standing) (small big : List (List ℤ)) → HasPassingLoop code → ArePrefixes small big → IsLonger (trace_from code standing small) (trace_from code standing big)
@@ -175,3 +177,129 @@ waits_empty code standing unread site v c e = (reads_from code standing unread).
 -- the same of a process from its beginning
 pub process_waits_empty : (code : Code) (inputs : List (List ℤ)) (site : ℕ) (v : List ℤ) (c : ℕ) → (process_trace code inputs).end ≡ Waits site v c → history_of (left_after (process_trace code inputs).steps inputs) c ≡ []
 process_waits_empty code inputs site v c e = (reads_process code inputs).empty site v c e
+
+-- the act gets from this channel
+abbrev pub IsGetFrom : ℕ → Act → Type 0
+IsGetFrom channel (Got c item) = c ≡ channel
+IsGetFrom channel (Sent c item) = ⊥
+
+-- the next act, if there is one, gets from this channel
+abbrev pub GetsNext : ℕ → List Step → Type 0
+GetsNext channel [] = Unit {0}
+GetsNext channel (step ∷ steps) = IsGetFrom channel step.act
+
+-- what a longer trace does beyond one that waits begins with the get at which that one waits
+pub record NextIsGet (t long : Trace) : Type 0 where
+  pub next : (site : ℕ) (v : List ℤ) (c : ℕ) → t.end ≡ Waits site v c → (more : List Step) → long.steps ≡ t.steps ++ more → GetsNext c more
+
+-- what statements do
+pub next_block : (site : ℕ) (b : Block) (v : List ℤ) (u w : List (List ℤ)) → ArePrefixes u w → NextIsGet (trace_of site b v u) (trace_of site b v w)
+next_block site Nothing v u w p = record { next = λ s v' d e more h. absurd (cc) }
+next_block site (AssignThen x e b) v u w p =
+    let r = next_block site b (set v x (value_of e v)) u w p in record { next = r.next }
+next_block site (PutThen e c b) v u w p =
+    let r = next_block (site + 1) b v u w p in
+    record { next = λ s v' d is more h. r.next s v' d is more (later more h) }
+  where
+    later : (more : List Step) → (trace_of site (PutThen e c b) v w).steps ≡ (trace_of site (PutThen e c b) v u).steps ++ more → (trace_of (site + 1) b v w).steps ≡ (trace_of (site + 1) b v u).steps ++ more
+    later more h = cc
+next_block site (GetThen x c b) v u w p = at_get (history_of u c) (history_of w c) refl refl (p.at c)
+    (λ item l l' q. next_block (site + 1) b (set v x item) (set u c l) (set w c l') q)
+  where
+    first : (d : ℕ) (s' : ℕ) (v' : List ℤ) (ys : List ℤ) (more : List Step) → Waits site v c ≡ Waits s' v' d → (on_get ys site c v (λ item left. trace_of (site + 1) b (set v x item) (set w c left))).steps ≡ more → GetsNext d more
+    first d s' v' ys [] is h = tt
+    first d s' v' [] (z ∷ more) is h = absurd (cc)
+    first d s' v' (y ∷ ys) (z ∷ more) is h =
+        let same : c ≡ d = cc in
+        let step : Step = record { site = site; vars = v; act = Got c y } in
+        let head : step ≡ z = cc in
+        subst (λ (k : Step). IsGetFrom d k.act) head same
+
+    at_get : (h h' : List ℤ) → history_of u c ≡ h → history_of w c ≡ h' → IsPrefix (history_of u c) (history_of w c)
+        → ((item : ℤ) (l l' : List ℤ) → ArePrefixes (set u c l) (set w c l') → NextIsGet (trace_of (site + 1) b (set v x item) (set u c l)) (trace_of (site + 1) b (set v x item) (set w c l')))
+        → NextIsGet (on_get h site c v (λ item left. trace_of (site + 1) b (set v x item) (set u c left))) (on_get h' site c v (λ item left. trace_of (site + 1) b (set v x item) (set w c left)))
+    at_get [] ys hu hw m later = record { next = λ s' v' d is more e. first d s' v' ys more is e }
+    at_get (z ∷ zs) [] hu hw m later = let bad : [] ≡ (z ∷ zs) ++ m.rest = sym hw ∙ (m.is ∙ ap (λ (q : List ℤ). q ++ m.rest) hu) in absurd (cc)
+    at_get (z ∷ zs) (y ∷ ys) hu hw m later =
+        let both : y ∷ ys ≡ z ∷ (zs ++ m.rest) = sym hw ∙ (m.is ∙ ap (λ (q : List ℤ). q ++ m.rest) hu) in
+        let same : z ≡ y = cc in
+        let tail : ys ≡ zs ++ m.rest = cc in
+        let r = later z zs ys (prefixes_set u w c z y zs m.rest ys p hu hw tail) in
+        let r2 : NextIsGet (on_get (z ∷ zs) site c v (λ item left. trace_of (site + 1) b (set v x item) (set u c left))) (on_get (z ∷ ys) site c v (λ item left. trace_of (site + 1) b (set v x item) (set w c left))) =
+        record { next = λ s' v' d is more e. r.next s' v' d is more (after z zs ys more e) } in
+        subst (λ (i : ℤ). NextIsGet (on_get (z ∷ zs) site c v (λ item left. trace_of (site + 1) b (set v x item) (set u c left))) (on_get (i ∷ ys) site c v (λ item left. trace_of (site + 1) b (set v x item) (set w c left)))) same r2
+      where
+        after : (z : ℤ) (zs ys : List ℤ) (more : List Step)
+            → (on_get (z ∷ ys) site c v (λ item left. trace_of (site + 1) b (set v x item) (set w c left))).steps ≡ (on_get (z ∷ zs) site c v (λ item left. trace_of (site + 1) b (set v x item) (set u c left))).steps ++ more
+            → (trace_of (site + 1) b (set v x z) (set w c ys)).steps ≡ (trace_of (site + 1) b (set v x z) (set u c zs)).steps ++ more
+        after z zs ys more e = cc
+
+-- what begins the first part begins the whole
+gets_first : (c : ℕ) (xs ys more : List Step) → GetsNext c xs → (xs ≡ [] → ys ≡ []) → xs ++ ys ≡ more → GetsNext c more
+gets_first c [] ys more g h e = subst (GetsNext c) (sym (h refl) ∙ e) tt
+gets_first c (x ∷ xs) ys more g h e = subst (GetsNext c) e g
+
+-- what one does after the other
+pub next_then : (t long : Trace) (go go' : List ℤ → List (List ℤ) → Trace) → IsLonger t long → NextIsGet t long
+    → ((v : List ℤ) (u w : List (List ℤ)) → t.end ≡ Ended v u → long.end ≡ Ended v w → ArePrefixes u w → NextIsGet (go v u) (go' v w)) → NextIsGet (then_do t go) (then_do long go')
+next_then t long go go' l g next = at_end t.end refl
+  where
+    nothing_after : (e : End) (s : ℕ) (y : List ℤ) → standing_at [] e ≡ At s y → (from_end e go').steps ≡ []
+    nothing_after (Waits s' y' c') s y h = refl
+    nothing_after (Ended y' z) s y h = absurd (not_done y' y s h)
+
+    at_end : (e : End) → t.end ≡ e → NextIsGet (record { steps = t.steps ++ (from_end e go).steps; end = (from_end e go).end }) (then_do long go')
+    at_end (Waits s y c) is = record {
+      next = λ s' y' d e more h.
+          let first = g.next s' y' d (is ∙ e) l.more l.steps in
+          let stands = l.stands s y (ap (standing_at []) is) in
+          gets_first d l.more (from_end long.end go').steps more first
+          (λ n. nothing_after long.end s y (ap (λ (x : List Step). standing_at x long.end) (sym n) ∙ stands))
+          (append_cancel_left t.steps (l.more ++ (from_end long.end go').steps) more
+          (sym (append_assoc t.steps l.more (from_end long.end go').steps) ∙ (ap (λ (x : List Step). x ++ (from_end long.end go').steps) (sym l.steps) ∙ (h ∙ ap (λ (x : List Step). x ++ more) (append-nil t.steps)))));
+    }
+    at_end (Ended v u) is =
+        let e = l.ends v u is in
+        let w = e.1.0 in
+        let n = next v u w is e.1.1 e.1.2 in
+        let same : from_end long.end go' ≡ go' v w = ap (λ (x : End). from_end x go') e.1.1 in
+        let n2 : NextIsGet (go v u) (from_end long.end go') = subst (λ (x : Trace). NextIsGet (go v u) x) (sym same) n in
+        let whole : long.steps ≡ t.steps = l.steps ∙ (ap (λ (x : List Step). t.steps ++ x) e.0 ∙ append-nil t.steps) in
+        record {
+          next = λ s' y' d is' more h.
+              n2.next s' y' d is' more
+              (append_cancel_left t.steps (from_end long.end go').steps ((go v u).steps ++ more)
+              (ap (λ (x : List Step). x ++ (from_end long.end go').steps) (sym whole) ∙ (h ∙ append_assoc t.steps (go v u).steps more)));
+        }
+
+-- whole passes
+pub next_passes : (n m site : ℕ) (b : Block) (v : List ℤ) (u w : List (List ℤ)) → IsTrue (is_passing b) → total u ≤ n → total w ≤ m → ArePrefixes u w → NextIsGet (passes (suc n) site b v u) (passes (suc m) site b v w)
+next_passes zero m site b v u w passing h h' p =
+    next_then (trace_of site b v u) (trace_of site b v w) (passes zero site b) (passes m site b) (longer site b v u w p) (next_block site b v u w p)
+    (λ v' u' w' e e' p'. let fewer = fewer_left site b v u v' u' passing e in absurd (omega arith))
+next_passes (suc n) zero site b v u w passing h h' p =
+    next_then (trace_of site b v u) (trace_of site b v w) (passes (suc n) site b) (passes zero site b) (longer site b v u w p) (next_block site b v u w p)
+    (λ v' u' w' e e' p'. let fewer = fewer_left site b v w v' w' passing e' in absurd (omega arith))
+next_passes (suc n) (suc m) site b v u w passing h h' p =
+    next_then (trace_of site b v u) (trace_of site b v w) (passes (suc n) site b) (passes (suc m) site b) (longer site b v u w p) (next_block site b v u w p)
+    (λ v' u' w' e e' p'. let fewer = fewer_left site b v u v' u' passing e in let fewer' = fewer_left site b v w v' w' passing e' in next_passes n m site b v' u' w' passing (omega arith) (omega arith) p')
+
+-- the loop
+pub next_loop : (site : ℕ) (body : Option Block) (v : List ℤ) (u w : List (List ℤ)) → ((b : Block) → body ≡ Some b → IsTrue (is_passing b)) → ArePrefixes u w → NextIsGet (loop_trace site body v u) (loop_trace site body v w)
+next_loop site None v u w passing p = next_block 0 Nothing v u w p
+next_loop site (Some b) v u w passing p = next_passes (total u) (total w) site b v u w (passing b refl) (omega arith) (omega arith) p
+
+-- a process from where it stands
+pub next_is_get : (code : Code) (standing : Standing) (small big : List (List ℤ)) → HasPassingLoop code → ArePrefixes small big → NextIsGet (trace_from code standing small) (trace_from code standing big)
+next_is_get code (NotBegun vars) small big passing p =
+    next_then (trace_of 0 code.prelude vars small) (trace_of 0 code.prelude vars big) (loop_trace (sites_of code.prelude) code.body) (loop_trace (sites_of code.prelude) code.body)
+    (longer 0 code.prelude vars small big p) (next_block 0 code.prelude vars small big p) (λ v u w e e' p'. next_loop (sites_of code.prelude) code.body v u w passing p')
+next_is_get code (At site vars) small big passing p =
+    next_then (trace_of site (statements_from code site) vars small) (trace_of site (statements_from code site) vars big) (loop_trace (sites_of code.prelude) code.body) (loop_trace (sites_of code.prelude) code.body)
+    (longer site (statements_from code site) vars small big p) (next_block site (statements_from code site) vars small big p) (λ v u w e e' p'. next_loop (sites_of code.prelude) code.body v u w passing p')
+next_is_get code (Done vars) small big passing p = next_block 0 Nothing vars small big p
+
+-- where it waited, the next act on more, if there is one, gets from the channel at which it waited
+pub next_from : (code : Code) (standing : Standing) (small big : List (List ℤ)) → (passing : HasPassingLoop code) → (p : ArePrefixes small big) → (site : ℕ) (v : List ℤ) (c : ℕ)
+    → (trace_from code standing small).end ≡ Waits site v c → (more : List Step) → (trace_from code standing big).steps ≡ (trace_from code standing small).steps ++ more → GetsNext c more
+next_from code standing small big passing p site v c e more h = (next_is_get code standing small big passing p).next site v c e more h
