@@ -9,14 +9,11 @@ use Rattle.net_check.specs.Processes.{Standing, standing_at}
 use Rattle.net_check.specs.Puts.{put_by, put_after}
 use Rattle.net_check.specs.PutLaws.{put_after-append}
 use Rattle.net_check.specs.Resuming.{left_by, left_after}
+use Rattle.net_check.specs.GotLaws.{left_after-append}
 use Rattle.net_check.specs.declared.program.Statement.{Statement}
 use Rattle.proc_step.specs.declared.statements.Flow.TheVariants.{RanOut, Stands}
 use Rattle.proc_step.specs.Turns.{CanBeMade, CanAllBeMade}
 use Rattle.proc_step.specs.Parts.{Part}
-
-pub left_after-append : (xs ys : List Step) (u : List (List ℤ)) → left_after (xs ++ ys) u ≡ left_after ys (left_after xs u)
-left_after-append [] ys u = refl
-left_after-append (x ∷ xs) ys u = left_after-append xs ys (left_by x.act u)
 
 -- what can be made, and then more of it
 pub made-append : (xs ys : List Step) (room : List ℕ) (u s : List (List ℤ)) → CanAllBeMade xs room u s → CanAllBeMade ys room (left_after xs u) (put_after xs s) → CanAllBeMade (xs ++ ys) room u s

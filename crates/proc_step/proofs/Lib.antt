@@ -1,3 +1,4 @@
 pub mod Going
 pub mod Stages
 pub mod Units
+pub mod Counts

@@ -15,7 +15,8 @@ use Rattle.proc_step.specs.declared.statements.Flow.{Flow}
 use Rattle.proc_step.specs.declared.statements.Flow.TheVariants.{RanOut, Stands}
 use Rattle.proc_step.specs.Turns.{CanAllBeMade}
 use Rattle.proc_step.specs.Parts.{Part, Played, StopsAs}
-use Rattle.proc_step.proofs.Going.{left_after-append, made-append}
+use Rattle.net_check.specs.GotLaws.{left_after-append}
+use Rattle.proc_step.proofs.Going.{made-append}
 
 -- a whole trace, and then a part of what follows: its steps are these
 joined : (t next : Trace) (room : List ℕ) (u0 s0 : List (List ℤ)) (v : List ℤ) (u s : List (List ℤ)) (flow : Flow) (v2 : List ℤ) (u2 s2 : List (List ℤ)) →
