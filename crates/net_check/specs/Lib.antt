@@ -29,4 +29,5 @@ pub mod PassLaws
 pub mod PutLaws
 pub mod StreamLaws
 pub mod GotLaws
+pub mod ResumeLaws
 pub mod ApproximationLaws
