@@ -2,3 +2,4 @@ pub mod Going
 pub mod Stages
 pub mod Units
 pub mod Counts
+pub mod Lifting

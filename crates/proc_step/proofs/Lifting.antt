@@ -1,7 +1,9 @@
 -- From the items at hand to the whole input histories: what was made on the one is the process's own turn on the other.
 use Rattle.std.proofs.Common.{◌≡◌, ℕ, zero, suc, ◌+◌, ◌<◌, ◌≤◌, List, ℤ, [], ◌∷◌, ◌++◌, length, take, drop, refl, sym, ap, ◌∙◌, subst, append_assoc, append-nil, arith}
-use Rattle.std.proofs.lemmas.List.{length-append, take-append-drop}
-use Rattle.std.proofs.Math.Seq.{drop-append_seam, drop-append-add}
+use Rattle.std.proofs.Math.Nat.{zero-add}
+use Rattle.std.specs.Prelude.{slice_index}
+use Rattle.std.proofs.lemmas.List.{length-append}
+use Rattle.std.proofs.Math.Seq.{drop-append_seam}
 use Rattle.net_check.specs.Streams.{history_of, IsPrefix, ArePrefixes}
 use Rattle.net_check.specs.Syntax.{Code}
 use Rattle.net_check.specs.Statements.{Act, Got, Sent, Step, Trace, End, Ended, Waits}
@@ -63,6 +65,19 @@ held_back code before items whole passing p room sent done [] more is long ends 
         let empty = subst (λ (x : List Step). history_of (left_after x items) c ≡ []) all (waits_empty code before items site v c e) in
         get_held_back c more room (left_after done items) sent empty (next_from code before items whole passing p site v c e more long)
 
+-- what comes after the steps made
+past : (m : ℕ) (done later steps : List Step) → m ≤ length steps → drop m steps ≡ done ++ later → drop (m + length done) steps ≡ later
+past zero done later steps h is = ap (λ (n : ℕ). drop n steps) (zero-add (length done)) ∙ (ap (drop (length done)) is ∙ drop-append_seam done later)
+past (suc m) done later [] h is = absurd (omega (arith, h))
+past (suc m) done later (s ∷ steps) h is =
+    let next : suc m + length done ≡ suc (m + length done) = omega arith in
+    ap (λ (n : ℕ). drop n (s ∷ steps)) next ∙ past m done later steps (omega (arith, h)) is
+
+reaches : (m : ℕ) (done later steps : List Step) → m ≤ length steps → drop m steps ≡ done ++ later → m + length done ≤ length steps
+reaches zero done later steps h is = omega (arith, ap (length {A = Step}) is, length-append done later)
+reaches (suc m) done later [] h is = absurd (omega (arith, h))
+reaches (suc m) done later (s ∷ steps) h is = let k = reaches m done later steps (omega (arith, h)) is in omega arith
+
 -- what was made on the items at hand is the process's turn
 pub lifted : (code : Code) (before : Standing) (items : List (List ℤ)) (room : List ℕ) (after : Standing) (left sent : List (List ℤ)) → HasPassingLoop code
     → Played (trace_from code before items) room items (nothing_sent room) after left sent → IsTurn code before items room after (taken_of items left) sent
@@ -91,12 +106,6 @@ lifted code before items room after left sent passing played inputs m stands nex
           (held_back code before items whole passing p room sent done played.rest l.more played.whole l.steps (λ v u e. (l.ends v u e).0) (subst (λ (x : List (List ℤ)). IsNextHeldBack played.rest room x sent) played.left played.held_back));
       stands = record { within = reaches m done later t.steps stands.within is; here = here_of code t (m + length done) after stays };
       begun = begun_of after (drop (m + length done) t.steps) t.end stays;
-      taken_is = λ c. ap (λ (x : List (List ℤ)). ?) played.left ∙ taken_is items done (λ d. got_on d done) c (λ d. got_and_left done items d reading);
+      taken_is = λ c. ap (λ (x : List (List ℤ)). slice_index (taken_of items x) c) played.left ∙ taken_is items done (λ d. got_on d done) c (λ d. got_and_left done items d reading);
       sent_is = λ c. ap (λ (x : List (List ℤ)). history_of x c) played.put ∙ sent_is done room items c played.made;
     }
-  where
-    past : (m : ℕ) (done later steps : List Step) → m ≤ length steps → drop m steps ≡ done ++ later → drop (m + length done) steps ≡ later
-    past m done later steps h is = ?
-
-    reaches : (m : ℕ) (done later steps : List Step) → m ≤ length steps → drop m steps ≡ done ++ later → m + length done ≤ length steps
-    reaches m done later steps h is = ?
