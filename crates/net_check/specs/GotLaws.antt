@@ -1,8 +1,8 @@
 -- Laws of what is got: what a trace got from a channel is a front of what was unread there, and what is left is the rest. Where it waits,
 -- nothing is left on the channel at which it waits.
-use Rattle.std.proofs.Common.{true, false, cond, eqb, Bool, ◌≡◌, ◌≢◌, ◌⊎◌, ℕ, zero, suc, ◌+◌, ◌≤◌, List, ℤ, [], ◌∷◌, ◌++◌, refl, sym, ap, ◌∙◌, subst, set, drop, append_assoc, append-nil, arith, Option, Some, None, inl, inr, ◌==◌}
-use Rattle.std.proofs.lemmas.List.{get_or-set_same, get_or-set_other, take-append-drop, append_cancel_left}
-use Rattle.std.proofs.lemmas.Bool.Decides.{eqb_tells}
+use Rattle.std.proofs.Common.{true, false, cond, eqb, Bool, ◌≡◌, ◌≢◌, ◌⊎◌, ℕ, zero, suc, ◌+◌, ◌≤◌, List, ℤ, [], ◌∷◌, ◌++◌, refl, sym, ap, ◌∙◌, subst, set, drop, append_assoc, append-nil, arith, length, Option, Some, None, inl, inr, ◌==◌}
+use Rattle.std.proofs.lemmas.List.{get_or-set_same, get_or-set_other, take-append-drop, append_cancel_left, length-append}
+use Rattle.std.proofs.lemmas.Bool.Decides.{eqb_tells, nat_tests}
 use Rattle.std.specs.Prelude.{take, IsTrue}
 use Rattle.net_check.specs.Streams.{history_of, total, IsPrefix, ArePrefixes}
 use Rattle.net_check.specs.Syntax.{Block, Nothing, GetThen, AssignThen, PutThen, Code}
@@ -11,7 +11,7 @@ use Rattle.net_check.specs.Statements.{Act, Got, Sent, Step, Trace, End, Ended, 
 use Rattle.net_check.specs.Processes.{Standing, NotBegun, At, Done, standing_at, HasPassingLoop, passes, loop_trace, process_trace, got_by, got_on}
 use Rattle.net_check.specs.Resuming.{statements_from, trace_from, left_by, left_after}
 use Rattle.net_check.specs.PassLaws.{fewer_left}
-use Rattle.net_check.specs.StreamLaws.{IsLonger, within, prefixes_set, not_done, longer, longer_then, longer_loop}
+use Rattle.net_check.specs.StreamLaws.{IsLonger, within, prefixes_set, not_done, longer, longer_then, longer_loop, longer_process}
 
 -- where more is unread, a process does from where it stands what it did, and then more
 pub longer_from : (code : Code) (standing : Standing) (small big : List (List ℤ)) → HasPassingLoop code → ArePrefixes small big → IsLonger (trace_from code standing small) (trace_from code standing big)
@@ -303,3 +303,91 @@ next_is_get code (Done vars) small big passing p = next_block 0 Nothing vars sma
 pub next_from : (code : Code) (standing : Standing) (small big : List (List ℤ)) → (passing : HasPassingLoop code) → (p : ArePrefixes small big) → (site : ℕ) (v : List ℤ) (c : ℕ)
     → (trace_from code standing small).end ≡ Waits site v c → (more : List Step) → (trace_from code standing big).steps ≡ (trace_from code standing small).steps ++ more → GetsNext c more
 next_from code standing small big passing p site v c e more h = (next_is_get code standing small big passing p).next site v c e more h
+
+-- two parts of the same steps: the first ends inside these, or past them
+pub data Split (xs ys done rest : List Step) : Type 0 where
+  Within : (x : Step) (mid : List Step) → xs ≡ done ++ x ∷ mid → rest ≡ (x ∷ mid) ++ ys → Split xs ys done rest
+  Beyond : (past : List Step) → done ≡ xs ++ past → ys ≡ past ++ rest → Split xs ys done rest
+
+pub split : (xs ys done rest : List Step) → xs ++ ys ≡ done ++ rest → Split xs ys done rest
+split [] ys done rest h = Beyond done refl h
+split (x ∷ xs) ys [] rest h = Within x xs refl (sym h)
+split (x ∷ xs) ys (y ∷ done) rest h =
+    let same : x ≡ y = cc in
+    let later : xs ++ ys ≡ done ++ rest = cc in
+    one_more same (split xs ys done rest later)
+  where
+    one_more : x ≡ y → Split xs ys done rest → Split (x ∷ xs) ys (y ∷ done) rest
+    one_more same (Within z mid e f) = Within z mid (cc) f
+    one_more same (Beyond past e f) = Beyond past (cc) f
+
+-- the act is a get
+abbrev pub IsGet : Act → Type 0
+IsGet (Got channel item) = Unit {0}
+IsGet (Sent channel item) = ⊥
+
+-- the next act is no put
+abbrev pub NoPutNext : List Step → Type 0
+NoPutNext [] = Unit {0}
+NoPutNext (step ∷ steps) = IsGet step.act
+
+-- a get from a channel gets one more item there
+one_got : (c : ℕ) (a : Act) (later : List ℤ) → IsGetFrom c a → (item : ℤ) × (got_by c a later ≡ item ∷ later)
+one_got c (Got d item) later h = (item, ap (λ (b : Bool). cond b (item ∷ later) later) (ap (λ (n : ℕ). n == c) h ∙ same_number c))
+  where
+    same_number : (n : ℕ) → (n == n) ≡ true
+    same_number n = grind (arith, nat_tests)
+one_got c (Sent d item) later h = absurd h
+
+channel_of : (a : Act) → IsGet a → (c : ℕ) × IsGetFrom c a
+channel_of (Got c item) h = (c, refl)
+channel_of (Sent c item) h = absurd h
+
+no_more : (xs ys left : List ℤ) (item : ℤ) → xs ≡ (xs ++ item ∷ ys) ++ left → ⊥
+no_more xs ys left item e =
+    let n = ap length e in
+    let a = length-append (xs ++ item ∷ ys) left in
+    let b = length-append xs (item ∷ ys) in
+    omega arith
+
+-- a process whose next act is no put has put exactly its function of what it got
+pub function_of_got : (code : Code) (inputs gots : List (List ℤ)) (m : ℕ) → HasPassingLoop code → m ≤ length (process_trace code inputs).steps → NoPutNext (drop m (process_trace code inputs).steps)
+    → ((c : ℕ) → history_of gots c ≡ got_on c (take m (process_trace code inputs).steps)) → (process_trace code gots).steps ≡ take m (process_trace code inputs).steps
+function_of_got code inputs gots m passing few no_put got =
+    in_parts (split (process_trace code gots).steps l.more done rest (sym l.steps ∙ sym (take-append-drop m (process_trace code inputs).steps)))
+  where
+    done : List Step
+    done = take m (process_trace code inputs).steps
+
+    rest : List Step
+    rest = drop m (process_trace code inputs).steps
+
+    p : ArePrefixes gots inputs
+    p = record { at = λ c. record { rest = history_of (left_after done inputs) c; is = reads code inputs m c ∙ ap (λ (x : List ℤ). x ++ history_of (left_after done inputs) c) (sym (got c)) } }
+
+    l : IsLonger (process_trace code gots) (process_trace code inputs)
+    l = longer_process code gots inputs passing p
+
+    -- what the process got of what there is
+    of_gots : (c : ℕ) → history_of gots c ≡ got_on c (process_trace code gots).steps ++ history_of (left_after (process_trace code gots).steps gots) c
+    of_gots c = got_and_left (process_trace code gots).steps gots c (reads_process code gots).reading
+
+    in_parts : Split (process_trace code gots).steps l.more done rest → (process_trace code gots).steps ≡ done
+    in_parts (Within x mid e f) =
+        let c = channel_of x.act (subst NoPutNext f no_put) in
+        let one = one_got c.0 x.act (got_on c.0 mid) c.1 in
+        let left = history_of (left_after (process_trace code gots).steps gots) c.0 in
+        absurd (no_more (got_on c.0 done) (got_on c.0 mid) left one.0
+        (sym (got c.0) ∙ (of_gots c.0 ∙ ap (λ (z : List ℤ). z ++ left) (ap (got_on c.0) e ∙ (got_on-append c.0 done (x ∷ mid) ∙ ap (λ (z : List ℤ). got_on c.0 done ++ z) one.1)))))
+    in_parts (Beyond [] e f) = sym (e ∙ append-nil (process_trace code gots).steps)
+    in_parts (Beyond (y ∷ past) e f) = at_end (process_trace code gots).end refl
+      where
+        at_end : (d : End) → (process_trace code gots).end ≡ d → (process_trace code gots).steps ≡ done
+        at_end (Ended v u) is = let none : [] ≡ y ∷ (past ++ rest) = sym (l.ends v u is).0 ∙ f in absurd (cc)
+        at_end (Waits s v c) is =
+            let first : GetsNext c (y ∷ (past ++ rest)) = subst (GetsNext c) f (next_from code (NotBegun code.vars) gots inputs passing p s v c is l.more l.steps) in
+            let one = one_got c y.act (got_on c past) first in
+            let read = got_on c (process_trace code gots).steps in
+            let all : history_of gots c ≡ read = of_gots c ∙ (ap (λ (z : List ℤ). read ++ z) (process_waits_empty code gots s v c is) ∙ append-nil read) in
+            absurd (no_more read (got_on c past) [] one.0
+            (sym all ∙ (got c ∙ (ap (got_on c) e ∙ (got_on-append c (process_trace code gots).steps (y ∷ past) ∙ (ap (λ (z : List ℤ). read ++ z) one.1 ∙ sym (append-nil (read ++ one.0 ∷ got_on c past))))))))

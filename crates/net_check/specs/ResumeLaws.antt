@@ -12,7 +12,7 @@ use Rattle.net_check.specs.Processes.{Standing, NotBegun, At, Done, standing_at,
 use Rattle.net_check.specs.Resuming.{from_site, body_from, trace_from, left_by, left_after}
 use Rattle.net_check.specs.PassLaws.{fewer_left, then_do_same, enough_passes}
 use Rattle.net_check.specs.StreamLaws.{not_done}
-use Rattle.net_check.specs.GotLaws.{Reads, reads_block, reads_process, left_after-append}
+use Rattle.net_check.specs.GotLaws.{Reads, reads_block, reads_process, left_after-append, Split, Within, Beyond, split}
 
 -- what is left of a block, from a site on
 pub record Resumed (number site : ℕ) (b : Block) (v' : List ℤ) (u' : List (List ℤ)) (rest : List Step) (end : End) : Type 0 where
@@ -118,23 +118,6 @@ resume number site (GetThen x c b) v u done rest v' h s =
         } in
         let r3 = subst (λ (z : List (List ℤ)). Resumed number site (GetThen x c b) v' (left_after done z) rest (trace_of (number + 1) b (set v x item) (set u c left)).end) (sym left_is) r2 in
         subst (λ (z : Step). Resumed number site (GetThen x c b) v' (left_after (z ∷ done) u) rest (trace_of (number + 1) b (set v x item) (set u c left)).end) same r3
-
--- two parts of the same steps: the first ends inside these, or past them
-pub data Split (xs ys done rest : List Step) : Type 0 where
-  Within : (x : Step) (mid : List Step) → xs ≡ done ++ x ∷ mid → rest ≡ (x ∷ mid) ++ ys → Split xs ys done rest
-  Beyond : (past : List Step) → done ≡ xs ++ past → ys ≡ past ++ rest → Split xs ys done rest
-
-pub split : (xs ys done rest : List Step) → xs ++ ys ≡ done ++ rest → Split xs ys done rest
-split [] ys done rest h = Beyond done refl h
-split (x ∷ xs) ys [] rest h = Within x xs refl (sym h)
-split (x ∷ xs) ys (y ∷ done) rest h =
-    let same : x ≡ y = cc in
-    let later : xs ++ ys ≡ done ++ rest = cc in
-    one_more same (split xs ys done rest later)
-  where
-    one_more : x ≡ y → Split xs ys done rest → Split (x ∷ xs) ys (y ∷ done) rest
-    one_more same (Within z mid e f) = Within z mid (cc) f
-    one_more same (Beyond past e f) = Beyond past (cc) f
 
 -- a place in what one does and the other after it: in the first, or in the other
 pub data Place (t : Trace) (go : List ℤ → List (List ℤ) → Trace) (u : List (List ℤ)) (done rest : List Step) (site : ℕ) (v' : List ℤ) : Type 0 where
