@@ -1,5 +1,5 @@
 -- What a turn took and sent, channel by channel.
-use Rattle.std.proofs.Common.{◌≡◌, ◌≢◌, ◌⊎◌, inl, inr, ℕ, zero, suc, ◌+◌, ◌-◌, ◌<◌, ◌≤◌, Bool, true, false, cond, eqb, List, ℤ, [], ◌∷◌, ◌++◌, length, set, drop, refl, sym, ap, ◌∙◌, subst, arith, replicate, get_or}
+use Rattle.std.proofs.Common.{◌≡◌, ◌≢◌, ◌⊎◌, inl, inr, ℕ, zero, suc, ◌+◌, ◌-◌, ◌<◌, ◌≤◌, Bool, true, false, cond, eqb, List, ℤ, [], ◌∷◌, ◌++◌, length, set, drop, refl, sym, ap, ◌∙◌, subst, append_assoc, arith, replicate, get_or}
 use Rattle.std.specs.Prelude.{slice_index, ◌==◌}
 use Rattle.std.proofs.lemmas.List.{length-append, length-set, get_or_past, get_or-replicate, length-replicate}
 use Rattle.std.proofs.lemmas.Bool.{cases_lt}
@@ -59,3 +59,13 @@ sent_is steps room left c m = at (cases_lt c (length room))
     at : (c < length room) ⊎ (length room ≤ c) → history_of (put_after steps (nothing_sent room)) c ≡ sent_on c steps
     at (inl below) = put_after-at steps (nothing_sent room) c (omega (arith, len, below)) ∙ ap (λ (x : List ℤ). x ++ sent_on c steps) (get_or-replicate (length room) c [] [] below)
     at (inr past) = get_or_past (put_after steps (nothing_sent room)) c [] (omega (arith, length-put_after steps (nothing_sent room), len, past)) ∙ sym (nothing_past steps room left (nothing_sent room) c past m)
+
+-- one list more is counted
+pub counted_more : (taken pushed whole : List ℕ) (items left : List ℤ) (all rests all' rests' : List (List ℤ)) → all ≡ items ∷ all' → rests ≡ left ∷ rests' → pushed ≡ taken ++ (length items - length left) ∷ [] → taken ++ taken_of all rests ≡ whole → pushed ++ taken_of all' rests' ≡ whole
+counted_more taken pushed whole items left all rests all' rests' a b p h =
+    ap (λ (x : List ℕ). x ++ taken_of all' rests') p ∙ (append_assoc taken ((length items - length left) ∷ []) (taken_of all' rests')
+    ∙ (ap (λ (x : List (List ℤ)). taken ++ taken_of x (left ∷ rests')) (sym a) ∙ (ap (λ (x : List (List ℤ)). taken ++ taken_of all x) (sym b) ∙ h)))
+
+-- and the others are fewer still
+pub fewer_later : (items left : List ℤ) (all rests all' rests' : List (List ℤ)) → all ≡ items ∷ all' → rests ≡ left ∷ rests' → ((c : ℕ) → length (history_of rests c) ≤ length (history_of all c)) → (c : ℕ) → length (history_of rests' c) ≤ length (history_of all' c)
+fewer_later items left all rests all' rests' a b h c = rw (a, b) at (h (suc c))

@@ -11,7 +11,7 @@ use Rattle.net_check.specs.Processes.{Standing, NotBegun, At, Done, standing_at,
 use Rattle.net_check.specs.Puts.{put_after}
 use Rattle.net_check.specs.Resuming.{trace_from, left_after}
 use Rattle.net_check.specs.StreamLaws.{IsLonger, still_stands}
-use Rattle.net_check.specs.GotLaws.{longer_from, next_from, reads, reads_from, reading_first, got_and_left, waits_empty, IsReading, IsGetFrom, GetsNext}
+use Rattle.net_check.specs.GotLaws.{longer_from, next_from, reads, reads_from, reading_first, got_and_left, waits_empty, IsReading, IsGetFrom, GetsNext, NoPutNext, function_of_got}
 use Rattle.net_check.specs.ResumeLaws.{resumes}
 use Rattle.proc_step.specs.Turns.{CanAllBeMade, IsHeldBack, IsNextHeldBack, HasBegun, AreNext, Turn, IsTurn, nothing_sent}
 use Rattle.proc_step.specs.Parts.{Played, taken_of}
@@ -35,11 +35,13 @@ begun_of (Done vars) steps end e = tt
 
 -- the items at hand are a front of what is unread there
 at_hand : (code : Code) (inputs items : List (List ℤ)) (m : ℕ) → AreNext items inputs (take m (process_trace code inputs).steps) → ArePrefixes items (left_after (take m (process_trace code inputs).steps) inputs)
-at_hand code inputs items m next = record { at = λ c.
-  let made = take m (process_trace code inputs).steps in
-  let left = history_of (left_after made inputs) c in
-  let same : drop (length (got_on c made)) (history_of inputs c) ≡ left = ap (drop (length (got_on c made))) (reads code inputs m c) ∙ drop-append_seam (got_on c made) left in
-  subst (λ (x : List ℤ). IsPrefix (history_of items c) x) same (next c) }
+at_hand code inputs items m next = record {
+  at = λ c.
+      let made = take m (process_trace code inputs).steps in
+      let left = history_of (left_after made inputs) c in
+      let same : drop (length (got_on c made)) (history_of inputs c) ≡ left = ap (drop (length (got_on c made))) (reads code inputs m c) ∙ drop-append_seam (got_on c made) left in
+      subst (λ (x : List ℤ). IsPrefix (history_of items c) x) same (next c);
+}
 
 -- a get on a channel with nothing left is held back
 get_held_back : (c : ℕ) (more : List Step) (room : List ℕ) (left sent : List (List ℤ)) → history_of left c ≡ [] → GetsNext c more → IsNextHeldBack more room left sent
@@ -92,11 +94,11 @@ lifted code before items room after left sent passing played inputs m stands nex
     let done = played.done in
     let later = played.rest ++ l.more in
     let is : drop m t.steps ≡ done ++ later =
-        sym (ap (λ (x : Trace). x.steps) r) ∙ (l.steps ∙ (ap (λ (x : List Step). x ++ l.more) played.whole ∙ append_assoc done played.rest l.more)) in
+    sym (ap (λ (x : Trace). x.steps) r) ∙ (l.steps ∙ (ap (λ (x : List Step). x ++ l.more) played.whole ∙ append_assoc done played.rest l.more)) in
     let reading : IsReading done items = reading_first done played.rest items (subst (λ (x : List Step). IsReading x items) played.whole (reads_from code before items).reading) in
     let cut : drop (m + length done) t.steps ≡ later = past m done later t.steps stands.within is in
     let stays : after ≡ standing_at (drop (m + length done) t.steps) t.end =
-        played.stands ∙ (sym (still_stands small long l played.rest) ∙ (ap (λ (x : Trace). standing_at later x.end) r ∙ ap (λ (x : List Step). standing_at x t.end) (sym cut))) in
+    played.stands ∙ (sym (still_stands small long l played.rest) ∙ (ap (λ (x : Trace). standing_at later x.end) r ∙ ap (λ (x : List Step). standing_at x t.end) (sym cut))) in
     record {
       acts = done;
       later = later;
@@ -108,4 +110,25 @@ lifted code before items room after left sent passing played inputs m stands nex
       begun = begun_of after (drop (m + length done) t.steps) t.end stays;
       taken_is = λ c. ap (λ (x : List (List ℤ)). slice_index (taken_of items x) c) played.left ∙ taken_is items done (λ d. got_on d done) c (λ d. got_and_left done items d reading);
       sent_is = λ c. ap (λ (x : List (List ℤ)). history_of x c) played.put ∙ sent_is done room items c played.made;
+      function = λ no_put got same c.
+          ap (sent_on c) (sym (function_of_got code inputs got (m + length done) passing (reaches m done later t.steps stands.within is) (subst NoPutNext (sym cut) no_put) same));
     }
+
+-- what is left is no more than there was
+pub fewer_left : (code : Code) (before : Standing) (room : List ℕ) (items left0 sent0 : List (List ℤ)) (after : Standing) (left sent : List (List ℤ)) → left0 ≡ items
+    → Played (trace_from code before left0) room left0 sent0 after left sent → (c : ℕ) → length (history_of left c) ≤ length (history_of items c)
+fewer_left code before room items left0 sent0 after left sent same played c =
+    let reading : IsReading played.done left0 = reading_first played.done played.rest left0 (subst (λ (x : List Step). IsReading x left0) played.whole (reads_from code before left0).reading) in
+    let all = ap (length {A = ℤ}) (got_and_left played.done left0 c reading) in
+    let n = length-append (got_on c played.done) (history_of (left_after played.done left0) c) in
+    let is : length (history_of left c) ≡ length (history_of (left_after played.done left0) c) = ap (λ (x : List (List ℤ)). length (history_of x c)) played.left in
+    let was : length (history_of left0 c) ≡ length (history_of items c) = ap (λ (x : List (List ℤ)). length (history_of x c)) same in
+    omega (arith, all, n, is, was)
+
+-- the same where nothing is taken and nothing sent yet
+pub lifted_at : (code : Code) (before : Standing) (items : List (List ℤ)) (room : List ℕ) (left0 sent0 : List (List ℤ)) (after : Standing) (left sent : List (List ℤ)) (taken : List ℕ) → HasPassingLoop code
+    → left0 ≡ items → sent0 ≡ nothing_sent room → Played (trace_from code before left0) room left0 sent0 after left sent → taken ≡ taken_of items left → IsTurn code before items room after taken sent
+lifted_at code before items room left0 sent0 after left sent taken passing same unsent played counted =
+    let p = subst (λ (x : List (List ℤ)). Played (trace_from code before x) room x sent0 after left sent) same played in
+    let q = subst (λ (x : List (List ℤ)). Played (trace_from code before items) room items x after left sent) unsent p in
+    subst (λ (x : List ℕ). IsTurn code before items room after x sent) (sym counted) (lifted code before items room after left sent passing q)

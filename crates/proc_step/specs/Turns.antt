@@ -3,7 +3,8 @@ use Rattle.std.specs.Prelude.{◌≡◌, ◌≤◌, ◌<◌, ◌+◌, ℕ, ℤ, 
 use Rattle.net_check.specs.Streams.{history_of, IsPrefix}
 use Rattle.net_check.specs.Syntax.{Code, network_of}
 use Rattle.net_check.specs.Statements.{Act, Got, Sent, Step}
-use Rattle.net_check.specs.Processes.{Standing, NotBegun, At, Done, StandsAt, process_trace, sent_on, got_on}
+use Rattle.net_check.specs.Processes.{Standing, NotBegun, At, Done, StandsAt, process_trace, sent_on, got_on, output_of}
+use Rattle.net_check.specs.GotLaws.{NoPutNext}
 use Rattle.net_check.specs.Puts.{put_by}
 use Rattle.net_check.specs.Resuming.{left_by, left_after}
 use Rattle.net_check.specs.States.{standing_of}
@@ -56,6 +57,9 @@ pub record Turn (code : Code) (inputs : List (List ℤ)) (m : ℕ) (items : List
   pub begun : HasBegun after
   pub taken_is : (channel : ℕ) → slice_index taken channel ≡ length (got_on channel acts)
   pub sent_is : (channel : ℕ) → history_of sent channel ≡ sent_on channel acts
+  -- where it waits at a get or has finished, it has put exactly its function of what it got
+  pub function : NoPutNext later → (got : List (List ℤ)) → ((channel : ℕ) → history_of got channel ≡ got_on channel (take (m + length acts) (process_trace code inputs).steps))
+      → (channel : ℕ) → sent_on channel (take (m + length acts) (process_trace code inputs).steps) ≡ output_of code got channel
 
 -- A turn of a process from where it stands, whatever the whole input histories are: wherever it stands so after m acts, and the items
 -- at hand come next there.

@@ -2,9 +2,12 @@
 //! make it, outside every lock.
 #![tactic(auto)]
 
+mod job;
+mod outcome;
 mod room;
 mod sites;
 mod statements;
 mod turn;
 
+pub use job::{Done, Job, JobFault};
 pub use net_check::{Place, ProcState};

@@ -1,0 +1,11 @@
+use Rattle.std.proofs.Common.{◌≡◌, ◌≤◌, ◌++◌, ℕ, length}
+use Rattle.net_check.specs.Streams.{history_of}
+use Rattle.proc_step.specs.Parts.{taken_of}
+use Rattle.proc_step.proofs.outcome.count_taken.Given as goal
+
+abbrev pub invariant-loop-items : goal.invariant-loop-items
+invariant-loop-items l = record {
+  counted : l.taken.items ++ taken_of l.items-iterator.a.rest.now l.items-iterator.b.rest.now ≡ taken_of l.items l.left;
+  count : length l.items-iterator.b.rest.now ≡ length l.items-iterator.a.rest.now;
+  fewer : (c : ℕ) → length (history_of l.items-iterator.b.rest.now c) ≤ length (history_of l.items-iterator.a.rest.now c);
+}

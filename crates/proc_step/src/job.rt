@@ -1,0 +1,81 @@
+//! Jobs, and what they came to.
+
+ghost use Rattle.std.specs.Prelude.{◌≡◌, ◌<◌, length, slice_get, Some, MatchResult};
+ghost use Rattle.net_check.specs.Syntax.{Code, network_of};
+ghost use Rattle.proc_step.specs.Turns.{IsOwnTurn};
+
+use crate::outcome::take_turn;
+use net_check::{History, Net, ProcState};
+use std::alloc::Global;
+use std::sync::Arc;
+use thiserror::Error;
+
+/// What a process is to do: a share of its network, its number there, the version of its node, the
+/// state from which it goes on, the items at hand for each channel from which it gets, in order,
+/// and the places of room on each channel on which it puts. Items and room are lists by channel
+/// number; where one is too short, there is nothing at hand and no room.
+#[derive(Debug, Drop)]
+pub struct Job {
+    pub net: Arc<Net>,
+    pub process: usize,
+    pub version: u64,
+    pub state: ProcState,
+    pub items: Vec<History>,
+    pub room: Vec<usize>,
+    pub ghost named: { process < length net.value.program.processes.items },
+}
+
+/// A job that was run, with what the process's own turn on it came to: the state after it, how many
+/// items it took from each channel, and what it sent on each.
+#[derive(Debug, Drop)]
+pub struct Done {
+    pub job: Job,
+    pub state: ProcState,
+    pub taken: Vec<usize>,
+    pub sent: Vec<History>,
+    pub ghost turn: { ∥ IsOwnTurn job.net.value.program job.process job.state job.items.items job.room.items state taken.items sent.items ∥₁ },
+}
+
+/// Want of memory (1), with the job as it was.
+#[derive(Debug, Drop, Error)]
+#[error("no memory")]
+pub struct JobFault {
+    pub job: Job,
+}
+
+impl JobFault {
+    /// The refusal's number.
+    pub fn number(&self) -> u8
+        ensures { result ≡ 1 }
+    {
+        1
+    }
+}
+
+impl Job {
+    /// The node of the process.
+    pub fn node(&self) -> u8
+        ensures { (code : Code) → slice_get (network_of self.now.net.value.program).codes self.now.process ≡ Some code → result ≡ code.node }
+    {
+        self.net.program.processes[self.process].node
+    }
+
+    /// Makes the process's turn: as many of its acts as the items at hand and the room allow. It
+    /// ends where the process gets from a channel with no item left in the job, puts on one with no
+    /// room left, or has finished. Refuses for want of memory alone, and then hands the job back.
+    pub fn run(self, alloc: Global) -> Result<Done, JobFault>
+        ensures { MatchResult result (λ done. done.job ≡ self) (λ fault. fault.job ≡ self) }
+    {
+        let net: &Net = &self.net;
+        let process = &net.program.processes[self.process];
+        match take_turn(alloc, process, &self.state, &self.items, &self.room) {
+            Ok(after) => Ok(Done {
+                job: self,
+                state: after.state,
+                taken: after.taken,
+                sent: after.sent,
+            }),
+            Err(_) => Err(JobFault { job: self }),
+        }
+    }
+}

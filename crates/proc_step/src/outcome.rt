@@ -1,0 +1,110 @@
+//! What a turn comes to.
+
+ghost use Rattle.std.specs.Prelude.{◌≡◌, ◌≤◌, ◌+◌, ℕ, length, IfOk};
+ghost use Rattle.net_check.specs.Streams.{history_of};
+ghost use Rattle.net_check.specs.Syntax.{code_of};
+ghost use Rattle.net_check.specs.Processes.{HasPassingLoop};
+ghost use Rattle.net_check.specs.States.{standing_in, standing_of};
+ghost use Rattle.net_check.specs.Valid.{block_units, body_units};
+ghost use Rattle.proc_step.specs.Turns.{IsTurn, nothing_sent};
+ghost use Rattle.proc_step.specs.Parts.{taken_of};
+
+use crate::room::empty_histories;
+use crate::turn::play;
+use net_check::{History, Place, ProcState, Process};
+use std::alloc::{AllocError, Global};
+use stream_eq::{Unread, all_unread};
+
+/// What a turn came to.
+#[derive(Debug, Drop)]
+pub struct Outcome {
+    pub state: ProcState,
+    /// How many items were taken from each channel.
+    pub taken: Vec<usize>,
+    /// What was sent on each channel.
+    pub sent: Vec<History>,
+}
+
+/// How many items of each list were taken.
+fn count_taken(
+    alloc: Global,
+    items: &[History],
+    left: &[Unread<'_>],
+) -> Result<Vec<usize>, AllocError>
+    requires count { length left.now ≡ length items.now }
+    requires fewer { (c : ℕ) → length (history_of left.now c) ≤ length (history_of items.now c) }
+    ensures { IfOk result (λ taken. taken.items ≡ taken_of items.now left.now) }
+{
+    let mut taken = Vec::new(alloc);
+    for (items, left) in items.iter().zip(left) {
+        taken.push(items.len() - left.len())?;
+    }
+    Ok(taken)
+}
+
+/// Where a process stands after a turn, and how many items it took from each channel.
+#[derive(Debug, Drop)]
+struct Stop {
+    place: Place,
+    taken: Vec<usize>,
+}
+
+/// Makes a turn from a place, with nothing taken and nothing sent so far.
+fn turn_from(
+    alloc: Global,
+    process: &Process,
+    place: Place,
+    variables: &mut [i64],
+    items: &[History],
+    left: &mut [Unread<'_>],
+    room: &[usize],
+    sent: &mut [History],
+) -> Result<Stop, AllocError>
+    requires passing { HasPassingLoop (code_of process.now) }
+    requires units { block_units (code_of process.now).prelude + body_units (code_of process.now).body ≤ 4096 }
+    requires untaken { left.old ≡ items.now }
+    requires unsent { sent.old ≡ nothing_sent room.now }
+    ensures { IfOk result (λ stop. IsTurn (code_of process.now) (standing_in place variables.old) items.now room.now (standing_in stop.place variables.new) stop.taken.items sent.new) }
+{
+    let after = play(process, place, variables, left, room, sent)?;
+    let taken = count_taken(alloc, items, left)?;
+    Ok(Stop {
+        place: after,
+        taken,
+    })
+}
+
+/// Makes a turn of a process from this state, on these items and this room.
+pub fn take_turn(
+    alloc: Global,
+    process: &Process,
+    state: &ProcState,
+    items: &[History],
+    room: &[usize],
+) -> Result<Outcome, AllocError>
+    requires passing { HasPassingLoop (code_of process.now) }
+    requires units { block_units (code_of process.now).prelude + body_units (code_of process.now).body ≤ 4096 }
+    ensures { IfOk result (λ after. IsTurn (code_of process.now) (standing_of state.now) items.now room.now (standing_of after.state) after.taken.items after.sent.items) }
+{
+    let mut variables = Vec::from_slice(alloc, state.variables.as_slice())?;
+    let mut left = all_unread(alloc, items)?;
+    let mut sent = empty_histories(alloc, room)?;
+    let stop = turn_from(
+        alloc,
+        process,
+        state.place,
+        &mut variables,
+        items,
+        &mut left,
+        room,
+        &mut sent,
+    )?;
+    Ok(Outcome {
+        state: ProcState {
+            place: stop.place,
+            variables,
+        },
+        taken: stop.taken,
+        sent,
+    })
+}
