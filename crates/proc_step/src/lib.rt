@@ -11,3 +11,6 @@ mod turn;
 
 pub use job::{Done, Job, JobFault};
 pub use net_check::{Place, ProcState};
+
+#[cfg(test)]
+mod tests;
