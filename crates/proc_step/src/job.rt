@@ -10,6 +10,9 @@ use std::alloc::Global;
 use std::sync::Arc;
 use thiserror::Error;
 
+/// The number of the one refusal.
+const NO_MEMORY: u8 = 1;
+
 /// What a process is to do: a share of its network, its number there, the version of its node, the
 /// state from which it goes on, the items at hand for each channel from which it gets, in order,
 /// and the places of room on each channel on which it puts. Items and room are lists by channel
@@ -48,7 +51,7 @@ impl JobFault {
     pub fn number(&self) -> u8
         ensures { result ≡ 1 }
     {
-        1
+        NO_MEMORY
     }
 }
 
