@@ -15,6 +15,7 @@ mod names;
 mod net;
 mod program;
 mod resolve;
+mod same;
 
 pub use binding::bind;
 pub use checks::check;
@@ -22,7 +23,8 @@ pub use fault::NetFault;
 pub use history::History;
 pub use inputs::{Inputs, fits};
 pub use net::Net;
-pub use program::{Channel, Expr, Port, Process, Program, Statement};
+pub use program::{Channel, Expr, Link, Port, Process, Program, Statement};
+pub use same::is_same_process;
 
 #[cfg(test)]
 mod tests;

@@ -3,8 +3,8 @@
 
 use crate::{Channel, Expr, NetFault, Port, Statement, bind, check, fits};
 use net_text::{
-    ChannelText, Declaration, ExprText, InputLine, LoopText, Name, NetText, NodeText, Operator,
-    ProcessText, RawInputs, Role, StatementText, VariableText,
+    ChannelText, Declaration, ExprText, InputLine, LinkText, LoopText, Name, NetText, NodeText,
+    Operator, ProcessText, RawInputs, Role, StatementText, VariableText,
 };
 use std::alloc::{AllocError, Global};
 use std::test::Fail;
@@ -78,13 +78,13 @@ fn variable_at(alloc: Global, text: &str, line: usize) -> Result<VariableText, A
 }
 
 fn sum_at(alloc: Global, a: &str, b: &str, line: usize) -> Result<ExprText, AllocError> {
-    let left = Box::new(alloc, ExprText::Variable(name_at(alloc, a, line)?))?;
-    let right = Box::new(alloc, ExprText::Variable(name_at(alloc, b, line)?))?;
-    Ok(ExprText::Binary {
+    let first = Box::new(alloc, ExprText::Variable(name_at(alloc, a, line)?))?;
+    let mut links = Vec::new(alloc);
+    links.push(LinkText {
         operator: Operator::Add,
-        left,
-        right,
-    })
+        value: ExprText::Variable(name_at(alloc, b, line)?),
+    })?;
+    Ok(ExprText::Chain { first, links })
 }
 
 impl Builder {
@@ -466,7 +466,7 @@ fn numbers_channels_and_variables(rt: HostRuntime) -> Result<(), Fail> {
             &body[1],
             Statement::Assign {
                 variable: 0,
-                value: Expr::Binary { .. }
+                value: Expr::Chain { .. }
             }
         )
     );
