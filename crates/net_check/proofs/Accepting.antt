@@ -4,7 +4,7 @@ use Rattle.std.proofs.lemmas.Bool.{false≢true}
 use Rattle.std.proofs.lemmas.Option.{slice_get_within}
 use Rattle.std.proofs.lemmas.List.{length-map}
 use Rattle.net_text.specs.Names.{NameTree}
-use Rattle.net_text.specs.Trees.{ExprTree, LiteralTree, VariableTree, BinaryTree, BlockTree, NothingTree, GetTree, AssignTree, PutTree, LoopTree, DeclarationTree, InputTree, ProcessTree}
+use Rattle.net_text.specs.Trees.{ExprTree, LiteralTree, VariableTree, ChainTree, LinksTree, NoLinksTree, LinkThenTree, BlockTree, NothingTree, GetTree, AssignTree, PutTree, LoopTree, DeclarationTree, InputTree, ProcessTree}
 use Rattle.net_text.specs.declared.tree.ChannelText.{ChannelText}
 use Rattle.net_text.specs.declared.tree.VariableText.{VariableText}
 use Rattle.net_text.specs.declared.tree.Role.TheVariants.{Input, Output}
@@ -13,13 +13,13 @@ use Rattle.net_check.specs.declared.fault.NetFault.TheVariants.{NoMemory, TwiceN
 use Rattle.net_check.specs.declared.program.Channel.{Channel}
 use Rattle.net_check.specs.declared.program.Port.{Port}
 use Rattle.net_check.specs.declared.program.Port.TheVariants.{Outside, Process}
-use Rattle.net_check.specs.Syntax.{Tree, Number, Name, Binary, Block, Nothing, GetThen, AssignThen, PutThen, Code, Network}
+use Rattle.net_check.specs.Syntax.{Tree, Number, Name, Chain, Links, NoLinks, LinkThen, Block, Nothing, GetThen, AssignThen, PutThen, Code, Network}
 use Rattle.net_check.specs.Valid.{IsValid, code_gets, code_puts}
 use Rattle.net_check.specs.Nodes.{IsOnOneNode}
 use Rattle.net_check.specs.NetFaults.{HasFault, HasLoopWithoutGet, HasNoUser, HasPastLimit, HasTwiceNamed, HasTwoUsers, HasUnknownName, SecondUse, another_too, many_channels, many_processes, many_units, many_variables, name_of, other_node, outside_too, space_of, two_channels, two_processes, two_variables}
-use Rattle.net_check.specs.Uses.{Use, GetFrom, PutOn, Has, block_uses, expr_uses, loop_uses, process_uses}
+use Rattle.net_check.specs.Uses.{Use, GetFrom, PutOn, Has, block_uses, expr_uses, links_uses, loop_uses, process_uses}
 use Rattle.net_check.specs.UseLaws.{has_cases}
-use Rattle.net_check.specs.Resolution.{AllDifferent, Reads, Resolves, ResolvesBlock, ResolvesExpr, ResolvesLoop, ResolvesProcess, channel_names, channels_of, processes_of, variable_names}
+use Rattle.net_check.specs.Resolution.{AllDifferent, Reads, Resolves, ResolvesBlock, ResolvesExpr, ResolvesLinks, ResolvesLoop, ResolvesProcess, channel_names, channels_of, processes_of, variable_names}
 use Rattle.net_check.specs.ResolutionLaws.{put_named, get_named, put_numbered, get_numbered, units_kept, passes_kept_text}
 use Rattle.net_check.specs.Binding.{Binds, HasInputFault, line_names}
 use Rattle.net_check.proofs.Places.{name_reads_from, read_of, reads_from}
@@ -37,14 +37,20 @@ record IsDeclared (channels variables : List NameTree) (u : Use) : Type 0 where
   i : ℕ
   reads : Reads (space_of channels variables u) i (name_of u).text
 
-expr_declared : (cs vs : List NameTree) (e : ExprTree) (t : Tree) (u : Use) → ResolvesExpr vs e t → Has (expr_uses e) u → IsDeclared cs vs u
-expr_declared cs vs (LiteralTree n) t u r h = absurd h
-expr_declared cs vs (VariableTree v) (Number m) u r h = absurd r
-expr_declared cs vs (VariableTree v) (Name x) u r h = elim h [ inl e ↦ subst (IsDeclared cs vs) e record { i = x; reads = r } | inr k ↦ absurd k ]
-expr_declared cs vs (VariableTree v) (Binary o a b) u r h = absurd r
-expr_declared cs vs (BinaryTree o a b) (Number m) u r h = absurd r
-expr_declared cs vs (BinaryTree o a b) (Name x) u r h = absurd r
-expr_declared cs vs (BinaryTree o a b) (Binary p c d) u r h = elim (has_cases (expr_uses a) (expr_uses b) u h) [ inl k ↦ expr_declared cs vs a c u r.1 k | inr k ↦ expr_declared cs vs b d u r.2 k ]
+mutual
+  expr_declared : (cs vs : List NameTree) (e : ExprTree) (t : Tree) (u : Use) → ResolvesExpr vs e t → Has (expr_uses e) u → IsDeclared cs vs u
+  expr_declared cs vs (LiteralTree n) t u r h = absurd h
+  expr_declared cs vs (VariableTree v) (Number m) u r h = absurd r
+  expr_declared cs vs (VariableTree v) (Name x) u r h = elim h [ inl e ↦ subst (IsDeclared cs vs) e record { i = x; reads = r } | inr k ↦ absurd k ]
+  expr_declared cs vs (VariableTree v) (Chain b more) u r h = absurd r
+  expr_declared cs vs (ChainTree a links) (Number m) u r h = absurd r
+  expr_declared cs vs (ChainTree a links) (Name x) u r h = absurd r
+  expr_declared cs vs (ChainTree a links) (Chain b more) u r h = elim (has_cases (expr_uses a) (links_uses links) u h) [ inl k ↦ expr_declared cs vs a b u r.0 k | inr k ↦ links_declared cs vs links more u r.1 k ]
+
+  links_declared : (cs vs : List NameTree) (links : LinksTree) (more : Links) (u : Use) → ResolvesLinks vs links more → Has (links_uses links) u → IsDeclared cs vs u
+  links_declared cs vs NoLinksTree more u r h = absurd h
+  links_declared cs vs (LinkThenTree o a rest) NoLinks u r h = absurd r
+  links_declared cs vs (LinkThenTree o a rest) (LinkThen p b more) u r h = elim (has_cases (expr_uses a) (links_uses rest) u h) [ inl k ↦ expr_declared cs vs a b u r.1 k | inr k ↦ links_declared cs vs rest more u r.2 k ]
 
 block_declared : (cs vs : List NameTree) (tree : BlockTree) (block : Block) (u : Use) → ResolvesBlock cs vs tree block → Has (block_uses tree) u → IsDeclared cs vs u
 block_declared cs vs NothingTree block u r h = absurd h

@@ -1,7 +1,7 @@
 -- Units counted, and processes within their limits.
 use Rattle.std.proofs.Common.{◌≡◌, ◌∙◌, sym, subst, ℕ, ◌<◌, ◌≤◌, List, length, get_or, map, slice_get, Some, Bool, false, IsTrue, arith, inl, inr}
 use Rattle.std.proofs.lemmas.Bool.{false≢true, cases_lt}
-use Rattle.net_text.specs.Trees.{ExprTree, LiteralTree, VariableTree, BinaryTree, NothingTree, ProcessTree, process_tree, then_tree}
+use Rattle.net_text.specs.Trees.{ExprTree, LiteralTree, VariableTree, ChainTree, NothingTree, ProcessTree, process_tree, then_tree}
 use Rattle.net_text.specs.declared.tree.ProcessText.{ProcessText}
 use Rattle.net_text.specs.declared.tree.StatementText.{StatementText}
 use Rattle.net_text.specs.declared.tree.StatementText.TheVariants.{Get, Assign, Put}
@@ -13,7 +13,7 @@ use Rattle.net_check.proofs.Places.{got_at, got_map, same_got}
 pub expr_units_above : (e : ExprTree) → 0 < expr_units_text e
 expr_units_above (LiteralTree n) = omega arith
 expr_units_above (VariableTree v) = omega arith
-expr_units_above (BinaryTree o a b) = omega arith
+expr_units_above (ChainTree first links) = let h = expr_units_above first in omega arith
 
 pub statement_units_above : (s : StatementText) → 0 < block_units_text (then_tree s NothingTree)
 statement_units_above (Get v c) = omega arith

@@ -1,24 +1,26 @@
 -- Statements resolved one after another, and the ends of channels that they take.
-use Rattle.std.proofs.Common.{◌≡◌, ℕ, List, [], ◌∷◌, ◌++◌, length, get_or, take, Some, refl, sym, ap, ◌∙◌, subst, ◌⊎◌, inl, inr, Bool, true, false, eqb, ◌||◌, ◌<◌, ◌+◌}
+use Rattle.std.proofs.Common.{◌≡◌, ℕ, List, [], ◌∷◌, ◌++◌, length, get_or, map, take, Some, refl, sym, ap, ◌∙◌, subst, ◌⊎◌, inl, inr, Bool, true, false, eqb, ◌||◌, ◌<◌, ◌+◌}
 use Rattle.std.proofs.lemmas.Bool.{false≢true}
 use Rattle.std.proofs.lemmas.List.{take_more}
 use Rattle.net_text.specs.Names.{NameTree}
-use Rattle.net_text.specs.Trees.{NothingTree, block_tree, then_tree}
+use Rattle.net_text.specs.Trees.{NothingTree, block_tree, then_tree, expr_tree, link_tree, links_tree}
 use Rattle.net_text.specs.declared.tree.ChannelText.{ChannelText}
 use Rattle.net_text.specs.declared.tree.StatementText.{StatementText}
 use Rattle.net_text.specs.declared.tree.StatementText.TheVariants.{Get, Assign, Put}
+use Rattle.net_text.specs.declared.tree.LinkText.{LinkText}
 use Rattle.net_text.specs.declared.tree.Role.{Role}
 use Rattle.net_text.specs.declared.tree.Role.TheVariants.{Input, Output}
 use Rattle.net_check.specs.declared.fault.NetFault.{NetFault}
 use Rattle.net_check.specs.declared.fault.NetFault.TheVariants.{NoMemory, UnknownName, TwoProducers, TwoConsumers}
 use Rattle.net_check.specs.declared.program.Port.{Port}
 use Rattle.net_check.specs.declared.program.Port.TheVariants.{Process}
+use Rattle.net_check.specs.declared.program.Link.{Link}
 use Rattle.net_check.specs.declared.program.Statement.{Statement}
 use Rattle.net_check.specs.declared.program.Statement.TheVariants.{Get as Gets, Assign as Assigns, Put as Puts}
-use Rattle.net_check.specs.Syntax.{Nothing, block_of, then_of}
+use Rattle.net_check.specs.Syntax.{Nothing, block_of, links_of, then_of, tree_of}
 use Rattle.net_check.specs.Valid.{block_gets, block_puts}
 use Rattle.net_check.specs.Claims.{IsTaken, Claims, IsRefused, stands_outside, is_taken, UseFault}
-use Rattle.net_check.specs.Resolution.{ResolvesBlock}
+use Rattle.net_check.specs.Resolution.{ResolvesBlock, ResolvesExpr, ResolvesLinks}
 use Rattle.net_check.specs.Uses.{Use}
 
 -- a statement more
@@ -40,6 +42,20 @@ resolves_push cs vs (Assign v e ∷ ts) (Puts f d ∷ ss) t s h k = absurd h
 resolves_push cs vs (Put e c ∷ ts) (Gets x d ∷ ss) t s h k = absurd h
 resolves_push cs vs (Put e c ∷ ts) (Assigns x f ∷ ss) t s h k = absurd h
 resolves_push cs vs (Put e c ∷ ts) (Puts f d ∷ ss) t s h k = (h.0, h.1, resolves_push cs vs ts ss t s h.2 k)
+
+-- a link more
+links_push : (vs : List NameTree) (ts : List LinkText) (ls : List Link) (t : LinkText) (l : Link) → ResolvesLinks vs (links_tree (map link_tree ts)) (links_of ls) → t.operator ≡ l.operator → ResolvesExpr vs (expr_tree t.value) (tree_of l.value)
+    → ResolvesLinks vs (links_tree (map link_tree (ts ++ t ∷ []))) (links_of (ls ++ l ∷ []))
+links_push vs [] [] t l h same k = (same, k, tt)
+links_push vs [] (m ∷ ls) t l h same k = absurd h
+links_push vs (u ∷ ts) [] t l h same k = absurd h
+links_push vs (u ∷ ts) (m ∷ ls) t l h same k = (h.0, h.1, links_push vs ts ls t l h.2 same k)
+
+pub links_more : (vs : List NameTree) (ts : List LinkText) (i : ℕ) (ls : List Link) (t : LinkText) (l : Link) → i < length ts → t ≡ get_or ts i t → ResolvesLinks vs (links_tree (map link_tree (take i ts))) (links_of ls) → t.operator ≡ l.operator → ResolvesExpr vs (expr_tree t.value) (tree_of l.value)
+    → ResolvesLinks vs (links_tree (map link_tree (take (i + 1) ts))) (links_of (ls ++ l ∷ []))
+links_more vs ts i ls t l lt e h same k =
+    let w : take (i + 1) ts ≡ take i ts ++ t ∷ [] = take_more ts i t lt ∙ ap (λ (x : LinkText). take i ts ++ x ∷ []) (sym e) in
+    subst (λ (xs : List LinkText). ResolvesLinks vs (links_tree (map link_tree xs)) (links_of (ls ++ l ∷ []))) (sym w) (links_push vs (take i ts) ls t l h same k)
 
 or_assoc : (a b c : Bool) → a || (b || c) ≡ (a || b) || c
 or_assoc true b c = refl

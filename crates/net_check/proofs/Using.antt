@@ -1,10 +1,11 @@
 -- Uses among more uses, and faults of uses with them.
-use Rattle.std.proofs.Common.{◌≡◌, ℕ, List, [], ◌∷◌, ◌++◌, length, get_or, subst, arith, inl, inr, suc, zero, ◌<◌}
+use Rattle.std.proofs.Common.{◌≡◌, ℕ, List, [], ◌∷◌, ◌++◌, length, get_or, map, subst, arith, inl, inr, suc, zero, ◌<◌}
 use Rattle.net_text.specs.Names.{NameTree}
-use Rattle.net_text.specs.Trees.{BlockTree, NothingTree, block_tree, then_tree, expr_tree}
+use Rattle.net_text.specs.Trees.{BlockTree, NothingTree, block_tree, then_tree, expr_tree, link_tree, links_tree}
 use Rattle.net_text.specs.declared.tree.ChannelText.{ChannelText}
 use Rattle.net_text.specs.declared.tree.StatementText.{StatementText}
 use Rattle.net_text.specs.declared.tree.StatementText.TheVariants.{Get, Assign, Put}
+use Rattle.net_text.specs.declared.tree.LinkText.{LinkText}
 use Rattle.net_text.specs.declared.tree.Role.{Role}
 use Rattle.net_check.specs.declared.fault.NetFault.{NetFault}
 use Rattle.net_check.specs.declared.fault.NetFault.TheVariants.{NoMemory, UnknownName, TwoProducers, TwoConsumers}
@@ -13,7 +14,7 @@ use Rattle.net_check.specs.Claims.{IsUnknown, IsRefused, stands_outside, is_take
 use Rattle.net_check.specs.Resolution.{channel_names, variable_names}
 use Rattle.net_text.specs.declared.tree.VariableText.{VariableText}
 use Rattle.net_check.specs.UseLaws.{has_left, has_right, has_cases}
-use Rattle.net_check.specs.Uses.{Use, OfVariable, GetFrom, PutOn, Has, expr_uses, block_uses}
+use Rattle.net_check.specs.Uses.{Use, OfVariable, GetFrom, PutOn, Has, expr_uses, links_uses, block_uses}
 
 -- these uses are among those
 pub record Within (few many : List Use) : Type 0 where
@@ -89,6 +90,12 @@ pub within_statement : (ts : List StatementText) (i : ℕ) (t : StatementText) �
 within_statement [] i t lt e = absurd (omega arith)
 within_statement (s ∷ ss) zero t lt e = subst (λ (x : StatementText). Within (block_uses (then_tree t NothingTree)) (block_uses (then_tree x (block_tree ss)))) e (within_statement_first t (block_tree ss))
 within_statement (s ∷ ss) (suc i) t lt e = within_then _ _ _ (within_statement ss i t (omega arith) e) (within_statement_after s (block_tree ss))
+
+-- what a link uses, its chain uses
+pub within_link : (ls : List LinkText) (i : ℕ) (l : LinkText) → i < length ls → l ≡ get_or ls i l → Within (expr_uses (expr_tree l.value)) (links_uses (links_tree (map link_tree ls)))
+within_link [] i l lt e = absurd (omega arith)
+within_link (m ∷ ls) zero l lt e = subst (λ (x : LinkText). Within (expr_uses (expr_tree l.value)) (expr_uses (expr_tree x.value) ++ links_uses (links_tree (map link_tree ls)))) e (within_left (expr_uses (expr_tree l.value)) (links_uses (links_tree (map link_tree ls))))
+within_link (m ∷ ls) (suc i) l lt e = within_then _ _ _ (within_link ls i l (omega arith) e) (within_right (expr_uses (expr_tree m.value)) (links_uses (links_tree (map link_tree ls))))
 
 -- the same faults, where the variables are the same and more is used
 pub use_as : (channels : List ChannelText) (xs ys : List VariableText) (p : ℕ) (producers consumers : List Port) (few many : List Use) (f : NetFault) → xs ≡ ys → Within few many → UseFault channels (variable_names xs) p producers consumers few f → UseFault channels (variable_names ys) p producers consumers many f

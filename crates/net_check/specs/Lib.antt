@@ -1,4 +1,5 @@
 pub use Rattle.net_text.specs.Names
+pub use Rattle.net_text.specs.TreeLaws
 pub use Rattle.net_text.specs.Trees
 pub mod Binding
 pub mod Bound
@@ -12,6 +13,7 @@ pub mod Ready
 pub mod Resolution
 pub mod ResolutionLaws
 pub mod Syntax
+pub mod SyntaxLaws
 pub mod Texts
 pub mod UseLaws
 pub mod Uses

@@ -1,13 +1,13 @@
 -- When a network is the resolution of a text: each name replaced by a number, in order of declaration, from 0.
 use Rattle.std.specs.Prelude.{◌≡◌, ◌↔◌, ℕ, ℤ, List, [], ◌∷◌, map, length, slice_get, Option, Some, None}
 use Rattle.net_text.specs.Names.{NameTree}
-use Rattle.net_text.specs.Trees.{ExprTree, LiteralTree, VariableTree, BinaryTree, BlockTree, NothingTree, GetTree, AssignTree, PutTree, LoopTree, ProcessTree, DeclarationTree, ChannelTree, ProcessDeclared}
+use Rattle.net_text.specs.Trees.{ExprTree, LiteralTree, VariableTree, ChainTree, LinksTree, NoLinksTree, LinkThenTree, BlockTree, NothingTree, GetTree, AssignTree, PutTree, LoopTree, ProcessTree, DeclarationTree, ChannelTree, ProcessDeclared}
 use Rattle.net_text.specs.declared.tree.ChannelText.{ChannelText}
 use Rattle.net_text.specs.declared.tree.VariableText.{VariableText}
 use Rattle.net_text.specs.declared.tree.Role.TheVariants.{Input, Output}
 use Rattle.net_check.specs.declared.program.Channel.{Channel}
 use Rattle.net_check.specs.declared.program.Port.TheVariants.{Outside}
-use Rattle.net_check.specs.Syntax.{Tree, Number, Name, Binary, Block, Nothing, GetThen, AssignThen, PutThen, Code, Network}
+use Rattle.net_check.specs.Syntax.{Tree, Number, Name, Chain, Links, NoLinks, LinkThen, Block, Nothing, GetThen, AssignThen, PutThen, Code, Network}
 
 -- the channels that a text declares, in order
 abbrev pub channels_of : List DeclarationTree → List ChannelText
@@ -43,11 +43,17 @@ abbrev pub AllDifferent : List NameTree → Type 0
 AllDifferent names = (i j : ℕ) (text : List ℕ) → Reads names i text → Reads names j text → i ≡ j
 
 -- a variable stands for the name that its number has among the variables
-abbrev pub ResolvesExpr : List NameTree → ExprTree → Tree → Type 0
-ResolvesExpr variables (LiteralTree n) (Number m) = n ≡ m
-ResolvesExpr variables (VariableTree name) (Name x) = Reads variables x name.text
-ResolvesExpr variables (BinaryTree o a b) (Binary p c d) = (o ≡ p) × ResolvesExpr variables a c × ResolvesExpr variables b d
-ResolvesExpr variables _ _ = ⊥
+abbrev mutual
+  pub ResolvesExpr : List NameTree → ExprTree → Tree → Type 0
+  ResolvesExpr variables (LiteralTree n) (Number m) = n ≡ m
+  ResolvesExpr variables (VariableTree name) (Name x) = Reads variables x name.text
+  ResolvesExpr variables (ChainTree a links) (Chain b more) = ResolvesExpr variables a b × ResolvesLinks variables links more
+  ResolvesExpr variables _ _ = ⊥
+
+  pub ResolvesLinks : List NameTree → LinksTree → Links → Type 0
+  ResolvesLinks variables NoLinksTree NoLinks = Unit {0}
+  ResolvesLinks variables (LinkThenTree o a rest) (LinkThen p b more) = (o ≡ p) × ResolvesExpr variables a b × ResolvesLinks variables rest more
+  ResolvesLinks variables _ _ = ⊥
 
 -- statement by statement; a channel stands for the name that its number has among the channels
 abbrev pub ResolvesBlock : List NameTree → List NameTree → BlockTree → Block → Type 0

@@ -3,13 +3,13 @@ use Rattle.std.proofs.Common.{◌≡◌, ◌∙◌, ap, subst, ℕ, List, [], �
 use Rattle.std.proofs.lemmas.Bool.{false≢true, eq-eqb}
 use Rattle.std.proofs.lemmas.Bool.Decides.{nat_tests}
 use Rattle.net_text.specs.Names.{NameTree}
-use Rattle.net_text.specs.Trees.{ExprTree, LiteralTree, VariableTree, BinaryTree, BlockTree, NothingTree, GetTree, AssignTree, PutTree, LoopTree, DeclarationTree, ProcessTree}
+use Rattle.net_text.specs.Trees.{ExprTree, LiteralTree, VariableTree, ChainTree, LinksTree, NoLinksTree, LinkThenTree, BlockTree, NothingTree, GetTree, AssignTree, PutTree, LoopTree, DeclarationTree, ProcessTree}
 use Rattle.net_text.specs.declared.tree.ChannelText.{ChannelText}
 use Rattle.std.proofs.lemmas.List.{length-map}
-use Rattle.net_check.specs.Syntax.{Tree, Number, Name, Binary, Block, Nothing, GetThen, AssignThen, PutThen, Code, Network}
-use Rattle.net_check.specs.Resolution.{Reads, Resolves, channels_of, processes_of, ResolvesExpr, ResolvesBlock, ResolvesLoop, ResolvesProcess}
-use Rattle.net_check.specs.Valid.{block_gets, block_puts, body_gets, body_puts, code_gets, code_puts, expr_units, block_units, body_units, is_passing, expr_within, block_within, body_within}
-use Rattle.net_check.specs.Texts.{expr_units_text, block_units_text, loop_units_text, process_units_text, is_passing_text}
+use Rattle.net_check.specs.Syntax.{Tree, Number, Name, Chain, Links, NoLinks, LinkThen, Block, Nothing, GetThen, AssignThen, PutThen, Code, Network}
+use Rattle.net_check.specs.Resolution.{Reads, Resolves, channels_of, processes_of, ResolvesExpr, ResolvesLinks, ResolvesBlock, ResolvesLoop, ResolvesProcess}
+use Rattle.net_check.specs.Valid.{block_gets, block_puts, body_gets, body_puts, code_gets, code_puts, expr_units, links_units, block_units, body_units, is_passing, expr_within, links_within, block_within, body_within}
+use Rattle.net_check.specs.Texts.{expr_units_text, links_units_text, block_units_text, loop_units_text, process_units_text, is_passing_text}
 use Rattle.net_check.specs.Uses.{Use, GetFrom, PutOn, expr_uses, block_uses, loop_uses, process_uses, Has}
 use Rattle.net_check.specs.UseLaws.{has_left, has_right, has_cases, expr_no_put, expr_no_get}
 
@@ -208,16 +208,23 @@ get_numbered cs process code name r h = elim (has_cases (block_uses process.prel
 ]
 
 -- a text and its network have as many units
-pub expr_units_kept : (vs : List NameTree) (e : ExprTree) (t : Tree) → ResolvesExpr vs e t → expr_units t ≡ expr_units_text e
-expr_units_kept vs (LiteralTree n) (Number m) r = refl
-expr_units_kept vs (LiteralTree n) (Name x) r = absurd r
-expr_units_kept vs (LiteralTree n) (Binary o a b) r = absurd r
-expr_units_kept vs (VariableTree v) (Number m) r = absurd r
-expr_units_kept vs (VariableTree v) (Name x) r = refl
-expr_units_kept vs (VariableTree v) (Binary o a b) r = absurd r
-expr_units_kept vs (BinaryTree o a b) (Number m) r = absurd r
-expr_units_kept vs (BinaryTree o a b) (Name x) r = absurd r
-expr_units_kept vs (BinaryTree o a b) (Binary p c d) r = let h = expr_units_kept vs a c r.1 in let k = expr_units_kept vs b d r.2 in cc
+mutual
+  pub expr_units_kept : (vs : List NameTree) (e : ExprTree) (t : Tree) → ResolvesExpr vs e t → expr_units t ≡ expr_units_text e
+  expr_units_kept vs (LiteralTree n) (Number m) r = refl
+  expr_units_kept vs (LiteralTree n) (Name x) r = absurd r
+  expr_units_kept vs (LiteralTree n) (Chain b more) r = absurd r
+  expr_units_kept vs (VariableTree v) (Number m) r = absurd r
+  expr_units_kept vs (VariableTree v) (Name x) r = refl
+  expr_units_kept vs (VariableTree v) (Chain b more) r = absurd r
+  expr_units_kept vs (ChainTree a links) (Number m) r = absurd r
+  expr_units_kept vs (ChainTree a links) (Name x) r = absurd r
+  expr_units_kept vs (ChainTree a links) (Chain b more) r = let h = expr_units_kept vs a b r.0 in let k = links_units_kept vs links more r.1 in cc
+
+  links_units_kept : (vs : List NameTree) (links : LinksTree) (more : Links) → ResolvesLinks vs links more → links_units more ≡ links_units_text links
+  links_units_kept vs NoLinksTree NoLinks r = refl
+  links_units_kept vs NoLinksTree (LinkThen p b more) r = absurd r
+  links_units_kept vs (LinkThenTree o a rest) NoLinks r = absurd r
+  links_units_kept vs (LinkThenTree o a rest) (LinkThen p b more) r = let h = expr_units_kept vs a b r.1 in let k = links_units_kept vs rest more r.2 in cc
 
 pub block_units_kept : (cs vs : List NameTree) (tree : BlockTree) (block : Block) → ResolvesBlock cs vs tree block → (block_units block ≡ block_units_text tree) × (is_passing block ≡ is_passing_text tree)
 block_units_kept cs vs NothingTree Nothing r = (refl, refl)
@@ -272,16 +279,23 @@ and_true : (a b : Bool) → IsTrue a → IsTrue b → IsTrue (a && b)
 and_true true b h k = k
 and_true false b h k = absurd (false≢true h)
 
-expr_kept_within : (vs : List NameTree) (e : ExprTree) (t : Tree) → ResolvesExpr vs e t → IsTrue (expr_within (length vs) t)
-expr_kept_within vs (LiteralTree n) (Number m) r = refl
-expr_kept_within vs (LiteralTree n) (Name x) r = absurd r
-expr_kept_within vs (LiteralTree n) (Binary o a b) r = absurd r
-expr_kept_within vs (VariableTree v) (Number m) r = absurd r
-expr_kept_within vs (VariableTree v) (Name x) r = below_test x (length vs) (reads_below vs x v.text r)
-expr_kept_within vs (VariableTree v) (Binary o a b) r = absurd r
-expr_kept_within vs (BinaryTree o a b) (Number m) r = absurd r
-expr_kept_within vs (BinaryTree o a b) (Name x) r = absurd r
-expr_kept_within vs (BinaryTree o a b) (Binary p c d) r = and_true (expr_within (length vs) c) (expr_within (length vs) d) (expr_kept_within vs a c r.1) (expr_kept_within vs b d r.2)
+mutual
+  expr_kept_within : (vs : List NameTree) (e : ExprTree) (t : Tree) → ResolvesExpr vs e t → IsTrue (expr_within (length vs) t)
+  expr_kept_within vs (LiteralTree n) (Number m) r = refl
+  expr_kept_within vs (LiteralTree n) (Name x) r = absurd r
+  expr_kept_within vs (LiteralTree n) (Chain b more) r = absurd r
+  expr_kept_within vs (VariableTree v) (Number m) r = absurd r
+  expr_kept_within vs (VariableTree v) (Name x) r = below_test x (length vs) (reads_below vs x v.text r)
+  expr_kept_within vs (VariableTree v) (Chain b more) r = absurd r
+  expr_kept_within vs (ChainTree a links) (Number m) r = absurd r
+  expr_kept_within vs (ChainTree a links) (Name x) r = absurd r
+  expr_kept_within vs (ChainTree a links) (Chain b more) r = and_true (expr_within (length vs) b) (links_within (length vs) more) (expr_kept_within vs a b r.0) (links_kept_within vs links more r.1)
+
+  links_kept_within : (vs : List NameTree) (links : LinksTree) (more : Links) → ResolvesLinks vs links more → IsTrue (links_within (length vs) more)
+  links_kept_within vs NoLinksTree NoLinks r = refl
+  links_kept_within vs NoLinksTree (LinkThen p b more) r = absurd r
+  links_kept_within vs (LinkThenTree o a rest) NoLinks r = absurd r
+  links_kept_within vs (LinkThenTree o a rest) (LinkThen p b more) r = and_true (expr_within (length vs) b) (links_within (length vs) more) (expr_kept_within vs a b r.1) (links_kept_within vs rest more r.2)
 
 pub block_kept_within : (cs vs : List NameTree) (tree : BlockTree) (block : Block) → ResolvesBlock cs vs tree block → IsTrue (block_within (length vs) (length cs) block)
 block_kept_within cs vs NothingTree Nothing r = refl

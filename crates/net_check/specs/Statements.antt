@@ -4,17 +4,22 @@ use Rattle.std.specs.Int.{int_wrapping_add, w64}
 use Rattle.net_text.specs.declared.tree.Operator.{Operator}
 use Rattle.net_text.specs.declared.tree.Operator.TheVariants.{Add}
 use Rattle.net_check.specs.Streams.{history_of}
-use Rattle.net_check.specs.Syntax.{Tree, Number, Name, Binary, Block, Nothing, GetThen, AssignThen, PutThen}
+use Rattle.net_check.specs.Syntax.{Tree, Number, Name, Chain, Links, NoLinks, LinkThen, Block, Nothing, GetThen, AssignThen, PutThen}
 
 -- an operator's value: signed numbers of 64 bits, where a sum wraps modulo 2 ^ 64
 abbrev pub apply : Operator → ℤ → ℤ → ℤ
 apply Add a b = int_wrapping_add w64 a b
 
--- the value of an expression
-abbrev pub value_of : Tree → List ℤ → ℤ
-value_of (Number n) vars = n
-value_of (Name x) vars = slice_index_or vars x (pos 0)
-value_of (Binary operator a b) vars = apply operator (value_of a vars) (value_of b vars)
+-- the value of an expression, and that of the value to the left of links with them
+abbrev mutual
+  pub value_of : Tree → List ℤ → ℤ
+  value_of (Number n) vars = n
+  value_of (Name x) vars = slice_index_or vars x (pos 0)
+  value_of (Chain first links) vars = value_along links vars (value_of first vars)
+
+  pub value_along : Links → List ℤ → ℤ → ℤ
+  value_along NoLinks vars left = left
+  value_along (LinkThen operator value rest) vars left = value_along rest vars (apply operator left (value_of value vars))
 
 -- one act: an item that is taken from a channel, or put on it
 pub data Act : Type 0 where

@@ -1,19 +1,24 @@
 -- A network without the pointers of its boxes and vectors: two networks that read alike are equal here.
 use Rattle.std.specs.Prelude.{ℕ, ℤ, List, [], ◌∷◌, map, Option, Some, None, Vec}
 use Rattle.net_text.specs.declared.tree.Operator.{Operator}
-use Rattle.net_check.specs.declared.program.Expr.{Expr}
-use Rattle.net_check.specs.declared.program.Expr.TheVariants.{Literal, Variable, Binary'}
+use Rattle.net_check.specs.declared.program.Expr.{Expr, Literal, Variable, Chain', Row_of-Link, end_of-Link, more_of-Link}
+use Rattle.net_check.specs.declared.program.Link.{Link}
 use Rattle.net_check.specs.declared.program.Statement.{Statement}
 use Rattle.net_check.specs.declared.program.Statement.TheVariants.{Get, Assign, Put}
 use Rattle.net_check.specs.declared.program.Process.{Process}
 use Rattle.net_check.specs.declared.program.Channel.{Channel}
 use Rattle.net_check.specs.declared.program.Program.{Program}
 
--- an expression
-pub data Tree : Type 0 where
-  Number : (value : ℤ) → Tree
-  Name : (variable : ℕ) → Tree
-  Binary : (operator : Operator) (left right : Tree) → Tree
+-- an expression, and the links of a chain, each with those after it
+mutual
+  pub data Tree : Type 0 where
+    Number : (value : ℤ) → Tree
+    Name : (variable : ℕ) → Tree
+    Chain : (first : Tree) (links : Links) → Tree
+
+  pub data Links : Type 0 where
+    NoLinks : Links
+    LinkThen : (operator : Operator) (value : Tree) (rest : Links) → Links
 
 -- statements, each with those after it
 pub data Block : Type 0 where
@@ -34,10 +39,19 @@ pub record Network : Type 0 where
   pub channels : List Channel
   pub codes : List Code
 
-abbrev pub tree_of : Expr → Tree
-tree_of (Literal n) = Number n
-tree_of (Variable x) = Name x
-tree_of (Binary' operator p a q b) = Binary operator (tree_of a) (tree_of b)
+abbrev mutual
+  pub tree_of : Expr → Tree
+  tree_of (Literal n) = Number n
+  tree_of (Variable x) = Name x
+  tree_of (Chain' p first shape links) = Chain (tree_of first) (row_of links)
+
+  pub row_of : {m : _} → Row_of-Link m → Links
+  row_of end_of-Link = NoLinks
+  row_of (more_of-Link operator value rest) = LinkThen operator (tree_of value) (row_of rest)
+
+abbrev pub links_of : List Link → Links
+links_of [] = NoLinks
+links_of (l ∷ ls) = LinkThen l.operator (tree_of l.value) (links_of ls)
 
 abbrev pub then_of : Statement → Block → Block
 then_of (Get x channel) rest = GetThen x channel rest

@@ -1,12 +1,17 @@
 -- The units of a text's statements, and whether they pass, counted over the text as over the network that it is resolved to.
 use Rattle.std.specs.Prelude.{ℕ, suc, ◌+◌, Bool, true, false, Option, Some, None}
-use Rattle.net_text.specs.Trees.{ExprTree, LiteralTree, VariableTree, BinaryTree, BlockTree, NothingTree, GetTree, AssignTree, PutTree, LoopTree, ProcessTree}
+use Rattle.net_text.specs.Trees.{ExprTree, LiteralTree, VariableTree, ChainTree, LinksTree, NoLinksTree, LinkThenTree, BlockTree, NothingTree, GetTree, AssignTree, PutTree, LoopTree, ProcessTree}
 
 -- each literal, each variable in an expression and each operator is one unit
-abbrev pub expr_units_text : ExprTree → ℕ
-expr_units_text (LiteralTree n) = 1
-expr_units_text (VariableTree name) = 1
-expr_units_text (BinaryTree operator a b) = suc (expr_units_text a + expr_units_text b)
+abbrev mutual
+  pub expr_units_text : ExprTree → ℕ
+  expr_units_text (LiteralTree n) = 1
+  expr_units_text (VariableTree name) = 1
+  expr_units_text (ChainTree first links) = expr_units_text first + links_units_text links
+
+  pub links_units_text : LinksTree → ℕ
+  links_units_text NoLinksTree = 0
+  links_units_text (LinkThenTree operator value rest) = suc (expr_units_text value + links_units_text rest)
 
 -- and so is each statement
 abbrev pub block_units_text : BlockTree → ℕ

@@ -1,7 +1,7 @@
 -- What the statements of a text use, in order of the text.
 use Rattle.std.specs.Prelude.{◌≡◌, List, [], ◌∷◌, ◌++◌, Option, Some, None, ◌⊎◌}
 use Rattle.net_text.specs.Names.{NameTree}
-use Rattle.net_text.specs.Trees.{ExprTree, LiteralTree, VariableTree, BinaryTree, BlockTree, NothingTree, GetTree, AssignTree, PutTree, LoopTree, ProcessTree}
+use Rattle.net_text.specs.Trees.{ExprTree, LiteralTree, VariableTree, ChainTree, LinksTree, NoLinksTree, LinkThenTree, BlockTree, NothingTree, GetTree, AssignTree, PutTree, LoopTree, ProcessTree}
 
 -- a variable that is read or written, a channel from which an item is got, a channel on which one is put
 pub data Use : Type 0 where
@@ -9,10 +9,15 @@ pub data Use : Type 0 where
   GetFrom : (name : NameTree) → Use
   PutOn : (name : NameTree) → Use
 
-abbrev pub expr_uses : ExprTree → List Use
-expr_uses (LiteralTree n) = []
-expr_uses (VariableTree name) = OfVariable name ∷ []
-expr_uses (BinaryTree operator a b) = expr_uses a ++ expr_uses b
+abbrev mutual
+  pub expr_uses : ExprTree → List Use
+  expr_uses (LiteralTree n) = []
+  expr_uses (VariableTree name) = OfVariable name ∷ []
+  expr_uses (ChainTree first links) = expr_uses first ++ links_uses links
+
+  pub links_uses : LinksTree → List Use
+  links_uses NoLinksTree = []
+  links_uses (LinkThenTree operator value rest) = expr_uses value ++ links_uses rest
 
 abbrev pub block_uses : BlockTree → List Use
 block_uses NothingTree = []

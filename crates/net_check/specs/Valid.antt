@@ -1,6 +1,6 @@
 -- When a network is valid: a clause for each rule, over the network alone.
 use Rattle.std.specs.Prelude.{◌≡◌, ◌≢◌, ◌↔◌, ℕ, suc, ◌+◌, ◌<◌, ◌≤◌, Bool, true, false, ◌&&◌, ◌||◌, ◌==◌, nat_lt, length, slice_get, Option, Some, None, IsTrue}
-use Rattle.net_check.specs.Syntax.{Tree, Number, Name, Binary, Block, Nothing, GetThen, AssignThen, PutThen, Code, Network}
+use Rattle.net_check.specs.Syntax.{Tree, Number, Name, Chain, Links, NoLinks, LinkThen, Block, Nothing, GetThen, AssignThen, PutThen, Code, Network}
 use Rattle.net_check.specs.declared.program.Channel.{Channel}
 use Rattle.net_check.specs.declared.program.Port.TheVariants.{Outside, Process}
 
@@ -12,10 +12,15 @@ is_passing (AssignThen x e rest) = is_passing rest
 is_passing (PutThen e c rest) = is_passing rest
 
 -- each literal, each variable in an expression and each operator is one unit
-abbrev pub expr_units : Tree → ℕ
-expr_units (Number n) = 1
-expr_units (Name x) = 1
-expr_units (Binary operator a b) = suc (expr_units a + expr_units b)
+abbrev mutual
+  pub expr_units : Tree → ℕ
+  expr_units (Number n) = 1
+  expr_units (Name x) = 1
+  expr_units (Chain first links) = expr_units first + links_units links
+
+  pub links_units : Links → ℕ
+  links_units NoLinks = 0
+  links_units (LinkThen operator value rest) = suc (expr_units value + links_units rest)
 
 -- and so is each statement
 abbrev pub block_units : Block → ℕ
@@ -29,10 +34,15 @@ body_units None = 0
 body_units (Some body) = block_units body
 
 -- each variable is below this number
-abbrev pub expr_within : ℕ → Tree → Bool
-expr_within variables (Number n) = true
-expr_within variables (Name x) = nat_lt x variables
-expr_within variables (Binary operator a b) = expr_within variables a && expr_within variables b
+abbrev mutual
+  pub expr_within : ℕ → Tree → Bool
+  expr_within variables (Number n) = true
+  expr_within variables (Name x) = nat_lt x variables
+  expr_within variables (Chain first links) = expr_within variables first && links_within variables links
+
+  pub links_within : ℕ → Links → Bool
+  links_within variables NoLinks = true
+  links_within variables (LinkThen operator value rest) = expr_within variables value && links_within variables rest
 
 -- each variable and each channel is below these numbers
 abbrev pub block_within : ℕ → ℕ → Block → Bool

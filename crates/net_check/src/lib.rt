@@ -15,6 +15,7 @@ mod names;
 mod net;
 mod program;
 mod resolve;
+mod same;
 mod state;
 
 pub use binding::bind;
@@ -23,7 +24,8 @@ pub use fault::NetFault;
 pub use history::History;
 pub use inputs::{Inputs, fits};
 pub use net::Net;
-pub use program::{Channel, Expr, Port, Process, Program, Statement};
+pub use program::{Channel, Expr, Link, Port, Process, Program, Statement};
+pub use same::is_same_process;
 pub use state::{Place, ProcState};
 
 #[cfg(test)]

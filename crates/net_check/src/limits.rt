@@ -15,20 +15,19 @@ const UNITS: usize = 4096;
 fn units_after_expr(expr: &ExprText, left: usize) -> Option<usize>
     ensures { MatchOption result (left < expr_units_text (expr_tree expr.now)) (λ r. r + expr_units_text (expr_tree expr.now) ≡ left) }
 {
-    if left == 0 {
-        return None;
-    }
     match expr {
-        ExprText::Literal(_) => Some(left - 1),
-        ExprText::Variable(_) => Some(left - 1),
-        ExprText::Binary {
-            left: first,
-            right: second,
-            ..
-        } => match units_after_expr(first, left - 1) {
-            Some(rest) => units_after_expr(second, rest),
-            None => None,
-        },
+        ExprText::Literal(_) => left.checked_sub(1),
+        ExprText::Variable(_) => left.checked_sub(1),
+        ExprText::Chain { first, links } => {
+            let mut rest = units_after_expr(first, left)?;
+            for link in links {
+                if rest == 0 {
+                    return None;
+                }
+                rest = units_after_expr(&link.value, rest - 1)?;
+            }
+            Some(rest)
+        }
     }
 }
 

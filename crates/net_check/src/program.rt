@@ -4,14 +4,20 @@ use net_text::Operator;
 
 /// An expression over the variables of a process.
 #[derive(Debug, Drop)]
+#[cycle(expression)]
 pub enum Expr {
     Literal(i64),
     Variable(usize),
-    Binary {
-        operator: Operator,
-        left: Box<Expr>,
-        right: Box<Expr>,
-    },
+    /// A value, and operators with the value to the right of each, which group from the left.
+    Chain { first: Box<Expr>, links: Vec<Link> },
+}
+
+/// An operator with the value to its right.
+#[derive(Debug, Drop)]
+#[cycle(expression)]
+pub struct Link {
+    pub operator: Operator,
+    pub value: Expr,
 }
 
 /// A statement of a process.

@@ -14,7 +14,7 @@ ghost use Rattle.net_check.specs.Valid.{block_gets, block_puts, body_gets, body_
 use crate::declared::Declared;
 use crate::ends::{Ends, Scope};
 use crate::fault::NetFault;
-use crate::program::{Expr, Process, Statement};
+use crate::program::{Expr, Link, Process, Statement};
 use net_text::{ChannelText, ExprText, LoopText, ProcessText, StatementText, VariableText};
 use std::alloc::{AllocError, Global};
 
@@ -28,19 +28,20 @@ fn resolve_expr(alloc: Global, scope: &Scope, expr: &ExprText) -> Result<Expr, N
             let variable = scope.variable(name)?;
             Ok(Expr::Variable(variable))
         }
-        ExprText::Binary {
-            operator,
-            left,
-            right,
-        } => {
-            let left = resolve_expr(alloc, scope, left)?;
-            let right = resolve_expr(alloc, scope, right)?;
-            let left = Box::new(alloc, left)?;
-            let right = Box::new(alloc, right)?;
-            Ok(Expr::Binary {
-                operator: *operator,
-                left,
-                right,
+        ExprText::Chain { first, links } => {
+            let first = resolve_expr(alloc, scope, first)?;
+            let first = Box::new(alloc, first)?;
+            let mut resolved = Vec::new(alloc);
+            for link in links {
+                let value = resolve_expr(alloc, scope, &link.value)?;
+                resolved.push(Link {
+                    operator: link.operator,
+                    value,
+                })?;
+            }
+            Ok(Expr::Chain {
+                first,
+                links: resolved,
             })
         }
     }

@@ -1,10 +1,10 @@
 //! Texts and lines with the answers that the rules give them: which of several faults counts, its line, and the numbers of a
 //! network. A text is a table of its parts, each with its line.
 
-use crate::{Channel, Expr, NetFault, Port, Statement, bind, check, fits};
+use crate::{Channel, Expr, Net, NetFault, Port, Statement, bind, check, fits, is_same_process};
 use net_text::{
-    ChannelText, Declaration, ExprText, InputLine, LoopText, Name, NetText, NodeText, Operator,
-    ProcessText, RawInputs, Role, StatementText, VariableText,
+    ChannelText, Declaration, ExprText, InputLine, LinkText, LoopText, Name, NetText, NodeText,
+    Operator, ProcessText, RawInputs, Role, StatementText, VariableText, parse,
 };
 use std::alloc::{AllocError, Global};
 use std::test::Fail;
@@ -78,13 +78,13 @@ fn variable_at(alloc: Global, text: &str, line: usize) -> Result<VariableText, A
 }
 
 fn sum_at(alloc: Global, a: &str, b: &str, line: usize) -> Result<ExprText, AllocError> {
-    let left = Box::new(alloc, ExprText::Variable(name_at(alloc, a, line)?))?;
-    let right = Box::new(alloc, ExprText::Variable(name_at(alloc, b, line)?))?;
-    Ok(ExprText::Binary {
+    let first = Box::new(alloc, ExprText::Variable(name_at(alloc, a, line)?))?;
+    let mut links = Vec::new(alloc);
+    links.push(LinkText {
         operator: Operator::Add,
-        left,
-        right,
-    })
+        value: ExprText::Variable(name_at(alloc, b, line)?),
+    })?;
+    Ok(ExprText::Chain { first, links })
 }
 
 impl Builder {
@@ -466,7 +466,7 @@ fn numbers_channels_and_variables(rt: HostRuntime) -> Result<(), Fail> {
             &body[1],
             Statement::Assign {
                 variable: 0,
-                value: Expr::Binary { .. }
+                value: Expr::Chain { .. }
             }
         )
     );
@@ -479,6 +479,91 @@ fn numbers_channels_and_variables(rt: HostRuntime) -> Result<(), Fail> {
             }
         )
     );
+    Ok(())
+}
+
+// A text whose process begins with a sum of so many ones.
+fn sum_text(alloc: Global, terms: usize) -> Result<String, AllocError> {
+    let mut text = String::from_str(
+        alloc,
+        "kahn 1; input i; output o; process p on 0 { var v; v = 1",
+    )?;
+    for _ in 1..terms {
+        text.push_str(" + 1")?;
+    }
+    text.push_str("; loop { v = get i; put v to o; } }")?;
+    Ok(text)
+}
+
+fn outcome_of_sum(alloc: Global, terms: usize) -> Result<(u8, Option<usize>), Fail> {
+    let text = parse(alloc, &sum_text(alloc, terms)?)?;
+    Ok(outcome(alloc, text))
+}
+
+// A sum of n ones is 2 n - 1 units, and the rest of its text 4. A long sum is answered as a short one is.
+#[test]
+fn answers_long_sums(rt: HostRuntime) -> Result<(), Fail> {
+    let alloc = rt.alloc();
+    assert_eq!(rt; outcome_of_sum(alloc, 2_046)?, (0, None));
+    assert_eq!(rt; outcome_of_sum(alloc, 2_047)?, (15, Some(1)));
+    assert_eq!(rt; outcome_of_sum(alloc, 200_000)?, (15, Some(1)));
+    Ok(())
+}
+
+fn net_of(alloc: Global, process: &str) -> Result<Net, Fail> {
+    let mut text = String::from_str(alloc, "kahn 1; input i; output o; process p on 0 { ")?;
+    text.push_str(process)?;
+    text.push_str(" }")?;
+    Ok(check(alloc, parse(alloc, &text)?)?)
+}
+
+fn has_same_process(left: &Net, right: &Net) -> bool {
+    match left.program.processes.as_slice() {
+        [a] => match right.program.processes.as_slice() {
+            [b] => is_same_process(a, b),
+            _ => false,
+        },
+        _ => false,
+    }
+}
+
+#[test]
+fn compares_processes(rt: HostRuntime) -> Result<(), Fail> {
+    let alloc = rt.alloc();
+    let process = "var a; var v; a = 1; loop { v = get i; put v + a + 1 to o; }";
+    let net = net_of(alloc, process)?;
+    for (other, same) in [
+        (process, true),
+        // Other names, the same numbers.
+        (
+            "var x; var y; x = 1; loop { y = get i; put y + x + 1 to o; }",
+            true,
+        ),
+        (
+            "var a; var v = 1; a = 1; loop { v = get i; put v + a + 1 to o; }",
+            false,
+        ),
+        (
+            "var a; var v; a = 1; loop { v = get i; put v + a + 2 to o; }",
+            false,
+        ),
+        (
+            "var a; var v; a = 1; loop { v = get i; put v + a to o; }",
+            false,
+        ),
+        (
+            "var a; var v; a = 1; loop { v = get i; put v + a + 1 to o; a = 1; }",
+            false,
+        ),
+        ("var a; var v; a = 1; v = get i; put v + a + 1 to o;", false),
+        (
+            "var a; var v; loop { v = get i; put v + a + 1 to o; }",
+            false,
+        ),
+    ] {
+        let other = net_of(alloc, other)?;
+        assert_eq!(rt; has_same_process(&net, &other), same);
+    }
     Ok(())
 }
 

@@ -4,17 +4,19 @@ use Rattle.std.proofs.lemmas.Slice.Eq.{bytes_eq-Decides}
 use Rattle.std.proofs.lemmas.List.{append-nil}
 use Rattle.net_text.specs.Names.{NameTree}
 use Rattle.net_text.specs.Spellings.{keyword_spelling, symbol_spelling}
-use Rattle.net_text.specs.Trees.{ExprTree, LiteralTree, VariableTree, BinaryTree, BlockTree, NothingTree, GetTree, AssignTree, PutTree, LoopTree, ProcessTree, DeclarationTree}
+use Rattle.net_text.specs.Trees.{ExprTree, LiteralTree, VariableTree, ChainTree, LinkTree, BlockTree, NothingTree, GetTree, AssignTree, PutTree, LoopTree, ProcessTree, DeclarationTree}
 use Rattle.net_text.specs.Tokens.{Lexeme}
-use Rattle.net_text.specs.Grammar.{◌>>◌, IsWordOn, IsWord, IsSymbol, IsName, IsNumberOn, IsEach, IsFactor, IsAddend, IsExpr, IsGet, IsAssign, IsPut, IsStatements, IsBlock, IsInitial, IsVariable, IsLoop, IsProcess, first_word, IsChannel, IsText}
-use Rattle.net_text.specs.Reading.{Read, has_word, has_symbol, is_name, begins, word_at, symbol_at, name_at, number_in, number_at, factor_in, factor_at, many, addend_at, addends_at, expr_at, get_at, assign_at, named_at, put_at, statement_at, starts_statement, joined, statements_at, block_at, value_at, initial_at, variable_at, variables_at, loop_at, head_at, process_at, channel_at, edition_at, text_at, whole_text}
-use Rattle.net_text.proofs.Sound.{IsSingle, single_first, then_first, symbol_first, word_first}
+use Rattle.net_text.specs.Grammar.{◌>>◌, IsWordOn, IsWord, IsSymbol, IsName, IsNumberOn, IsEach, IsFactor, operator_symbol, IsLink, IsExpr, IsGet, IsAssign, IsPut, IsStatements, IsBlock, IsInitial, IsVariable, IsLoop, IsProcess, first_word, IsChannel, IsText}
+use Rattle.net_text.specs.Reading.{Read, has_word, has_symbol, is_name, begins, word_at, symbol_at, name_at, number_in, number_at, factor_in, factor_at, many, link_at, links_at, expr_at, get_at, assign_at, named_at, put_at, statement_at, starts_statement, joined, statements_at, block_at, value_at, initial_at, variable_at, variables_at, loop_at, head_at, process_at, channel_at, edition_at, text_at, whole_text}
+use Rattle.net_text.proofs.Sound.{IsSingle, link_first, single_first, then_first, word_first}
 use Rattle.net_text.specs.declared.token.Keyword.{Keyword}
 use Rattle.net_text.specs.declared.token.Keyword.TheVariants as keyword
 use Rattle.net_text.specs.declared.token.Symbol.{Symbol}
 use Rattle.net_text.specs.declared.token.Symbol.TheVariants as symbol
 use Rattle.net_text.specs.declared.token.TokenKind.{TokenKind}
 use Rattle.net_text.specs.declared.token.TokenKind.TheVariants as kind
+use Rattle.net_text.specs.declared.tree.Operator.{Operator}
+use Rattle.net_text.specs.declared.tree.Operator.TheVariants.{Add}
 use Rattle.net_text.specs.declared.tree.Role.{Role}
 use Rattle.net_text.specs.declared.tree.Role.TheVariants.{Input, Output}
 use Rattle.net_text.specs.declared.tree.ChannelText.{ChannelText}
@@ -81,18 +83,25 @@ factor_again (LiteralTree v) front rest is =
     ap (λ (l : List Lexeme). factor_at (l ++ rest)) number.1 ∙ ap (λ (k : TokenKind). factor_in k number.0 rest) number.2 ∙ ap (λ (z : ℤ). let r : Read ExprTree = Ok (LiteralTree z, rest) in r) (sym is.2)
 factor_again (VariableTree name) front rest is =
     ap (λ (l : List Lexeme). factor_at (l ++ rest)) is.1 ∙ ap (λ (k : TokenKind). factor_in k is.0 rest) is.2 ∙ ap (λ (n : NameTree). let r : Read ExprTree = Ok (VariableTree n, rest) in r) (sym is.3)
-factor_again (BinaryTree operator left right) front rest is = absurd is
+factor_again (ChainTree first links) front rest is = absurd is
 
 -- a factor begins with a number or a name
 begins_factor : (test : TokenKind → Bool) (e : ExprTree) (front rest : List Lexeme) → ((n : ℕ) → test (kind.Number n) ≡ false) → test kind.Name ≡ false → IsFactor e front → begins test (front ++ rest) ≡ false
 begins_factor test (LiteralTree v) front rest h k is = begins_one test front rest is.1.1.0 (kind.Number is.0) is.1.1.1 is.1.1.2 ∙ h is.0
 begins_factor test (VariableTree name) front rest h k is = begins_name test name front rest is ∙ k
-begins_factor test (BinaryTree operator left right) front rest h k is = absurd is
+begins_factor test (ChainTree first links) front rest h k is = absurd is
 
-addend_again : (e : ExprTree) (front rest : List Lexeme) → IsAddend e front → addend_at (front ++ rest) ≡ Ok (e, rest)
-unfolding addend_at
-addend_again e front rest is =
-    ap addend_at (split_rest front is.0 is.1 rest is.2) ∙ rw (symbol_again symbol.Plus is.0 (is.1 ++ rest) is.3) (factor_again e is.1 rest is.4)
+-- a link with this operator
+link_with : (o : Operator) (e : ExprTree) (front rest : List Lexeme) → IsLink (record { operator = o; value = e }) front → link_at (front ++ rest) ≡ Ok (record { operator = o; value = e }, rest)
+unfolding link_at
+link_with Add e front rest is =
+    ap link_at (split_rest front is.0 is.1 rest is.2) ∙ rw (symbol_again symbol.Plus is.0 (is.1 ++ rest) is.3, factor_again e is.1 rest is.4) refl
+
+link_again : (link : LinkTree) (front rest : List Lexeme) → IsLink link front → link_at (front ++ rest) ≡ Ok (link, rest)
+link_again link front rest is = link_with link.operator link.value front rest is
+
+has_operator : (o : Operator) → has_symbol symbol.Plus (kind.Symbol (operator_symbol o)) ≡ true
+has_operator Add = has_symbol_at symbol.Plus
 
 -- ---- one after another
 
@@ -116,21 +125,24 @@ many_again P starts item reads (suc n) (x ∷ xs) front rest is stop le =
     let others = many_again P starts item reads n xs is.1 rest is.4 stop (omega arith) in
     ap (many starts item (suc n)) (split_rest front is.0 is.1 rest is.2) ∙ rw (reads.begins_so x is.0 (is.1 ++ rest) is.3, reads.again x is.0 (is.1 ++ rest) is.3, others) refl
 
-addends_again : ReadsAgain IsAddend (has_symbol symbol.Plus) addend_at
-addends_again = record {
-  again = addend_again;
-  begins_so = λ e front rest is. begins_then (has_symbol symbol.Plus) (kind.Symbol symbol.Plus) (IsSymbol symbol.Plus) (IsFactor e) front rest (begins_symbol (has_symbol symbol.Plus) symbol.Plus) is ∙ has_symbol_at symbol.Plus;
-  some = λ e. then_first (IsSymbol symbol.Plus) (IsFactor e) (symbol_first symbol.Plus);
+links_read : ReadsAgain IsLink (has_symbol symbol.Plus) link_at
+links_read = record {
+  again = link_again;
+  begins_so = λ link front rest is. begins_then (has_symbol symbol.Plus) (kind.Symbol (operator_symbol link.operator)) (IsSymbol (operator_symbol link.operator)) (IsFactor link.value) front rest (begins_symbol (has_symbol symbol.Plus) (operator_symbol link.operator)) is ∙ has_operator link.operator;
+  some = link_first;
 }
+
+links_again : (links : List LinkTree) (front rest : List Lexeme) → IsEach IsLink links front → begins (has_symbol symbol.Plus) rest ≡ false → links_at (front ++ rest) ≡ Ok (links, rest)
+unfolding links_at
+links_again links front rest is stop = many_again IsLink (has_symbol symbol.Plus) link_at links_read (length (front ++ rest)) links front rest is stop (omega arith)
 
 -- ---- expressions and statements
 
 pub expr_again : (e : ExprTree) (front rest : List Lexeme) → IsExpr e front → begins (has_symbol symbol.Plus) rest ≡ false → expr_at (front ++ rest) ≡ Ok (e, rest)
-unfolding expr_at addends_at
+unfolding expr_at
 expr_again e front rest is stop =
     let parts = is.3 in
-    let others = many_again IsAddend (has_symbol symbol.Plus) addend_at addends_again (length (parts.1 ++ rest)) is.1 parts.1 rest parts.4 stop (omega arith) in
-    ap expr_at (split_rest front parts.0 parts.1 rest parts.2) ∙ rw (factor_again is.0 parts.0 (parts.1 ++ rest) parts.3, others, is.2) refl
+    ap expr_at (split_rest front parts.0 parts.1 rest parts.2) ∙ rw (factor_again is.0 parts.0 (parts.1 ++ rest) parts.3, links_again is.1 parts.1 rest parts.4 stop, is.2) refl
 
 begins_expr : (test : TokenKind → Bool) (e : ExprTree) (front rest : List Lexeme) → ((n : ℕ) → test (kind.Number n) ≡ false) → test kind.Name ≡ false → IsExpr e front → begins test (front ++ rest) ≡ false
 begins_expr test e front rest h k is =

@@ -1,47 +1,26 @@
 -- The parser's loops: a turn leaves what is read as it was, and so do their ends.
-use Rattle.std.proofs.Common.{◌≡◌, true, false, List, [], ◌∷◌, ◌++◌, length, Ok, Err, refl, sym, ap, ◌∙◌, append_assoc}
-use Rattle.net_text.specs.Trees.{ExprTree, BinaryTree, BlockTree, NothingTree, GetTree, AssignTree, PutTree, then_tree, block_tree, expr_tree}
+use Rattle.std.proofs.Common.{◌≡◌, true, false, List, [], ◌∷◌, ◌++◌, length, map, Ok, Err, refl, sym, ap, ◌∙◌, append_assoc, ◌<◌, arith}
+use Rattle.std.proofs.lemmas.List.{map-append}
+use Rattle.net_text.specs.Trees.{ExprTree, ChainTree, LinkTree, links_tree, BlockTree, NothingTree, GetTree, AssignTree, PutTree, link_tree, then_tree, block_tree, expr_tree}
 use Rattle.net_text.specs.Tokens.{Lexeme}
-use Rattle.net_text.specs.Grammar.{sum_of}
-use Rattle.net_text.specs.Reading.{◌>>=◌, Read, Fails, begins, has_word, has_symbol, many, addend_at, addends_at, sum_at, statement_at, starts_statement, append_block, joined, statements_at, variable_at, variables_at}
-use Rattle.net_text.proofs.Many.{with_first, after_items, after_block, many_step, many_stop, many_fail}
-use Rattle.net_text.proofs.Sound.{addend_shortens, statement_shortens, variable_shortens}
-use Rattle.net_text.specs.declared.parser.ParseError.{ParseError}
-use Rattle.net_text.specs.declared.parser.ParseError.TheVariants as error
+use Rattle.net_text.specs.Grammar.{chain_of}
+use Rattle.net_text.specs.Reading.{◌>>=◌, Read, begins, has_word, has_symbol, many, link_at, links_at, statement_at, starts_statement, append_block, joined, statements_at, variable_at, variables_at}
+use Rattle.net_text.proofs.Many.{with_first, after_items, after_block, many_step, many_stop}
+use Rattle.net_text.proofs.Sound.{link_shortens, statement_shortens, variable_shortens}
 use Rattle.net_text.specs.declared.token.Keyword.TheVariants as keyword
 use Rattle.net_text.specs.declared.token.Symbol.TheVariants as symbol
 use Rattle.net_text.specs.declared.tree.StatementText.{StatementText}
 use Rattle.net_text.specs.declared.tree.StatementText.TheVariants.{Get, Assign, Put}
 use Rattle.net_text.specs.declared.tree.VariableText.{VariableText}
-use Rattle.net_text.specs.declared.tree.Operator.TheVariants.{Add}
+use Rattle.net_text.specs.declared.tree.LinkText.{LinkText}
 
--- ---- sums
+-- ---- chains
 
--- a value with what is added to it
-abbrev summed : ExprTree → Read (List ExprTree) → Read ExprTree
-summed first read = read >>= λ others. Ok (sum_of first others.0, others.1)
+pub chain_made : (first : ExprTree) (ls : List LinkText) → 0 < length ls → ChainTree first (links_tree (map link_tree ls)) ≡ chain_of first (map link_tree ls)
+chain_made first [] h = absurd (omega arith)
+chain_made first (l ∷ ls) h = refl
 
-sum_regroup : (first e : ExprTree) (read : Read (List ExprTree)) → summed first (with_first e read) ≡ summed (BinaryTree Add first e) read
-sum_regroup first e (Ok x) = refl
-sum_regroup first e (Err s) = refl
-
-pub sum_more : (first e : ExprTree) (ts rest : List Lexeme) → begins (has_symbol symbol.Plus) ts ≡ true → addend_at ts ≡ Ok (e, rest) → sum_at first ts ≡ sum_at (BinaryTree Add first e) rest
-unfolding addends_at
-sum_more first e ts rest b h =
-    ap (summed first) (many_step (has_symbol symbol.Plus) addend_at addend_shortens ts (e, rest) b h)
-    ∙ sum_regroup first e (many (has_symbol symbol.Plus) addend_at (length rest) rest)
-
-pub sum_ends : (first : ExprTree) (ts : List Lexeme) → begins (has_symbol symbol.Plus) ts ≡ false → sum_at first ts ≡ Ok (first, ts)
-unfolding addends_at
-sum_ends first ts b = ap (summed first) (many_stop (has_symbol symbol.Plus) addend_at ts b)
-
-pub sum_fails : (e : ParseError) (first : ExprTree) (ts : List Lexeme) (all : Read ExprTree) → begins (has_symbol symbol.Plus) ts ≡ true → Fails e (addend_at ts) → sum_at first ts ≡ all → Fails e all
-unfolding addends_at
-sum_fails error.NoMemory first ts all b h so_far = tt
-sum_fails (error.Stuck s) first ts all b h so_far =
-    sym so_far ∙ ap (summed first) (many_fail (has_symbol symbol.Plus) addend_at ts s b h)
-
--- ---- variables
+-- ---- lists of items
 
 items_regroup : {A : Type 0} (front : List A) (x : A) (read : Read (List A)) → after_items front (with_first x read) ≡ after_items (front ++ x ∷ []) read
 items_regroup front x (Ok y) = ap (λ (xs : List _). Ok (xs, y.1)) (simp append_assoc)
@@ -52,6 +31,14 @@ unfolding variables_at
 variables_more front v ts rest b h =
     ap (after_items front) (many_step (has_word keyword.Var) variable_at variable_shortens ts (v, rest) b h)
     ∙ items_regroup front v (many (has_word keyword.Var) variable_at (length rest) rest)
+
+pub links_more : (ls : List LinkText) (l : LinkText) (ts rest : List Lexeme) → begins (has_symbol symbol.Plus) ts ≡ true → link_at ts ≡ Ok (link_tree l, rest)
+    → after_items (map link_tree ls) (links_at ts) ≡ after_items (map link_tree (ls ++ l ∷ [])) (links_at rest)
+unfolding links_at
+links_more ls l ts rest b h =
+    ap (after_items (map link_tree ls)) (many_step (has_symbol symbol.Plus) link_at link_shortens ts (link_tree l, rest) b h)
+    ∙ items_regroup (map link_tree ls) (link_tree l) (many (has_symbol symbol.Plus) link_at (length rest) rest)
+    ∙ ap (λ (front : List LinkTree). after_items front (many (has_symbol symbol.Plus) link_at (length rest) rest)) (sym (map-append link_tree ls (l ∷ [])))
 
 -- ---- statements
 

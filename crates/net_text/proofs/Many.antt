@@ -57,7 +57,3 @@ many_step starts item shorter (t ∷ ts) x b e =
 pub many_stop : {A : Type 0} (starts : TokenKind → Bool) (item : List Lexeme → Read A) (ts : List Lexeme) → begins starts ts ≡ false → many starts item (length ts) ts ≡ Ok ([], ts)
 many_stop starts item [] b = refl
 many_stop starts item (t ∷ ts) b = rw b refl
-
-pub many_fail : {A : Type 0} (starts : TokenKind → Bool) (item : List Lexeme → Read A) (ts : List Lexeme) (e : Stuck) → begins starts ts ≡ true → item ts ≡ Err e → many starts item (length ts) ts ≡ Err e
-many_fail starts item [] e b h = absurd cc
-many_fail starts item (t ∷ ts) e b h = rw (b, h) refl

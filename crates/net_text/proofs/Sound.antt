@@ -6,10 +6,10 @@ use Rattle.std.proofs.lemmas.Bool.{eqb-true}
 use Rattle.std.proofs.lemmas.List.{append-nil}
 use Rattle.net_text.specs.Names.{NameTree}
 use Rattle.net_text.specs.Spellings.{keyword_spelling, symbol_spelling}
-use Rattle.net_text.specs.Trees.{ExprTree, LiteralTree, VariableTree, BlockTree, NothingTree, GetTree, AssignTree, PutTree, LoopTree, ProcessTree, DeclarationTree, ChannelTree, ProcessDeclared}
+use Rattle.net_text.specs.Trees.{ExprTree, LiteralTree, VariableTree, LinkTree, BlockTree, NothingTree, GetTree, AssignTree, PutTree, LoopTree, ProcessTree, DeclarationTree, ChannelTree, ProcessDeclared}
 use Rattle.net_text.specs.Tokens.{Lexeme}
-use Rattle.net_text.specs.Grammar.{◌>>◌, IsWordOn, IsWord, IsSymbol, IsName, IsNumberOn, IsNumber, IsEach, IsFactor, sum_of, IsAddend, IsExpr, IsGet, IsAssign, IsPut, IsStatements, IsBlock, IsInitial, IsVariable, IsLoop, IsProcess, first_word, IsChannel, IsText}
-use Rattle.net_text.specs.Reading.{◌>>=◌, Read, has_word, has_symbol, is_name, begins, word_at, symbol_at, name_at, number_in, number_at, factor_in, factor_at, many, addend_at, addends_at, sum_at, expr_at, get_at, assign_at, named_at, put_at, statement_at, starts_statement, append_block, joined, statements_at, block_at, value_at, initial_at, variable_at, variables_at, loop_at, HeadTree, head_at, process_at, channel_at, edition_at, text_at, no_more, whole_text}
+use Rattle.net_text.specs.Grammar.{◌>>◌, IsWordOn, IsWord, IsSymbol, IsName, IsNumberOn, IsNumber, IsEach, IsFactor, operator_symbol, chain_of, IsLink, IsExpr, IsGet, IsAssign, IsPut, IsStatements, IsBlock, IsInitial, IsVariable, IsLoop, IsProcess, first_word, IsChannel, IsText}
+use Rattle.net_text.specs.Reading.{◌>>=◌, Read, has_word, has_symbol, is_name, begins, word_at, symbol_at, name_at, number_in, number_at, factor_in, factor_at, many, link_at, links_at, expr_at, get_at, assign_at, named_at, put_at, statement_at, starts_statement, append_block, joined, statements_at, block_at, value_at, initial_at, variable_at, variables_at, loop_at, HeadTree, head_at, process_at, channel_at, edition_at, text_at, no_more, whole_text}
 use Rattle.net_text.proofs.Readings.{one_keyword, one_symbol}
 use Rattle.net_text.proofs.Many.{IsShortening}
 use Rattle.net_text.specs.declared.parser.Stuck.{Stuck}
@@ -20,6 +20,7 @@ use Rattle.net_text.specs.declared.token.Symbol.{Symbol}
 use Rattle.net_text.specs.declared.token.Symbol.TheVariants as symbol
 use Rattle.net_text.specs.declared.token.TokenKind.{TokenKind}
 use Rattle.net_text.specs.declared.token.TokenKind.TheVariants as kind
+use Rattle.net_text.specs.declared.tree.Operator.TheVariants.{Add}
 use Rattle.net_text.specs.declared.tree.Role.{Role}
 use Rattle.net_text.specs.declared.tree.Role.TheVariants.{Input, Output}
 use Rattle.net_text.specs.declared.tree.ChannelText.{ChannelText}
@@ -136,11 +137,14 @@ unfolding factor_at
 factor_took [] x e = absurd cc
 factor_took (t ∷ ts) x e = factor_in_took t.kind t ts x refl e
 
-pub addend_took : (ts : List Lexeme) (x : ExprTree × List Lexeme) → addend_at ts ≡ Ok x → Took ts (IsAddend x.0) x.1
-unfolding addend_at
-addend_took ts x e =
-    let a = bind_ok (symbol_at symbol.Plus ts) factor_at x e in
-    then_took (symbol_took symbol.Plus ts a.0 a.1) (factor_took a.0 x a.2)
+pub link_took : (ts : List Lexeme) (x : LinkTree × List Lexeme) → link_at ts ≡ Ok x → Took ts (IsLink x.0) x.1
+unfolding link_at
+link_took ts x e =
+    let a = bind_ok (symbol_at symbol.Plus ts) (λ rest. factor_at rest >>= λ value. Ok (record { operator = Add; value = value.0 }, value.1)) x e in
+    let b = bind_ok (factor_at a.0) (λ value. Ok (record { operator = Add; value = value.0 }, value.1)) x a.2 in
+    let made : LinkTree × List Lexeme = (record { operator = Add; value = b.0.0 }, b.0.1) in
+    subst (λ (p : LinkTree × List Lexeme). Took ts (IsLink p.0) p.1) (ok_is made x b.2)
+    (then_took (symbol_took symbol.Plus ts a.0 a.1) (factor_took a.0 b.0 b.1))
 
 -- things read one after another are each in the grammar
 pub many_took : {A : Type 0} (P : A → List Lexeme → Type 0) (starts : TokenKind → Bool) (item : List Lexeme → Read A) → ((ts : List Lexeme) (x : A × List Lexeme) → item ts ≡ Ok x → Took ts (P x.0) x.1)
@@ -177,23 +181,24 @@ name_first name front is = let l = ap length is.1 in omega arith
 pub then_first : (P Q : List Lexeme → Type 0) → ((front : List Lexeme) → P front → 0 < length front) → (front : List Lexeme) → (P >> Q) front → 0 < length front
 then_first P Q h front is = let some = h is.0 is.3 in let l = ap length is.2 ∙ length-append is.0 is.1 in omega arith
 
-pub addend_shortens : IsShortening addend_at
-addend_shortens ts x e = shorter_by (then_first (IsSymbol symbol.Plus) (IsFactor x.0) (symbol_first symbol.Plus)) (addend_took ts x e)
+pub link_first : (link : LinkTree) (front : List Lexeme) → IsLink link front → 0 < length front
+link_first link = then_first (IsSymbol (operator_symbol link.operator)) (IsFactor link.value) (symbol_first (operator_symbol link.operator))
 
-sum_took : (first : ExprTree) (ts : List Lexeme) (x : ExprTree × List Lexeme) → sum_at first ts ≡ Ok x → (others : List ExprTree) × (x.0 ≡ sum_of first others) × Took ts (IsEach IsAddend others) x.1
-unfolding addends_at
-sum_took first ts x e =
-    let a = bind_ok (addends_at (length ts) ts) (λ others. Ok (sum_of first others.0, others.1)) x e in
-    let made : ExprTree × List Lexeme = (sum_of first a.0.0, a.0.1) in
-    let same = ok_is made x a.2 in
-    (a.0.0, ap (λ (p : ExprTree × List Lexeme). p.0) (sym same), subst (λ (r : List Lexeme). Took ts (IsEach IsAddend a.0.0) r) (ap (λ (p : ExprTree × List Lexeme). p.1) same) (many_took IsAddend (has_symbol symbol.Plus) addend_at addend_took (length ts) ts a.0 a.1))
+pub link_shortens : IsShortening link_at
+link_shortens ts x e = shorter_by (link_first x.0) (link_took ts x e)
+
+links_took : (ts : List Lexeme) (x : List LinkTree × List Lexeme) → links_at ts ≡ Ok x → Took ts (IsEach IsLink x.0) x.1
+unfolding links_at
+links_took ts x e = many_took IsLink (has_symbol symbol.Plus) link_at link_took (length ts) ts x e
 
 pub expr_took : (ts : List Lexeme) (x : ExprTree × List Lexeme) → expr_at ts ≡ Ok x → Took ts (IsExpr x.0) x.1
 unfolding expr_at
 expr_took ts x e =
-    let a = bind_ok (factor_at ts) (λ first. sum_at first.0 first.1) x e in
-    let s = sum_took a.0.0 a.0.1 x a.2 in
-    took_as (λ front is. (a.0.0, s.0, s.1, is)) (then_took (factor_took ts a.0 a.1) s.2)
+    let a = bind_ok (factor_at ts) (λ first. links_at first.1 >>= λ links. Ok (chain_of first.0 links.0, links.1)) x e in
+    let b = bind_ok (links_at a.0.1) (λ links. Ok (chain_of a.0.0 links.0, links.1)) x a.2 in
+    let made : ExprTree × List Lexeme = (chain_of a.0.0 b.0.0, b.0.1) in
+    subst (λ (p : ExprTree × List Lexeme). Took ts (IsExpr p.0) p.1) (ok_is made x b.2)
+    (took_as (λ front is. (a.0.0, b.0.0, refl, is)) (then_took (factor_took ts a.0 a.1) (links_took a.0.1 b.0 b.1)))
 
 -- a statement alone
 unfoldable pub IsSingle : BlockTree → List Lexeme → Type 0

@@ -6,7 +6,7 @@ use Rattle.net_text.specs.Trees.{DeclarationTree}
 use Rattle.net_text.specs.Tokens.{Lexeme}
 use Rattle.net_text.specs.Texts.{IsLineAmong}
 use Rattle.net_text.specs.Grammar.{first_word}
-use Rattle.net_text.specs.Reading.{◌>>=◌, Read, has_word, has_symbol, is_name, begins, word_at, symbol_at, name_at, number_in, number_at, factor_in, factor_at, many, addend_at, addends_at, expr_at, get_at, assign_at, named_at, put_at, statement_at, starts_statement, statements_at, block_at, value_at, initial_at, variable_at, variables_at, loop_at, head_at, process_at, channel_at, edition_at, text_at, no_more, whole_text}
+use Rattle.net_text.specs.Reading.{◌>>=◌, Read, has_word, has_symbol, is_name, begins, word_at, symbol_at, name_at, number_in, number_at, factor_in, factor_at, many, link_at, links_at, expr_at, get_at, assign_at, named_at, put_at, statement_at, starts_statement, statements_at, block_at, value_at, initial_at, variable_at, variables_at, loop_at, head_at, process_at, channel_at, edition_at, text_at, no_more, whole_text}
 use Rattle.net_text.specs.declared.parser.Stuck.{Stuck}
 use Rattle.net_text.specs.declared.parser.Stuck.TheVariants.{At, AtEnd}
 use Rattle.net_text.specs.declared.token.Keyword.{Keyword}
@@ -97,9 +97,11 @@ unfolding factor_at
 factor_stays P [] h = tt
 factor_stays P (t ∷ ts) h = factor_in_stays P t.kind t ts h.0 h.1
 
-addend_stays : (P : ℕ → Type 0) (ts : List Lexeme) → OnLines P ts → StaysRead P (addend_at ts)
-unfolding addend_at
-addend_stays P ts h = then_stays P these after_value (symbol_at symbol.Plus ts) factor_at (symbol_stays P symbol.Plus ts h) (factor_stays P)
+link_stays : (P : ℕ → Type 0) (ts : List Lexeme) → OnLines P ts → StaysRead P (link_at ts)
+unfolding link_at
+link_stays P ts h =
+    then_stays P these after_value (symbol_at symbol.Plus ts) _ (symbol_stays P symbol.Plus ts h) (λ rest a.
+    then_stays P after_value after_value (factor_at rest) _ (factor_stays P rest a) (λ value b. b))
 
 many_stays : {A : Type 0} (P : ℕ → Type 0) (starts : TokenKind → Bool) (item : List Lexeme → Read A) → ((ts : List Lexeme) → OnLines P ts → StaysRead P (item ts))
     → (n : ℕ) (ts : List Lexeme) → OnLines P ts → StaysRead P (many starts item n ts)
@@ -111,10 +113,10 @@ many_stays P starts item stays (suc n) ts h =
     h
 
 expr_stays : (P : ℕ → Type 0) (ts : List Lexeme) → OnLines P ts → StaysRead P (expr_at ts)
-unfolding expr_at addends_at
+unfolding expr_at links_at
 expr_stays P ts h =
     then_stays P after_value after_value (factor_at ts) _ (factor_stays P ts h) (λ first more.
-    then_stays P after_value after_value (addends_at (length first.1) first.1) _ (many_stays P (has_symbol symbol.Plus) addend_at (addend_stays P) (length first.1) first.1 more) (λ others rest. rest))
+    then_stays P after_value after_value (links_at first.1) _ (many_stays P (has_symbol symbol.Plus) link_at (link_stays P) (length first.1) first.1 more) (λ links rest. rest))
 
 get_stays : (P : ℕ → Type 0) (name : NameTree) (ts : List Lexeme) → OnLines P ts → StaysRead P (get_at name ts)
 unfolding get_at

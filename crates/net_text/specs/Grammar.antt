@@ -5,17 +5,19 @@
 --     var     = "var" NAME [ "=" [ "-" ] NUMBER ] ";"
 --     block   = "{" { stmt } "}"
 --     stmt    = NAME "=" "get" NAME ";" | NAME "=" expr ";" | "put" expr "to" NAME ";"
---     expr    = factor { "+" factor }
+--     expr    = factor { operator factor }
+--     operator = "+"
 --     factor  = NUMBER | NAME
 use Rattle.std.specs.Prelude.{◌≡◌, ◌⊎◌, ℕ, ◌≤◌, List, [], ◌∷◌, ◌++◌, length, Option, Some, None, ℤ, pos, neg_ℤ}
 use Rattle.net_text.specs.Names.{NameTree}
-use Rattle.net_text.specs.Trees.{ExprTree, LiteralTree, VariableTree, BinaryTree, BlockTree, NothingTree, GetTree, AssignTree, PutTree, LoopTree, ProcessTree, DeclarationTree, ChannelTree, ProcessDeclared}
+use Rattle.net_text.specs.Trees.{ExprTree, LiteralTree, VariableTree, ChainTree, LinkTree, links_tree, BlockTree, NothingTree, GetTree, AssignTree, PutTree, LoopTree, ProcessTree, DeclarationTree, ChannelTree, ProcessDeclared}
 use Rattle.net_text.specs.Tokens.{Lexeme, AreTokens, text_limit}
 use Rattle.net_text.specs.declared.token.Keyword.{Keyword}
 use Rattle.net_text.specs.declared.token.Keyword.TheVariants as keyword
 use Rattle.net_text.specs.declared.token.Symbol.{Symbol}
 use Rattle.net_text.specs.declared.token.Symbol.TheVariants as symbol
 use Rattle.net_text.specs.declared.token.TokenKind.TheVariants as kind
+use Rattle.net_text.specs.declared.tree.Operator.{Operator}
 use Rattle.net_text.specs.declared.tree.Operator.TheVariants.{Add}
 use Rattle.net_text.specs.declared.tree.Role.{Role}
 use Rattle.net_text.specs.declared.tree.Role.TheVariants.{Input, Inner, Output}
@@ -58,19 +60,23 @@ IsEach P (x ∷ xs) = P x >> IsEach P xs
 abbrev pub IsFactor : ExprTree → List Lexeme → Type 0
 IsFactor (LiteralTree v) ts = (n : ℕ) × IsNumber n ts × (v ≡ pos n)
 IsFactor (VariableTree name) ts = IsName name ts
-IsFactor (BinaryTree operator left right) ts = ⊥
+IsFactor (ChainTree first links) ts = ⊥
 
--- a sum of terms, from left to right
-abbrev pub sum_of : ExprTree → List ExprTree → ExprTree
-sum_of so_far [] = so_far
-sum_of so_far (next ∷ others) = sum_of (BinaryTree Add so_far next) others
+-- operator = "+"
+abbrev pub operator_symbol : Operator → Symbol
+operator_symbol Add = symbol.Plus
 
--- expr = factor { "+" factor }
-abbrev pub IsAddend : ExprTree → List Lexeme → Type 0
-IsAddend e = IsSymbol symbol.Plus >> IsFactor e
+-- a value with its links, which is the value itself where there are none
+abbrev pub chain_of : ExprTree → List LinkTree → ExprTree
+chain_of first [] = first
+chain_of first (link ∷ links) = ChainTree first (links_tree (link ∷ links))
+
+-- expr = factor { operator factor }
+abbrev pub IsLink : LinkTree → List Lexeme → Type 0
+IsLink link = IsSymbol (operator_symbol link.operator) >> IsFactor link.value
 
 abbrev pub IsExpr : ExprTree → List Lexeme → Type 0
-IsExpr e ts = (first : ExprTree) × (others : List ExprTree) × (e ≡ sum_of first others) × (IsFactor first >> IsEach IsAddend others) ts
+IsExpr e ts = (first : ExprTree) × (links : List LinkTree) × (e ≡ chain_of first links) × (IsFactor first >> IsEach IsLink links) ts
 
 -- stmt = NAME "=" "get" NAME ";" | NAME "=" expr ";" | "put" expr "to" NAME ";"
 abbrev pub IsGet : NameTree → NameTree → List Lexeme → Type 0

@@ -8,4 +8,5 @@ pub mod Reading
 pub mod Spellings
 pub mod Texts
 pub mod Tokens
+pub mod TreeLaws
 pub mod Trees

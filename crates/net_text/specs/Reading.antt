@@ -4,9 +4,9 @@ use Rattle.std.specs.Prelude.{◌≡◌, ℕ, zero, suc, Bool, true, false, ◌|
 use Rattle.std.specs.Str.{bytes_eq}
 use Rattle.net_text.specs.Names.{NameTree}
 use Rattle.net_text.specs.Spellings.{keyword_spelling, symbol_spelling}
-use Rattle.net_text.specs.Trees.{ExprTree, LiteralTree, VariableTree, BlockTree, NothingTree, GetTree, AssignTree, PutTree, LoopTree, ProcessTree, DeclarationTree, ChannelTree, ProcessDeclared}
+use Rattle.net_text.specs.Trees.{ExprTree, LiteralTree, VariableTree, LinkTree, BlockTree, NothingTree, GetTree, AssignTree, PutTree, LoopTree, ProcessTree, DeclarationTree, ChannelTree, ProcessDeclared}
 use Rattle.net_text.specs.Tokens.{Lexeme}
-use Rattle.net_text.specs.Grammar.{sum_of, first_word}
+use Rattle.net_text.specs.Grammar.{chain_of, first_word}
 use Rattle.net_text.specs.declared.parser.Head.{Head}
 use Rattle.net_text.specs.declared.parser.Stuck.{Stuck}
 use Rattle.net_text.specs.declared.parser.Stuck.TheVariants.{At, AtEnd}
@@ -22,6 +22,7 @@ use Rattle.net_text.specs.declared.token.Symbol.{Symbol}
 use Rattle.net_text.specs.declared.token.Symbol.TheVariants as symbol
 use Rattle.net_text.specs.declared.token.TokenKind.{TokenKind}
 use Rattle.net_text.specs.declared.token.TokenKind.TheVariants as kind
+use Rattle.net_text.specs.declared.tree.Operator.TheVariants.{Add}
 use Rattle.net_text.specs.declared.tree.Role.{Role}
 use Rattle.net_text.specs.declared.tree.Role.TheVariants.{Input, Output}
 use Rattle.net_text.specs.declared.tree.ChannelText.{ChannelText}
@@ -108,22 +109,22 @@ abbrev pub many : {A : Type 0} → (TokenKind → Bool) → (List Lexeme → Rea
 many starts item zero ts = Ok ([], ts)
 many starts item (suc n) ts = if begins starts ts then (item ts >>= λ first. many starts item n first.1 >>= λ others. Ok (first.0 ∷ others.0, others.1)) else Ok ([], ts)
 
-unfoldable pub addend_at : List Lexeme → Read ExprTree
-addend_at ts = do
+-- an operator and the value to its right
+unfoldable pub link_at : List Lexeme → Read LinkTree
+link_at ts = do
   rest ← symbol_at symbol.Plus ts
-  factor_at rest
+  value ← factor_at rest
+  Ok (record { operator = Add; value = value.0 }, value.1)
 
-unfoldable pub addends_at : ℕ → List Lexeme → Read (List ExprTree)
-addends_at n ts = many (has_symbol symbol.Plus) addend_at n ts
+unfoldable pub links_at : List Lexeme → Read (List LinkTree)
+links_at ts = many (has_symbol symbol.Plus) link_at (length ts) ts
 
--- a value, and what is added to it
-abbrev pub sum_at : ExprTree → List Lexeme → Read ExprTree
-sum_at first ts = addends_at (length ts) ts >>= λ others. Ok (sum_of first others.0, others.1)
-
+-- a value, and the operators that follow it
 unfoldable pub expr_at : List Lexeme → Read ExprTree
 expr_at ts = do
   first ← factor_at ts
-  sum_at first.0 first.1
+  links ← links_at first.1
+  Ok (chain_of first.0 links.0, links.1)
 
 -- a statement, as a block of one
 unfoldable pub get_at : NameTree → List Lexeme → Read BlockTree

@@ -2,8 +2,8 @@
 use Rattle.std.specs.Prelude.{ℕ, ℤ, List, [], ◌∷◌, map, Option, Some, None}
 use Rattle.net_text.specs.Names.{NameTree}
 use Rattle.net_text.specs.declared.tree.Operator.{Operator}
-use Rattle.net_text.specs.declared.tree.ExprText.{ExprText}
-use Rattle.net_text.specs.declared.tree.ExprText.TheVariants.{Literal, Variable, Binary'}
+use Rattle.net_text.specs.declared.tree.ExprText.{ExprText, Literal, Variable, Chain', Row_of-LinkText, end_of-LinkText, more_of-LinkText}
+use Rattle.net_text.specs.declared.tree.LinkText.{LinkText}
 use Rattle.net_text.specs.declared.tree.StatementText.{StatementText}
 use Rattle.net_text.specs.declared.tree.StatementText.TheVariants.{Get, Assign, Put}
 use Rattle.net_text.specs.declared.tree.ChannelText.{ChannelText}
@@ -17,11 +17,21 @@ use Rattle.net_text.specs.declared.tree.NetText.{NetText}
 use Rattle.net_text.specs.declared.raw_inputs.InputLine.{InputLine}
 use Rattle.net_text.specs.declared.raw_inputs.RawInputs.{RawInputs}
 
--- an expression
-pub data ExprTree : Type 0 where
-  LiteralTree : (value : ℤ) → ExprTree
-  VariableTree : (name : NameTree) → ExprTree
-  BinaryTree : (operator : Operator) (left right : ExprTree) → ExprTree
+-- an expression, and the links of a chain, each with those after it
+mutual
+  pub data ExprTree : Type 0 where
+    LiteralTree : (value : ℤ) → ExprTree
+    VariableTree : (name : NameTree) → ExprTree
+    ChainTree : (first : ExprTree) (links : LinksTree) → ExprTree
+
+  pub data LinksTree : Type 0 where
+    NoLinksTree : LinksTree
+    LinkThenTree : (operator : Operator) (value : ExprTree) (rest : LinksTree) → LinksTree
+
+-- a link alone
+pub record LinkTree : Type 0 where
+  pub operator : Operator
+  pub value : ExprTree
 
 -- statements, each with those after it
 pub data BlockTree : Type 0 where
@@ -46,10 +56,23 @@ pub data DeclarationTree : Type 0 where
   ChannelTree : (channel : ChannelText) → DeclarationTree
   ProcessDeclared : (process : ProcessTree) → DeclarationTree
 
-abbrev pub expr_tree : ExprText → ExprTree
-expr_tree (Literal n) = LiteralTree n
-expr_tree (Variable name) = VariableTree name
-expr_tree (Binary' operator p a q b) = BinaryTree operator (expr_tree a) (expr_tree b)
+abbrev mutual
+  pub expr_tree : ExprText → ExprTree
+  expr_tree (Literal n) = LiteralTree n
+  expr_tree (Variable name) = VariableTree name
+  expr_tree (Chain' p first shape links) = ChainTree (expr_tree first) (row_tree links)
+
+  pub row_tree : {m : _} → Row_of-LinkText m → LinksTree
+  row_tree end_of-LinkText = NoLinksTree
+  row_tree (more_of-LinkText operator value rest) = LinkThenTree operator (expr_tree value) (row_tree rest)
+
+abbrev pub link_tree : LinkText → LinkTree
+link_tree l = record { operator = l.operator; value = expr_tree l.value }
+
+-- links one after another
+abbrev pub links_tree : List LinkTree → LinksTree
+links_tree [] = NoLinksTree
+links_tree (l ∷ ls) = LinkThenTree l.operator l.value (links_tree ls)
 
 abbrev pub then_tree : StatementText → BlockTree → BlockTree
 then_tree (Get variable channel) rest = GetTree variable channel rest

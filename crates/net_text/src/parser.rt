@@ -1,19 +1,19 @@
 //! Reading a network's text: functions from a slice of tokens to what they say and the tokens after it.
 //! Each gives what its reader in specs/ gives; that the readers are those of the grammar stands in proofs/.
 
-ghost use Rattle.std.specs.Prelude.{◌≡◌, ◌↔◌, IsTrue, IfOk, length, Option};
-ghost use Rattle.net_text.specs.Trees.{expr_tree, then_tree, block_tree, repeated_tree, process_tree, net_tree, NothingTree, BinaryTree};
+ghost use Rattle.std.specs.Prelude.{◌≡◌, ◌↔◌, IsTrue, IfOk, length, map, Option};
+ghost use Rattle.net_text.specs.Trees.{expr_tree, link_tree, then_tree, block_tree, repeated_tree, process_tree, net_tree, NothingTree};
 ghost use Rattle.net_text.specs.Numbers.{IsInRange};
-ghost use Rattle.net_text.specs.Grammar.{first_word};
+ghost use Rattle.net_text.specs.Grammar.{chain_of, first_word};
 ghost use Rattle.net_text.specs.Tokens.{lexemes};
-ghost use Rattle.net_text.specs.Reading.{Gives, has_word, has_symbol, is_name, begins, starts_statement, word_at, symbol_at, name_at, number_at, factor_at, addend_at, sum_at, expr_at, get_at, assign_at, named_at, put_at, statement_at, statements_at, block_at, value_at, initial_at, variable_at, variables_at, loop_at, head_at, head_tree, process_at, channel_at, edition_at, text_at, whole_text};
+ghost use Rattle.net_text.specs.Reading.{Gives, has_word, has_symbol, is_name, begins, starts_statement, word_at, symbol_at, name_at, number_at, factor_at, link_at, links_at, expr_at, get_at, assign_at, named_at, put_at, statement_at, statements_at, block_at, value_at, initial_at, variable_at, variables_at, loop_at, head_at, head_tree, process_at, channel_at, edition_at, text_at, whole_text};
 ghost use Rattle.net_text.specs.declared.parser.ParseError.TheVariants.{NoMemory};
 
 use crate::name::Name;
 use crate::token::{Keyword, Symbol, Token, TokenKind};
 use crate::tree::{
-    ChannelText, Declaration, ExprText, LoopText, NetText, NodeText, Operator, ProcessText, Role,
-    StatementText, VariableText,
+    ChannelText, Declaration, ExprText, LinkText, LoopText, NetText, NodeText, Operator,
+    ProcessText, Role, StatementText, VariableText,
 };
 use std::alloc::{AllocError, AllocFailed, Global};
 use std::marker::Model;
@@ -74,14 +74,17 @@ fn name_of(alloc: Global, token: &Token) -> Result<Name, AllocError>
     Ok(Name::new(String::from_str(alloc, token.text)?, token.line))
 }
 
-// A value joined to another by `+`.
-fn sum(alloc: Global, left: ExprText, right: ExprText) -> Result<ExprText, AllocError>
-    ensures { IfOk result (λ e. expr_tree e ≡ BinaryTree Operator.Add (expr_tree left) (expr_tree right)) }
+// A value with its links, which is the value itself where there are none.
+#[tactic(auto, using(crate::specs::TreeLaws::chain_tree))]
+fn chain(alloc: Global, first: ExprText, links: Vec<LinkText>) -> Result<ExprText, AllocError>
+    ensures { IfOk result (λ e. expr_tree e ≡ chain_of (expr_tree first) (map link_tree links.items)) }
 {
-    Ok(ExprText::Binary {
-        operator: Operator::Add,
-        left: Box::new(alloc, left)?,
-        right: Box::new(alloc, right)?,
+    if links.is_empty() {
+        return Ok(first);
+    }
+    Ok(ExprText::Chain {
+        first: Box::new(alloc, first)?,
+        links,
     })
 }
 
@@ -242,24 +245,29 @@ impl<'a> Parser<'a> {
         }
     }
 
-    #[tactic(auto, unfolding(crate::specs::Reading::addend_at))]
-    fn addend(&mut self) -> Result<ExprText, ParseError>
-        ensures { Gives (λ e. (expr_tree e, self.new)) result (addend_at self.old) }
+    // An operator, and the value to its right.
+    #[tactic(auto, unfolding(crate::specs::Reading::link_at))]
+    fn link(&mut self) -> Result<LinkText, ParseError>
+        ensures { Gives (λ l. (link_tree l, self.new)) result (link_at self.old) }
     {
         self.symbol(Symbol::Plus)?;
-        self.factor()
+        let value = self.factor()?;
+        Ok(LinkText {
+            operator: Operator::Add,
+            value,
+        })
     }
 
-    // A value, and what is added to it, one after the other.
-    fn sum_from(&mut self, first: ExprText) -> Result<ExprText, ParseError>
-        ensures { Gives (λ e. (expr_tree e, self.new)) result (sum_at (expr_tree first) self.old) }
+    #[tactic(auto, unfolding(crate::specs::Reading::links_at))]
+    fn links(&mut self) -> Result<Vec<LinkText>, ParseError>
+        ensures { Gives (λ v. (map link_tree v.items, self.new)) result (links_at self.old) }
     {
-        let mut so_far = first;
+        let mut links = Vec::new(self.alloc);
         while self.begins_with_symbol(Symbol::Plus) {
-            let next = self.addend()?;
-            so_far = sum(self.alloc, so_far, next)?;
+            let link = self.link()?;
+            links.push(link)?;
         }
-        Ok(so_far)
+        Ok(links)
     }
 
     #[tactic(auto, unfolding(crate::specs::Reading::expr_at))]
@@ -267,7 +275,8 @@ impl<'a> Parser<'a> {
         ensures { Gives (λ e. (expr_tree e, self.new)) result (expr_at self.old) }
     {
         let first = self.factor()?;
-        self.sum_from(first)
+        let links = self.links()?;
+        Ok(chain(self.alloc, first, links)?)
     }
 
     // The rest of a get, past the `=`.

@@ -49,11 +49,7 @@ fn the_running_sum_is_read(rt: HostRuntime) -> Result<(), Fail> {
                 [
                     StatementText::Get { variable, channel },
                     StatementText::Assign {
-                        value: ExprText::Binary {
-                            operator: Operator::Add,
-                            left,
-                            right,
-                        },
+                        value: ExprText::Chain { first, links },
                         ..
                     },
                     StatementText::Put { .. },
@@ -61,8 +57,22 @@ fn the_running_sum_is_read(rt: HostRuntime) -> Result<(), Fail> {
                     assert_eq!(rt; variable.as_str(), "v");
                     assert_eq!(rt; channel.as_str(), "i");
                     // From left to right: (a + v) + 1.
-                    assert!(rt; matches!(&**left, ExprText::Binary { .. }));
-                    assert!(rt; matches!(&**right, ExprText::Literal(1)));
+                    assert!(rt; matches!(&**first, ExprText::Variable(_)));
+                    assert!(rt;
+                        matches!(
+                            links.as_slice(),
+                            [
+                                LinkText {
+                                    operator: Operator::Add,
+                                    value: ExprText::Variable(_)
+                                },
+                                LinkText {
+                                    operator: Operator::Add,
+                                    value: ExprText::Literal(1)
+                                },
+                            ]
+                        )
+                    );
                 }
                 _ => assert!(rt; false, "a get, an assignment and a put"),
             }

@@ -39,14 +39,23 @@ pub enum Operator {
 
 /// An expression.
 #[derive(Debug, Drop)]
+#[cycle(expression)]
 pub enum ExprText {
     Literal(i64),
     Variable(Name),
-    Binary {
-        operator: Operator,
-        left: Box<ExprText>,
-        right: Box<ExprText>,
+    /// A value, and operators with the value to the right of each, which group from the left.
+    Chain {
+        first: Box<ExprText>,
+        links: Vec<LinkText>,
     },
+}
+
+/// An operator with the value to its right.
+#[derive(Debug, Drop)]
+#[cycle(expression)]
+pub struct LinkText {
+    pub operator: Operator,
+    pub value: ExprText,
 }
 
 /// A statement.

@@ -2,6 +2,7 @@
 //! make it, outside every lock.
 #![tactic(auto)]
 
+mod comparing;
 mod job;
 mod outcome;
 mod room;

@@ -199,6 +199,49 @@ fn cut_at_every_length(rt: HostRuntime) -> Result<(), Fail> {
     Ok(())
 }
 
+/// The running sum with its variables the other way round.
+const OTHER: &str =
+    "kahn 1; input i; output o; process sum on 0 { var a; var v; loop { v = get i; a = v + a; put a to o; } }";
+
+/// A job at the sum's get, with this version, these variables, items and room.
+fn job_at(
+    alloc: Global,
+    net: &Arc<Net>,
+    version: u64,
+    variables: &[i64],
+    items: &[i64],
+    room: usize,
+) -> Result<Job, Fail> {
+    let before = state(alloc, Place::At(0), variables)?;
+    let mut job = job(alloc, net, before, items, room)?;
+    job.version = version;
+    Ok(job)
+}
+
+#[test]
+fn jobs_are_compared_whole(rt: HostRuntime) -> Result<(), Fail> {
+    let alloc = rt.alloc();
+    let net = net_of(alloc, SUM)?;
+    let one = job_at(alloc, &net, 3, &[1, 2], &[7, 8], 5)?;
+    assert!(rt; one.is_same(&job_at(alloc, &net, 3, &[1, 2], &[7, 8], 5)?));
+    assert!(rt; one.is_same(&job_at(alloc, &net_of(alloc, SUM)?, 3, &[1, 2], &[7, 8], 5)?));
+    for (version, variables, items, room) in [
+        (4, [1, 2], [7, 8].as_slice(), 5),
+        (3, [2, 1], [7, 8].as_slice(), 5),
+        (3, [1, 2], [7].as_slice(), 5),
+        (3, [1, 2], [7, 9].as_slice(), 5),
+        (3, [1, 2], [7, 8].as_slice(), 4),
+    ] {
+        let other = job_at(alloc, &net, version, &variables, items, room)?;
+        assert!(rt; !one.is_same(&other), "{version}, {items:?}, {room}");
+    }
+    let elsewhere = state(alloc, Place::At(1), &[1, 2])?;
+    assert!(rt; !one.is_same(&job(alloc, &net, elsewhere, &[7, 8], 5)?));
+    let other = net_of(alloc, OTHER)?;
+    assert!(rt; !one.is_same(&job_at(alloc, &other, 3, &[1, 2], &[7, 8], 5)?));
+    Ok(())
+}
+
 #[test]
 fn jobs_and_what_they_come_to_go_to_other_threads(rt: HostRuntime) -> Result<(), Fail> {
     let alloc = rt.alloc();

@@ -4,3 +4,4 @@ pub mod Going
 pub mod Loops
 pub mod Rounds
 pub mod Lengths
+pub mod Chains

@@ -1,7 +1,7 @@
 -- Small networks, on which the tests compute the definitions.
 use Rattle.std.specs.Prelude.{ℕ, ℤ, pos, List, [], ◌∷◌, replicate, Some}
 use Rattle.net_text.specs.declared.tree.Operator.TheVariants.{Add}
-use Rattle.net_check.specs.Syntax.{Number, Name, Binary, Nothing, GetThen, AssignThen, PutThen, Code, Network}
+use Rattle.net_check.specs.Syntax.{Number, Name, Chain, NoLinks, LinkThen, Nothing, GetThen, AssignThen, PutThen, Code, Network}
 use Rattle.net_check.specs.Approximations.{approximation}
 use Rattle.net_check.specs.declared.program.Channel.{Channel}
 use Rattle.net_check.specs.declared.program.Port.{Port}
@@ -12,7 +12,7 @@ channel_from producer consumer = record { producer = producer; consumer = consum
 
 -- The running sum: input 0, output 1, and `process sum on 0 { var a; var v; loop { v = get i; a = a + v; put a to o; } }`.
 abbrev pub summing_code : ℕ → ℕ → Code
-summing_code from to = record { node = 0; vars = pos 0 ∷ pos 0 ∷ []; prelude = Nothing; body = Some (GetThen 1 from (AssignThen 0 (Binary Add (Name 0) (Name 1)) (PutThen (Name 0) to Nothing))) }
+summing_code from to = record { node = 0; vars = pos 0 ∷ pos 0 ∷ []; prelude = Nothing; body = Some (GetThen 1 from (AssignThen 0 (Chain (Name 0) (LinkThen Add (Name 1) NoLinks)) (PutThen (Name 0) to Nothing))) }
 
 abbrev pub sum_net : Network
 sum_net = record { channels = channel_from Outside (Process 0) ∷ channel_from (Process 0) Outside ∷ []; codes = summing_code 0 1 ∷ [] }
@@ -32,7 +32,7 @@ at_the_end = pos 9223372036854775807 ∷ pos 1 ∷ []
 
 -- Two inputs, 0 and 1, whose items are added in pairs onto channel 2, and their running sum on output 3.
 abbrev pub add_code : Code
-add_code = record { node = 0; vars = pos 0 ∷ pos 0 ∷ []; prelude = Nothing; body = Some (GetThen 0 0 (GetThen 1 1 (PutThen (Binary Add (Name 0) (Name 1)) 2 Nothing))) }
+add_code = record { node = 0; vars = pos 0 ∷ pos 0 ∷ []; prelude = Nothing; body = Some (GetThen 0 0 (GetThen 1 1 (PutThen (Chain (Name 0) (LinkThen Add (Name 1) NoLinks)) 2 Nothing))) }
 
 abbrev pub pair_net : Network
 pair_net = record {

@@ -23,11 +23,13 @@ pub fn value(expr: &Expr, variables: &[i64]) -> i64
     match expr {
         Expr::Literal(number) => *number,
         Expr::Variable(variable) => variables.get(*variable).copied().unwrap_or(0),
-        Expr::Binary {
-            operator,
-            left,
-            right,
-        } => operate(*operator, value(left, variables), value(right, variables)),
+        Expr::Chain { first, links } => {
+            let mut total = value(first, variables);
+            for link in links {
+                total = operate(link.operator, total, value(&link.value, variables));
+            }
+            total
+        }
     }
 }
 

@@ -15,7 +15,7 @@ mod unread;
 pub use approximation::approx;
 pub use evaluate::{set_variable, value};
 pub use fault::Fault;
-pub use histories::Histories;
+pub use histories::{Histories, are_same};
 pub use laws::{
     agreement_law, growth_law, least_solution_law, monotone_law, one_item_law, standing_law,
     well_founded_law,

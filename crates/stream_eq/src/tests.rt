@@ -13,8 +13,8 @@ use crate::histories::Histories;
 use crate::solution::is_solution;
 use net_check::{History, Net, NetFault, bind, check};
 use net_text::{
-    ChannelText, Declaration, ExprText, InputLine, LoopText, Name, NetText, NodeText, Operator,
-    ProcessText, RawInputs, Role, StatementText, VariableText,
+    ChannelText, Declaration, ExprText, InputLine, LinkText, LoopText, Name, NetText, NodeText,
+    Operator, ProcessText, RawInputs, Role, StatementText, VariableText,
 };
 use std::alloc::{AllocError, Global};
 use std::test::Fail;
@@ -90,13 +90,13 @@ fn variable(alloc: Global, text: &str) -> Result<ExprText, AllocError> {
 
 /// The expression a + v.
 fn sum(alloc: Global) -> Result<ExprText, AllocError> {
-    let left = Box::new(alloc, variable(alloc, "a")?)?;
-    let right = Box::new(alloc, variable(alloc, "v")?)?;
-    Ok(ExprText::Binary {
+    let first = Box::new(alloc, variable(alloc, "a")?)?;
+    let mut links = Vec::new(alloc);
+    links.push(LinkText {
         operator: Operator::Add,
-        left,
-        right,
-    })
+        value: variable(alloc, "v")?,
+    })?;
+    Ok(ExprText::Chain { first, links })
 }
 
 /// The variables a and v, which begin with 0.

@@ -1,0 +1,72 @@
+//! Whether two jobs are the same.
+
+ghost use Rattle.std.specs.Prelude.{◌≡◌, ◌↔◌, IsTrue, Some, slice_get};
+ghost use Rattle.net_check.specs.Syntax.{code_of, network_of};
+ghost use Rattle.proc_step.specs.Jobs.{IsSameJob};
+
+use crate::job::Job;
+use net_check::{Place, ProcState, Process, is_same_process};
+use stream_eq::are_same;
+
+/// Whether two places are the same.
+fn is_same_place(place: Place, other: Place) -> bool
+    ensures { IsTrue result ↔ (place ≡ other) }
+{
+    place == other
+}
+
+/// Whether the values of variables are the same.
+fn are_same_values(values: &[i64], others: &[i64]) -> bool
+    ensures { IsTrue result ↔ (values.now ≡ others.now) }
+{
+    values == others
+}
+
+/// Whether two states are the same.
+fn is_same_state(state: &ProcState, other: &ProcState) -> bool
+    ensures { IsTrue result ↔ ((state.now.place ≡ other.now.place) × (state.now.variables.items ≡ other.now.variables.items)) }
+{
+    if !is_same_place(state.place, other.place) {
+        return false;
+    }
+    are_same_values(&state.variables, &other.variables)
+}
+
+/// Whether the places of room are the same.
+fn is_same_room(room: &[usize], other: &[usize]) -> bool
+    ensures { IsTrue result ↔ (room.now ≡ other.now) }
+{
+    room == other
+}
+
+impl Job {
+    /// Whether two jobs are the same: the number and the code of the process, compared whole, the
+    /// version, the state, the items and the room.
+    pub fn is_same(&self, other: &Job) -> bool
+        ensures { IsTrue result ↔ IsSameJob self.now other.now }
+    {
+        if self.process != other.process {
+            return false;
+        }
+        if self.version != other.version {
+            return false;
+        }
+        if !is_same_state(&self.state, &other.state) {
+            return false;
+        }
+        if !is_same_room(&self.room, &other.room) {
+            return false;
+        }
+        if !are_same(&self.items, &other.items) {
+            return false;
+        }
+        is_same_process(self.code(), other.code())
+    }
+
+    /// The process.
+    fn code(&self) -> &Process
+        ensures { slice_get (network_of self.now.net.value.program).codes self.now.process ≡ Some (code_of result.now) }
+    {
+        &self.net.program.processes[self.process]
+    }
+}

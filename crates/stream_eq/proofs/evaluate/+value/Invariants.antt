@@ -1,0 +1,7 @@
+use Rattle.std.proofs.Common.{◌≡◌, drop}
+use Rattle.net_check.specs.Statements.{value_of, value_along}
+use Rattle.net_check.specs.Syntax.{links_of, tree_of}
+use Rattle.stream_eq.proofs.evaluate.+value.Given as goal
+
+abbrev pub invariant-loop-link : goal.invariant-loop-link
+invariant-loop-link l = value_along (links_of (drop l.link-index l.link-items)) l.variables l.total ≡ value_of (tree_of l.fn.expr) l.fn.variables
