@@ -6,6 +6,9 @@ use std::alloc::Global;
 use std::env;
 use std::time::CpuClock;
 
+// Readings of each text; the shortest counts.
+const READINGS: usize = 5;
+
 // Statements, and items, of the shortest text.
 const STATEMENTS: usize = 12_000;
 
@@ -58,25 +61,35 @@ fn print_row(
     Ok(())
 }
 
+// The shortest time in which this reading was made.
+fn shortest(before: Option<u64>, now: u64) -> u64 {
+    match before {
+        None => now,
+        Some(before) => if now < before { now } else { before },
+    }
+}
+
 fn networks(rt: &(impl Print + CpuClock), alloc: Global) -> anyhow::Result<()> {
     let mut tokens_before = 0;
     let mut parse_before = 0;
     for statements in [STATEMENTS, 2 * STATEMENTS, 4 * STATEMENTS] {
         let text = network(alloc, statements)?;
-        let start = processor_micros(rt)?;
-        let cut = tokens(alloc, &text)?;
-        let middle = processor_micros(rt)?;
-        let tree = parse(alloc, &text)?;
-        let end = processor_micros(rt)?;
-        let tokens_now = middle.saturating_sub(start);
-        let parse_now = end.saturating_sub(middle);
+        let mut tokens_now = None;
+        let mut parse_now = None;
+        for _ in 0..READINGS {
+            let start = processor_micros(rt)?;
+            let cut = tokens(alloc, &text)?;
+            let middle = processor_micros(rt)?;
+            let tree = parse(alloc, &text)?;
+            let end = processor_micros(rt)?;
+            anyhow::ensure!(cut.len() > statements, "tokens are missing");
+            anyhow::ensure!(tree.declarations.len() == 3, "declarations are missing");
+            tokens_now = Some(shortest(tokens_now, middle.saturating_sub(start)));
+            parse_now = Some(shortest(parse_now, end.saturating_sub(middle)));
+        }
+        let (tokens_now, parse_now) = (tokens_now.unwrap_or(0), parse_now.unwrap_or(0));
         print_row(rt, "tokens      ", text.len(), tokens_now, tokens_before)?;
         print_row(rt, "parse       ", text.len(), parse_now, parse_before)?;
-        println!(rt;
-            "    ({} tokens, {} declarations)",
-            cut.len(),
-            tree.declarations.len()
-        )?;
         tokens_before = tokens_now;
         parse_before = parse_now;
     }
@@ -87,11 +100,16 @@ fn input_lines(rt: &(impl Print + CpuClock), alloc: Global) -> anyhow::Result<()
     let mut before = 0;
     for items in [ITEMS, 2 * ITEMS, 4 * ITEMS] {
         let text = inputs(alloc, items)?;
-        let start = processor_micros(rt)?;
-        let lines = parse_inputs(alloc, &text)?;
-        let now = processor_micros(rt)?.saturating_sub(start);
+        let mut now = None;
+        for _ in 0..READINGS {
+            let start = processor_micros(rt)?;
+            let lines = parse_inputs(alloc, &text)?;
+            let end = processor_micros(rt)?;
+            anyhow::ensure!(lines.lines.len() == 1, "lines are missing");
+            now = Some(shortest(now, end.saturating_sub(start)));
+        }
+        let now = now.unwrap_or(0);
         print_row(rt, "parse_inputs", text.len(), now, before)?;
-        println!(rt; "    ({} lines)", lines.lines.len())?;
         before = now;
     }
     Ok(())
