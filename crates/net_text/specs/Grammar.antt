@@ -5,8 +5,7 @@
 --     var     = "var" NAME [ "=" [ "-" ] NUMBER ] ";"
 --     block   = "{" { stmt } "}"
 --     stmt    = NAME "=" "get" NAME ";" | NAME "=" expr ";" | "put" expr "to" NAME ";"
---     expr    = factor { operator factor }
---     operator = "+"
+--     expr    = factor { "+" factor }
 --     factor  = NUMBER | NAME
 use Rattle.std.specs.Prelude.{◌≡◌, ◌⊎◌, ℕ, ◌≤◌, List, [], ◌∷◌, ◌++◌, length, Option, Some, None, ℤ, pos, neg_ℤ}
 use Rattle.net_text.specs.Names.{NameTree}
@@ -62,7 +61,7 @@ IsFactor (LiteralTree v) ts = (n : ℕ) × IsNumber n ts × (v ≡ pos n)
 IsFactor (VariableTree name) ts = IsName name ts
 IsFactor (ChainTree first links) ts = ⊥
 
--- operator = "+"
+-- how an operator is written
 abbrev pub operator_symbol : Operator → Symbol
 operator_symbol Add = symbol.Plus
 
@@ -71,10 +70,11 @@ abbrev pub chain_of : ExprTree → List LinkTree → ExprTree
 chain_of first [] = first
 chain_of first (link ∷ links) = ChainTree first (links_tree (link ∷ links))
 
--- expr = factor { operator factor }
+-- an operator and the factor to its right
 abbrev pub IsLink : LinkTree → List Lexeme → Type 0
 IsLink link = IsSymbol (operator_symbol link.operator) >> IsFactor link.value
 
+-- expr = factor { "+" factor }
 abbrev pub IsExpr : ExprTree → List Lexeme → Type 0
 IsExpr e ts = (first : ExprTree) × (links : List LinkTree) × (e ≡ chain_of first links) × (IsFactor first >> IsEach IsLink links) ts
 
