@@ -1,6 +1,6 @@
 // An outlet goes on to where a log's items may leave.
-ghost use Rattle.std.specs.Prelude.{◌≡◌, ◌↔◌, List, ◌++◌, ℤ, length, max, IsTrue, OnOk, IsErrOf};
-ghost use Rattle.outlet.specs.LogState.{IsLogOf};
+ghost use Rattle.std.specs.Prelude.{◌≡◌, ◌⊎◌, ◌↔◌, List, ◌++◌, ℤ, length, max, IsTrue, OnOk, IsErrOf};
+ghost use Rattle.outlet.specs.LogState.{IsLogOf, items_at};
 ghost use Rattle.outlet.specs.Faults.{failures_after};
 ghost use Rattle.outlet.specs.Released.{CanRelease, released_items, IsBeginningOf, TookSome, TookSomeOrAll};
 
@@ -13,6 +13,21 @@ pub fn can_release<O: Outlet>(outlet: &O, log: &Log, covered: u64) -> bool
     ensures { IsTrue result ↔ CanRelease log.now (length (O.taken outlet.now)) covered }
 {
     log.base() <= outlet.len() && covered <= log.end()
+}
+
+// Appends the log's item at a position, where there is one.
+fn append_at<O: Outlet>(outlet: &mut O, log: &Log, position: u64) -> Result<(), OutletFault>
+    ensures ok { OnOk result (O.taken outlet.new ≡ O.taken outlet.old ++ items_at log.now position) }
+    ensures failed { IsErrOf result OutletFault.Failed
+        → (O.taken outlet.new ≡ O.taken outlet.old)
+        ⊎ (O.taken outlet.new ≡ O.taken outlet.old ++ items_at log.now position) }
+    ensures no_memory { IsErrOf result OutletFault.NoMemory → O.taken outlet.new ≡ O.taken outlet.old }
+    ensures count { O.failures outlet.new ≡ failures_after result (O.failures outlet.old) }
+{
+    match log.get(position) {
+        Some(item) => outlet.append(item),
+        None => Ok(()),
+    }
 }
 
 /// Hands the outlet those of the log's items before the position `covered` that it hasn't taken yet, one by one and in
@@ -37,9 +52,7 @@ pub fn release<O: Outlet>(outlet: &mut O, log: &Log, covered: u64) -> Result<(),
         → IsBeginningOf (O.taken outlet.old) history → IsBeginningOf (O.taken outlet.new) history }
 {
     for position in outlet.len()..covered {
-        if let Some(item) = log.get(position) {
-            outlet.append(item)?;
-        }
+        append_at(outlet, log, position)?;
     }
     Ok(())
 }
