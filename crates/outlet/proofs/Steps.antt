@@ -3,7 +3,7 @@ use Rattle.std.proofs.Common.{◌≡◌, ◌⊎◌, inl, inr, ℕ, ◌+◌, ◌-
 use Rattle.std.specs.Prelude.{slice_get, Err, IsErrOf}
 use Rattle.std.specs.Option.{option_to_list}
 use Rattle.std.proofs.Math.Seq.{take-add}
-use Rattle.std.proofs.lemmas.List.{take_more, take-take, take_min, length-take, length-take-le, length-drop, get_or-drop, drop-drop, append_assoc}
+use Rattle.std.proofs.lemmas.List.{take_more, take-take, take_min, length-take, length-take-le, length-drop, length-append, get_or-drop, drop-drop, append_assoc}
 use Rattle.std.proofs.lemmas.Option.{slice_get-get_or, get_or_from_slice_get, slice_get_within}
 use Rattle.outlet.specs.LogState.{LogState, log_end, item_at, items_at, IsLogOf}
 use Rattle.outlet.specs.declared.fault.OutletFault.{OutletFault}
@@ -155,3 +155,10 @@ stays_beginning log covered before now history no_gap took is_log begins =
     goes_on_by log took.count before now history no_gap
     (took.taken ∙ ap (λ (items : List ℤ). before ++ items) (take-take took.count (covered - length before) (drop (length before - log.base) log.items) fewer))
     is_log begins
+
+-- an outlet that took more can go on by the same log
+pub may_go_on : (log : LogState) (covered : ℕ) (before now more : List ℤ) → CanRelease log (length before) covered → now ≡ before ++ more → CanRelease log (length now) covered
+may_go_on log covered before now more can taken = record {
+  no_gap = omega (arith, can.no_gap, ap length taken, length-append before more);
+  within = can.within;
+}

@@ -33,8 +33,8 @@ fn append_at<O: Outlet>(outlet: &mut O, log: &Log, position: u64) -> Result<(), 
 /// Hands the outlet those of the log's items before the position `covered` that it hasn't taken yet, one by one and in
 /// order. Where it took as many before, nothing happens.
 ///
-/// Stops at the first item that the outlet refuses, with the outlet's fault: `NoMemory` (1) or `Failed` (60). A further
-/// call goes on from what the outlet took, so that no item is lost and none is taken twice.
+/// Stops at the first item that the outlet refuses, with the outlet's fault: `NoMemory` (1) or `Failed` (60). It may then
+/// be called again as it is, and goes on from what the outlet took, so that no item is lost and none is taken twice.
 pub fn release<O: Outlet>(outlet: &mut O, log: &Log, covered: u64) -> Result<(), OutletFault>
     requires { CanRelease log.now (length (O.taken outlet.old)) covered }
     ensures ok { OnOk result (O.taken outlet.new
@@ -48,6 +48,7 @@ pub fn release<O: Outlet>(outlet: &mut O, log: &Log, covered: u64) -> Result<(),
     ensures count { O.failures outlet.new ≡ failures_after result (O.failures outlet.old) }
     ensures reaches { OnOk result
         (length (O.taken outlet.new) ≡ max (length (O.taken outlet.old)) covered) }
+    ensures again { CanRelease log.now (length (O.taken outlet.new)) covered }
     ensures history { (history : List ℤ) → IsLogOf log.now history
         → IsBeginningOf (O.taken outlet.old) history → IsBeginningOf (O.taken outlet.new) history }
 {

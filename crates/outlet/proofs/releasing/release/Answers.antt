@@ -1,6 +1,6 @@
 use Rattle.std.proofs.Common.{Err, sym, ◌∙◌, ap}
 use Rattle.std.proofs.lemmas.Result.{err_from_is_err_and}
-use Rattle.outlet.proofs.Steps.{took_one, has_all, refused, took_some, took_some_or_all, stays_beginning, goes_on}
+use Rattle.outlet.proofs.Steps.{took_one, has_all, refused, took_some, took_some_or_all, stays_beginning, goes_on, may_go_on}
 use Rattle.outlet.proofs.releasing.release.Goals as goal
 
 pub loop-position-preserved : goal.loop-position-preserved
@@ -30,3 +30,12 @@ returns-in_err-append_at-clause-history g c = λ history is_log begins.
     (took_some_or_all c.args.log.now c.args.covered c.loop-position.position _ _ _ _ _ c.requires c.loop-position-test.true c.loop-position.invariant
     (refused c.in_err-append_at.field-0.0 _ _ _ c.in_err-append_at.ensures.failed c.in_err-append_at.ensures.no_memory))
     is_log begins
+
+pub returns-clause-again : goal.returns-clause-again
+returns-clause-again g c = may_go_on c.args.log.now c.args.covered _ _ _ c.requires
+    (has_all c.args.log.now c.args.covered c.loop-position.position _ _ _ _ c.loop-position-test.false c.loop-position.invariant)
+
+pub returns-in_err-append_at-clause-again : goal.returns-in_err-append_at-clause-again
+returns-in_err-append_at-clause-again g c = may_go_on c.args.log.now c.args.covered _ _ _ c.requires
+    (took_some_or_all c.args.log.now c.args.covered c.loop-position.position _ _ _ _ _ c.requires c.loop-position-test.true c.loop-position.invariant
+    (refused c.in_err-append_at.field-0.0 _ _ _ c.in_err-append_at.ensures.failed c.in_err-append_at.ensures.no_memory)).taken
