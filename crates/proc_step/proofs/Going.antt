@@ -29,9 +29,6 @@ pub record Going (first : Trace) (room : List ℕ) (unread0 sent0 : List (List �
   pub left : unread ≡ left_after done unread0
   pub put : sent ≡ put_after done sent0
 
-pub block_at : (ss : List Statement) (i : ℕ) (s : Statement) → i < length ss → s ≡ get_or ss i s → block_of (drop i ss) ≡ then_of s (block_of (drop (i + 1) ss))
-block_at ss i s h e = at_drop_more block_of ss i s h ∙ ap (λ (t : Statement). then_of t (block_of (drop (i + 1) ss))) (sym e)
-
 first_item : (h : List ℤ) (item : ℤ) (left : List ℤ) → h ≡ item ∷ left → slice_get h 0 ≡ Some item
 first_item h item left e = ap (λ (x : List ℤ). slice_get x 0) e
 

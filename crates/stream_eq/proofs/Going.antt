@@ -17,10 +17,6 @@ pub record Going (first : Trace) (start : List (List ℤ)) (rest : Block) (vars 
   pub put : put_after (trace_of site rest vars unread).steps sent ≡ put_after first.steps start
   pub end : (trace_of site rest vars unread).end ≡ first.end
 
--- the statement at hand, and those after it
-pub block_at : (ss : List Statement) (i : ℕ) (s : Statement) → i < length ss → s ≡ get_or ss i s → block_of (drop i ss) ≡ then_of s (block_of (drop (i + 1) ss))
-block_at ss i s h e = at_drop_more block_of ss i s h ∙ ap (λ (t : Statement). then_of t (block_of (drop (i + 1) ss))) (sym e)
-
 module _ {first : Trace} {start : List (List ℤ)} where
   pub going_at : {b b' : Block} {vars vars' : List ℤ} {unread unread' sent sent' : List (List ℤ)} → Going first start b vars unread sent → b ≡ b' → vars' ≡ vars → unread' ≡ unread → sent' ≡ sent → Going first start b' vars' unread' sent'
   going_at {b} {b'} {vars} {vars'} {unread} {unread'} {sent} {sent'} g d e f h =

@@ -6,7 +6,8 @@ use Rattle.net_check.specs.Streams.{history_of}
 use Rattle.net_check.specs.Statements.{sites_of}
 use Rattle.net_check.specs.Syntax.{Block, block_of, then_of}
 use Rattle.net_check.specs.declared.program.Statement.{Statement}
-use Rattle.proc_step.proofs.Going.{block_at, going_at, going_assign, going_put, going_get}
+use Rattle.net_check.specs.SyntaxLaws.{block_at}
+use Rattle.proc_step.proofs.Going.{going_at, going_assign, going_put, going_get}
 use Rattle.proc_step.proofs.statements.play_statements.Goals as goal
 use Rattle.proc_step.proofs.statements.play_statements.Goals.{in-Get+in-Some, in-Assign, in-Put+else-not-has_room+in_ok-send-in-Put}
 

@@ -9,7 +9,8 @@ use Rattle.net_check.specs.declared.program.Statement.{Statement}
 use Rattle.stream_eq.specs.Limits.{IsWithin}
 use Rattle.stream_eq.proofs.Errors.{other_err}
 use Rattle.stream_eq.proofs.Puts.{within_put}
-use Rattle.stream_eq.proofs.Going.{block_at, going_at, going_assign, going_put, going_get, going_past}
+use Rattle.net_check.specs.SyntaxLaws.{block_at}
+use Rattle.stream_eq.proofs.Going.{going_at, going_assign, going_put, going_get, going_past}
 use Rattle.stream_eq.proofs.process.play_statements.Goals as goal
 use Rattle.stream_eq.proofs.process.play_statements.Goals.{in-Get+in-Some, in-Assign, in-Put+in_ok-put_item-in-Put}
 
