@@ -1,0 +1,38 @@
+-- What a log is: the last items of a history, and how many came before them.
+use Rattle.std.specs.Prelude.{◌≡◌, ◌⊎◌, ℕ, ◌+◌, ◌-◌, ◌^◌, ◌≤◌, nat_lt, if◌then◌else◌, List, ℤ, length, drop, Option, None, slice_get}
+
+-- the items from the position `base` on
+pub record LogState : Type 0 where
+  pub base : ℕ
+  pub items : List ℤ
+
+-- the position behind the last item
+abbrev pub log_end : LogState → ℕ
+log_end log = log.base + length log.items
+
+-- what is true of every log
+pub record IsWithinLimits (log : LogState) : Type 0 where
+  pub count : length log.items ≤ 65536
+  pub last : log_end log ≤ 2 ^ 63 - 1
+
+-- no item fits
+abbrev pub IsFull : LogState → Type 0
+IsFull log = (length log.items ≡ 65536) ⊎ (log_end log ≡ 2 ^ 63 - 1)
+
+-- the position of an item or the end
+pub record IsInLog (log : LogState) (position : ℕ) : Type 0 where
+  pub from_base : log.base ≤ position
+  pub to_end : position ≤ log_end log
+
+-- the item at a position of the history, where the log has it
+abbrev pub item_at : LogState → ℕ → Option ℤ
+item_at log position = if nat_lt position log.base then None else slice_get log.items (position - log.base)
+
+-- the log without what lies before a position of it
+abbrev pub trimmed : LogState → ℕ → LogState
+trimmed log position = record { base = position; items = drop (position - log.base) log.items }
+
+-- the log holds this history from the log's base on
+pub record IsLogOf (log : LogState) (history : List ℤ) : Type 0 where
+  pub count : length history ≡ log_end log
+  pub items : log.items ≡ drop log.base history

@@ -1,0 +1,82 @@
+// Why a log or an outlet refuses.
+ghost use Rattle.std.specs.Prelude.{◌≡◌};
+ghost use Rattle.outlet.specs.Faults.{log_refusal_number, outlet_refusal_number};
+
+use std::alloc::{AllocError, AllocFailed};
+use thiserror::Error;
+
+/// Why a log took no item. It is as it was.
+#[derive(Clone, Copy, Debug, PartialEq, Eq, Error)]
+pub enum LogFault {
+    /// There is no memory. Refusal 1.
+    #[error("no memory")]
+    NoMemory,
+    /// The log holds 65,536 items, or its end is 2^63 - 1. Refusal 50.
+    #[error("the log is full")]
+    Full,
+}
+
+impl LogFault {
+    /// The refusal's number: 1 for `NoMemory`, 50 for `Full`.
+    pub fn number(&self) -> u8
+        ensures { result ≡ log_refusal_number self.now }
+    {
+        match self {
+            LogFault::NoMemory => 1,
+            LogFault::Full => 50,
+        }
+    }
+}
+
+impl<T: Drop> From<AllocFailed<T>> for LogFault {
+    ghost use Rattle.outlet.specs.declared.fault.LogFault.TheVariants.{NoMemory};
+
+    ghost from_gives = { λ _ e. e ≡ NoMemory };
+
+    fn from(_: AllocFailed<T>) -> Self {
+        LogFault::NoMemory
+    }
+}
+
+/// Why an outlet refused an item.
+#[derive(Clone, Copy, Debug, PartialEq, Eq, Error)]
+pub enum OutletFault {
+    /// There is no memory. The item wasn't taken. Refusal 1.
+    #[error("no memory")]
+    NoMemory,
+    /// The outlet failed. The item may have been taken all the same. Refusal 60.
+    #[error("the outlet failed")]
+    Failed,
+}
+
+impl OutletFault {
+    /// The refusal's number: 1 for `NoMemory`, 60 for `Failed`.
+    pub fn number(&self) -> u8
+        ensures { result ≡ outlet_refusal_number self.now }
+    {
+        match self {
+            OutletFault::NoMemory => 1,
+            OutletFault::Failed => 60,
+        }
+    }
+}
+
+impl From<AllocError> for OutletFault {
+    ghost use Rattle.outlet.specs.declared.fault.OutletFault.TheVariants.{NoMemory};
+
+    ghost from_gives = { λ _ e. e ≡ NoMemory };
+
+    fn from(_: AllocError) -> Self {
+        OutletFault::NoMemory
+    }
+}
+
+impl<T: Drop> From<AllocFailed<T>> for OutletFault {
+    ghost use Rattle.outlet.specs.declared.fault.OutletFault.TheVariants.{NoMemory};
+
+    ghost from_gives = { λ _ e. e ≡ NoMemory };
+
+    fn from(_: AllocFailed<T>) -> Self {
+        OutletFault::NoMemory
+    }
+}

@@ -1,0 +1,45 @@
+// An outlet goes on to where a log's items may leave.
+ghost use Rattle.std.specs.Prelude.{◌≡◌, ◌↔◌, List, ◌++◌, ℤ, length, max, IsTrue, OnOk, IsErrOf};
+ghost use Rattle.outlet.specs.LogState.{IsLogOf};
+ghost use Rattle.outlet.specs.Faults.{failures_after};
+ghost use Rattle.outlet.specs.Released.{CanRelease, released_items, IsBeginningOf, TookSome, TookSomeOrAll};
+
+use crate::fault::OutletFault;
+use crate::log::Log;
+use crate::outlet::Outlet;
+
+/// Whether `release` may be called: the log holds what comes next for the outlet, and `covered` is at most the log's end.
+pub fn can_release<O: Outlet>(outlet: &O, log: &Log, covered: u64) -> bool
+    ensures { IsTrue result ↔ CanRelease log.now (length (O.taken outlet.now)) covered }
+{
+    log.base() <= outlet.len() && covered <= log.end()
+}
+
+/// Hands the outlet those of the log's items before the position `covered` that it hasn't taken yet, one by one and in
+/// order. Where it took as many before, nothing happens.
+///
+/// Stops at the first item that the outlet refuses, with the outlet's fault: `NoMemory` (1) or `Failed` (60). A further
+/// call goes on from what the outlet took, so that no item is lost and none is taken twice.
+pub fn release<O: Outlet>(outlet: &mut O, log: &Log, covered: u64) -> Result<(), OutletFault>
+    requires { CanRelease log.now (length (O.taken outlet.old)) covered }
+    ensures ok { OnOk result (O.taken outlet.new
+        ≡ O.taken outlet.old ++ released_items log.now (length (O.taken outlet.old)) covered) }
+    ensures no_memory { IsErrOf result OutletFault.NoMemory
+        → TookSome (released_items log.now (length (O.taken outlet.old)) covered)
+        (O.taken outlet.old) (O.taken outlet.new) }
+    ensures failed { IsErrOf result OutletFault.Failed
+        → TookSomeOrAll (released_items log.now (length (O.taken outlet.old)) covered)
+        (O.taken outlet.old) (O.taken outlet.new) }
+    ensures count { O.failures outlet.new ≡ failures_after result (O.failures outlet.old) }
+    ensures reaches { OnOk result
+        (length (O.taken outlet.new) ≡ max (length (O.taken outlet.old)) covered) }
+    ensures history { (history : List ℤ) → IsLogOf log.now history
+        → IsBeginningOf (O.taken outlet.old) history → IsBeginningOf (O.taken outlet.new) history }
+{
+    for position in outlet.len()..covered {
+        if let Some(item) = log.get(position) {
+            outlet.append(item)?;
+        }
+    }
+    Ok(())
+}
