@@ -1,9 +1,9 @@
 // The items of a history that may still be asked for.
-ghost use Rattle.std.specs.Prelude.{◌≡◌, ◌==◌, ◌↔◌, ℕ, ◌+◌, ◌-◌, ◌^◌, ◌<◌, ◌≤◌, List, [], ◌∷◌, ◌++◌, ℤ, length, drop, slice_get, IfSome, Some, OnOk, OnErr, IsErrOf};
+ghost use Rattle.std.specs.Prelude.{◌≡◌, ◌==◌, ◌↔◌, ℕ, ◌+◌, ◌-◌, ◌^◌, ◌<◌, ◌≤◌, List, [], ◌∷◌, ◌++◌, ℤ, length, drop, slice_get, IfOk, IfSome, Some, OnOk, OnErr, IsErrOf};
 ghost use Rattle.outlet.specs.LogState.{log_end, IsFull, IsInLog, item_at, trimmed, IsLogOf};
 
 use crate::fault::LogFault;
-use std::alloc::Global;
+use std::alloc::{AllocError, Global};
 use std::collections::VecDeque;
 use std::marker::Model;
 
@@ -121,5 +121,18 @@ impl Log {
         ensures { result ≡ (length self.now.items == 0) }
     {
         self.items.is_empty()
+    }
+
+    /// The same log once more, in memory of its own.
+    pub fn copy(&self, alloc: Global) -> Result<Log, AllocError>
+        ensures { IfOk result (λ copy. copy ≡ self.now) }
+    {
+        let (first, last) = self.items.as_slices();
+        let mut items = Vec::from_slice(alloc, first)?;
+        items.extend_from_slice(last)?;
+        Ok(Log {
+            base: self.base,
+            items: VecDeque::from(items),
+        })
     }
 }
