@@ -1,0 +1,5 @@
+pub mod ProcessView
+pub mod ImageView
+pub mod DecisionView
+pub mod RecordView
+pub mod Ends
