@@ -3,3 +3,5 @@ pub mod ImageView
 pub mod DecisionView
 pub mod RecordView
 pub mod Ends
+pub mod Cell
+pub mod MemCell
