@@ -14,3 +14,6 @@ pub use cell::StableCell;
 pub use gate_cell::CellFault;
 pub use memory::MemCell;
 pub use record::{Decision, End, Image, Record, SavedEnd, SavedProcess, Tentative};
+
+#[cfg(test)]
+mod tests;
