@@ -1,10 +1,11 @@
 -- The steps of a release.
-use Rattle.std.proofs.Common.{◌≡◌, ◌⊎◌, inl, inr, ℕ, ◌+◌, ◌-◌, ◌<◌, ◌≤◌, max, List, [], ◌∷◌, ◌++◌, ℤ, pos, length, take, drop, get_or, Some, None, arith, rules, refl, subst, sym, ◌∙◌, ap}
+use Rattle.std.proofs.Common.{◌≡◌, ◌⊎◌, inl, inr, ℕ, ◌+◌, ◌-◌, ◌<◌, ◌≤◌, max, List, [], ◌∷◌, ◌++◌, ℤ, pos, length, take, drop, get_or, Some, arith, rules, refl, sym, ◌∙◌, ap}
 use Rattle.std.specs.Prelude.{slice_get, Err, IsErrOf}
+use Rattle.std.specs.Option.{option_to_list}
 use Rattle.std.proofs.Math.Seq.{take-add}
-use Rattle.std.proofs.lemmas.List.{take_more, take-take, take_min, length-take, length-take-le, length-drop, get_or-drop, drop-drop, append_assoc}
+use Rattle.std.proofs.lemmas.List.{take_more, take-take, take_min, length-take, length-take-le, length-drop, length-append, get_or-drop, drop-drop, append_assoc}
 use Rattle.std.proofs.lemmas.Option.{slice_get-get_or, get_or_from_slice_get, slice_get_within}
-use Rattle.outlet.specs.LogState.{LogState, log_end, item_at, IsLogOf}
+use Rattle.outlet.specs.LogState.{LogState, log_end, item_at, items_at, IsLogOf}
 use Rattle.outlet.specs.declared.fault.OutletFault.{OutletFault}
 use Rattle.outlet.specs.declared.fault.OutletFault.TheVariants.{NoMemory, Failed}
 use Rattle.outlet.specs.Released.{released_items, CanRelease, IsBeginningOf, TookSome, TookSomeOrAll}
@@ -30,23 +31,22 @@ next items k n place item e there =
     in take_more (drop k items) n (pos 0) lt ∙ ap (λ (x : ℤ). take n (drop k items) ++ x ∷ []) is
 
 -- an item is added at the end of those released
-pub one_more : (log : LogState) (len position : ℕ) (item : ℤ) → log.base ≤ len → len ≤ position → item_at log position ≡ Some item
-    → released_items log len (position + 1) ≡ released_items log len position ++ item ∷ []
-one_more log len position item no_gap le there =
+pub one_more : (log : LogState) (len position : ℕ) → log.base ≤ len → len ≤ position → position < log_end log
+    → released_items log len (position + 1) ≡ released_items log len position ++ items_at log position
+one_more log len position no_gap le within =
     let one_later : position + 1 - len ≡ position - len + 1 = omega arith in
     let place : (len - log.base) + (position - len) ≡ position - log.base = omega arith in
     let from_base : log.base ≤ position = omega arith in
-    ap (λ (n : ℕ). take n (drop (len - log.base) log.items)) one_later
-    ∙ next log.items (len - log.base) (position - len) (position - log.base) item place (sym (in_its_list log position from_base) ∙ there)
-
--- no item is missing
-pub not_missing : (log : LogState) (position : ℕ) → log.base ≤ position → position < log_end log → item_at log position ≡ None → ⊥
-not_missing log position le lt missing =
-    let within : position - log.base < length log.items = omega arith in
+    let inside : position - log.base < length log.items = omega arith in
     let there : slice_get log.items (position - log.base) ≡ Some (get_or log.items (position - log.base) (pos 0))
-    = slice_get-get_or log.items (position - log.base) (pos 0) within
-    in let absent : slice_get log.items (position - log.base) ≡ None = sym (in_its_list log position le) ∙ missing in cc
+    = slice_get-get_or log.items (position - log.base) (pos 0) inside
+    in let found : items_at log position ≡ get_or log.items (position - log.base) (pos 0) ∷ []
+    = ap option_to_list (in_its_list log position from_base ∙ there)
+    in ap (λ (n : ℕ). take n (drop (len - log.base) log.items)) one_later
+    ∙ next log.items (len - log.base) (position - len) (position - log.base) (get_or log.items (position - log.base) (pos 0)) place there
+    ∙ ap (λ (items : List ℤ). released_items log len position ++ items) (sym found)
 
+-- how many are released
 pub count_released : (log : LogState) (len covered : ℕ) → CanRelease log len covered → length (released_items log len covered) ≡ covered - len
 count_released log len covered can =
     let room : covered - len ≤ length (drop (len - log.base) log.items) = omega (arith, length-drop (len - log.base) log.items) in
@@ -85,15 +85,15 @@ pub goes_on : (log : LogState) (covered : ℕ) (before now history : List ℤ) �
 goes_on log covered before now history no_gap taken is_log begins = goes_on_by log (covered - length before) before now history no_gap taken is_log begins
 
 -- one item later
-pub took_one : (log : LogState) (covered position : ℕ) (before was now : List ℤ) (f₀ f₁ f₂ : ℕ) (item : ℤ)
-    → log.base ≤ length before → position < covered → item_at log position ≡ Some item
-    → HasCome log covered position before was f₀ f₁ → now ≡ was ++ item ∷ [] → f₂ ≡ f₁ → HasCome log covered (position + 1) before now f₀ f₂
-took_one log covered position before was now f₀ f₁ f₂ item no_gap lt there come one same = record {
+pub took_one : (log : LogState) (covered position : ℕ) (before was now : List ℤ) (f₀ f₁ f₂ : ℕ)
+    → CanRelease log (length before) covered → position < covered
+    → HasCome log covered position before was f₀ f₁ → now ≡ was ++ items_at log position → f₂ ≡ f₁ → HasCome log covered (position + 1) before now f₀ f₂
+took_one log covered position before was now f₀ f₁ f₂ can lt come one same = record {
   from_there = omega (arith, come.from_there);
   at_most = omega (arith, come.at_most);
-  taken = one ∙ ap (λ (items : List ℤ). items ++ item ∷ []) come.taken
-      ∙ append_assoc before (released_items log (length before) position) (item ∷ [])
-      ∙ ap (λ (items : List ℤ). before ++ items) (sym (one_more log (length before) position item no_gap come.from_there there));
+  taken = one ∙ ap (λ (items : List ℤ). items ++ items_at log position) come.taken
+      ∙ append_assoc before (released_items log (length before) position) (items_at log position)
+      ∙ ap (λ (items : List ℤ). before ++ items) (sym (one_more log (length before) position can.no_gap come.from_there (omega (arith, can.within))));
   none_failed = same ∙ come.none_failed;
 }
 
@@ -105,11 +105,11 @@ has_all log covered position before now f₀ f₁ le come =
     come.taken ∙ ap (λ (n : ℕ). before ++ take n (drop (length before - log.base) log.items)) same
 
 -- an outlet that refuses took the item or didn't
-pub refused : (fault : OutletFault) (was now : List ℤ) (passed item : ℤ) → passed ≡ item
-    → (IsErrOf {T = Unit {0}} (Err fault) Failed → (now ≡ was) ⊎ (now ≡ was ++ passed ∷ []))
-    → (IsErrOf {T = Unit {0}} (Err fault) NoMemory → now ≡ was) → (now ≡ was) ⊎ (now ≡ was ++ item ∷ [])
-refused NoMemory was now passed item same failed no_memory = inl (no_memory refl)
-refused Failed was now passed item same failed no_memory = let P : ℤ → Type 0 = λ x. (now ≡ was) ⊎ (now ≡ was ++ x ∷ []) in subst P same (failed refl)
+pub refused : (fault : OutletFault) (was now items : List ℤ)
+    → (IsErrOf {T = Unit {0}} (Err fault) Failed → (now ≡ was) ⊎ (now ≡ was ++ items))
+    → (IsErrOf {T = Unit {0}} (Err fault) NoMemory → now ≡ was) → (now ≡ was) ⊎ (now ≡ was ++ items)
+refused NoMemory was now items failed no_memory = inl (no_memory refl)
+refused Failed was now items failed no_memory = failed refl
 
 -- the items taken without the next one are fewer than all
 pub took_some : (log : LogState) (covered position : ℕ) (before was now : List ℤ) (f₀ f₁ : ℕ)
@@ -131,14 +131,14 @@ some_or_all items old new took = record {
 }
 
 -- with the next one they may be all
-pub took_some_or_all : (log : LogState) (covered position : ℕ) (before was now : List ℤ) (f₀ f₁ : ℕ) (item : ℤ)
-    → CanRelease log (length before) covered → position < covered → item_at log position ≡ Some item
-    → HasCome log covered position before was f₀ f₁ → (now ≡ was) ⊎ (now ≡ was ++ item ∷ [])
+pub took_some_or_all : (log : LogState) (covered position : ℕ) (before was now : List ℤ) (f₀ f₁ : ℕ)
+    → CanRelease log (length before) covered → position < covered
+    → HasCome log covered position before was f₀ f₁ → (now ≡ was) ⊎ (now ≡ was ++ items_at log position)
     → TookSomeOrAll (released_items log (length before) covered) before now
-took_some_or_all log covered position before was now f₀ f₁ item can lt there come (inl same) =
+took_some_or_all log covered position before was now f₀ f₁ can lt come (inl same) =
     some_or_all (released_items log (length before) covered) before now (took_some log covered position before was now f₀ f₁ can lt come same)
-took_some_or_all log covered position before was now f₀ f₁ item can lt there come (inr one) =
-    let after = took_one log covered position before was now f₁ f₁ f₁ item can.no_gap lt there (record { from_there = come.from_there; at_most = come.at_most; taken = come.taken; none_failed = refl }) one refl in
+took_some_or_all log covered position before was now f₀ f₁ can lt come (inr one) =
+    let after = took_one log covered position before was now f₀ f₁ f₁ can lt come one refl in
     record {
       count = position + 1 - length before;
       at_most_all = omega (arith, come.from_there, count_released log (length before) covered can);
@@ -155,3 +155,10 @@ stays_beginning log covered before now history no_gap took is_log begins =
     goes_on_by log took.count before now history no_gap
     (took.taken ∙ ap (λ (items : List ℤ). before ++ items) (take-take took.count (covered - length before) (drop (length before - log.base) log.items) fewer))
     is_log begins
+
+-- an outlet that took more can go on by the same log
+pub may_go_on : (log : LogState) (covered : ℕ) (before now more : List ℤ) → CanRelease log (length before) covered → now ≡ before ++ more → CanRelease log (length now) covered
+may_go_on log covered before now more can taken = record {
+  no_gap = omega (arith, can.no_gap, ap length taken, length-append before more);
+  within = can.within;
+}

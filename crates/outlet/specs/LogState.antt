@@ -1,5 +1,6 @@
 -- What a log is: the last items of a history, and how many came before them.
 use Rattle.std.specs.Prelude.{◌≡◌, ◌⊎◌, ℕ, ◌+◌, ◌-◌, ◌^◌, ◌≤◌, nat_lt, if◌then◌else◌, List, ℤ, length, drop, Option, None, slice_get}
+use Rattle.std.specs.Option.{option_to_list}
 
 -- the items from the position `base` on
 pub record LogState : Type 0 where
@@ -27,6 +28,10 @@ pub record IsInLog (log : LogState) (position : ℕ) : Type 0 where
 -- the item at a position of the history, where the log has it
 abbrev pub item_at : LogState → ℕ → Option ℤ
 item_at log position = if nat_lt position log.base then None else slice_get log.items (position - log.base)
+
+-- the same as a list: that item, or none
+abbrev pub items_at : LogState → ℕ → List ℤ
+items_at log position = option_to_list (item_at log position)
 
 -- the log without what lies before a position of it
 abbrev pub trimmed : LogState → ℕ → LogState

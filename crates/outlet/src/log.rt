@@ -61,7 +61,7 @@ impl Log {
         ensures history { OnOk result
             ((history : List ℤ) → IsLogOf self.old history → IsLogOf self.new (history ++ item ∷ [])) }
     {
-        if self.items.len() == LOG_ITEMS || self.end() == LAST_POSITION {
+        if self.len() == LOG_ITEMS || self.end() == LAST_POSITION {
             return Err(LogFault::Full);
         }
         self.items.push_back(item)?;
@@ -105,7 +105,7 @@ impl Log {
         ensures value { result ≡ log_end self.now }
         ensures bound { result ≤ 2 ^ 63 - 1 }
     {
-        self.base + self.items.len() as u64
+        self.base + self.len() as u64
     }
 
     /// How many items the log holds.

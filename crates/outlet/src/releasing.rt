@@ -1,6 +1,6 @@
 // An outlet goes on to where a log's items may leave.
-ghost use Rattle.std.specs.Prelude.{◌≡◌, ◌↔◌, List, ◌++◌, ℤ, length, max, IsTrue, OnOk, IsErrOf};
-ghost use Rattle.outlet.specs.LogState.{IsLogOf};
+ghost use Rattle.std.specs.Prelude.{◌≡◌, ◌⊎◌, ◌↔◌, List, ◌++◌, ℤ, length, max, IsTrue, OnOk, IsErrOf};
+ghost use Rattle.outlet.specs.LogState.{IsLogOf, items_at};
 ghost use Rattle.outlet.specs.Faults.{failures_after};
 ghost use Rattle.outlet.specs.Released.{CanRelease, released_items, IsBeginningOf, TookSome, TookSomeOrAll};
 
@@ -15,11 +15,26 @@ pub fn can_release<O: Outlet>(outlet: &O, log: &Log, covered: u64) -> bool
     log.base() <= outlet.len() && covered <= log.end()
 }
 
+// Appends the log's item at a position, where there is one.
+fn append_at<O: Outlet>(outlet: &mut O, log: &Log, position: u64) -> Result<(), OutletFault>
+    ensures ok { OnOk result (O.taken outlet.new ≡ O.taken outlet.old ++ items_at log.now position) }
+    ensures failed { IsErrOf result OutletFault.Failed
+        → (O.taken outlet.new ≡ O.taken outlet.old)
+        ⊎ (O.taken outlet.new ≡ O.taken outlet.old ++ items_at log.now position) }
+    ensures no_memory { IsErrOf result OutletFault.NoMemory → O.taken outlet.new ≡ O.taken outlet.old }
+    ensures count { O.failures outlet.new ≡ failures_after result (O.failures outlet.old) }
+{
+    match log.get(position) {
+        Some(item) => outlet.append(item),
+        None => Ok(()),
+    }
+}
+
 /// Hands the outlet those of the log's items before the position `covered` that it hasn't taken yet, one by one and in
 /// order. Where it took as many before, nothing happens.
 ///
-/// Stops at the first item that the outlet refuses, with the outlet's fault: `NoMemory` (1) or `Failed` (60). A further
-/// call goes on from what the outlet took, so that no item is lost and none is taken twice.
+/// Stops at the first item that the outlet refuses, with the outlet's fault: `NoMemory` (1) or `Failed` (60). It may then
+/// be called again as it is, and goes on from what the outlet took, so that no item is lost and none is taken twice.
 pub fn release<O: Outlet>(outlet: &mut O, log: &Log, covered: u64) -> Result<(), OutletFault>
     requires { CanRelease log.now (length (O.taken outlet.old)) covered }
     ensures ok { OnOk result (O.taken outlet.new
@@ -33,13 +48,12 @@ pub fn release<O: Outlet>(outlet: &mut O, log: &Log, covered: u64) -> Result<(),
     ensures count { O.failures outlet.new ≡ failures_after result (O.failures outlet.old) }
     ensures reaches { OnOk result
         (length (O.taken outlet.new) ≡ max (length (O.taken outlet.old)) covered) }
+    ensures again { CanRelease log.now (length (O.taken outlet.new)) covered }
     ensures history { (history : List ℤ) → IsLogOf log.now history
         → IsBeginningOf (O.taken outlet.old) history → IsBeginningOf (O.taken outlet.new) history }
 {
     for position in outlet.len()..covered {
-        if let Some(item) = log.get(position) {
-            outlet.append(item)?;
-        }
+        append_at(outlet, log, position)?;
     }
     Ok(())
 }
