@@ -1,5 +1,5 @@
 // The items of a history that may still be asked for.
-ghost use Rattle.std.specs.Prelude.{◌≡◌, ◌==◌, ◌↔◌, ℕ, ◌+◌, ◌-◌, ◌^◌, ◌<◌, ◌≤◌, List, [], ◌∷◌, ◌++◌, ℤ, length, drop, slice_get, IfOk, IfSome, Some, OnOk, OnErr, IsErrOf};
+ghost use Rattle.std.specs.Prelude.{◌≡◌, ◌==◌, ◌↔◌, ℕ, ◌+◌, ◌-◌, ◌^◌, ◌<◌, ◌≤◌, List, [], ◌∷◌, ◌++◌, ℤ, length, drop, slice_get, IfOk, IfSome, Some, IsTrue, OnOk, OnErr, IsErrOf};
 ghost use Rattle.outlet.specs.LogState.{log_end, IsFull, IsInLog, item_at, trimmed, IsLogOf};
 
 use crate::fault::LogFault;
@@ -39,6 +39,12 @@ fn drop_front(items: &mut VecDeque<i64>, count: u64)
     for _ in 0..count {
         items.pop_front();
     }
+}
+
+fn are_same_items(one: &VecDeque<i64>, other: &VecDeque<i64>) -> bool
+    ensures { IsTrue result ↔ (one.now.items ≡ other.now.items) }
+{
+    one == other
 }
 
 impl Log {
@@ -134,5 +140,12 @@ impl Log {
             base: self.base,
             items: VecDeque::from(items),
         })
+    }
+
+    /// Whether two logs have the same base and the same items.
+    pub fn is_same(&self, other: &Log) -> bool
+        ensures { IsTrue result ↔ (self.now ≡ other.now) }
+    {
+        self.base == other.base && are_same_items(&self.items, &other.items)
     }
 }
