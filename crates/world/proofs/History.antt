@@ -1,5 +1,5 @@
 -- One more record joins those that a cell has held.
-use Rattle.std.proofs.Common.{◌≡◌, ◌⊎◌, inl, inr, ⊎_elim, ℕ, zero, suc, ◌≤◌, List, [], ◌∷◌, ◌++◌, length, drop, Option, Some, refl, sym, subst, arith, length-append}
+use Rattle.std.proofs.Common.{◌≡◌, inl, inr, ⊎_elim, ℕ, zero, suc, ◌≤◌, List, [], ◌∷◌, ◌++◌, length, drop, Option, Some, refl, sym, subst, arith, length-append}
 use Rattle.sector_disk.specs.Clock.{Elapses}
 use Rattle.world.specs.RecordView.{RecordView}
 use Rattle.world.specs.MemCell.{IsOneOf, IsLeft}

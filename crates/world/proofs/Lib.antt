@@ -1,1 +1,2 @@
 mod History
+mod Standings

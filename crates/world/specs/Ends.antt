@@ -1,5 +1,5 @@
 -- What an image says of a channel.
-use Rattle.std.specs.Prelude.{ℕ, ◌≡◌, eqb, List, length, Option, Some, None, option_map, find}
+use Rattle.std.specs.Prelude.{ℕ, eqb, Option, Some, None, option_map, find}
 use Rattle.outlet.specs.LogState.{LogState, log_end}
 use Rattle.world.specs.ImageView.{ImageView}
 use Rattle.world.specs.declared.record.SavedEnd.{SavedEnd}

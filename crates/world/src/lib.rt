@@ -6,6 +6,7 @@
 
 mod cell;
 mod copies;
+mod equality;
 mod memory;
 mod past;
 mod record;

@@ -191,6 +191,36 @@ fn a_record_put_and_got_back(rt: HostRuntime) -> Result<(), Fail> {
     Ok(())
 }
 
+// The sample, with what is to be different.
+fn other_epoch(alloc: Global) -> Result<Record, Fail> {
+    let mut other = sample(alloc)?;
+    other.epoch = 13;
+    Ok(other)
+}
+
+fn other_ends(alloc: Global) -> Result<Record, Fail> {
+    let mut other = sample(alloc)?;
+    other.permanent = tentative_image(alloc)?;
+    Ok(other)
+}
+
+fn no_decision(alloc: Global) -> Result<Record, Fail> {
+    let mut other = sample(alloc)?;
+    other.decision = None;
+    Ok(other)
+}
+
+#[test]
+fn which_records_are_the_same(rt: HostRuntime) -> Result<(), Fail> {
+    let alloc = rt.alloc();
+    let kept = put_and_got_back(alloc)?;
+    assert_eq!(rt; kept.is_same(&sample(alloc)?), true);
+    assert_eq!(rt; kept.is_same(&other_epoch(alloc)?), false);
+    assert_eq!(rt; kept.is_same(&other_ends(alloc)?), false);
+    assert_eq!(rt; kept.is_same(&no_decision(alloc)?), false);
+    Ok(())
+}
+
 #[test]
 fn a_record_taken_out_of_its_cell(rt: HostRuntime) -> Result<(), Fail> {
     let cell = MemCell::new(rt.alloc(), sample(rt.alloc())?);
