@@ -1,9 +1,9 @@
 // The items of a history that may still be asked for.
-ghost use Rattle.std.specs.Prelude.{◌≡◌, ◌==◌, ◌↔◌, ℕ, ◌+◌, ◌-◌, ◌^◌, ◌<◌, ◌≤◌, List, [], ◌∷◌, ◌++◌, ℤ, length, drop, slice_get, IfSome, Some, OnOk, OnErr, IsErrOf};
+ghost use Rattle.std.specs.Prelude.{◌≡◌, ◌==◌, ◌↔◌, ℕ, ◌+◌, ◌-◌, ◌^◌, ◌<◌, ◌≤◌, List, [], ◌∷◌, ◌++◌, ℤ, length, drop, slice_get, IfOk, IfSome, Some, IsTrue, OnOk, OnErr, IsErrOf};
 ghost use Rattle.outlet.specs.LogState.{log_end, IsFull, IsInLog, item_at, trimmed, IsLogOf};
 
 use crate::fault::LogFault;
-use std::alloc::Global;
+use std::alloc::{AllocError, Global};
 use std::collections::VecDeque;
 use std::marker::Model;
 
@@ -39,6 +39,12 @@ fn drop_front(items: &mut VecDeque<i64>, count: u64)
     for _ in 0..count {
         items.pop_front();
     }
+}
+
+fn are_same_items(one: &VecDeque<i64>, other: &VecDeque<i64>) -> bool
+    ensures { IsTrue result ↔ (one.now.items ≡ other.now.items) }
+{
+    one == other
 }
 
 impl Log {
@@ -121,5 +127,25 @@ impl Log {
         ensures { result ≡ (length self.now.items == 0) }
     {
         self.items.is_empty()
+    }
+
+    /// The same log once more, in memory of its own.
+    pub fn copy(&self, alloc: Global) -> Result<Log, AllocError>
+        ensures { IfOk result (λ copy. copy ≡ self.now) }
+    {
+        let (first, last) = self.items.as_slices();
+        let mut items = Vec::from_slice(alloc, first)?;
+        items.extend_from_slice(last)?;
+        Ok(Log {
+            base: self.base,
+            items: VecDeque::from(items),
+        })
+    }
+
+    /// Whether two logs have the same base and the same items.
+    pub fn is_same(&self, other: &Log) -> bool
+        ensures { IsTrue result ↔ (self.now ≡ other.now) }
+    {
+        self.base == other.base && are_same_items(&self.items, &other.items)
     }
 }

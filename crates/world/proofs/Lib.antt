@@ -1,0 +1,2 @@
+mod History
+mod Standings
