@@ -1,5 +1,5 @@
 -- What the program prints of a run.
-use Rattle.std.specs.Prelude.{ℕ, suc, ◌+◌, ℤ, Bool, true, false, List, [], ◌∷◌, ◌++◌}
+use Rattle.std.specs.Prelude.{ℕ, ◌+◌, ℤ, Bool, true, false, List, [], ◌∷◌, ◌++◌, codes}
 use Rattle.std.specs.Fmt.{signed_decimal}
 use Rattle.net_text.specs.Names.{NameTree}
 use Rattle.net_check.specs.declared.program.Channel.{Channel}
@@ -27,8 +27,8 @@ output_count (channel ∷ channels) = one_if_output channel.consumer (output_cou
 
 -- "complete" or "partial", and a line feed
 abbrev pub verdict : Bool → List ℕ
-verdict true = 99 ∷ 111 ∷ 109 ∷ 112 ∷ 108 ∷ 101 ∷ 116 ∷ 101 ∷ 10 ∷ []
-verdict false = 112 ∷ 97 ∷ 114 ∷ 116 ∷ 105 ∷ 97 ∷ 108 ∷ 10 ∷ []
+verdict true = codes "complete\n"
+verdict false = codes "partial\n"
 
 -- the next stream's line
 abbrev pub next_line : NameTree → List (List ℤ) → (List (List ℤ) → List ℕ) → List ℕ

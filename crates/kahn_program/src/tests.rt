@@ -1,6 +1,6 @@
-//! Reports, byte for byte.
+//! Reports and failures, byte for byte.
 
-use crate::{Stream, count_outputs, report};
+use crate::{Failure, Source, Stream, count_outputs, report};
 use net_check::{Net, check};
 use net_text::parse;
 use std::alloc::Global;
@@ -38,6 +38,36 @@ fn reports_of_the_running_sum(rt: HostRuntime) -> Result<(), Fail> {
     ] {
         let bytes = report_of(alloc, items, complete)?;
         assert_eq!(rt; bytes.as_slice(), text.as_bytes(), "{text}");
+    }
+    Ok(())
+}
+
+#[test]
+fn failures_and_their_statuses(rt: HostRuntime) -> Result<(), Fail> {
+    let alloc = rt.alloc();
+    let refused = Failure::Line {
+        source: Source::Net,
+        line: 4,
+        number: 14,
+    };
+    let missing = Failure::Whole {
+        source: Source::Inputs,
+        number: 18,
+    };
+    for (failure, text, status) in [
+        (refused, "net line 4: refusal 14", 2),
+        (missing, "inputs: refusal 18", 2),
+        (Failure::NotText(Source::Net), "net: not text", 2),
+        (
+            Failure::Unreadable(Source::Inputs),
+            "inputs: cannot be read",
+            1,
+        ),
+        (Failure::NoMemory, "no memory", 1),
+        (Failure::Other { number: 44 }, "refusal 44", 1),
+    ] {
+        assert_eq!(rt; failure.to_string(alloc)?.as_str(), text);
+        assert_eq!(rt; failure.status(), status, "{text}");
     }
     Ok(())
 }

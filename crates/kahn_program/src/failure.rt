@@ -1,0 +1,81 @@
+//! Why the program ends without a report, and what it then prints and answers.
+
+ghost use Rattle.std.specs.Prelude.{◌≡◌, Some};
+ghost use Rattle.kahn_program.specs.Failures.{failure_text, source_text, status_of};
+
+use std::fmt;
+
+/// A text that the program reads.
+#[derive(Clone, Copy, Debug, PartialEq, Eq)]
+pub enum Source {
+    Net,
+    Inputs,
+}
+
+/// Why the program ends without a report.
+#[derive(Clone, Copy, Debug, PartialEq, Eq)]
+pub enum Failure {
+    /// A text is refused at a line.
+    Line {
+        source: Source,
+        line: usize,
+        number: u8,
+    },
+    /// A text is refused as a whole.
+    Whole {
+        source: Source,
+        number: u8,
+    },
+    /// A text isn't UTF-8.
+    NotText(Source),
+    /// A text's file can't be opened or read.
+    Unreadable(Source),
+    /// There is no memory.
+    NoMemory,
+    /// A refusal that is no text's.
+    Other {
+        number: u8,
+    },
+}
+
+impl fmt::Display for Source {
+    ghost output = { λ source. Some (source_text source) };
+
+    fn fmt<W: fmt::Write>(&self, f: &mut fmt::Formatter<W>) -> fmt::Result {
+        match self {
+            Source::Net => f.write_str("net"),
+            Source::Inputs => f.write_str("inputs"),
+        }
+    }
+}
+
+impl fmt::Display for Failure {
+    ghost output = { λ failure. Some (failure_text failure) };
+
+    fn fmt<W: fmt::Write>(&self, f: &mut fmt::Formatter<W>) -> fmt::Result {
+        match self {
+            Failure::Line {
+                source,
+                line,
+                number,
+            } => write!(f, "{source} line {line}: refusal {number}"),
+            Failure::Whole { source, number } => write!(f, "{source}: refusal {number}"),
+            Failure::NotText(source) => write!(f, "{source}: not text"),
+            Failure::Unreadable(source) => write!(f, "{source}: cannot be read"),
+            Failure::NoMemory => f.write_str("no memory"),
+            Failure::Other { number } => write!(f, "refusal {number}"),
+        }
+    }
+}
+
+impl Failure {
+    /// The program's exit status: 2 for a text that is refused, 1 for all else.
+    pub fn status(self) -> u8
+        ensures { result ≡ status_of self }
+    {
+        match self {
+            Failure::Line { .. } | Failure::Whole { .. } | Failure::NotText(_) => 2,
+            Failure::Unreadable(_) | Failure::NoMemory | Failure::Other { .. } => 1,
+        }
+    }
+}
