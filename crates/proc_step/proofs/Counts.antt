@@ -1,12 +1,12 @@
 -- What a turn took and sent, channel by channel.
-use Rattle.std.proofs.Common.{◌≡◌, ◌≢◌, ◌⊎◌, inl, inr, ℕ, zero, suc, ◌+◌, ◌-◌, ◌<◌, ◌≤◌, Bool, true, false, cond, eqb, List, ℤ, [], ◌∷◌, ◌++◌, length, set, drop, refl, sym, ap, ◌∙◌, subst, append_assoc, arith, replicate, get_or}
-use Rattle.std.specs.Prelude.{slice_index, ◌==◌}
+use Rattle.std.proofs.Common.{◌≡◌, ◌≢◌, ◌⊎◌, inl, inr, ℕ, zero, suc, ◌-◌, ◌<◌, ◌≤◌, Bool, true, false, cond, eqb, List, ℤ, [], ◌∷◌, ◌++◌, length, refl, sym, ap, ◌∙◌, append_assoc, arith}
+use Rattle.std.specs.Prelude.{slice_index}
 use Rattle.std.proofs.lemmas.List.{length-append, length-set, get_or_past, get_or-replicate, length-replicate}
 use Rattle.std.proofs.lemmas.Bool.{cases_lt}
 use Rattle.std.proofs.lemmas.Bool.Decides.{eqb_tells}
 use Rattle.net_check.specs.Streams.{history_of}
 use Rattle.net_check.specs.Statements.{Act, Got, Sent, Step}
-use Rattle.net_check.specs.Processes.{sent_on, sent_by, got_on}
+use Rattle.net_check.specs.Processes.{sent_on, sent_by}
 use Rattle.net_check.specs.Puts.{put_by, put_after}
 use Rattle.net_check.specs.PutLaws.{put_after-at, length-put_after}
 use Rattle.net_check.specs.Resuming.{left_by, left_after}

@@ -1,16 +1,14 @@
 -- One statement after another.
-use Rattle.std.proofs.Common.{◌≡◌, ℕ, suc, ◌+◌, ◌<◌, ◌≤◌, List, ℤ, [], ◌∷◌, ◌++◌, length, get_or, set, drop, refl, sym, ap, ◌∙◌, subst, append_assoc, append-nil, arith}
-use Rattle.std.specs.Prelude.{slice_index, slice_get, Some, Option}
-use Rattle.std.proofs.lemmas.List.{at_drop_more}
+use Rattle.std.proofs.Common.{◌≡◌, ℕ, ◌+◌, ◌<◌, ◌≤◌, List, ℤ, [], ◌∷◌, ◌++◌, length, set, drop, refl, sym, ap, ◌∙◌, subst, append_assoc}
+use Rattle.std.specs.Prelude.{slice_index, slice_get, Some}
 use Rattle.net_check.specs.Streams.{history_of}
-use Rattle.net_check.specs.Syntax.{Tree, Block, Nothing, GetThen, PutThen, AssignThen, block_of, then_of}
-use Rattle.net_check.specs.Statements.{Trace, Step, Act, Got, Sent, End, Ended, Waits, trace_of, on_get, value_of}
-use Rattle.net_check.specs.Processes.{Standing, standing_at}
+use Rattle.net_check.specs.Syntax.{Tree, Block, Nothing, GetThen, PutThen, AssignThen}
+use Rattle.net_check.specs.Statements.{Trace, Step, Got, Sent, trace_of, on_get, value_of}
+use Rattle.net_check.specs.Processes.{standing_at}
 use Rattle.net_check.specs.Puts.{put_by, put_after}
 use Rattle.net_check.specs.PutLaws.{put_after-append}
 use Rattle.net_check.specs.Resuming.{left_by, left_after}
 use Rattle.net_check.specs.GotLaws.{left_after-append}
-use Rattle.net_check.specs.declared.program.Statement.{Statement}
 use Rattle.proc_step.specs.declared.statements.Flow.TheVariants.{RanOut, Stands}
 use Rattle.proc_step.specs.Turns.{CanBeMade, CanAllBeMade}
 use Rattle.proc_step.specs.Parts.{Part}

@@ -1,5 +1,5 @@
 -- From the items at hand to the whole input histories: what was made on the one is the process's own turn on the other.
-use Rattle.std.proofs.Common.{◌≡◌, ℕ, zero, suc, ◌+◌, ◌<◌, ◌≤◌, List, ℤ, [], ◌∷◌, ◌++◌, length, take, drop, refl, sym, ap, ◌∙◌, subst, append_assoc, append-nil, arith}
+use Rattle.std.proofs.Common.{◌≡◌, ℕ, zero, suc, ◌+◌, ◌≤◌, List, ℤ, [], ◌∷◌, ◌++◌, length, take, drop, refl, sym, ap, ◌∙◌, subst, append_assoc, append-nil, arith}
 use Rattle.std.proofs.Math.Nat.{zero-add}
 use Rattle.std.specs.Prelude.{slice_index}
 use Rattle.std.proofs.lemmas.List.{length-append}
@@ -7,13 +7,12 @@ use Rattle.std.proofs.Math.Seq.{drop-append_seam}
 use Rattle.net_check.specs.Streams.{history_of, IsPrefix, ArePrefixes}
 use Rattle.net_check.specs.Syntax.{Code}
 use Rattle.net_check.specs.Statements.{Act, Got, Sent, Step, Trace, End, Ended, Waits}
-use Rattle.net_check.specs.Processes.{Standing, NotBegun, At, Done, standing_at, IsHere, StandsAt, HasPassingLoop, process_trace, sent_on, got_on}
-use Rattle.net_check.specs.Puts.{put_after}
+use Rattle.net_check.specs.Processes.{Standing, NotBegun, At, Done, standing_at, IsHere, HasPassingLoop, process_trace, sent_on, got_on}
 use Rattle.net_check.specs.Resuming.{trace_from, left_after}
-use Rattle.net_check.specs.StreamLaws.{IsLonger, still_stands}
+use Rattle.net_check.specs.StreamLaws.{still_stands}
 use Rattle.net_check.specs.GotLaws.{longer_from, next_from, reads, reads_from, reading_first, got_and_left, waits_empty, IsReading, IsGetFrom, GetsNext, NoPutNext, function_of_got}
 use Rattle.net_check.specs.ResumeLaws.{resumes}
-use Rattle.proc_step.specs.Turns.{CanAllBeMade, IsHeldBack, IsNextHeldBack, HasBegun, AreNext, Turn, IsTurn, nothing_sent}
+use Rattle.proc_step.specs.Turns.{IsHeldBack, IsNextHeldBack, HasBegun, AreNext, IsTurn, nothing_sent}
 use Rattle.proc_step.specs.Parts.{Played, taken_of}
 use Rattle.proc_step.proofs.Counts.{taken_is, sent_is}
 

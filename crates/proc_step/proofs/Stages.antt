@@ -1,11 +1,11 @@
 -- Parts of traces, one after another: the rest of a pass, and then the loop.
-use Rattle.std.proofs.Common.{◌≡◌, ℕ, suc, ◌+◌, ◌<◌, ◌≤◌, List, ℤ, [], ◌∷◌, ◌++◌, refl, sym, ap, ◌∙◌, subst, append_assoc, append-nil, arith, Option, Some, None}
+use Rattle.std.proofs.Common.{◌≡◌, ℕ, suc, ◌<◌, List, ℤ, [], ◌∷◌, ◌++◌, refl, sym, ap, ◌∙◌, subst, append_assoc, append-nil, arith, Option, Some, None}
 use Rattle.std.specs.Prelude.{IsTrue}
 use Rattle.net_check.specs.Streams.{total}
 use Rattle.net_check.specs.Syntax.{Block}
 use Rattle.net_check.specs.Valid.{is_passing}
 use Rattle.net_check.specs.Statements.{Trace, Step, End, Ended, Waits, trace_of, from_end, then_do}
-use Rattle.net_check.specs.Processes.{Standing, At, Done, standing_at, passes, loop_trace}
+use Rattle.net_check.specs.Processes.{At, Done, standing_at, passes, loop_trace}
 use Rattle.net_check.specs.PassLaws.{one_pass, fewer_left}
 use Rattle.net_check.specs.Puts.{put_after}
 use Rattle.net_check.specs.PutLaws.{put_after-append}

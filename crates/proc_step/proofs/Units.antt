@@ -1,5 +1,5 @@
 -- A process of few units has few sites.
-use Rattle.std.proofs.Common.{◌≡◌, ℕ, suc, ◌+◌, ◌<◌, ◌≤◌, ◌^◌, ap, sym, ◌∙◌, arith, Option, Some, None}
+use Rattle.std.proofs.Common.{◌≡◌, ℕ, ◌+◌, ◌<◌, ◌≤◌, ◌^◌, ap, arith, Option, Some}
 use Rattle.net_check.specs.Syntax.{Block, Nothing, GetThen, PutThen, AssignThen}
 use Rattle.net_check.specs.Statements.{sites_of}
 use Rattle.net_check.specs.Valid.{block_units, body_units}

@@ -1,4 +1,4 @@
-use Rattle.std.proofs.Common.{◌≡◌, ℕ, ◌-◌, List, ℤ, length, ap, sym, arith, ◌∙◌}
+use Rattle.std.proofs.Common.{List, ℤ, length, ap, arith}
 use Rattle.proc_step.proofs.Counts.{counted_more, fewer_later}
 use Rattle.proc_step.proofs.outcome.count_taken.Goals as goal
 

@@ -1,8 +1,7 @@
-use Rattle.std.proofs.Common.{rules, ◌-◌, ◌^◌, ◌≡◌, ℕ, ◌+◌, ◌<◌, ◌==◌, Bool, true, false, cond, arith, sym, ap, ◌∙◌, List, length, drop, take, refl}
+use Rattle.std.proofs.Common.{rules, ◌-◌, ◌^◌, ◌≡◌, ℕ, ◌+◌, ◌<◌, ◌==◌, Bool, true, false, cond, arith, ap, length, drop, take, refl}
 use Rattle.std.proofs.lemmas.Bool.Decides.{nat_tests}
-use Rattle.std.proofs.lemmas.Bool.{eqb-false}
 use Rattle.std.proofs.lemmas.Grind.{common_steps}
-use Rattle.net_check.specs.Syntax.{Tree, Block, Nothing, GetThen, PutThen, AssignThen, block_of}
+use Rattle.net_check.specs.Syntax.{Block, Nothing, GetThen, PutThen, AssignThen, block_of}
 use Rattle.net_check.specs.Statements.{sites_of}
 use Rattle.net_check.specs.Resuming.{from_site}
 use Rattle.proc_step.proofs.sites.statements_from.Goals as goal

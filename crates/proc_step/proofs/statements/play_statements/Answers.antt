@@ -1,10 +1,10 @@
-use Rattle.std.proofs.Common.{◌≡◌, ℕ, ◌+◌, ◌∷◌, [], ◌++◌, List, ℤ, drop, length, set, sym, ap, ◌∙◌, refl, FitsSigned, rules, arith}
+use Rattle.std.proofs.Common.{◌≡◌, ◌+◌, ◌∷◌, [], ◌++◌, List, ℤ, drop, length, set, ap, ◌∙◌, refl, FitsSigned, rules, arith}
 use Rattle.std.specs.Int.{w64}
 use Rattle.std.proofs.lemmas.Int.{to_z-of_z}
 use Rattle.std.proofs.lemmas.Grind.{common_steps}
 use Rattle.net_check.specs.Streams.{history_of}
 use Rattle.net_check.specs.Statements.{sites_of}
-use Rattle.net_check.specs.Syntax.{Block, block_of, then_of}
+use Rattle.net_check.specs.Syntax.{block_of, then_of}
 use Rattle.net_check.specs.declared.program.Statement.{Statement}
 use Rattle.net_check.specs.SyntaxLaws.{block_at}
 use Rattle.proc_step.proofs.Going.{going_at, going_assign, going_put, going_get}

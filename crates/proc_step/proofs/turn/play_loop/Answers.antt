@@ -1,10 +1,10 @@
-use Rattle.std.proofs.Common.{◌∙◌, sym, subst, List, ℤ}
+use Rattle.std.proofs.Common.{◌∙◌, sym, subst}
 use Rattle.net_check.specs.Streams.{total}
 use Rattle.net_check.specs.Syntax.{block_of}
 use Rattle.net_check.specs.Statements.{trace_of}
 use Rattle.net_check.specs.Processes.{passes}
 use Rattle.proc_step.specs.declared.statements.Flow.{Flow}
-use Rattle.proc_step.specs.declared.statements.Flow.TheVariants.{RanOut, Stands}
+use Rattle.proc_step.specs.declared.statements.Flow.TheVariants.{Stands}
 use Rattle.proc_step.specs.Parts.{Part}
 use Rattle.proc_step.proofs.Stages.{pass_and_more, pass_less, before_more}
 use Rattle.proc_step.proofs.turn.play_loop.Goals as goal

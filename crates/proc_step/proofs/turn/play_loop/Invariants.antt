@@ -1,4 +1,4 @@
-use Rattle.std.proofs.Common.{◌≡◌, suc, length, ℕ, List, ℤ}
+use Rattle.std.proofs.Common.{◌≡◌, suc, length, List, ℤ}
 use Rattle.net_check.specs.Streams.{total}
 use Rattle.net_check.specs.Syntax.{block_of}
 use Rattle.net_check.specs.Processes.{passes}
