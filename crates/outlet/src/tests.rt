@@ -4,14 +4,17 @@ use super::*;
 use std::alloc::Global;
 use std::test::Fail;
 
-// An outlet that fails twice: once before it takes an item, and once when it has taken one.
+// An outlet that fails twice, once before it takes an item and once when it has taken one, and lacks memory once: each
+// where it holds so many items.
 #[derive(Drop)]
 struct Fragile {
     items: Vec<i64>,
     fails_before: usize,
     fails_behind: usize,
+    lacks_memory: usize,
     failed_before: bool,
     failed_behind: bool,
+    lacked_memory: bool,
 }
 
 impl Outlet for Fragile {
@@ -31,6 +34,10 @@ impl Outlet for Fragile {
         if !self.failed_before && self.items.len() == self.fails_before {
             self.failed_before = true;
             return Err(OutletFault::Failed);
+        }
+        if !self.lacked_memory && self.items.len() == self.lacks_memory {
+            self.lacked_memory = true;
+            return Err(OutletFault::NoMemory);
         }
         self.items.push(item)?;
         if !self.failed_behind && self.items.len() == self.fails_behind {
@@ -136,8 +143,10 @@ fn an_outlet_that_fails_loses_and_doubles_nothing(rt: HostRuntime) -> Result<(),
             items: Vec::new(rt.alloc()),
             fails_before,
             fails_behind,
+            lacks_memory: 9,
             failed_before: false,
             failed_behind: false,
+            lacked_memory: false,
         };
         assert_eq!(rt; released(&mut outlet, &log, 4)?, Err(OutletFault::Failed));
         assert_eq!(rt; outlet.len(), first, "at {fails_before}, {fails_behind}");
@@ -146,6 +155,26 @@ fn an_outlet_that_fails_loses_and_doubles_nothing(rt: HostRuntime) -> Result<(),
         assert_eq!(rt; released(&mut outlet, &log, 4)?, Ok(()));
         assert_eq!(rt; outlet.items(), [7, 8, 9, 10].as_slice());
     }
+    Ok(())
+}
+
+#[test]
+fn an_outlet_that_lacks_memory_goes_on_later(rt: HostRuntime) -> Result<(), Fail> {
+    let log = log_of(rt.alloc(), &[7, 8, 9])?;
+    let mut outlet = Fragile {
+        items: Vec::new(rt.alloc()),
+        fails_before: 9,
+        fails_behind: 9,
+        lacks_memory: 2,
+        failed_before: false,
+        failed_behind: false,
+        lacked_memory: false,
+    };
+    assert_eq!(rt; released(&mut outlet, &log, 2)?, Ok(()));
+    assert_eq!(rt; released(&mut outlet, &log, 3)?, Err(OutletFault::NoMemory));
+    assert_eq!(rt; outlet.items(), [7, 8].as_slice());
+    assert_eq!(rt; released(&mut outlet, &log, 3)?, Ok(()));
+    assert_eq!(rt; outlet.items(), [7, 8, 9].as_slice());
     Ok(())
 }
 
