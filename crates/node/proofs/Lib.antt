@@ -1,0 +1,5 @@
+mod History
+mod Standings
+mod Slices
+mod Walks
+mod Installs

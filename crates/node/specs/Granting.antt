@@ -1,0 +1,51 @@
+-- What a job has at hand, and the room that it has.
+use Rattle.std.specs.Prelude.{ℕ, suc, ◌-◌, ◌^◌, min, Bool, false, ◌==◌, if◌then◌else◌, ℤ, List, [], ◌∷◌, length, take, drop, Option, Some, None, slice_get}
+use Rattle.net_check.specs.Streams.{history_of}
+use Rattle.net_check.specs.Syntax.{Network}
+use Rattle.net_check.specs.Processes.{Standing}
+use Rattle.net_check.specs.declared.program.Channel.{Channel}
+use Rattle.net_check.specs.declared.program.Port.{Port}
+use Rattle.net_check.specs.declared.program.Port.TheVariants.{Outside, Process}
+use Rattle.outlet.specs.LogState.{LogState, log_end}
+use Rattle.node.specs.ImageView.{ImageView}
+use Rattle.node.specs.Ends.{received_of, log_of}
+use Rattle.node.specs.JobView.{JobView}
+
+-- this process stands at an end of a channel
+abbrev pub is_process : ℕ → Port → Bool
+is_process process Outside = false
+is_process process (Process p) = p == process
+
+-- The items of a channel that are at hand, at most 64: those of an input that come next. None of any other channel, since nothing
+-- brings items from a process yet.
+abbrev pub next_items : List (List ℤ) → ImageView → ℕ → Port → List ℤ
+next_items inputs image channel Outside = take 64 (drop (received_of image channel) (history_of inputs channel))
+next_items inputs image channel (Process p) = []
+
+-- what a process has at hand of each channel, the first one of this number: of those from which it gets
+abbrev pub items_from : List (List ℤ) → ImageView → ℕ → ℕ → List Channel → List (List ℤ)
+items_from inputs image process number [] = []
+items_from inputs image process number (channel ∷ channels) =
+    (if is_process process channel.consumer then next_items inputs image number channel.producer else []) ∷ items_from inputs image process (suc number) channels
+
+-- the places that a log has for a job: at most 64, and no more than fit
+abbrev pub room_in : Option LogState → ℕ
+room_in None = 0
+room_in (Some log) = min 64 (min (65536 - length log.items) (2 ^ 63 - 1 - log_end log))
+
+-- the room that a process has on each channel, the first one of this number: on those on which it puts
+abbrev pub room_from : ImageView → ℕ → ℕ → List Channel → List ℕ
+room_from image process number [] = []
+room_from image process number (channel ∷ channels) =
+    (if is_process process channel.producer then room_in (log_of image number) else 0) ∷ room_from image process (suc number) channels
+
+-- the job of a process that stands there
+abbrev pub job_for : Network → List (List ℤ) → ImageView → ℕ → Standing → ℕ → JobView
+job_for net inputs image process standing version = record {
+  process = process;
+  code = slice_get net.codes process;
+  version = version;
+  standing = standing;
+  items = items_from inputs image process 0 net.channels;
+  room = room_from image process 0 net.channels;
+}

@@ -1,0 +1,78 @@
+-- An image after a turn of one of its processes.
+use Rattle.std.specs.Prelude.{◌≡◌, ℕ, ◌+◌, ◌-◌, ◌≤◌, ◌^◌, Bool, true, false, ◌==◌, if◌then◌else◌, ℤ, List, [], ◌∷◌, ◌++◌, length, map, Option, Some, None, slice_get, slice_index}
+use Rattle.net_check.specs.Streams.{history_of}
+use Rattle.net_check.specs.Processes.{Standing}
+use Rattle.net_check.specs.declared.program.Channel.{Channel}
+use Rattle.outlet.specs.LogState.{LogState, log_end, Overfills}
+use Rattle.node.specs.ProcessView.{SavedProcessView}
+use Rattle.node.specs.ImageView.{ImageView}
+use Rattle.node.specs.Ends.{received_at, log_at}
+use Rattle.node.specs.Granting.{is_process}
+use Rattle.node.specs.declared.record.SavedEnd.{SavedEnd}
+use Rattle.node.specs.declared.record.End.{End}
+use Rattle.node.specs.declared.record.End.TheVariants.{Receives, Sends, Both}
+
+-- this process gets from the channel, or puts on it
+abbrev pub is_consumer : ℕ → Option Channel → Bool
+is_consumer process None = false
+is_consumer process (Some channel) = is_process process channel.consumer
+
+abbrev pub is_producer : ℕ → Option Channel → Bool
+is_producer process None = false
+is_producer process (Some channel) = is_process process channel.producer
+
+-- what this process took from a channel, and what it put there
+abbrev pub taken_from : List Channel → ℕ → List ℕ → ℕ → ℕ
+taken_from channels process taken channel = if is_consumer process (slice_get channels channel) then slice_index taken channel else 0
+
+abbrev pub put_on : List Channel → ℕ → List (List ℤ) → ℕ → List ℤ
+put_on channels process sent channel = if is_producer process (slice_get channels channel) then history_of sent channel else []
+
+-- a log with these items behind its own
+abbrev pub log_with : List ℤ → LogState → LogState
+log_with items log = record { base = log.base; items = log.items ++ items }
+
+-- an end of a channel after these items were put
+abbrev pub pushed : List ℤ → End → End
+pushed items (Receives received) = Receives received
+pushed items (Sends log) = Sends (log_with items log)
+pushed items (Both received log) = Both received (log_with items log)
+
+-- an end of a channel after so many items were got
+abbrev pub counted : ℕ → End → End
+counted count (Receives received) = Receives (received + count)
+counted count (Sends log) = Sends log
+counted count (Both received log) = Both (received + count) log
+
+abbrev pub saved_pushed : List Channel → ℕ → List (List ℤ) → SavedEnd → SavedEnd
+saved_pushed channels process sent saved = record { channel = saved.channel; end = pushed (put_on channels process sent saved.channel) saved.end }
+
+abbrev pub saved_counted : List Channel → ℕ → List ℕ → SavedEnd → SavedEnd
+saved_counted channels process taken saved = record { channel = saved.channel; end = counted (taken_from channels process taken saved.channel) saved.end }
+
+-- the first process of this number stands there now
+abbrev pub moved : ℕ → Standing → List SavedProcessView → List SavedProcessView
+moved process standing [] = []
+moved process standing (saved ∷ processes) =
+    if saved.number == process then record { number = saved.number; standing = standing } ∷ processes else saved ∷ moved process standing processes
+
+-- An image after a turn of this process: where it stands then, how many items it took from each channel, and what it sent on each.
+abbrev pub installed : List Channel → ℕ → Standing → List ℕ → List (List ℤ) → ImageView → ImageView
+installed channels process standing taken sent image = record {
+  processes = moved process standing image.processes;
+  ends = map (saved_counted channels process taken) (map (saved_pushed channels process sent) image.ends);
+}
+
+-- what is put on this end fits its log
+abbrev pub LogTakes : ℕ → Option LogState → Type 0
+LogTakes count None = Unit {0}
+LogTakes count (Some log) = ¬ (Overfills log count)
+
+-- an end takes what the turn took and put
+pub record EndTakes (channels : List Channel) (process : ℕ) (taken : List ℕ) (sent : List (List ℤ)) (saved : SavedEnd) : Type 0 where
+  pub received : received_at (Some (saved.end)) + taken_from channels process taken saved.channel ≤ 2 ^ 63 - 1
+  pub put : LogTakes (length (put_on channels process sent saved.channel)) (log_at (Some (saved.end)))
+
+-- the turn fits the image: no count and no log comes past its limit
+abbrev pub ImageTakes : List Channel → ℕ → List ℕ → List (List ℤ) → ImageView → Type 0
+ImageTakes channels process taken sent image = (k : ℕ) (saved : SavedEnd) → slice_get image.ends k ≡ Some saved → EndTakes channels process taken sent saved

@@ -1,0 +1,12 @@
+pub mod ProcessView
+pub mod ImageView
+pub mod DecisionView
+pub mod RecordView
+pub mod Ends
+pub mod Cell
+pub mod MemCell
+pub mod JobView
+pub mod NodeView
+pub mod Granting
+pub mod Installing
+pub mod Starting

@@ -1,0 +1,152 @@
+// The job that a process of a node is given.
+ghost use Rattle.std.specs.Prelude.{◌≡◌, ◌≤◌, ◌<◌, if◌then◌else◌, [], IfOk, length, take, drop, option_copied};
+ghost use Rattle.net_check.specs.Streams.{history_of};
+ghost use Rattle.net_check.specs.Syntax.{network_of};
+ghost use Rattle.net_check.specs.States.{standing_of};
+ghost use Rattle.node.specs.JobView.{job_view};
+ghost use Rattle.node.specs.Granting.{is_process, next_items, items_from, room_in, room_from, job_for};
+
+use crate::record::Image;
+use crate::state::LAST_NUMBER;
+use net_check::{Channel, History, Inputs, Net, Port, ProcState};
+use outlet::{LOG_ITEMS, Log};
+use proc_step::Job;
+use std::alloc::{AllocError, Global};
+use std::sync::Arc;
+
+/// The most items of a channel in a job, and the most places of room.
+const JOB_ITEMS: usize = 64;
+
+/// Whether this process stands at an end of a channel.
+pub(crate) fn is_at(port: Port, process: usize) -> bool
+    ensures { result ≡ is_process process port }
+{
+    match port {
+        Port::Outside => false,
+        Port::Process(number) => process == number,
+    }
+}
+
+// The items that come next after so many, at most as many as a job may have.
+fn next_of(items: &[i64], received: u64) -> &[i64]
+    ensures { result.now ≡ take 64 (drop received items.now) }
+{
+    let rest = &items[(received as usize).min(items.len())..];
+    &rest[..JOB_ITEMS.min(rest.len())]
+}
+
+// A copy of the items that are at hand of a channel whose items come from there.
+fn copy_next(
+    alloc: Global,
+    inputs: &[History],
+    image: &Image,
+    channel: u8,
+    producer: Port,
+) -> Result<History, AllocError>
+    ensures { IfOk result (λ items. items ≡ next_items inputs.now image.now channel producer) }
+{
+    match producer {
+        Port::Outside => match inputs.get(usize::from(channel)) {
+            Some(input) => Ok(History::from_vec(Vec::from_slice(
+                alloc,
+                next_of(input.as_slice(), image.received(channel)),
+            )?)),
+            None => Ok(History::new(alloc)),
+        },
+        Port::Process(_) => Ok(History::new(alloc)),
+    }
+}
+
+// What a process has at hand of each channel.
+fn copy_items(
+    alloc: Global,
+    channels: &[Channel],
+    inputs: &[History],
+    image: &Image,
+    process: usize,
+) -> Result<Vec<History>, AllocError>
+    requires { length channels.now ≤ 256 }
+    ensures { IfOk result (λ items. items.items ≡ items_from inputs.now image.now process 0 channels.now) }
+{
+    let mut items = Vec::with_capacity(alloc, channels.len())?;
+    for (number, channel) in channels.iter().enumerate() {
+        if is_at(channel.consumer, process) {
+            items.push(copy_next(
+                alloc,
+                inputs,
+                image,
+                number as u8,
+                channel.producer,
+            )?)?;
+        } else {
+            items.push(History::new(alloc))?;
+        }
+    }
+    Ok(items)
+}
+
+// The places that a log has for a job.
+pub(crate) fn places(log: Option<&Log>) -> usize
+    ensures { result ≡ room_in (option_copied log.entry) }
+{
+    match log {
+        Some(log) => {
+            let positions = (LAST_NUMBER - log.end()).min(JOB_ITEMS as u64) as usize;
+            positions.min(LOG_ITEMS - log.len())
+        }
+        None => 0,
+    }
+}
+
+// The room that a process has on each channel.
+fn list_room(
+    alloc: Global,
+    channels: &[Channel],
+    image: &Image,
+    process: usize,
+) -> Result<Vec<usize>, AllocError>
+    requires { length channels.now ≤ 256 }
+    ensures { IfOk result (λ room. room.items ≡ room_from image.now process 0 channels.now) }
+{
+    let mut room = Vec::with_capacity(alloc, channels.len())?;
+    for (number, channel) in channels.iter().enumerate() {
+        if is_at(channel.producer, process) {
+            room.push(places(image.log(number as u8)))?;
+        } else {
+            room.push(0)?;
+        }
+    }
+    Ok(room)
+}
+
+/// The job of a process that stands there.
+pub(crate) fn make_job(
+    alloc: Global,
+    net: &Arc<Net>,
+    inputs: &Inputs,
+    image: &Image,
+    process: usize,
+    state: &ProcState,
+    version: u64,
+) -> Result<Job, AllocError>
+    requires { process < length net.now.value.program.processes.items }
+    ensures job { IfOk result (λ job. job_view job ≡ job_for (network_of net.now.value.program) inputs.now image.now process (standing_of state.now) version) }
+{
+    Ok(Job {
+        net: Arc::try_clone(net)?,
+        process,
+        version,
+        state: ProcState {
+            place: state.place,
+            variables: Vec::from_slice(alloc, state.variables.as_slice())?,
+        },
+        items: copy_items(
+            alloc,
+            &net.program.channels,
+            inputs.as_slice(),
+            image,
+            process,
+        )?,
+        room: list_room(alloc, &net.program.channels, image, process)?,
+    })
+}

@@ -1,0 +1,166 @@
+// An image after a turn of one of its processes.
+ghost use Rattle.std.specs.Prelude.{◌≡◌, ◌≤◌, ◌+◌, ◌^◌, ◌-◌, ◌++◌, ℕ, if◌then◌else◌, [], map, length, take, drop, slice_get, slice_index, OnOk, OnErr, IsErrOf, Some};
+ghost use Rattle.net_check.specs.Streams.{history_of};
+ghost use Rattle.net_check.specs.States.{standing_of};
+ghost use Rattle.node.specs.Ends.{received_at, log_at};
+ghost use Rattle.node.specs.Installing.{is_consumer, is_producer, taken_from, put_on, pushed, counted, saved_pushed, saved_counted, moved, installed, LogTakes, EndTakes, ImageTakes};
+ghost use Rattle.node.specs.declared.record.SavedEnd.{SavedEnd};
+
+use crate::granting::is_at;
+use crate::record::{End, Image, SavedEnd, SavedProcess};
+use net_check::{Channel, History, ProcState};
+use outlet::LogFault;
+use std::alloc::Global;
+
+// How many items a process took from a channel.
+fn count_taken(channels: &[Channel], process: usize, taken: &[usize], channel: u8) -> usize
+    ensures { result ≡ taken_from channels.now process taken.now channel }
+{
+    match channels.get(usize::from(channel)) {
+        Some(ends) if is_at(ends.consumer, process) => {
+            taken.get(usize::from(channel)).copied().unwrap_or(0)
+        }
+        _ => 0,
+    }
+}
+
+// The items that a process put on a channel.
+fn items_put<'a>(
+    channels: &[Channel],
+    process: usize,
+    sent: &'a [History],
+    channel: u8,
+) -> &'a [i64]
+    ensures { result.now ≡ put_on channels.now process sent.now channel }
+{
+    match channels.get(usize::from(channel)) {
+        Some(ends) if is_at(ends.producer, process) => {
+            match sent.get(usize::from(channel)) {
+                Some(items) => items.as_slice(),
+                None => &[],
+            }
+        }
+        _ => &[],
+    }
+}
+
+impl End {
+    // Puts all items behind those of the log, or none.
+    fn push_all(&mut self, items: &[i64]) -> Result<(), LogFault>
+        requires { LogTakes (length items.now) (log_at (Some self.old)) }
+        ensures ok { OnOk result (self.new ≡ pushed items.now self.old) }
+        ensures err { OnErr result (self.new ≡ self.old) }
+        ensures full { ¬ (IsErrOf result LogFault.Full) }
+    {
+        match self {
+            End::Receives { .. } => Ok(()),
+            End::Sends { log } => log.push_all(items),
+            End::Both { log, .. } => log.push_all(items),
+        }
+    }
+
+    // Takes as many items as were just put back from the log's end.
+    fn take_back(&mut self, items: &[i64])
+        ensures { (before : End) → self.old ≡ pushed items.now before → self.new ≡ before }
+    {
+        match self {
+            End::Receives { .. } => {}
+            End::Sends { log } => log.cut(log.end().saturating_sub(items.len() as u64)),
+            End::Both { log, .. } => log.cut(log.end().saturating_sub(items.len() as u64)),
+        }
+    }
+
+    // Counts items that were got.
+    fn count(&mut self, taken: usize)
+        requires { received_at (Some self.old) + taken ≤ 2 ^ 63 - 1 }
+        ensures { self.new ≡ counted taken self.old }
+    {
+        match self {
+            End::Receives { received } => *received += taken as u64,
+            End::Sends { .. } => {}
+            End::Both { received, .. } => *received += taken as u64,
+        }
+    }
+}
+
+// Puts what was sent behind the logs of the ends from this one on: everything or nothing.
+fn push_sent(
+    ends: &mut Vec<SavedEnd>,
+    from: usize,
+    channels: &[Channel],
+    process: usize,
+    sent: &[History],
+) -> Result<(), LogFault>
+    requires within { from ≤ length ends.old.items }
+    requires takes { (k : ℕ) (saved : SavedEnd) → from ≤ k → slice_get ends.old.items k ≡ Some saved
+        → LogTakes (length (put_on channels.now process sent.now saved.channel)) (log_at (Some (saved.end))) }
+    ensures ok { OnOk result (ends.new.items ≡ take from ends.old.items
+        ++ map (saved_pushed channels.now process sent.now) (drop from ends.old.items)) }
+    ensures err { OnErr result (ends.new.items ≡ ends.old.items) }
+    ensures full { ¬ (IsErrOf result LogFault.Full) }
+{
+    if from == ends.len() {
+        return Ok(());
+    }
+    let items = items_put(channels, process, sent, ends[from].channel);
+    ends[from].end.push_all(items)?;
+    match push_sent(ends, from + 1, channels, process, sent) {
+        Ok(()) => Ok(()),
+        Err(fault) => {
+            ends[from].end.take_back(items);
+            Err(fault)
+        }
+    }
+}
+
+// Counts what was taken at each end.
+fn count_all(ends: &mut Vec<SavedEnd>, channels: &[Channel], process: usize, taken: &[usize])
+    requires { (k : ℕ) (saved : SavedEnd) → slice_get ends.old.items k ≡ Some saved
+        → received_at (Some (saved.end)) + taken_from channels.now process taken.now saved.channel ≤ 2 ^ 63 - 1 }
+    ensures { ends.new.items ≡ map (saved_counted channels.now process taken.now) ends.old.items }
+{
+    for saved in ends.iter_mut() {
+        let count = count_taken(channels, process, taken, saved.channel);
+        saved.end.count(count);
+    }
+}
+
+// Puts a process where it stands now.
+fn move_process(processes: &mut Vec<SavedProcess>, process: usize, state: ProcState)
+    ensures { processes.new.items ≡ moved process (standing_of state) processes.old.items }
+{
+    for k in 0..processes.len() {
+        if usize::from(processes[k].number) == process {
+            processes[k].state = state;
+            return;
+        }
+    }
+}
+
+impl Image {
+    /// Takes a turn of a process in: where it stands now, the items that it took from each channel, and those that it
+    /// sent on each. Refuses for want of memory alone, and is then as it was.
+    pub fn install(
+        &mut self,
+        alloc: Global,
+        channels: &[Channel],
+        process: usize,
+        state: &ProcState,
+        taken: &[usize],
+        sent: &[History],
+    ) -> Result<(), LogFault>
+        requires { ImageTakes channels.now process taken.now sent.now self.old }
+        ensures ok { OnOk result (self.new ≡ installed channels.now process (standing_of state.now) taken.now sent.now self.old) }
+        ensures err { OnErr result (self.new ≡ self.old) }
+        ensures full { ¬ (IsErrOf result LogFault.Full) }
+    {
+        let state = ProcState {
+            place: state.place,
+            variables: Vec::from_slice(alloc, state.variables.as_slice())?,
+        };
+        push_sent(&mut self.ends, 0, channels, process, sent)?;
+        count_all(&mut self.ends, channels, process, taken);
+        move_process(&mut self.processes, process, state);
+        Ok(())
+    }
+}

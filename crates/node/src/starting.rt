@@ -1,0 +1,165 @@
+// Checkpoints: a node takes a tentative image, and makes it permanent.
+ghost use Rattle.std.specs.Prelude.{◌≡◌, ◌⊎◌, ◌<◌, ◌-◌, ◌^◌, false, IfOk, MatchOption, IsTrue, OnOk, OnErr, Some, None, length, slice_set};
+ghost use Rattle.gate_cell.specs.declared.fault.CellFault.TheVariants.{NoMemory};
+ghost use Rattle.node.specs.NodeView.{node_view};
+ghost use Rattle.sector_disk.specs.Clock.{LeavesOnly};
+ghost use Rattle.node.specs.Cell.{IsUnchanged};
+ghost use Rattle.node.specs.Starting.{highest_used, may_start, with_own, decided, is_own, IsStart, IsDecision, IsFailedPut, stopped, next_number, AgreeWhileUp};
+
+use crate::cell::StableCell;
+use crate::putting::Putting;
+use crate::record::{Image, Record, Tentative};
+use crate::state::{LAST_NUMBER, NodeState};
+use gate_cell::CellFault;
+use std::alloc::{AllocError, Global};
+
+// The refusals of a start.
+const TOO_LARGE: u8 = 22;
+const SPENT: u8 = 44;
+
+/// The next number, round or version.
+pub fn next_after(number: u64) -> u64
+    ensures { result ≡ next_number number }
+{
+    if number < LAST_NUMBER {
+        number + 1
+    } else {
+        number
+    }
+}
+
+impl NodeState {
+    // Down, from this round on.
+    fn stop(&mut self, round: u64)
+        ensures { node_view self.new ≡ stopped round (node_view self.old) }
+    {
+        self.out = None;
+        self.version = next_after(self.version);
+        self.last = None;
+        self.up = false;
+        self.restart = next_after(round);
+    }
+
+    // What a refused put comes to, where memory isn't what it lacked.
+    fn settle(&mut self, fault: CellFault, round: u64) -> Result<Putting, AllocError>
+        ensures ok { IfOk result (λ outcome. IsFailedPut fault round (node_view self.old) outcome (node_view self.new)) }
+        ensures err { OnErr result ((fault ≡ NoMemory) × (node_view self.new ≡ node_view self.old)) }
+    {
+        match fault {
+            CellFault::NoMemory => Err(AllocError),
+            CellFault::TooLarge => Ok(Putting::Refused(TOO_LARGE)),
+            CellFault::Device | CellFault::Reopen => {
+                self.stop(round);
+                Ok(Putting::Failed)
+            }
+        }
+    }
+}
+
+impl Record {
+    // The record with a tentative image of this node's own beside the permanent one, under its next number.
+    fn with_own(&self, alloc: Global, node: u8, image: &Image) -> Result<Record, AllocError>
+        requires listed { node < length self.now.highest }
+        requires number { highest_used node self.now < 2 ^ 63 - 1 }
+        ensures { IfOk result (λ next. next ≡ with_own node image.now self.now) }
+    {
+        let mut next = self.copy(alloc)?;
+        let number = next.highest[usize::from(node)] + 1;
+        next.highest[usize::from(node)] = number;
+        next.tentative = Some(Tentative {
+            initiator: node,
+            number,
+            image: image.copy(alloc)?,
+        });
+        Ok(next)
+    }
+}
+
+// Whether a node may take a tentative image of its own.
+fn can_start(state: &NodeState) -> bool
+    ensures { result ≡ may_start (node_view state.now) }
+{
+    state.up && state.kept.tentative.is_none() && state.kept.decision.is_none()
+}
+
+// Takes a tentative image of where a node stands now.
+fn put_own<C: StableCell>(
+    alloc: Global,
+    number: u8,
+    state: &mut NodeState,
+    cell: &mut C,
+    round: u64,
+) -> Result<Putting, AllocError>
+    requires listed { number < length state.old.kept.highest }
+    requires agree { AgreeWhileUp C.is_ready C.value state.old.up state.old.kept cell.old }
+    ensures step { IfOk result (λ outcome. IsStart number round (node_view state.old) outcome (node_view state.new)) }
+    ensures refused { OnErr result (node_view state.new ≡ node_view state.old) }
+    ensures agree { AgreeWhileUp C.is_ready C.value state.new.up state.new.kept cell.new }
+    ensures any_moment { LeavesOnly C.moment C.left_since cell.old cell.new
+        (λ left. C.may_leave cell.old left ⊎ (left ≡ Some (with_own number state.old.current state.old.kept))) }
+{
+    if !can_start(state) {
+        return Ok(Putting::NotDue);
+    }
+    let highest = state.kept.highest[usize::from(number)];
+    if highest >= LAST_NUMBER {
+        return Ok(Putting::Refused(SPENT));
+    }
+    let next = state.kept.with_own(alloc, number, &state.current)?;
+    match cell.put(&next) {
+        Ok(()) => {
+            state.kept = next;
+            Ok(Putting::Stored)
+        }
+        Err(fault) => state.settle(fault, round),
+    }
+}
+
+impl Record {
+    // The record with its tentative image as the permanent one and no decision, where that image is this node's own.
+    fn with_decision(&self, alloc: Global, node: u8) -> Result<Option<Record>, AllocError>
+        ensures { IfOk result (λ next. MatchOption next (is_own node self.now.tentative ≡ false)
+            (λ kept. IsTrue (is_own node self.now.tentative) × (kept ≡ decided self.now))) }
+    {
+        match &self.tentative {
+            Some(held) if held.initiator == node => Ok(Some(Record {
+                epoch: self.epoch,
+                highest: Vec::from_slice(alloc, self.highest.as_slice())?,
+                decision: None,
+                permanent: held.image.copy(alloc)?,
+                tentative: None,
+            })),
+            _ => Ok(None),
+        }
+    }
+}
+
+// Makes a node's own tentative image permanent.
+fn put_decision<C: StableCell>(
+    alloc: Global,
+    number: u8,
+    state: &mut NodeState,
+    cell: &mut C,
+    round: u64,
+) -> Result<Putting, AllocError>
+    requires agree { AgreeWhileUp C.is_ready C.value state.old.up state.old.kept cell.old }
+    ensures step { IfOk result (λ outcome. IsDecision number round (node_view state.old) outcome (node_view state.new)) }
+    ensures refused { OnErr result (node_view state.new ≡ node_view state.old) }
+    ensures agree { AgreeWhileUp C.is_ready C.value state.new.up state.new.kept cell.new }
+    ensures any_moment { LeavesOnly C.moment C.left_since cell.old cell.new
+        (λ left. C.may_leave cell.old left ⊎ (left ≡ Some (decided state.old.kept))) }
+{
+    if !state.up {
+        return Ok(Putting::NotDue);
+    }
+    let Some(next) = state.kept.with_decision(alloc, number)? else {
+        return Ok(Putting::NotDue);
+    };
+    match cell.put(&next) {
+        Ok(()) => {
+            state.kept = next;
+            Ok(Putting::Stored)
+        }
+        Err(fault) => state.settle(fault, round),
+    }
+}

@@ -1,2 +1,0 @@
-mod History
-mod Standings

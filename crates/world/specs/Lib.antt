@@ -1,7 +1,0 @@
-pub mod ProcessView
-pub mod ImageView
-pub mod DecisionView
-pub mod RecordView
-pub mod Ends
-pub mod Cell
-pub mod MemCell
