@@ -1,5 +1,5 @@
 -- What a log is: the last items of a history, and how many came before them.
-use Rattle.std.specs.Prelude.{◌≡◌, ◌⊎◌, ℕ, ◌+◌, ◌-◌, ◌^◌, ◌≤◌, nat_lt, if◌then◌else◌, List, ℤ, length, drop, Option, None, slice_get}
+use Rattle.std.specs.Prelude.{◌≡◌, ◌⊎◌, ℕ, ◌+◌, ◌-◌, ◌^◌, ◌<◌, ◌≤◌, nat_lt, if◌then◌else◌, List, ℤ, length, take, drop, Option, None, slice_get}
 use Rattle.std.specs.Option.{option_to_list}
 
 -- the items from the position `base` on
@@ -20,6 +20,10 @@ pub record IsWithinLimits (log : LogState) : Type 0 where
 abbrev pub IsFull : LogState → Type 0
 IsFull log = (length log.items ≡ 65536) ⊎ (log_end log ≡ 2 ^ 63 - 1)
 
+-- so many items more don't all fit
+abbrev pub Overfills : LogState → ℕ → Type 0
+Overfills log count = (65536 < length log.items + count) ⊎ (2 ^ 63 - 1 < log_end log + count)
+
 -- the position of an item or the end
 pub record IsInLog (log : LogState) (position : ℕ) : Type 0 where
   pub from_base : log.base ≤ position
@@ -36,6 +40,10 @@ items_at log position = option_to_list (item_at log position)
 -- the log without what lies before a position of it
 abbrev pub trimmed : LogState → ℕ → LogState
 trimmed log position = record { base = position; items = drop (position - log.base) log.items }
+
+-- the log without what lies from a position of it on
+abbrev pub cut_at : LogState → ℕ → LogState
+cut_at log position = record { base = log.base; items = take (position - log.base) log.items }
 
 -- the log holds this history from the log's base on
 pub record IsLogOf (log : LogState) (history : List ℤ) : Type 0 where

@@ -11,7 +11,7 @@ pub enum LogFault {
     /// There is no memory. Refusal 1.
     #[error("no memory")]
     NoMemory,
-    /// The log holds 65,536 items, or its end is 2^63 - 1. Refusal 50.
+    /// What was to be added doesn't all fit: a log holds at most 65,536 items, and its end is at most 2^63 - 1. Refusal 50.
     #[error("the log is full")]
     Full,
 }
@@ -25,6 +25,16 @@ impl LogFault {
             LogFault::NoMemory => 1,
             LogFault::Full => 50,
         }
+    }
+}
+
+impl From<AllocError> for LogFault {
+    ghost use Rattle.outlet.specs.declared.fault.LogFault.TheVariants.{NoMemory};
+
+    ghost from_gives = { λ _ e. e ≡ NoMemory };
+
+    fn from(_: AllocError) -> Self {
+        LogFault::NoMemory
     }
 }
 

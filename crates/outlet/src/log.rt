@@ -1,6 +1,7 @@
 // The items of a history that may still be asked for.
-ghost use Rattle.std.specs.Prelude.{◌≡◌, ◌==◌, ◌↔◌, ℕ, ◌+◌, ◌-◌, ◌^◌, ◌<◌, ◌≤◌, List, [], ◌∷◌, ◌++◌, ℤ, length, drop, slice_get, IfOk, IfSome, Some, IsTrue, OnOk, OnErr, IsErrOf};
-ghost use Rattle.outlet.specs.LogState.{log_end, IsFull, IsInLog, item_at, trimmed, IsLogOf};
+ghost use Rattle.std.specs.Prelude.{◌≡◌, ◌==◌, ◌↔◌, ℕ, ◌+◌, ◌-◌, ◌^◌, ◌<◌, ◌≤◌, List, [], ◌∷◌, ◌++◌, ℤ, length, take, drop, slice_get, IfOk, IfSome, Some, IsTrue, OnOk, OnErr, IsErrOf};
+ghost use Rattle.std.specs.VecDeque.{deque_len, deque_capacity};
+ghost use Rattle.outlet.specs.LogState.{log_end, IsFull, Overfills, IsInLog, item_at, trimmed, cut_at, IsLogOf};
 
 use crate::fault::LogFault;
 use std::alloc::{AllocError, Global};
@@ -15,7 +16,7 @@ pub const LAST_POSITION: u64 = (1 << 63) - 1;
 
 /// The items of one history from the position `base` on: a base, and the items at the positions from it to the end.
 ///
-/// The items before the base are gone. No call moves the items that stay, unless `push` needs a larger room for them.
+/// The items before the base are gone. No call moves the items that stay, unless `push` or `push_all` needs a larger room for them.
 #[derive(Drop)]
 pub struct Log {
     base: u64,
@@ -41,6 +42,16 @@ fn drop_front(items: &mut VecDeque<i64>, count: u64)
     }
 }
 
+// Adds these items, for which there is room.
+fn push_each(log: &mut VecDeque<i64>, items: &[i64])
+    requires { deque_len log.old + length items.now ≤ deque_capacity log.old }
+    ensures { log.new.items ≡ log.old.items ++ items.now }
+{
+    for item in items {
+        log.push_back_reserved(*item);
+    }
+}
+
 fn are_same_items(one: &VecDeque<i64>, other: &VecDeque<i64>) -> bool
     ensures { IsTrue result ↔ (one.now.items ≡ other.now.items) }
 {
@@ -59,6 +70,17 @@ impl Log {
         }
     }
 
+    /// The log of a history with so many items, none of which it holds.
+    pub fn starting_at(alloc: Global, base: u64) -> Log
+        requires { base ≤ 2 ^ 63 - 1 }
+        ensures { result ≡ record { base = base; items = [] } }
+    {
+        Log {
+            base,
+            items: VecDeque::new(alloc),
+        }
+    }
+
     /// Adds an item at the end. Refuses with `NoMemory` (1) and `Full` (50), and is then as it was.
     pub fn push(&mut self, item: i64) -> Result<(), LogFault>
         ensures full { IsErrOf result LogFault.Full ↔ IsFull self.old }
@@ -71,6 +93,23 @@ impl Log {
             return Err(LogFault::Full);
         }
         self.items.push_back(item)?;
+        Ok(())
+    }
+
+    /// Adds all these items at the end, or none: it takes its memory first. Refuses with `NoMemory` (1) and with `Full` (50),
+    /// where not all of them fit, and is then as it was.
+    pub fn push_all(&mut self, items: &[i64]) -> Result<(), LogFault>
+        ensures full { IsErrOf result LogFault.Full ↔ Overfills self.old (length items.now) }
+        ensures ok { OnOk result (self.new ≡ record (self.old) { items = self.old.items ++ items.now }) }
+        ensures err { OnErr result (self.new ≡ self.old) }
+        ensures history { OnOk result
+            ((history : List ℤ) → IsLogOf self.old history → IsLogOf self.new (history ++ items.now)) }
+    {
+        if items.len() > LOG_ITEMS - self.len() || items.len() as u64 > LAST_POSITION - self.end() {
+            return Err(LogFault::Full);
+        }
+        self.items.reserve(items.len())?;
+        push_each(&mut self.items, items);
         Ok(())
     }
 
@@ -96,6 +135,18 @@ impl Log {
         if self.base <= position && position <= self.end() {
             drop_front(&mut self.items, position - self.base);
             self.base = position;
+        }
+    }
+
+    /// Drops what lies from the position on, which becomes the end. Changes nothing where the position isn't one from the
+    /// base to the end. Takes no memory.
+    pub fn cut(&mut self, position: u64)
+        ensures cut { IsInLog self.old position → self.new ≡ cut_at self.old position }
+        ensures otherwise { ¬ (IsInLog self.old position) → self.new ≡ self.old }
+        ensures history { (history : List ℤ) → IsInLog self.old position → IsLogOf self.old history → IsLogOf self.new (take position history) }
+    {
+        if self.base <= position && position < self.end() {
+            self.items.truncate((position - self.base) as usize);
         }
     }
 

@@ -238,3 +238,38 @@ fn new_ones_and_the_numbers_of_refusals(rt: HostRuntime) -> Result<(), Fail> {
     assert_eq!(rt; OutletFault::Failed.number(), 60);
     Ok(())
 }
+
+#[test]
+fn a_log_rebuilt_at_a_position_and_cut(rt: HostRuntime) -> Result<(), Fail> {
+    let mut log = Log::starting_at(rt.alloc(), 7);
+    assert_eq!(rt; (log.base(), log.end(), log.len()), (7, 7, 0));
+    log.push_all(&[10, 20, 30])?;
+    log.push_all(&[])?;
+    log.push_all(&[40])?;
+    assert_eq!(rt; (log.base(), log.end()), (7, 11));
+    assert_eq!(rt;
+        (log.get(7), log.get(10), log.get(11)),
+        (Some(10), Some(40), None)
+    );
+    log.cut(12);
+    log.cut(6);
+    log.cut(11);
+    assert_eq!(rt; log.end(), 11);
+    log.cut(9);
+    assert_eq!(rt; (log.base(), log.end()), (7, 9));
+    assert_eq!(rt; (log.get(8), log.get(9)), (Some(20), None));
+    log.cut(7);
+    assert_eq!(rt; (log.base(), log.len()), (7, 0));
+    let mut last = Log::starting_at(rt.alloc(), LAST_POSITION - 2);
+    assert_eq!(rt; last.push_all(&[1, 2, 3]), Err(LogFault::Full));
+    assert_eq!(rt; last.end(), LAST_POSITION - 2);
+    last.push_all(&[1, 2])?;
+    assert_eq!(rt; last.end(), LAST_POSITION);
+    let mut full = Log::new(rt.alloc());
+    let many = vec![in rt.alloc(); 5; 65_536]?;
+    full.push_all(&many)?;
+    assert_eq!(rt; full.push_all(&[5]), Err(LogFault::Full));
+    full.push_all(&[])?;
+    assert_eq!(rt; full.len(), 65_536);
+    Ok(())
+}
