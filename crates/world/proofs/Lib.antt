@@ -1,2 +1,1 @@
 mod History
-mod Standings
