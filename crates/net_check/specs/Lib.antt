@@ -33,3 +33,5 @@ pub mod StreamLaws
 pub mod GotLaws
 pub mod ResumeLaws
 pub mod ApproximationLaws
+pub mod NextActs
+pub mod NextLaws

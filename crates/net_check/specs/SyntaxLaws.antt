@@ -2,7 +2,7 @@
 use Rattle.std.proofs.Common.{◌≡◌, ◌∙◌, ◌+◌, ◌<◌, ℕ, List, ap, sym, refl, drop, get_or, length, Box, Vec, Global, rules}
 use Rattle.std.proofs.lemmas.List.{at_drop_more}
 use mathlib.Core.Former.{Count}
-use Rattle.net_check.specs.Syntax.{Block, Chain, LinkThen, tree_of, row_of, links_of, then_of, block_of}
+use Rattle.net_check.specs.Syntax.{Chain, LinkThen, tree_of, row_of, links_of, then_of, block_of}
 use Rattle.net_check.specs.declared.program.Statement.{Statement}
 use Rattle.net_check.specs.declared.program.Link.{Link}
 use Rattle.net_check.specs.declared.program.Expr.{Expr, Row_of-Link, end_of-Link, more_of-Link, items-the_row-Link, the_lemmas}

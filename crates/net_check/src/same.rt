@@ -97,7 +97,8 @@ fn is_same_body(a: &Option<Vec<Statement>>, b: &Option<Vec<Statement>>) -> bool
     }
 }
 
-fn is_same_values(a: &[i64], b: &[i64]) -> bool
+/// Whether the values of variables are the same.
+pub fn is_same_values(a: &[i64], b: &[i64]) -> bool
     ensures { IsTrue result ↔ (a.now ≡ b.now) }
 {
     a == b

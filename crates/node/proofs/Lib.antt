@@ -1,5 +1,4 @@
 mod History
-mod Standings
 mod Slices
 mod Walks
 mod Installs

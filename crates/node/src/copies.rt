@@ -2,7 +2,6 @@
 ghost use Rattle.std.specs.Prelude.{◌≡◌, IfOk, IfErr};
 
 use crate::record::{Decision, End, Image, Record, SavedEnd, SavedProcess, Tentative};
-use net_check::ProcState;
 use std::alloc::{AllocError, Global};
 
 impl SavedProcess {
@@ -11,10 +10,7 @@ impl SavedProcess {
     {
         Ok(SavedProcess {
             number: self.number,
-            state: ProcState {
-                place: self.state.place,
-                variables: Vec::from_slice(alloc, self.state.variables.as_slice())?,
-            },
+            state: self.state.copy(alloc)?,
         })
     }
 }

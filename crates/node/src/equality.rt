@@ -1,21 +1,13 @@
 // Whether two records are the same.
 ghost use Rattle.std.specs.Prelude.{◌≡◌, ◌↔◌, IsTrue};
-ghost use Rattle.net_check.specs.States.{standing_of};
 
 use crate::record::{Decision, End, Image, Record, SavedEnd, SavedProcess, Tentative};
-use net_check::ProcState;
-
-fn is_same_state(one: &ProcState, other: &ProcState) -> bool
-    ensures { IsTrue result ↔ (standing_of one.now ≡ standing_of other.now) }
-{
-    one.place == other.place && one.variables == other.variables
-}
 
 impl SavedProcess {
     pub fn is_same(&self, other: &SavedProcess) -> bool
         ensures { IsTrue result ↔ (self.now ≡ other.now) }
     {
-        self.number == other.number && is_same_state(&self.state, &other.state)
+        self.number == other.number && self.state.is_same(&other.state)
     }
 }
 

@@ -30,6 +30,7 @@ pub enum End {
     Receives { received: u64 },
     /// A process of the node puts on the channel, and the log retains the last items that it put.
     Sends { log: Log },
+    /// Both, of a channel that stays on the node.
     Both { received: u64, log: Log },
 }
 

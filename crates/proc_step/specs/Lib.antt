@@ -1,3 +1,5 @@
 pub mod Turns
 pub mod Parts
 pub mod Jobs
+pub mod NextView
+pub mod TurnLaws

@@ -5,32 +5,8 @@ ghost use Rattle.net_check.specs.Syntax.{code_of, network_of};
 ghost use Rattle.proc_step.specs.Jobs.{IsSameJob};
 
 use crate::job::Job;
-use net_check::{Place, ProcState, Process, is_same_process};
+use net_check::{Process, is_same_process};
 use stream_eq::are_same;
-
-/// Whether two places are the same.
-fn is_same_place(place: Place, other: Place) -> bool
-    ensures { IsTrue result ↔ (place ≡ other) }
-{
-    place == other
-}
-
-/// Whether the values of variables are the same.
-fn are_same_values(values: &[i64], others: &[i64]) -> bool
-    ensures { IsTrue result ↔ (values.now ≡ others.now) }
-{
-    values == others
-}
-
-/// Whether two states are the same.
-fn is_same_state(state: &ProcState, other: &ProcState) -> bool
-    ensures { IsTrue result ↔ ((state.now.place ≡ other.now.place) × (state.now.variables.items ≡ other.now.variables.items)) }
-{
-    if !is_same_place(state.place, other.place) {
-        return false;
-    }
-    are_same_values(&state.variables, &other.variables)
-}
 
 /// Whether the places of room are the same.
 fn is_same_room(room: &[usize], other: &[usize]) -> bool
@@ -51,7 +27,7 @@ impl Job {
         if self.version != other.version {
             return false;
         }
-        if !is_same_state(&self.state, &other.state) {
+        if !self.state.is_same(&other.state) {
             return false;
         }
         if !is_same_room(&self.room, &other.room) {

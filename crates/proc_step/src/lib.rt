@@ -4,6 +4,7 @@
 
 mod comparing;
 mod job;
+mod next;
 mod outcome;
 mod room;
 mod sites;
@@ -12,6 +13,7 @@ mod turn;
 
 pub use job::{Done, Job, JobFault};
 pub use net_check::{Place, ProcState};
+pub use next::{NextAct, next_act};
 
 #[cfg(test)]
 mod tests;

@@ -40,7 +40,7 @@ fn play_loop(
 }
 
 /// The statements from a site on, until the prelude or the pass of the loop's body ends.
-fn statements_at(process: &Process, prelude_sites: usize, site: usize) -> &[Statement]
+pub fn statements_at(process: &Process, prelude_sites: usize, site: usize) -> &[Statement]
     requires sites { prelude_sites ≡ sites_of (code_of process.now).prelude }
     requires few { block_units (code_of process.now).prelude + body_units (code_of process.now).body ≤ 4096 }
     ensures rest { block_of result.now ≡ from (code_of process.now) site }
