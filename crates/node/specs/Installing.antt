@@ -7,6 +7,8 @@ use Rattle.outlet.specs.LogState.{LogState, log_end, Overfills}
 use Rattle.node.specs.ProcessView.{SavedProcessView}
 use Rattle.node.specs.ImageView.{ImageView}
 use Rattle.node.specs.Ends.{received_at, log_at}
+use Rattle.node.specs.JobView.{JobView}
+use Rattle.node.specs.NodeView.{NodeView}
 use Rattle.node.specs.Granting.{is_process}
 use Rattle.node.specs.declared.record.SavedEnd.{SavedEnd}
 use Rattle.node.specs.declared.record.End.{End}
@@ -76,3 +78,24 @@ pub record EndTakes (channels : List Channel) (process : ℕ) (taken : List ℕ)
 -- the turn fits the image: no count and no log comes past its limit
 abbrev pub ImageTakes : List Channel → ℕ → List ℕ → List (List ℤ) → ImageView → Type 0
 ImageTakes channels process taken sent image = (k : ℕ) (saved : SavedEnd) → slice_get image.ends k ≡ Some saved → EndTakes channels process taken sent saved
+
+-- a node after the turn on the job that was out
+abbrev pub with_turn : List Channel → ℕ → Standing → List ℕ → List (List ℤ) → NodeView → NodeView
+with_turn channels process standing taken sent node = record {
+  kept = node.kept;
+  current = installed channels process standing taken sent node.current;
+  out = None;
+  version = node.version;
+  last = node.last;
+  up = node.up;
+  restart = node.restart;
+}
+
+-- what came back is of the job that is out at a node that runs
+abbrev pub IsOut : JobView → NodeView → Type 0
+IsOut job node = (node.up ≡ true) × (node.out ≡ Some job)
+
+-- how what comes back is taken in, or left
+abbrev pub IsInstall : List Channel → JobView → Standing → List ℕ → List (List ℤ) → NodeView → Bool → NodeView → Type 0
+IsInstall channels job standing taken sent old true new = IsOut job old × (new ≡ with_turn channels job.process standing taken sent old)
+IsInstall channels job standing taken sent old false new = ¬ (IsOut job old) × (new ≡ old)

@@ -10,3 +10,4 @@ pub mod NodeView
 pub mod Granting
 pub mod Installing
 pub mod Starting
+pub mod Choosing

@@ -136,10 +136,7 @@ pub(crate) fn make_job(
         net: Arc::try_clone(net)?,
         process,
         version,
-        state: ProcState {
-            place: state.place,
-            variables: Vec::from_slice(alloc, state.variables.as_slice())?,
-        },
+        state: state.copy(alloc)?,
         items: copy_items(
             alloc,
             &net.program.channels,

@@ -1,15 +1,19 @@
 // An image after a turn of one of its processes.
-ghost use Rattle.std.specs.Prelude.{◌≡◌, ◌≤◌, ◌+◌, ◌^◌, ◌-◌, ◌++◌, ℕ, if◌then◌else◌, [], map, length, take, drop, slice_get, slice_index, OnOk, OnErr, IsErrOf, Some};
+ghost use Rattle.std.specs.Prelude.{◌≡◌, ◌≤◌, ◌+◌, ◌^◌, ◌-◌, ◌++◌, ℕ, if◌then◌else◌, [], map, length, take, drop, slice_get, slice_index, true, ◌↔◌, IfOk, OnOk, OnErr, IsErrOf, IsTrue, Some, option_map};
 ghost use Rattle.net_check.specs.Streams.{history_of};
 ghost use Rattle.net_check.specs.States.{standing_of};
 ghost use Rattle.node.specs.Ends.{received_at, log_at};
-ghost use Rattle.node.specs.Installing.{is_consumer, is_producer, taken_from, put_on, pushed, counted, saved_pushed, saved_counted, moved, installed, LogTakes, EndTakes, ImageTakes};
+ghost use Rattle.node.specs.Installing.{is_consumer, is_producer, taken_from, put_on, pushed, counted, saved_pushed, saved_counted, moved, installed, LogTakes, EndTakes, ImageTakes, IsOut, IsInstall};
+ghost use Rattle.node.specs.JobView.{job_view};
+ghost use Rattle.node.specs.NodeView.{node_view};
 ghost use Rattle.node.specs.declared.record.SavedEnd.{SavedEnd};
 
 use crate::granting::is_at;
 use crate::record::{End, Image, SavedEnd, SavedProcess};
+use crate::state::NodeState;
 use net_check::{Channel, History, ProcState};
 use outlet::LogFault;
+use proc_step::{Done, Job};
 use std::alloc::Global;
 
 // How many items a process took from a channel.
@@ -154,13 +158,52 @@ impl Image {
         ensures err { OnErr result (self.new ≡ self.old) }
         ensures full { ¬ (IsErrOf result LogFault.Full) }
     {
-        let state = ProcState {
-            place: state.place,
-            variables: Vec::from_slice(alloc, state.variables.as_slice())?,
-        };
+        let state = state.copy(alloc)?;
         push_sent(&mut self.ends, 0, channels, process, sent)?;
         count_all(&mut self.ends, channels, process, taken);
         move_process(&mut self.processes, process, state);
         Ok(())
+    }
+}
+
+impl NodeState {
+    /// Takes in what came of a job, if it is the one that is out at a node that runs; says whether it was. Refuses for
+    /// want of memory alone, and then nothing is changed.
+    pub fn install(
+        &mut self,
+        alloc: Global,
+        channels: &[Channel],
+        done: &Done,
+    ) -> Result<bool, LogFault>
+        requires { IsOut (job_view done.now.job) (node_view self.old)
+            → ImageTakes channels.now done.now.job.process done.now.taken.items done.now.sent.items self.old.current }
+        ensures step { IfOk result (λ applied. IsInstall channels.now (job_view done.now.job) (standing_of done.now.state)
+            done.now.taken.items done.now.sent.items (node_view self.old) applied (node_view self.new)) }
+        ensures err { OnErr result (node_view self.new ≡ node_view self.old) }
+        ensures full { ¬ (IsErrOf result LogFault.Full) }
+    {
+        if !is_out(&self.out, self.up, &done.job) {
+            return Ok(false);
+        }
+        self.current.install(
+            alloc,
+            channels,
+            done.job.process,
+            &done.state,
+            &done.taken,
+            &done.sent,
+        )?;
+        self.out = None;
+        Ok(true)
+    }
+}
+
+// Whether a job is the one that is out at a node that runs.
+fn is_out(out: &Option<Job>, up: bool, job: &Job) -> bool
+    ensures { IsTrue result ↔ ((up ≡ true) × (option_map job_view out.now ≡ Some (job_view job.now))) }
+{
+    match out {
+        Some(out) => up && out.is_same(job),
+        None => false,
     }
 }

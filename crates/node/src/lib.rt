@@ -5,6 +5,7 @@
 #![tactic(auto)]
 
 mod cell;
+mod choosing;
 mod copies;
 mod equality;
 mod granting;

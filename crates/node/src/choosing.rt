@@ -1,0 +1,166 @@
+// Which process of a node goes on next, and the job that it is given.
+ghost use Rattle.std.specs.Prelude.{◌≡◌, ◌≤◌, ◌<◌, ◌&&◌, ℕ, ℤ, List, length, find, slice_get, IfOk, IfSome, OnErr, is_some, option_map, option_copied};
+ghost use Rattle.net_check.specs.Syntax.{network_of};
+ghost use Rattle.node.specs.JobView.{job_view};
+ghost use Rattle.node.specs.NodeView.{node_view};
+ghost use Rattle.node.specs.Choosing.{has_item, has_room, is_ready, is_after, ready_after, next_ready, may_grant, next_job, after_grant};
+
+use crate::granting::{make_job, places};
+use crate::record::{Image, SavedProcess};
+use crate::state::{LAST_NUMBER, NodeState};
+use net_check::{Channel, History, Inputs, Net, Port};
+use proc_step::{Job, NextAct, next_act};
+use std::alloc::{AllocError, Global};
+use std::sync::Arc;
+
+// Whether a next item of this channel is at hand.
+fn has_item(channels: &[Channel], inputs: &[History], image: &Image, channel: usize) -> bool
+    requires { length channels.now ≤ 256 }
+    ensures { result ≡ has_item inputs.now image.now channel (slice_get channels.now channel) }
+{
+    match channels.get(channel) {
+        Some(ends) => match ends.producer {
+            Port::Outside => match inputs.get(channel) {
+                Some(input) => image.received(channel as u8) < input.len() as u64,
+                None => false,
+            },
+            Port::Process(_) => false,
+        },
+        None => false,
+    }
+}
+
+// Whether there is room on this channel.
+fn has_room(channels: &[Channel], image: &Image, channel: usize) -> bool
+    requires { length channels.now ≤ 256 }
+    ensures { result ≡ has_room image.now channel (slice_get channels.now channel) }
+{
+    channel < channels.len() && places(image.log(channel as u8)) > 0
+}
+
+// Whether a process can go on.
+fn is_ready(net: &Net, inputs: &[History], image: &Image, saved: &SavedProcess) -> bool
+    ensures { result ≡ is_ready (network_of net.now.program) inputs.now image.now saved.now }
+{
+    match net.program.processes.get(usize::from(saved.number)) {
+        Some(process) => match next_act(process, &saved.state) {
+            NextAct::Begin => true,
+            NextAct::Get { channel } => has_item(&net.program.channels, inputs, image, channel),
+            NextAct::Put { channel } => has_room(&net.program.channels, image, channel),
+            NextAct::Nothing => false,
+        },
+        None => false,
+    }
+}
+
+// Whether a process comes after the last one.
+fn is_after(last: Option<usize>, number: usize) -> bool
+    ensures { result ≡ is_after last number }
+{
+    match last {
+        Some(last) => last < number,
+        None => true,
+    }
+}
+
+// The first ready process after the last one.
+fn first_ready<'a>(
+    net: &Net,
+    inputs: &[History],
+    image: &'a Image,
+    last: Option<usize>,
+) -> Option<&'a SavedProcess>
+    ensures { option_copied result ≡ ready_after (network_of net.now.program) inputs.now image.now last }
+{
+    for saved in &image.processes {
+        if is_after(last, usize::from(saved.number)) && is_ready(net, inputs, image, saved) {
+            return Some(saved);
+        }
+    }
+    None
+}
+
+// The ready process with the least number after the last one, beginning again at the least.
+fn next_ready<'a>(
+    net: &Net,
+    inputs: &[History],
+    image: &'a Image,
+    last: Option<usize>,
+) -> Option<&'a SavedProcess>
+    ensures chosen { option_copied result ≡ next_ready (network_of net.now.program) inputs.now image.now last }
+    ensures there { IfSome result (λ saved. saved.now.number < length net.now.program.processes.items) }
+{
+    match first_ready(net, inputs, image, last) {
+        Some(saved) => Some(saved),
+        None => first_ready(net, inputs, image, None),
+    }
+}
+
+impl NodeState {
+    // Whether the node may grant a job, if a process is ready.
+    fn can_grant(&self) -> bool
+        ensures { result ≡ may_grant (node_view self.now) }
+    {
+        self.up
+            && self.kept.tentative.is_none()
+            && self.out.is_none()
+            && self.version < LAST_NUMBER
+    }
+
+    /// Whether a job can be granted now.
+    pub fn has_job(&self, net: &Net, inputs: &Inputs) -> bool
+        ensures { result ≡ is_some (next_job (network_of net.now.program) inputs.now (node_view self.now)) }
+    {
+        self.can_grant()
+            && next_ready(net, inputs.as_slice(), &self.current, self.last).is_some()
+    }
+
+    // The job that the node grants next.
+    fn next_job(
+        &self,
+        alloc: Global,
+        net: &Arc<Net>,
+        inputs: &Inputs,
+    ) -> Result<Option<Job>, AllocError>
+        ensures { IfOk result (λ job. option_map job_view job
+            ≡ next_job (network_of net.now.value.program) inputs.now (node_view self.now)) }
+    {
+        if !self.can_grant() {
+            return Ok(None);
+        }
+        match next_ready(net, inputs.as_slice(), &self.current, self.last) {
+            Some(saved) => Ok(Some(make_job(
+                alloc,
+                net,
+                inputs,
+                &self.current,
+                usize::from(saved.number),
+                &saved.state,
+                self.version,
+            )?)),
+            None => Ok(None),
+        }
+    }
+
+    /// Grants a job to the ready process that is next: its state, the items at hand and the room. The node keeps a copy
+    /// to compare with what comes back. `None` where no job can be granted. Refuses for want of memory alone.
+    pub fn grant(
+        &mut self,
+        alloc: Global,
+        net: &Arc<Net>,
+        inputs: &Inputs,
+    ) -> Result<Option<Job>, AllocError>
+        ensures job { IfOk result (λ job. option_map job_view job
+            ≡ next_job (network_of net.now.value.program) inputs.now (node_view self.old)) }
+        ensures state { IfOk result (λ job. node_view self.new
+            ≡ after_grant (next_job (network_of net.now.value.program) inputs.now (node_view self.old)) (node_view self.old)) }
+        ensures err { OnErr result (node_view self.new ≡ node_view self.old) }
+    {
+        let job = self.next_job(alloc, net, inputs)?;
+        if let Some(out) = self.next_job(alloc, net, inputs)? {
+            self.last = Some(out.process);
+            self.out = Some(out);
+        }
+        Ok(job)
+    }
+}
