@@ -11,3 +11,6 @@ pub mod Granting
 pub mod Installing
 pub mod Starting
 pub mod Choosing
+pub mod Reached
+pub mod Trimming
+pub mod Opening

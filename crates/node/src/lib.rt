@@ -15,6 +15,7 @@ mod node;
 mod past;
 mod putting;
 mod record;
+mod releasing;
 mod starting;
 mod state;
 

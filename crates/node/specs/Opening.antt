@@ -1,0 +1,40 @@
+-- A node before its first event.
+use Rattle.std.specs.Prelude.{ℕ, zero, suc, true, ℤ, List, [], ◌∷◌, length, replicate, Option, Some, None}
+use Rattle.net_check.specs.Syntax.{Code, Network}
+use Rattle.net_check.specs.Processes.{NotBegun}
+use Rattle.net_check.specs.declared.program.Channel.{Channel}
+use Rattle.net_check.specs.declared.program.Port.{Port}
+use Rattle.net_check.specs.declared.program.Port.TheVariants.{Outside, Process}
+use Rattle.node.specs.ProcessView.{SavedProcessView}
+use Rattle.node.specs.ImageView.{ImageView}
+use Rattle.node.specs.RecordView.{RecordView}
+use Rattle.node.specs.NodeView.{NodeView}
+use Rattle.node.specs.declared.record.SavedEnd.{SavedEnd}
+use Rattle.node.specs.declared.record.End.{End}
+use Rattle.node.specs.declared.record.End.TheVariants.{Receives, Sends, Both}
+
+-- no process has begun
+abbrev pub opening_processes : ℕ → List Code → List SavedProcessView
+opening_processes number [] = []
+opening_processes number (code ∷ codes) = record { number = number; standing = NotBegun code.vars } ∷ opening_processes (suc number) codes
+
+-- nothing was received or put: an end of a channel whose items come from there and go there
+abbrev pub opening_end : Port → Port → End
+opening_end Outside consumer = Receives 0
+opening_end (Process p) Outside = Sends (record { base = 0; items = [] })
+opening_end (Process p) (Process q) = Both 0 (record { base = 0; items = [] })
+
+abbrev pub opening_ends : ℕ → List Channel → List SavedEnd
+opening_ends number [] = []
+opening_ends number (channel ∷ channels) = record { channel = number; end = opening_end channel.producer channel.consumer } ∷ opening_ends (suc number) channels
+
+-- the image of a node that has every process and every channel
+abbrev pub opening_image : Network → ImageView
+opening_image net = record { processes = opening_processes 0 net.codes; ends = opening_ends 0 net.channels }
+
+-- the record of a node of so many nodes
+abbrev pub opening_record : Network → ℕ → RecordView
+opening_record net nodes = record { epoch = 0; highest = replicate nodes 0; decision = None; permanent = opening_image net; tentative = None }
+
+abbrev pub opening_node : Network → ℕ → NodeView
+opening_node net nodes = record { kept = opening_record net nodes; current = opening_image net; out = None; version = 0; last = None; up = true; restart = 0 }

@@ -1,0 +1,77 @@
+-- How far a node has come: its images stand where its processes stand after so many acts, on one approximation of the network's histories.
+use Rattle.std.specs.Prelude.{◌≡◌, ℕ, zero, suc, ◌≤◌, ◌==◌, ℤ, List, [], ◌∷◌, map, length, take, find, Option, Some, None, slice_get, slice_index}
+use Rattle.net_check.specs.Streams.{history_of}
+use Rattle.net_check.specs.Syntax.{Code, Network}
+use Rattle.net_check.specs.Statements.{Step}
+use Rattle.net_check.specs.Processes.{StandsAt, process_trace, sent_on, got_on}
+use Rattle.net_check.specs.Approximations.{approximation}
+use Rattle.net_check.specs.declared.program.Channel.{Channel}
+use Rattle.net_check.specs.declared.program.Port.TheVariants.{Process}
+use Rattle.outlet.specs.LogState.{LogState, IsLogOf}
+use Rattle.node.specs.ProcessView.{SavedProcessView}
+use Rattle.node.specs.ImageView.{ImageView}
+use Rattle.node.specs.Ends.{received_at, log_at}
+use Rattle.node.specs.JobView.{JobView}
+use Rattle.node.specs.NodeView.{NodeView}
+use Rattle.node.specs.Granting.{items_from, room_from}
+use Rattle.node.specs.declared.record.SavedEnd.{SavedEnd}
+use Rattle.node.specs.declared.record.End.{End}
+use Rattle.node.specs.declared.record.Tentative.{Tentative}
+
+-- the first m acts of a process on these histories
+abbrev pub first_acts : Option Code → List (List ℤ) → ℕ → List Step
+first_acts None histories m = []
+first_acts (Some code) histories m = take m (process_trace code histories).steps
+
+-- the acts of the process of this number, of which so many of each process were made
+abbrev pub acts_of : Network → List (List ℤ) → (ℕ → ℕ) → ℕ → List Step
+acts_of net histories made process = first_acts (slice_get net.codes process) histories (made process)
+
+-- an end of a channel counts the items that its process got, and retains the last ones that its process put
+pub record EndStands (net : Network) (histories : List (List ℤ)) (made : ℕ → ℕ) (number : ℕ) (channel : Channel) (end : End) : Type 0 where
+  pub received : (p : ℕ) → channel.consumer ≡ Process p → received_at (Some end) ≡ length (got_on number (acts_of net histories made p))
+  pub retained : (p : ℕ) (log : LogState) → channel.producer ≡ Process p → log_at (Some end) ≡ Some log → IsLogOf log (sent_on number (acts_of net histories made p))
+
+-- an image stands where each of its processes has made so many acts
+pub record ImageStands (net : Network) (histories : List (List ℤ)) (made : ℕ → ℕ) (image : ImageView) : Type 0 where
+  pub processes : (k : ℕ) (saved : SavedProcessView) (code : Code) → slice_get image.processes k ≡ Some saved → slice_get net.codes saved.number ≡ Some code
+      → StandsAt code histories (made saved.number) saved.standing
+  pub ends : (k : ℕ) (saved : SavedEnd) (channel : Channel) → slice_get image.ends k ≡ Some saved → slice_get net.channels saved.channel ≡ Some channel
+      → EndStands net histories made saved.channel channel saved.end
+
+-- one has come at least as far as another
+abbrev pub IsAsFar : (ℕ → ℕ) → (ℕ → ℕ) → Type 0
+IsAsFar made later = (p : ℕ) → made p ≤ later p
+
+-- The permanent image, the tentative one if it is held, and what the node has now stand on one approximation, one after another.
+pub record HasReached (net : Network) (inputs : List (List ℤ)) (node : NodeView) : Type 0 where
+  pub n : ℕ
+  pub permanent_acts : ℕ → ℕ
+  pub held_acts : ℕ → ℕ
+  pub current_acts : ℕ → ℕ
+  pub permanent : ImageStands net (approximation net inputs n) permanent_acts node.kept.permanent
+  pub held : (tentative : Tentative) → node.kept.tentative ≡ Some tentative → ImageStands net (approximation net inputs n) held_acts tentative.image
+  pub current : ImageStands net (approximation net inputs n) current_acts node.current
+  pub held_after : IsAsFar permanent_acts held_acts
+  pub current_after : IsAsFar held_acts current_acts
+
+-- the numbers from this one on, so many
+abbrev pub numbers_from : ℕ → ℕ → List ℕ
+numbers_from first zero = []
+numbers_from first (suc count) = first ∷ numbers_from (suc first) count
+
+-- an image of a node that has every process and every channel has one entry for each, in order of their numbers
+pub record IsLaidOut (net : Network) (image : ImageView) : Type 0 where
+  pub processes : map (λ (saved : SavedProcessView). saved.number) image.processes ≡ numbers_from 0 (length net.codes)
+  pub ends : map (λ (saved : SavedEnd). saved.channel) image.ends ≡ numbers_from 0 (length net.channels)
+
+-- no more was received than there is
+abbrev pub CountsAreWithin : List (List ℤ) → ImageView → Type 0
+CountsAreWithin inputs image = (k : ℕ) (saved : SavedEnd) → slice_get image.ends k ≡ Some saved → received_at (Some (saved.end)) ≤ length (history_of inputs saved.channel)
+
+-- the job that is out is of where its process stands now: with the items that come next, and no more room than there is
+pub record IsJobOf (net : Network) (inputs : List (List ℤ)) (image : ImageView) (job : JobView) : Type 0 where
+  pub process : find (λ (saved : SavedProcessView). saved.number == job.process) image.processes ≡ Some (record { number = job.process; standing = job.standing })
+  pub code : job.code ≡ slice_get net.codes job.process
+  pub items : job.items ≡ items_from inputs image job.process 0 net.channels
+  pub room : (c : ℕ) → slice_index job.room c ≤ slice_index (room_from image job.process 0 net.channels) c
