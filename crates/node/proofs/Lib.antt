@@ -2,3 +2,5 @@ mod History
 mod Slices
 mod Walks
 mod Installs
+mod Keeping
+mod Sending

@@ -83,7 +83,7 @@ fn can_start(state: &NodeState) -> bool
 }
 
 // Takes a tentative image of where a node stands now.
-fn put_own<C: StableCell>(
+pub(crate) fn put_own<C: StableCell>(
     alloc: Global,
     number: u8,
     state: &mut NodeState,
@@ -135,7 +135,7 @@ impl Record {
 }
 
 // Makes a node's own tentative image permanent.
-fn put_decision<C: StableCell>(
+pub(crate) fn put_decision<C: StableCell>(
     alloc: Global,
     number: u8,
     state: &mut NodeState,

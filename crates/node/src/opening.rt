@@ -1,0 +1,118 @@
+// A node before its first event.
+ghost use Rattle.std.specs.Prelude.{◌≡◌, ◌<◌, ◌≤◌, ℕ, map, length, replicate, IfOk, IsTrue};
+ghost use Rattle.net_check.specs.Syntax.{Network, code_of, network_of};
+ghost use Rattle.node.specs.NodeView.{node_view};
+ghost use Rattle.node.specs.Opening.{opening_processes, opening_end, opening_ends, opening_image, opening_record, opening_node};
+
+use crate::cell::StableCell;
+use crate::node::Node;
+use crate::record::{End, Image, Record, SavedEnd, SavedProcess};
+use crate::state::NodeState;
+use gate_cell::CellFault;
+use net_check::{Channel, Net, Place, Port, ProcState, Process};
+use outlet::Log;
+use std::alloc::{AllocError, Global};
+
+// No process has begun.
+fn open_processes(alloc: Global, processes: &[Process]) -> Result<Vec<SavedProcess>, AllocError>
+    requires { length processes.now ≤ 64 }
+    ensures { IfOk result (λ saved. saved.items ≡ opening_processes 0 (map code_of processes.now)) }
+{
+    let mut saved = Vec::with_capacity(alloc, processes.len())?;
+    for (number, process) in processes.iter().enumerate() {
+        saved.push(SavedProcess {
+            number: number as u8,
+            state: ProcState {
+                place: Place::NotBegun,
+                variables: Vec::from_slice(alloc, process.variables.as_slice())?,
+            },
+        })?;
+    }
+    Ok(saved)
+}
+
+// Nothing was received or put.
+fn open_end(alloc: Global, channel: &Channel) -> End
+    ensures { result ≡ opening_end channel.now.producer channel.now.consumer }
+{
+    match (channel.producer, channel.consumer) {
+        (Port::Outside, _) => End::Receives { received: 0 },
+        (Port::Process(_), Port::Outside) => End::Sends {
+            log: Log::new(alloc),
+        },
+        (Port::Process(_), Port::Process(_)) => End::Both {
+            received: 0,
+            log: Log::new(alloc),
+        },
+    }
+}
+
+fn open_ends(alloc: Global, channels: &[Channel]) -> Result<Vec<SavedEnd>, AllocError>
+    requires { length channels.now ≤ 256 }
+    ensures { IfOk result (λ ends. ends.items ≡ opening_ends 0 channels.now) }
+{
+    let mut ends = Vec::with_capacity(alloc, channels.len())?;
+    for (number, channel) in channels.iter().enumerate() {
+        ends.push(SavedEnd {
+            channel: number as u8,
+            end: open_end(alloc, channel),
+        })?;
+    }
+    Ok(ends)
+}
+
+// The image of a node that has every process and every channel.
+fn open_image(alloc: Global, net: &Net) -> Result<Image, AllocError>
+    ensures { IfOk result (λ image. image ≡ opening_image (network_of net.now.program)) }
+{
+    Ok(Image {
+        processes: open_processes(alloc, &net.program.processes)?,
+        ends: open_ends(alloc, &net.program.channels)?,
+    })
+}
+
+// What a node of so many nodes has before its first event.
+fn open_state(alloc: Global, net: &Net, nodes: usize) -> Result<NodeState, AllocError>
+    ensures { IfOk result (λ state. node_view state ≡ opening_node (network_of net.now.program) nodes) }
+{
+    Ok(NodeState {
+        kept: Record {
+            epoch: 0,
+            highest: vec![in alloc; 0; nodes]?,
+            decision: None,
+            permanent: open_image(alloc, net)?,
+            tentative: None,
+        },
+        current: open_image(alloc, net)?,
+        out: None,
+        version: 0,
+        last: None,
+        up: true,
+        restart: 0,
+    })
+}
+
+impl<C: StableCell> Node<C> {
+    /// The node of this number of so many, before its first event: puts the opening record into its cell. The node has
+    /// every process and every channel of the network. Refuses as `put` of the cell does.
+    pub fn open(
+        alloc: Global,
+        net: &Net,
+        number: u8,
+        nodes: usize,
+        mut cell: C,
+    ) -> Result<Node<C>, CellFault>
+        requires ready { IsTrue (C.is_ready cell) }
+        requires listed { number < nodes }
+        ensures number { IfOk result (λ node. node.number ≡ number) }
+        ensures state { IfOk result (λ node. node_view node.state ≡ opening_node (network_of net.now.program) nodes) }
+    {
+        let state = open_state(alloc, net, nodes)?;
+        cell.put(&state.kept)?;
+        Ok(Node {
+            number,
+            state,
+            cell,
+        })
+    }
+}
