@@ -2,3 +2,4 @@ mod History
 mod Slices
 mod Walks
 mod Installs
+mod Choices
