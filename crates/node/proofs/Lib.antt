@@ -4,3 +4,4 @@ mod Walks
 mod Installs
 mod Keeping
 mod Sending
+mod Choices

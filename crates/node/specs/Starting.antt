@@ -1,5 +1,5 @@
 -- A node's record while a checkpoint of its own is taken and decided, and how a put of it comes out.
-use Rattle.std.specs.Prelude.{◌≡◌, ◌⊎◌, ◌≢◌, ℕ, ◌+◌, ◌-◌, ◌<◌, ◌≤◌, ◌^◌, ◌==◌, nat_lt, if◌then◌else◌, Bool, true, false, ◌&&◌, IsTrue, Option, Some, None, slice_get, slice_set, slice_index}
+use Rattle.std.specs.Prelude.{◌≡◌, ◌⊎◌, ◌≢◌, ℕ, ◌+◌, ◌-◌, ◌<◌, ◌≤◌, ◌^◌, ◌==◌, nat_lt, if◌then◌else◌, Bool, true, false, ◌&&◌, IsTrue, Option, Some, None, slice_set, slice_index}
 use Rattle.node.specs.ImageView.{ImageView}
 use Rattle.node.specs.Ends.{sent_of}
 use Rattle.node.specs.RecordView.{RecordView}

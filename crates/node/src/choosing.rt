@@ -101,18 +101,14 @@ impl NodeState {
     fn can_grant(&self) -> bool
         ensures { result ≡ may_grant (node_view self.now) }
     {
-        self.up
-            && self.kept.tentative.is_none()
-            && self.out.is_none()
-            && self.version < LAST_NUMBER
+        self.up && self.kept.tentative.is_none() && self.out.is_none() && self.version < LAST_NUMBER
     }
 
     /// Whether a job can be granted now.
     pub fn has_job(&self, net: &Net, inputs: &Inputs) -> bool
         ensures { result ≡ is_some (next_job (network_of net.now.program) inputs.now (node_view self.now)) }
     {
-        self.can_grant()
-            && next_ready(net, inputs.as_slice(), &self.current, self.last).is_some()
+        self.can_grant() && next_ready(net, inputs.as_slice(), &self.current, self.last).is_some()
     }
 
     // The job that the node grants next.

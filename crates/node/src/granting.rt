@@ -71,13 +71,7 @@ fn copy_items(
     let mut items = Vec::with_capacity(alloc, channels.len())?;
     for (number, channel) in channels.iter().enumerate() {
         if is_at(channel.consumer, process) {
-            items.push(copy_next(
-                alloc,
-                inputs,
-                image,
-                number as u8,
-                channel.producer,
-            )?)?;
+            items.push(copy_next(alloc, inputs, image, number as u8, channel.producer)?)?;
         } else {
             items.push(History::new(alloc))?;
         }

@@ -26,9 +26,9 @@ pub use gate_cell::CellFault;
 pub use memory::MemCell;
 pub use node::Node;
 pub use putting::Putting;
+pub use record::{Decision, End, Image, Record, SavedEnd, SavedProcess, Tentative};
 pub use starting::next_after;
 pub use state::{LAST_NUMBER, NodeState};
-pub use record::{Decision, End, Image, Record, SavedEnd, SavedProcess, Tentative};
 
 #[cfg(test)]
 mod tests;

@@ -15,6 +15,7 @@ use std::alloc::{AllocError, Global};
 
 // The refusals of a start.
 const TOO_LARGE: u8 = 22;
+
 const SPENT: u8 = 44;
 
 /// The next number, round or version.

@@ -1,0 +1,86 @@
+-- Which process goes on next.
+use Rattle.std.proofs.Common.{◌≡◌, ℕ, ◌<◌, ◌≤◌, Bool, true, false, ◌&&◌, List, ℤ, [], ◌∷◌, map, length, get_or, Option, Some, None, refl, sym, ap, subst, ◌∙◌, Bor}
+use Rattle.std.specs.Prelude.{slice_get, find, cond, IfSome, option_copied}
+use Rattle.std.proofs.lemmas.Option.{slice_get_within}
+use Rattle.std.proofs.lemmas.List.{length-map}
+use Rattle.net_check.specs.Syntax.{Code, Network, code_of, network_of}
+use Rattle.net_check.specs.Processes.{Standing}
+use Rattle.net_check.specs.ValidLaws.{code_at, code_past}
+use Rattle.net_check.specs.NextActs.{next_of}
+use Rattle.net_check.specs.declared.program.Channel.{Channel}
+use Rattle.net_check.specs.declared.program.Program.{Program}
+use Rattle.net_check.specs.declared.program.Process.{Process}
+use Rattle.proc_step.specs.NextView.{next_view}
+use Rattle.proc_step.specs.declared.next.NextAct.{NextAct}
+use Rattle.node.specs.ProcessView.{SavedProcessView}
+use Rattle.node.specs.ImageView.{ImageView}
+use Rattle.node.specs.Choosing.{has_item, has_room, can_go, next_at, is_ready, is_after, ready_after}
+
+-- the code of a process, as it was looked up
+pub code_found : (program : Program) (ps : List Process) (m n : ℕ) (p : Process) → ps ≡ program.processes.items → m ≡ n → m < length ps → p ≡ get_or ps m p
+    → slice_get (network_of program).codes n ≡ Some (code_of p)
+code_found program ps m n p are same within is =
+    ap (slice_get (network_of program).codes) (sym same)
+    ∙ (ap (λ (l : List Process). slice_get (map code_of l) m) (sym are) ∙ code_at ps m p within is)
+
+pub code_not_found : (program : Program) (ps : List Process) (m n : ℕ) → ps ≡ program.processes.items → m ≡ n → length ps ≤ m
+    → slice_get (network_of program).codes n ≡ None
+code_not_found program ps m n are same past =
+    ap (slice_get (network_of program).codes) (sym same)
+    ∙ (ap (λ (l : List Process). slice_get (map code_of l) m) (sym are) ∙ code_past ps m past)
+
+-- a process is ready where its next act can be done
+pub ready_at : (program : Program) (inputs : List (List ℤ)) (image : ImageView) (ps : List Process) (m number : ℕ) (p : Process) (standing : Standing) (saved : SavedProcessView) (next act : NextAct)
+    → ps ≡ program.processes.items → m ≡ number → m < length ps → p ≡ get_or ps m p → next_view next ≡ next_of (code_of p) standing → next ≡ act → record { number = number; standing = standing } ≡ saved
+    → can_go (network_of program) inputs image (next_view act) ≡ is_ready (network_of program) inputs image saved
+ready_at program inputs image ps m number p standing saved next act are same within there is here view =
+    let found : slice_get (network_of program).codes number ≡ Some (code_of p) = code_found program ps m number p are same within there in
+    ap (can_go (network_of program) inputs image) (ap next_view (sym here) ∙ (is ∙ ap (λ (code : Option Code). next_at code standing) (sym found)))
+    ∙ ap (is_ready (network_of program) inputs image) view
+
+-- a process that the network doesn't have is not
+pub not_ready : (net : Network) (inputs : List (List ℤ)) (image : ImageView) (number : ℕ) (standing : Standing) (saved : SavedProcessView)
+    → slice_get net.codes number ≡ None → record { number = number; standing = standing } ≡ saved → false ≡ is_ready net inputs image saved
+not_ready net inputs image number standing saved found view =
+    ap (λ (there : Option Code). can_go net inputs image (next_at there standing)) (sym found) ∙ ap (is_ready net inputs image) view
+
+-- an item is at hand, or room, on a channel of these
+pub item_on : (channels : List Channel) (net : Network) (inputs : List (List ℤ)) (image : ImageView) (channel : ℕ) (has : Bool)
+    → has ≡ has_item inputs image channel (slice_get channels channel) → channels ≡ net.channels → has ≡ has_item inputs image channel (slice_get net.channels channel)
+item_on channels net inputs image channel has is are = is ∙ ap (λ (l : List Channel). has_item inputs image channel (slice_get l channel)) are
+
+pub room_on : (channels : List Channel) (net : Network) (image : ImageView) (channel : ℕ) (has : Bool)
+    → has ≡ has_room image channel (slice_get channels channel) → channels ≡ net.channels → has ≡ has_room image channel (slice_get net.channels channel)
+room_on channels net image channel has is are = is ∙ ap (λ (l : List Channel). has_room image channel (slice_get l channel)) are
+
+-- what is found passes the test
+here_or_later : {A : Type 0} (p : A → Bool) (x y : A) (later : Option A) (b : Bool) → p y ≡ b → cond b (Some y) later ≡ Some x → (later ≡ Some x → p x ≡ true) → p x ≡ true
+here_or_later p x y later true passes is then = let same : y ≡ x = cc in ap p (sym same) ∙ passes
+here_or_later p x y later false passes is then = then is
+
+found_passes : {A : Type 0} (p : A → Bool) (xs : List A) (x : A) → find p xs ≡ Some x → p x ≡ true
+found_passes p [] x is = absurd (cc)
+found_passes p (y ∷ xs) x is = here_or_later p x y (find p xs) (p y) refl is (found_passes p xs x)
+
+second_too : (a b : Bool) → (a && b) ≡ true → b ≡ true
+second_too true b both = both
+second_too false b both = absurd (cc)
+
+code_there : (net : Network) (inputs : List (List ℤ)) (image : ImageView) (number : ℕ) (standing : Standing) (code : Option Code)
+    → slice_get net.codes number ≡ code → can_go net inputs image (next_at code standing) ≡ true → number < length net.codes
+code_there net inputs image number standing None is goes = absurd (cc)
+code_there net inputs image number standing (Some code) is goes = slice_get_within net.codes number code is
+
+ready_there : (program : Program) (inputs : List (List ℤ)) (image : ImageView) (last : Option ℕ) (saved : SavedProcessView)
+    → ready_after (network_of program) inputs image last ≡ Some saved → saved.number < length program.processes.items
+ready_there program inputs image last saved is =
+    let net = network_of program in
+    let test : SavedProcessView → Bool = λ one. is_after last one.number && is_ready net inputs image one in
+    let goes : is_ready net inputs image saved ≡ true = second_too (is_after last saved.number) (is_ready net inputs image saved) (found_passes test image.processes saved is) in
+    subst (λ (n : ℕ). saved.number < n) (length-map program.processes.items code_of) (code_there net inputs image saved.number saved.standing _ refl goes)
+
+-- the process that is chosen is one of the network's
+pub chosen_there : (program : Program) (inputs : List (List ℤ)) (image : ImageView) (last : Option ℕ) (found : Option (Bor SavedProcessView))
+    → option_copied found ≡ ready_after (network_of program) inputs image last → IfSome found (λ saved. saved.now.number < length program.processes.items)
+chosen_there program inputs image last None is = tt
+chosen_there program inputs image last (Some saved) is = ready_there program inputs image last saved.now (sym is)
