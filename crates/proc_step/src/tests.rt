@@ -1,6 +1,6 @@
 //! Turns of small processes, with states and items worked out by hand.
 
-use crate::{Done, Job, Place, ProcState};
+use crate::{Done, Job, NextAct, Place, ProcState, next_act};
 use net_check::{History, Net, check};
 use net_text::parse;
 use std::alloc::{AllocError, Global};
@@ -109,6 +109,16 @@ fn cut(
         before = done.state;
     }
     Ok(out)
+}
+
+/// What a network's first process does next from a place.
+fn next(alloc: Global, net: &Net, place: Place) -> Result<NextAct, Fail> {
+    if net.program.processes.is_empty() {
+        return Err(Fail::new("the network has no process"));
+    }
+    let here = state(alloc, place, &[0])?;
+    let process = &net.program.processes[0];
+    Ok(next_act(process, &here))
 }
 
 /// Takes what may go to another thread.
@@ -252,5 +262,27 @@ fn jobs_and_what_they_come_to_go_to_other_threads(rt: HostRuntime) -> Result<(),
     let done = sendable(job.run(alloc)?);
     assert_eq!(rt; (done.job.process, done.job.version), (0, 3));
     assert_eq!(rt; sent(&done), [2].as_slice());
+    Ok(())
+}
+
+#[test]
+fn what_comes_next(rt: HostRuntime) -> Result<(), Fail> {
+    let alloc = rt.alloc();
+    let led = net_of(alloc, LED)?;
+    assert_eq!(rt; next(alloc, &led, Place::NotBegun)?, NextAct::Begin);
+    assert_eq!(rt;
+        next(alloc, &led, Place::At(0))?,
+        NextAct::Put { channel: 1 }
+    );
+    assert_eq!(rt;
+        next(alloc, &led, Place::At(1))?,
+        NextAct::Get { channel: 0 }
+    );
+    assert_eq!(rt;
+        next(alloc, &led, Place::At(3))?,
+        NextAct::Put { channel: 1 }
+    );
+    assert_eq!(rt; next(alloc, &led, Place::At(4))?, NextAct::Nothing);
+    assert_eq!(rt; next(alloc, &led, Place::Finished)?, NextAct::Nothing);
     Ok(())
 }
