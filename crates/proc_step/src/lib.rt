@@ -12,6 +12,3 @@ mod turn;
 
 pub use job::{Done, Job, JobFault};
 pub use net_check::{Place, ProcState};
-
-#[cfg(test)]
-mod tests;

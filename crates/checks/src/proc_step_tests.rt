@@ -1,8 +1,8 @@
 //! Turns of small processes, with states and items worked out by hand.
 
-use crate::{Done, Job, Place, ProcState};
 use net_check::{History, Net, check};
 use net_text::parse;
+use proc_step::{Done, Job, Place, ProcState};
 use std::alloc::{AllocError, Global};
 use std::sync::Arc;
 use std::test::Fail;
