@@ -13,6 +13,3 @@ mod gate;
 pub use cell::StableCell;
 pub use fault::CellFault;
 pub use gate::GateCell;
-
-#[cfg(test)]
-mod tests;

@@ -27,6 +27,3 @@ pub use net::Net;
 pub use program::{Channel, Expr, Link, Port, Process, Program, Statement};
 pub use same::is_same_process;
 pub use state::{Place, ProcState};
-
-#[cfg(test)]
-mod tests;

@@ -21,6 +21,3 @@ pub use tree::{
     ChannelText, Declaration, ExprText, LinkText, LoopText, NetText, NodeText, Operator,
     ProcessText, Role, StatementText, VariableText,
 };
-
-#[cfg(test)]
-mod tests;

@@ -15,6 +15,3 @@ pub use list::ListOutlet;
 pub use log::{LAST_POSITION, LOG_ITEMS, Log};
 pub use outlet::Outlet;
 pub use releasing::{can_release, release};
-
-#[cfg(test)]
-mod tests;

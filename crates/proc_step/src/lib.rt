@@ -14,6 +14,3 @@ mod turn;
 pub use job::{Done, Job, JobFault};
 pub use net_check::{Place, ProcState};
 pub use next::{NextAct, next_act};
-
-#[cfg(test)]
-mod tests;

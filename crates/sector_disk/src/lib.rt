@@ -13,6 +13,3 @@ mod schedule;
 pub use disk::{ArmedFault, Disk, SECTOR_BYTES};
 pub use fault::DiskFault;
 pub use memory::MemDisk;
-
-#[cfg(test)]
-mod tests;

@@ -2,4 +2,3 @@ pub mod Faults
 pub mod Limits
 pub mod Play
 pub mod Laws
-pub mod Examples

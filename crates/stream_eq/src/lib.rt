@@ -22,6 +22,3 @@ pub use laws::{
 };
 pub use solution::is_solution;
 pub use unread::{Unread, all_unread, take_item};
-
-#[cfg(test)]
-mod tests;

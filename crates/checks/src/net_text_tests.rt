@@ -1,6 +1,9 @@
 //! Texts with the values that the format gives them.
 
-use super::*;
+use net_text::{
+    Declaration, ExprText, Keyword, LONGEST_TEXT, LinkText, Operator, Role, StatementText, Symbol,
+    TextFault, TokenKind, parse, parse_inputs, tokens,
+};
 use std::test::Fail;
 
 const SUM: &str =

@@ -1,8 +1,8 @@
 //! Turns of small processes, with states and items worked out by hand.
 
-use crate::{Done, Job, NextAct, Place, ProcState, next_act};
 use net_check::{History, Net, check};
 use net_text::parse;
+use proc_step::{Done, Job, NextAct, Place, ProcState, next_act};
 use std::alloc::{AllocError, Global};
 use std::sync::Arc;
 use std::test::Fail;

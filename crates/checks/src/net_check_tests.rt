@@ -1,7 +1,9 @@
 //! Texts and lines with the answers that the rules give them: which of several faults counts, its line, and the numbers of a
 //! network. A text is a table of its parts, each with its line.
 
-use crate::{Channel, Expr, Net, NetFault, Port, Statement, bind, check, fits, is_same_process};
+use net_check::{
+    Channel, Expr, Net, NetFault, Port, Statement, bind, check, fits, is_same_process,
+};
 use net_text::{
     ChannelText, Declaration, ExprText, InputLine, LinkText, LoopText, Name, NetText, NodeText,
     Operator, ProcessText, RawInputs, Role, StatementText, VariableText, parse,

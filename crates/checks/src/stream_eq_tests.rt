@@ -3,14 +3,10 @@
 ghost use Rattle.std.specs.Prelude.{◌≡◌, pos, negsuc, [], ◌∷◌, ◌++◌};
 ghost use Rattle.net_check.specs.Approximations.{approximation, Belongs, IsReached};
 ghost use Rattle.net_check.specs.Processes.{At, StandsAt};
-ghost use Rattle.stream_eq.specs.Examples.{summing_code, sum_net, sum_inputs, sum_solution};
-ghost use Rattle.stream_eq.specs.Examples.{at_the_end, pair_net, pair_inputs, one_two, tens};
-ghost use Rattle.stream_eq.specs.Examples.{cycle_after, zeros, ones, zero_one};
+ghost use Rattle.checks.specs.Examples.{summing_code, sum_net, sum_inputs, sum_solution};
+ghost use Rattle.checks.specs.Examples.{at_the_end, pair_net, pair_inputs, one_two, tens};
+ghost use Rattle.checks.specs.Examples.{cycle_after, zeros, ones, zero_one};
 
-use crate::approximation::approx;
-use crate::fault::Fault;
-use crate::histories::Histories;
-use crate::solution::is_solution;
 use net_check::{History, Net, NetFault, bind, check};
 use net_text::{
     ChannelText, Declaration, ExprText, InputLine, LinkText, LoopText, Name, NetText, NodeText,
@@ -18,6 +14,7 @@ use net_text::{
 };
 use std::alloc::{AllocError, Global};
 use std::test::Fail;
+use stream_eq::{Fault, Histories, approx, is_solution};
 
 /// The running sum of 1 2 3 is 1 3 6, from the first approximation on, which is then at rest.
 fn running_sum_by_definition()

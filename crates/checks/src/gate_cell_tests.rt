@@ -1,4 +1,4 @@
-use super::*;
+use gate_cell::{CellFault, GateCell, StableCell};
 use sector_disk::{ArmedFault, Disk, MemDisk, SECTOR_BYTES};
 use std::alloc::Global;
 use std::test::Fail;

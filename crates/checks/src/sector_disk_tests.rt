@@ -1,4 +1,4 @@
-use super::*;
+use sector_disk::{ArmedFault, Disk, DiskFault, MemDisk, SECTOR_BYTES};
 use std::test::Fail;
 
 fn sends<T: Send>(_: &T) {}

@@ -1,0 +1,18 @@
+//! The tests of the crates below, each crate's in a module of its own. They stand here since a crate with tests is proved
+//! twice, with them and without.
+#![tactic(auto)]
+
+#[cfg(test)]
+mod gate_cell_tests;
+#[cfg(test)]
+mod net_check_tests;
+#[cfg(test)]
+mod net_text_tests;
+#[cfg(test)]
+mod outlet_tests;
+#[cfg(test)]
+mod proc_step_tests;
+#[cfg(test)]
+mod sector_disk_tests;
+#[cfg(test)]
+mod stream_eq_tests;
