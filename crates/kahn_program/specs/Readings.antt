@@ -1,15 +1,18 @@
 -- What the texts that a reader gives stand for, and why one is refused.
-use Rattle.std.specs.Prelude.{◌≡◌, ℕ, ℤ, List, Option, Some, None, IfSome, IsUtf8}
+use Rattle.std.specs.Prelude.{◌≡◌, ◌⊎◌, ℕ, ℤ, List, Option, Some, None, IfSome, IsUtf8}
 use Rattle.net_text.specs.Faults as text
 use Rattle.net_text.specs.Grammar.{IsTextOf}
 use Rattle.net_text.specs.InputLines.{IsInputsText, IsInputsFault}
 use Rattle.net_text.specs.Texts.{IsParseFault}
+use Rattle.net_text.specs.Names.{NameTree}
 use Rattle.net_text.specs.Trees.{DeclarationTree, InputTree}
 use Rattle.net_text.specs.declared.fault.TextFault.{TextFault}
 use Rattle.net_check.specs.Binding.{Binds, HasInputFault}
 use Rattle.net_check.specs.NetFaults.{HasFault}
+use Rattle.net_check.specs.Nodes.{IsOnOneNode}
 use Rattle.net_check.specs.Resolution.{Resolves}
-use Rattle.net_check.specs.Syntax.{network_of}
+use Rattle.net_check.specs.Syntax.{Network, network_of}
+use Rattle.net_check.specs.Valid.{IsValid}
 use Rattle.net_check.specs.declared.fault.NetFault.{NetFault}
 use Rattle.net_check.specs.declared.fault.NetFault.TheVariants as fault
 use Rattle.net_check.specs.declared.net.Net.{Net}
@@ -29,6 +32,24 @@ pub record AreInputsOf (bytes : List ℕ) (net : Net) (inputs : List (List ℤ))
   pub lines : List InputTree
   pub text : IsInputsText bytes lines
   pub bound : Binds net.channel_names.items (network_of net.program) lines inputs
+
+-- this text describes a valid network on one node
+pub record IsTextOfNet (bytes : List ℕ) : Type 0 where
+  pub tree : List DeclarationTree
+  pub channels : List NameTree
+  pub processes : List NameTree
+  pub network : Network
+  pub text : IsTextOf tree bytes
+  pub resolved : Resolves tree channels processes network
+  pub valid : IsValid network
+  pub one_node : IsOnOneNode network
+
+-- this text gives the network's inputs their items
+pub record IsTextOfInputs (net : Net) (bytes : List ℕ) : Type 0 where
+  pub lines : List InputTree
+  pub lists : List (List ℤ)
+  pub text : IsInputsText bytes lines
+  pub bound : Binds net.channel_names.items (network_of net.program) lines lists
 
 -- a fault with a line is named with it; without one it is want of memory
 abbrev pub at_line : Source → ℕ → Option ℕ → Failure → Failure
@@ -58,6 +79,10 @@ IsReadFailure source known NoMemory = Unit {0}
 IsReadFailure source known (Line other line number) = ⊥
 IsReadFailure source known (Whole other number) = ⊥
 IsReadFailure source known (Other number) = ⊥
+
+-- want of memory, or a reader that isn't there or fails: no fault of a text
+abbrev pub IsOutside : Source → Failure → Type 0
+IsOutside source failure = (failure ≡ NoMemory) ⊎ (failure ≡ Unreadable source)
 
 -- this text isn't in the grammar, or its tree has a fault
 pub data IsNetTextFailure : List ℕ → Failure → Type 0 where

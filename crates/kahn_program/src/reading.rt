@@ -1,10 +1,10 @@
 //! The texts that the program reads, from any reader.
 
-ghost use Rattle.std.specs.Prelude.{◌≡◌, Err, IfErr, IfOk, IfSome, IsNone, option_and_then, string_bytes};
+ghost use Rattle.std.specs.Prelude.{◌≡◌, ℕ, Err, IfErr, IfOk, IfSome, IsNone, IsOkUnless, IsUtf8, List, Some, option_and_then, string_bytes};
 ghost use Rattle.net_check.specs.Fits.{Fits};
 ghost use Rattle.net_check.specs.Nodes.{IsOnOneNode};
 ghost use Rattle.net_check.specs.Syntax.{network_of};
-ghost use Rattle.kahn_program.specs.Readings.{AreInputsOf, IsInputsFailure, IsInputsTextFailure, IsNetFailure, IsNetOf, IsNetTextFailure, IsReadFailure, net_failure_of, text_failure_of};
+ghost use Rattle.kahn_program.specs.Readings.{AreInputsOf, IsInputsFailure, IsInputsTextFailure, IsNetFailure, IsNetOf, IsNetTextFailure, IsOutside, IsReadFailure, IsTextOfInputs, IsTextOfNet, net_failure_of, text_failure_of};
 ghost use Rattle.kahn_program.specs.declared.failure.Failure.TheVariants.{Unreadable};
 ghost use Rattle.kahn_program.specs.declared.failure.Source.TheVariants as source;
 
@@ -80,6 +80,7 @@ fn net_of_text(alloc: Global, text: &str) -> Result<Net, Failure>
     ensures net { IfOk result (IsNetOf text.now) }
     ensures one_node { IfOk result (λ net. IsOnOneNode (network_of net.program)) }
     ensures err { IfErr result (IsNetTextFailure text.now) }
+    ensures accepted { IsTextOfNet text.now → IsOkUnless result Failure.NoMemory }
 {
     let tree = match parse(alloc, text) {
         Ok(tree) => tree,
@@ -96,6 +97,7 @@ fn inputs_of_text(alloc: Global, text: &str, net: &Net) -> Result<Inputs, Failur
     ensures inputs { IfOk result (AreInputsOf text.now net.now) }
     ensures fitting { IfOk result (Fits (network_of net.now.program)) }
     ensures err { IfErr result (IsInputsTextFailure net.now text.now) }
+    ensures accepted { IsTextOfInputs net.now text.now → IsOkUnless result Failure.NoMemory }
 {
     let lines = match parse_inputs(alloc, text) {
         Ok(lines) => lines,
@@ -118,6 +120,9 @@ pub fn read_net<R: Read + Drop>(alloc: Global, reader: Option<R>) -> Result<Net,
     ensures absent { IsNone reader → result ≡ Err (Unreadable source.Net) }
     // What is refused has the fault, on its line.
     ensures err { IfErr result (IsNetFailure (option_and_then R.remaining reader)) }
+    // A text that describes a network isn't refused.
+    ensures accepted { (bytes : List ℕ) → option_and_then R.remaining reader ≡ Some bytes → IsUtf8 bytes
+        → IsTextOfNet bytes → IfErr result (IsOutside source.Net) }
 {
     let text = read_text(alloc, Source::Net, reader)?;
     net_of_text(alloc, &text)
@@ -138,6 +143,9 @@ pub fn read_inputs<R: Read + Drop>(
     ensures absent { IsNone reader → result ≡ Err (Unreadable source.Inputs) }
     // What is refused has the fault, on its line.
     ensures err { IfErr result (IsInputsFailure net.now (option_and_then R.remaining reader)) }
+    // A text that gives the inputs their items isn't refused.
+    ensures accepted { (bytes : List ℕ) → option_and_then R.remaining reader ≡ Some bytes → IsUtf8 bytes
+        → IsTextOfInputs net.now bytes → IfErr result (IsOutside source.Inputs) }
 {
     let text = read_text(alloc, Source::Inputs, reader)?;
     inputs_of_text(alloc, &text, net)
