@@ -1,7 +1,8 @@
 //! What the words of the command line ask for.
 
-ghost use Rattle.std.specs.Prelude.{◌≡◌, IfErr, IfOk, IfSome, false, map, true};
-ghost use Rattle.clap.specs.Words.{HasKind, app_of, fault_of, matches_of, new_rule, rule_of};
+ghost use Rattle.std.specs.Prelude.{◌≡◌, ◌∷◌, [], IfErr, IfOk, false, map};
+ghost use Rattle.clap.specs.Words.{HasKind, app_of, fault_of, matches_of, rule_of};
+ghost use Rattle.clap.specs.declared.error.kind.ErrorKind.TheVariants as kind;
 ghost use Rattle.kahn_program.specs.CommandLine.{IsAsked, kahnrun, required};
 
 use crate::asked::Options;
@@ -46,7 +47,10 @@ pub fn options<S: AsStr>(alloc: Global, words: &[S]) -> Result<Options, Error>
 }
 
 /// The error of a command line with a word that isn't UTF-8.
-pub fn not_text(alloc: Global) -> Error {
+pub fn not_text(alloc: Global) -> Error
+    // Its kind, or want of memory.
+    ensures { HasKind (kind.InvalidValue ∷ []) result }
+{
     match command(alloc) {
         Ok(mut command) => {
             match command.error(
