@@ -1,2 +1,5 @@
-pub mod Report
+pub mod CommandLine
 pub mod Failures
+pub mod Readings
+pub mod Report
+pub mod Statuses

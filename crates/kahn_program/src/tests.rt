@@ -1,5 +1,9 @@
 //! Reports and failures, byte for byte.
 
+mod printing;
+mod reading;
+mod words;
+
 use crate::{Failure, Source, Stream, count_outputs, report};
 use net_check::{Net, check};
 use net_text::parse;

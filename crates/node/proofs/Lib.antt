@@ -5,3 +5,4 @@ mod Installs
 mod Keeping
 mod Sending
 mod Choices
+mod Taking

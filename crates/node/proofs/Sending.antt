@@ -26,11 +26,11 @@ end_in ends channel = option_map (λ (saved : SavedEnd). saved.end) (find (λ (s
 module _ (f : SavedEnd → SavedEnd) (keeps : (saved : SavedEnd) → (f saved).channel ≡ saved.channel) (more : (saved : SavedEnd) → sent_at (Some (saved.end)) ≤ sent_at (Some ((f saved).end))) where
   sent_more : (ends : List SavedEnd) (channel : ℕ) → sent_at (end_in ends channel) ≤ sent_at (end_in (map f ends) channel)
   sent_more [] channel = omega arith
-  sent_more (saved ∷ ends) channel = at (eqb saved.channel channel) refl
+  sent_more (saved ∷ ends) channel = at (eqb saved.channel channel) refl (sent_more ends channel)
     where
-      at : (b : Bool) → eqb saved.channel channel ≡ b → sent_at (end_in (saved ∷ ends) channel) ≤ sent_at (end_in (f saved ∷ map f ends) channel)
-      at true h = let g : eqb (f saved).channel channel ≡ true = ap (λ (c : ℕ). eqb c channel) (keeps saved) ∙ h in rw (h, g) (more saved)
-      at false h = let g : eqb (f saved).channel channel ≡ false = ap (λ (c : ℕ). eqb c channel) (keeps saved) ∙ h in rw (h, g) (sent_more ends channel)
+      at : (b : Bool) → eqb saved.channel channel ≡ b → sent_at (end_in ends channel) ≤ sent_at (end_in (map f ends) channel) → sent_at (end_in (saved ∷ ends) channel) ≤ sent_at (end_in (f saved ∷ map f ends) channel)
+      at true h rest = let g : eqb (f saved).channel channel ≡ true = ap (λ (c : ℕ). eqb c channel) (keeps saved) ∙ h in rw (h, g) (more saved)
+      at false h rest = let g : eqb (f saved).channel channel ≡ false = ap (λ (c : ℕ). eqb c channel) (keeps saved) ∙ h in rw (h, g) rest
 
 pushed_more : (items : List ℤ) (end : End) → sent_at (Some end) ≤ sent_at (Some (pushed items end))
 pushed_more items (Receives received) = omega arith

@@ -1,16 +1,68 @@
 // The events of a node.
-ghost use Rattle.std.specs.Prelude.{◌≡◌, ◌⊎◌, IfOk, OnErr, Some};
+ghost use Rattle.std.specs.Prelude.{◌≡◌, ◌⊎◌, ◌+◌, ◌↔◌, ℤ, List, length, IfOk, OnOk, OnErr, IsErrOf, Some, option_map};
+ghost use Rattle.net_check.specs.Syntax.{network_of};
+ghost use Rattle.net_check.specs.States.{standing_of};
+ghost use Rattle.outlet.specs.LogState.{LogState, IsLogOf};
+ghost use Rattle.outlet.specs.Released.{IsBeginningOf};
+ghost use Rattle.outlet.specs.Faults.{failures_after};
 ghost use Rattle.sector_disk.specs.Clock.{LeavesOnly};
+ghost use Rattle.node.specs.Ends.{log_of};
+ghost use Rattle.node.specs.JobView.{job_view};
 ghost use Rattle.node.specs.NodeView.{node_view};
+ghost use Rattle.node.specs.Choosing.{next_job, after_grant};
+ghost use Rattle.node.specs.Installing.{ImageTakes, IsOut, IsInstall};
 ghost use Rattle.node.specs.Starting.{with_own, decided, IsStart, IsDecision};
+ghost use Rattle.node.specs.Trimming.{trimmed_image, with_current, HasNext};
 
 use crate::cell::StableCell;
 use crate::node::Node;
 use crate::putting::Putting;
+use crate::releasing::release_next;
 use crate::starting::{put_decision, put_own};
+use net_check::{Channel, Inputs, Net};
+use outlet::{LogFault, Outlet, OutletFault};
+use proc_step::{Done, Job};
 use std::alloc::{AllocError, Global};
+use std::sync::Arc;
 
 impl<C: StableCell> Node<C> {
+    /// Grants a job to the ready process that is next: its state, the items at hand and the room. The node keeps a copy
+    /// to compare with what comes back. `None` where no job can be granted. Refuses for want of memory alone.
+    pub fn grant(
+        &mut self,
+        alloc: Global,
+        net: &Arc<Net>,
+        inputs: &Inputs,
+    ) -> Result<Option<Job>, AllocError>
+        ensures job { IfOk result (λ job. option_map job_view job
+            ≡ next_job (network_of net.now.value.program) inputs.now (node_view self.old.state)) }
+        ensures state { IfOk result (λ job. node_view self.new.state
+            ≡ after_grant (next_job (network_of net.now.value.program) inputs.now (node_view self.old.state)) (node_view self.old.state)) }
+        ensures err { OnErr result (node_view self.new.state ≡ node_view self.old.state) }
+        ensures same { (self.new.cell ≡ self.old.cell) × (self.new.number ≡ self.old.number) }
+    {
+        self.state.grant(alloc, net, inputs)
+    }
+
+    /// Takes in what came of a job, if it is the one that is out at a node that runs; says whether it was. Refuses for
+    /// want of memory alone, and then nothing is changed.
+    pub fn install(
+        &mut self,
+        alloc: Global,
+        channels: &[Channel],
+        done: &Done,
+    ) -> Result<bool, LogFault>
+        requires { IsOut (job_view done.now.job) (node_view self.old.state)
+            → ImageTakes channels.now done.now.job.process done.now.taken.items done.now.sent.items self.old.state.current }
+        ensures step { IfOk result (λ applied. IsInstall channels.now (job_view done.now.job) (standing_of done.now.state)
+            done.now.taken.items done.now.sent.items (node_view self.old.state) applied (node_view self.new.state)) }
+        ensures err { OnErr result (node_view self.new.state ≡ node_view self.old.state) }
+        ensures full { ¬ (IsErrOf result LogFault.Full) }
+        ensures same { (self.new.cell ≡ self.old.cell) × (self.new.number ≡ self.old.number) }
+    {
+        self.state.install(alloc, channels, done)
+    }
+
     /// Takes a tentative image of where the node stands now, under its next number: the first half of a checkpoint.
     /// Refuses for want of memory alone, and then nothing is changed.
     pub fn start(&mut self, alloc: Global, round: u64) -> Result<Putting, AllocError>
@@ -34,5 +86,27 @@ impl<C: StableCell> Node<C> {
         ensures same_number { self.new.number ≡ self.old.number }
     {
         put_decision(alloc, self.number, &mut self.state, &mut self.cell, round)
+    }
+
+    /// Hands an outlet the item of this channel that comes next for it, and lets the log go of what the outlet has.
+    /// Refuses with `NoMemory` (1), and then nothing is changed, and with `Failed` (60), where the outlet took the item
+    /// or didn't.
+    pub fn release<O: Outlet>(&mut self, channel: u8, outlet: &mut O) -> Result<(), OutletFault>
+        requires { HasNext (log_of self.old.state.current channel) (length (O.taken outlet.old)) }
+        ensures ok { OnOk result (length (O.taken outlet.new) ≡ length (O.taken outlet.old) + 1) }
+        ensures no_memory { IsErrOf result OutletFault.NoMemory
+            → (O.taken outlet.new ≡ O.taken outlet.old) × (node_view self.new.state ≡ node_view self.old.state) }
+        ensures failed { IsErrOf result OutletFault.Failed
+            → (length (O.taken outlet.new) ≡ length (O.taken outlet.old))
+            ⊎ (length (O.taken outlet.new) ≡ length (O.taken outlet.old) + 1) }
+        ensures trimmed { ¬ (IsErrOf result OutletFault.NoMemory) → node_view self.new.state
+            ≡ with_current (trimmed_image channel (length (O.taken outlet.new)) self.old.state.current) (node_view self.old.state) }
+        ensures begins { IsBeginningOf (O.taken outlet.old) (O.taken outlet.new) }
+        ensures history { (log : LogState) (history : List ℤ) → log_of self.old.state.current channel ≡ Some log → IsLogOf log history
+            → IsBeginningOf (O.taken outlet.old) history → IsBeginningOf (O.taken outlet.new) history }
+        ensures count { O.failures outlet.new ≡ failures_after result (O.failures outlet.old) }
+        ensures same { (self.new.cell ≡ self.old.cell) × (self.new.number ≡ self.old.number) }
+    {
+        release_next(&mut self.state.current, channel, outlet)
     }
 }

@@ -89,3 +89,32 @@ impl Image {
         }
     }
 }
+
+// Hands an outlet the item of a channel that comes next for it, and lets the log go of what the outlet has.
+pub(crate) fn release_next<O: Outlet>(
+    image: &mut Image,
+    channel: u8,
+    outlet: &mut O,
+) -> Result<(), OutletFault>
+    requires { HasNext (log_of image.old channel) (length (O.taken outlet.old)) }
+    ensures ok { OnOk result (length (O.taken outlet.new) ≡ length (O.taken outlet.old) + 1) }
+    ensures no_memory { IsErrOf result OutletFault.NoMemory
+        → (O.taken outlet.new ≡ O.taken outlet.old) × (image.new ≡ image.old) }
+    ensures failed { IsErrOf result OutletFault.Failed
+        → (length (O.taken outlet.new) ≡ length (O.taken outlet.old))
+        ⊎ (length (O.taken outlet.new) ≡ length (O.taken outlet.old) + 1) }
+    ensures trimmed { ¬ (IsErrOf result OutletFault.NoMemory)
+        → image.new ≡ trimmed_image channel (length (O.taken outlet.new)) image.old }
+    ensures begins { IsBeginningOf (O.taken outlet.old) (O.taken outlet.new) }
+    ensures history { (log : LogState) (history : List ℤ) → log_of image.old channel ≡ Some log → IsLogOf log history
+        → IsBeginningOf (O.taken outlet.old) history → IsBeginningOf (O.taken outlet.new) history }
+    ensures count { O.failures outlet.new ≡ failures_after result (O.failures outlet.old) }
+{
+    match image.hand_next(channel, outlet) {
+        Err(OutletFault::NoMemory) => Err(OutletFault::NoMemory),
+        released => {
+            image.trim(channel, outlet.len());
+            released
+        }
+    }
+}

@@ -1,0 +1,34 @@
+use Rattle.std.proofs.Common.{rules, ◌≡◌, ◌∙◌, List, ap, refl, subst, sym, true, codes, map}
+use Rattle.std.proofs.lemmas.Result.{err_from_is_err_and}
+use Rattle.clap.specs.Words.{App, HasKind, Row, Text, app_of, fault_of, first_of, first_value, found_of, is_simple, is_simple_and_free, matches_of, rows_of}
+use Rattle.clap.proofs.WalkLemmas.{first_value-rows}
+use Rattle.kahn_program.specs.CommandLine.{kahnrun}
+use Rattle.kahn_program.proofs.words.options.Goals as goal
+
+simple : is_simple kahnrun ≡ true
+unfolding kahnrun
+simple = refl
+
+free : is_simple_and_free kahnrun ≡ true
+unfolding kahnrun
+free = refl
+
+pub returns-in_err-matches-clause-refused : goal.returns-in_err-matches-clause-refused
+returns-in_err-matches-clause-refused g c =
+    let words : List Text = map g.S.AsStr.text c.args.words.now in
+    let is : app_of c.in_ok-command.field-0 ≡ kahnrun = c.in_ok-command.ensures in
+    let p = err_from_is_err_and c.from_residual-in_err-matches.result c.from_residual-in_err-matches.ensures.1 in
+    let has = subst (λ (a : App). HasKind (fault_of a words) c.in_err-matches.field-0.0) is (c.in_err-matches.ensures.kinds (ap is_simple_and_free is ∙ free)) in
+    rw (p.1, p.2) has
+
+pub returns-clause-asked : goal.returns-clause-asked
+returns-clause-asked g c =
+    let found = found_of c.in_ok-matches.matches in
+    let words : List Text = map g.S.AsStr.text c.args.words.now in
+    let is : app_of c.in_ok-command.field-0 ≡ kahnrun = c.in_ok-command.ensures in
+    let rows : rows_of found ≡ matches_of kahnrun words = (c.in_ok-matches.ensures.matches (ap is_simple is ∙ simple)).0 ∙ ap (λ (a : App). matches_of a words) is in
+    let text : (id : Text) → first_of id (matches_of kahnrun words) ≡ first_value found id = λ id. ap (λ (r : List Row). first_of id r) (sym rows) ∙ sym (first_value-rows found id) in
+    let some = c.in-Some-Some in record {
+      net = text (codes "NET") ∙ (sym some.ensures ∙ search rules);
+      inputs = text (codes "INPUTS") ∙ (sym some.ensures' ∙ search rules);
+    }

@@ -1,0 +1,105 @@
+-- What the texts that a reader gives stand for, and why one is refused.
+use Rattle.std.specs.Prelude.{◌≡◌, ◌⊎◌, ℕ, ℤ, List, Option, Some, None, IfSome, IsUtf8}
+use Rattle.net_text.specs.Faults as text
+use Rattle.net_text.specs.Grammar.{IsTextOf}
+use Rattle.net_text.specs.InputLines.{IsInputsText, IsInputsFault}
+use Rattle.net_text.specs.Texts.{IsParseFault}
+use Rattle.net_text.specs.Names.{NameTree}
+use Rattle.net_text.specs.Trees.{DeclarationTree, InputTree}
+use Rattle.net_text.specs.declared.fault.TextFault.{TextFault}
+use Rattle.net_check.specs.Binding.{Binds, HasInputFault}
+use Rattle.net_check.specs.NetFaults.{HasFault}
+use Rattle.net_check.specs.Nodes.{IsOnOneNode}
+use Rattle.net_check.specs.Resolution.{Resolves}
+use Rattle.net_check.specs.Syntax.{Network, network_of}
+use Rattle.net_check.specs.Valid.{IsValid}
+use Rattle.net_check.specs.declared.fault.NetFault.{NetFault}
+use Rattle.net_check.specs.declared.fault.NetFault.TheVariants as fault
+use Rattle.net_check.specs.declared.net.Net.{Net}
+use Rattle.kahn_program.specs.declared.failure.Failure.{Failure}
+use Rattle.kahn_program.specs.declared.failure.Failure.TheVariants.{Line, Whole, NotText, Unreadable, NoMemory, Other}
+use Rattle.kahn_program.specs.declared.failure.Source.{Source}
+use Rattle.kahn_program.specs.declared.failure.Source.TheVariants as source
+
+-- the network that this text describes
+pub record IsNetOf (bytes : List ℕ) (net : Net) : Type 0 where
+  pub tree : List DeclarationTree
+  pub text : IsTextOf tree bytes
+  pub resolved : Resolves tree net.channel_names.items net.process_names.items (network_of net.program)
+
+-- the items that this text gives the network's inputs
+pub record AreInputsOf (bytes : List ℕ) (net : Net) (inputs : List (List ℤ)) : Type 0 where
+  pub lines : List InputTree
+  pub text : IsInputsText bytes lines
+  pub bound : Binds net.channel_names.items (network_of net.program) lines inputs
+
+-- this text describes a valid network on one node
+pub record IsTextOfNet (bytes : List ℕ) : Type 0 where
+  pub tree : List DeclarationTree
+  pub channels : List NameTree
+  pub processes : List NameTree
+  pub network : Network
+  pub text : IsTextOf tree bytes
+  pub resolved : Resolves tree channels processes network
+  pub valid : IsValid network
+  pub one_node : IsOnOneNode network
+
+-- this text gives the network's inputs their items
+pub record IsTextOfInputs (net : Net) (bytes : List ℕ) : Type 0 where
+  pub lines : List InputTree
+  pub lists : List (List ℤ)
+  pub text : IsInputsText bytes lines
+  pub bound : Binds net.channel_names.items (network_of net.program) lines lists
+
+-- a fault with a line is named with it; without one it is want of memory
+abbrev pub at_line : Source → ℕ → Option ℕ → Failure → Failure
+at_line source number (Some line) otherwise = Line source line number
+at_line source number None otherwise = otherwise
+
+abbrev pub text_failure_of : Source → TextFault → Failure
+text_failure_of source fault = at_line source (text.number_of fault) (text.line_of fault) NoMemory
+
+abbrev pub net_failure_of : Source → NetFault → Failure
+net_failure_of source fault.NoMemory = NoMemory
+net_failure_of source fault.MissingInput = Whole source 18
+net_failure_of source (fault.TwiceNamed line) = Line source line 10
+net_failure_of source (fault.UnknownName line) = Line source line 11
+net_failure_of source (fault.TwoProducers line) = Line source line 12
+net_failure_of source (fault.TwoConsumers line) = Line source line 13
+net_failure_of source (fault.LoopWithoutGet line) = Line source line 14
+net_failure_of source (fault.Limit line) = Line source line 15
+net_failure_of source (fault.NoProducer line) = Line source line 16
+net_failure_of source (fault.NoConsumer line) = Line source line 17
+
+-- no text came out of a reader with these bytes, where they are known
+abbrev pub IsReadFailure : Source → Option (List ℕ) → Failure → Type 0
+IsReadFailure source known (NotText other) = (other ≡ source) × IfSome known (λ bytes. ¬ (IsUtf8 bytes))
+IsReadFailure source known (Unreadable other) = other ≡ source
+IsReadFailure source known NoMemory = Unit {0}
+IsReadFailure source known (Line other line number) = ⊥
+IsReadFailure source known (Whole other number) = ⊥
+IsReadFailure source known (Other number) = ⊥
+
+-- want of memory, or a reader that isn't there or fails: no fault of a text
+abbrev pub IsOutside : Source → Failure → Type 0
+IsOutside source failure = (failure ≡ NoMemory) ⊎ (failure ≡ Unreadable source)
+
+-- this text isn't in the grammar, or its tree has a fault
+pub data IsNetTextFailure : List ℕ → Failure → Type 0 where
+  bad_text : {bytes : List ℕ} {failure : Failure} (fault : TextFault) → IsParseFault bytes fault → failure ≡ text_failure_of source.Net fault → IsNetTextFailure bytes failure
+  bad_net : {bytes : List ℕ} {failure : Failure} (tree : List DeclarationTree) (fault : NetFault) → IsTextOf tree bytes → HasFault tree fault → failure ≡ net_failure_of source.Net fault → IsNetTextFailure bytes failure
+
+-- this text isn't of inputs' lines, or its lines have a fault for the network
+pub data IsInputsTextFailure : Net → List ℕ → Failure → Type 0 where
+  bad_lines : {net : Net} {bytes : List ℕ} {failure : Failure} (fault : TextFault) → IsInputsFault bytes fault → failure ≡ text_failure_of source.Inputs fault → IsInputsTextFailure net bytes failure
+  bad_inputs : {net : Net} {bytes : List ℕ} {failure : Failure} (lines : List InputTree) (fault : NetFault) → IsInputsText bytes lines → HasInputFault net.channel_names.items (network_of net.program) lines fault → failure ≡ net_failure_of source.Inputs fault → IsInputsTextFailure net bytes failure
+
+-- why a reader with these bytes, where they are known, gives no network
+pub data IsNetFailure : Option (List ℕ) → Failure → Type 0 where
+  net_unread : {known : Option (List ℕ)} {failure : Failure} → IsReadFailure source.Net known failure → IsNetFailure known failure
+  net_refused : {known : Option (List ℕ)} {failure : Failure} → IfSome known (λ bytes. IsNetTextFailure bytes failure) → IsNetFailure known failure
+
+-- why it gives no inputs for the network
+pub data IsInputsFailure : Net → Option (List ℕ) → Failure → Type 0 where
+  inputs_unread : {net : Net} {known : Option (List ℕ)} {failure : Failure} → IsReadFailure source.Inputs known failure → IsInputsFailure net known failure
+  inputs_refused : {net : Net} {known : Option (List ℕ)} {failure : Failure} → IfSome known (λ bytes. IsInputsTextFailure net bytes failure) → IsInputsFailure net known failure

@@ -1,0 +1,61 @@
+//! Events, and what comes of them.
+
+use proc_step::{Done, Job};
+use thiserror::Error;
+
+/// What can happen. Each names its node, and `Install` that of its job's process.
+#[derive(Drop)]
+pub enum Event {
+    /// The process that is next is given a job.
+    Grant(u8),
+    /// What came of a job comes back.
+    Install(Done),
+    /// The node sends what is due to the others. There is no other yet.
+    Send(u8),
+    /// The node begins a checkpoint: it takes a tentative image.
+    Start(u8),
+    /// The node's tentative image becomes the permanent one.
+    Decide(u8),
+    /// One item of an output that a permanent checkpoint covers leaves the system.
+    Release(u8),
+    /// The node lets its turn pass.
+    Idle(u8),
+}
+
+/// How far an output's items have left the system: so many of this channel.
+#[derive(Clone, Copy, Debug, PartialEq, Eq)]
+pub struct Freed {
+    pub output: u8,
+    pub number: u64,
+}
+
+/// What came of an event.
+#[derive(Drop)]
+pub enum Reply {
+    /// The job that was granted.
+    Granted(Job),
+    /// The turn was taken in.
+    Installed,
+    /// What came back isn't of the job that is out. It is gone.
+    Discarded,
+    Sent,
+    Started,
+    Decided,
+    /// A start was refused: its record would be too large (22), or its number would pass 2^63 - 1 (44).
+    Refused(u8),
+    Released(Freed),
+    /// The outlet failed. It took the item or didn't.
+    OutletFailed,
+    /// The device failed in this event, and the node is down.
+    Down,
+    Idled,
+    /// The event can't happen now, or its node isn't of this world. Nothing is changed.
+    NotDue,
+}
+
+/// Want of memory (1), with the event. The world is as it was.
+#[derive(Drop, Error)]
+#[error("no memory")]
+pub struct Refused {
+    pub event: Event,
+}

@@ -1,0 +1,17 @@
+//! The world of a network: its nodes, its outlets, and the events that happen in it.
+//!
+//! `World::apply` is one event, `World::pick` the event that is next for a node. Whatever events are applied, in
+//! whatever order, each outlet gets a beginning of its output's history, and only items that permanent checkpoints
+//! cover.
+#![tactic(auto)]
+
+mod event;
+mod opening;
+mod output;
+mod turns;
+mod world;
+
+pub use event::{Event, Freed, Refused, Reply};
+pub use output::Output;
+pub use turns::RoundTurns;
+pub use world::World;

@@ -1,0 +1,28 @@
+// What turn-taking remembers of a node's round.
+
+/// What a node has done in this round.
+#[derive(Clone, Copy, Debug, PartialEq, Eq)]
+pub struct RoundTurns {
+    /// How many jobs were granted: 64 at most are counted.
+    pub granted: u8,
+    /// A checkpoint was begun, or its beginning refused.
+    pub started: bool,
+    /// It has sent.
+    pub sent: bool,
+    /// A tentative image was held when it sent last.
+    pub sent_holding: bool,
+    pub idled: bool,
+}
+
+impl RoundTurns {
+    /// Nothing yet.
+    pub fn new() -> RoundTurns {
+        RoundTurns {
+            granted: 0,
+            started: false,
+            sent: false,
+            sent_holding: false,
+            idled: false,
+        }
+    }
+}
