@@ -1,0 +1,2 @@
+pub mod OutputView
+pub mod Sound

@@ -1,7 +1,6 @@
 //! Events, and what comes of them.
 
 use proc_step::{Done, Job};
-use thiserror::Error;
 
 /// What can happen. Each names its node, and `Install` that of its job's process.
 #[derive(Drop)]
@@ -54,8 +53,7 @@ pub enum Reply {
 }
 
 /// Want of memory (1), with the event. The world is as it was.
-#[derive(Drop, Error)]
-#[error("no memory")]
+#[derive(Drop)]
 pub struct Refused {
     pub event: Event,
 }

@@ -6,12 +6,11 @@
 #![tactic(auto)]
 
 mod event;
-mod opening;
 mod output;
+mod station;
 mod turns;
-mod world;
 
 pub use event::{Event, Freed, Refused, Reply};
 pub use output::Output;
+pub use station::Station;
 pub use turns::RoundTurns;
-pub use world::World;

@@ -1,0 +1,34 @@
+-- What is true of a node with its outputs, whatever events came before.
+use Rattle.std.specs.Prelude.{◌≡◌, ℕ, ◌≤◌, ℤ, List, length, Option, Some, slice_get}
+use Rattle.net_check.specs.Syntax.{Network}
+use Rattle.net_check.specs.Processes.{sent_on}
+use Rattle.net_check.specs.Approximations.{approximation}
+use Rattle.net_check.specs.declared.program.Channel.{Channel}
+use Rattle.net_check.specs.declared.program.Port.TheVariants.{Process}
+use Rattle.outlet.specs.Released.{IsBeginningOf}
+use Rattle.node.specs.JobView.{JobView}
+use Rattle.node.specs.NodeView.{NodeView}
+use Rattle.node.specs.Ends.{base_of, sent_of}
+use Rattle.node.specs.Reached.{HasReached, IsLaidOut, CountsAreWithin, IsJobOf, acts_of}
+use Rattle.world.specs.OutputView.{OutputView}
+
+-- its image has every process and channel, no more was received than there is, and the job that is out is of where its process stands
+pub record NodeIsSound (net : Network) (inputs : List (List ℤ)) (node : NodeView) : Type 0 where
+  pub laid_out : IsLaidOut net node.current
+  pub counts : CountsAreWithin inputs node.current
+  pub out : (job : JobView) → node.out ≡ Some job → IsJobOf net inputs node.current job
+
+-- the log of an output goes back to what its outlet has, and the permanent image covers all of that
+pub record OutputIsSound (node : NodeView) (output : OutputView) : Type 0 where
+  pub no_gap : base_of node.current output.channel ≤ length output.taken
+  pub covered : length output.taken ≤ sent_of node.kept.permanent output.channel
+
+abbrev pub OutputsAreSound : NodeView → List OutputView → Type 0
+OutputsAreSound node outputs = (j : ℕ) (output : OutputView) → slice_get outputs j ≡ Some output → OutputIsSound node output
+
+-- The node's images stand on one approximation of the histories, and on that one what has left of each output is a beginning of what its
+-- process has put by now.
+pub record HasCome (net : Network) (inputs : List (List ℤ)) (node : NodeView) (outputs : List OutputView) : Type 0 where
+  pub reached : HasReached net inputs node
+  pub released : (j p : ℕ) (output : OutputView) (channel : Channel) → slice_get outputs j ≡ Some output → slice_get net.channels output.channel ≡ Some channel → channel.producer ≡ Process p
+      → IsBeginningOf output.taken (sent_on output.channel (acts_of net (approximation net inputs reached.n) reached.current_acts p))

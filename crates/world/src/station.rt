@@ -1,0 +1,29 @@
+//! A node with its outputs, and what turn-taking remembers of it.
+ghost use Rattle.net_check.specs.Syntax.{network_of};
+ghost use Rattle.node.specs.NodeView.{node_view};
+ghost use Rattle.world.specs.OutputView.{outputs_view};
+ghost use Rattle.world.specs.Sound.{NodeIsSound, OutputsAreSound, HasCome};
+
+use crate::output::Output;
+use crate::turns::RoundTurns;
+use net_check::{Inputs, Net};
+use node::{Node, StableCell};
+use outlet::Outlet;
+use std::sync::Arc;
+
+/// A node and the outputs on which its processes put.
+///
+/// Its type keeps that each of its images stands where its processes have come on one approximation of the network's
+/// histories, that what its outlets took is a beginning of what the processes put there, and that its permanent image
+/// covers all of that.
+#[derive(Drop)]
+pub struct Station<C: StableCell, O: Outlet> {
+    pub net: Arc<Net>,
+    pub inputs: Arc<Inputs>,
+    pub node: Node<C>,
+    pub outputs: Vec<Output<O>>,
+    pub turns: RoundTurns,
+    pub ghost sound: { NodeIsSound (network_of net.value.program) inputs.value (node_view node.state) },
+    pub ghost outputs_sound: { OutputsAreSound (node_view node.state) (outputs_view O.taken outputs.items) },
+    pub ghost come: { ∥ HasCome (network_of net.value.program) inputs.value (node_view node.state) (outputs_view O.taken outputs.items) ∥₁ },
+}
