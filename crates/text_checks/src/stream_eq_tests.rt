@@ -3,9 +3,9 @@
 ghost use Rattle.std.specs.Prelude.{◌≡◌, pos, negsuc, [], ◌∷◌, ◌++◌};
 ghost use Rattle.net_check.specs.Approximations.{approximation, Belongs, IsReached};
 ghost use Rattle.net_check.specs.Processes.{At, StandsAt};
-ghost use Rattle.checks.specs.Examples.{summing_code, sum_net, sum_inputs, sum_solution};
-ghost use Rattle.checks.specs.Examples.{at_the_end, pair_net, pair_inputs, one_two, tens};
-ghost use Rattle.checks.specs.Examples.{cycle_after, zeros, ones, zero_one};
+ghost use Rattle.text_checks.specs.Examples.{summing_code, sum_net, sum_inputs, sum_solution};
+ghost use Rattle.text_checks.specs.Examples.{at_the_end, pair_net, pair_inputs, one_two, tens};
+ghost use Rattle.text_checks.specs.Examples.{cycle_after, zeros, ones, zero_one};
 
 use net_check::{History, Net, NetFault, bind, check};
 use net_text::{

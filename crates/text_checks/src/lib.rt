@@ -1,0 +1,12 @@
+//! The tests of the crates of texts, networks and their meaning, each crate's in a module of its own. They stand here since a
+//! crate with tests is proved twice, with them and without.
+#![tactic(auto)]
+
+#[cfg(test)]
+mod net_check_tests;
+#[cfg(test)]
+mod net_text_tests;
+#[cfg(test)]
+mod proc_step_tests;
+#[cfg(test)]
+mod stream_eq_tests;
