@@ -12,11 +12,10 @@ use Rattle.node.specs.Ends.{base_of, sent_of}
 use Rattle.node.specs.Reached.{HasReached, IsLaidOut, CountsAreWithin, IsJobOf, acts_of}
 use Rattle.world.specs.OutputView.{OutputView}
 
--- its image has every process and channel, no more was received than there is, and the job that is out is of where its process stands
+-- its image has every process and channel, and no more was received than there is
 pub record NodeIsSound (net : Network) (inputs : List (List ℤ)) (node : NodeView) : Type 0 where
   pub laid_out : IsLaidOut net node.current
   pub counts : CountsAreWithin inputs node.current
-  pub out : (job : JobView) → node.out ≡ Some job → IsJobOf net inputs node.current job
 
 -- the log of an output goes back to what its outlet has, and the permanent image covers all of that
 pub record OutputIsSound (node : NodeView) (output : OutputView) : Type 0 where
@@ -26,9 +25,10 @@ pub record OutputIsSound (node : NodeView) (output : OutputView) : Type 0 where
 abbrev pub OutputsAreSound : NodeView → List OutputView → Type 0
 OutputsAreSound node outputs = (j : ℕ) (output : OutputView) → slice_get outputs j ≡ Some output → OutputIsSound node output
 
--- The node's images stand on one approximation of the histories, and on that one what has left of each output is a beginning of what its
--- process has put by now.
+-- The node's images stand on one approximation of the histories; the job that is out is of where its process stands now; and what has left
+-- of each output is, on that same approximation, a beginning of what its process has put by now.
 pub record HasCome (net : Network) (inputs : List (List ℤ)) (node : NodeView) (outputs : List OutputView) : Type 0 where
   pub reached : HasReached net inputs node
+  pub out : (job : JobView) → node.out ≡ Some job → IsJobOf net inputs node.current job
   pub released : (j p : ℕ) (output : OutputView) (channel : Channel) → slice_get outputs j ≡ Some output → slice_get net.channels output.channel ≡ Some channel → channel.producer ≡ Process p
       → IsBeginningOf output.taken (sent_on output.channel (acts_of net (approximation net inputs reached.n) reached.current_acts p))
