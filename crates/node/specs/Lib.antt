@@ -14,3 +14,5 @@ pub mod Choosing
 pub mod Reached
 pub mod Trimming
 pub mod Opening
+pub mod ImageLaws
+pub mod ReachedLaws
