@@ -16,3 +16,4 @@ pub mod Trimming
 pub mod Opening
 pub mod ImageLaws
 pub mod ReachedLaws
+pub mod InstallLaws
