@@ -89,6 +89,10 @@ map_keeps f g [] keeps = refl
 map_keeps {A} {B} f g (x ∷ xs) keeps =
     ap (λ (y : B). y ∷ map f (map g xs)) (keeps x) ∙ ap (λ (ys : List B). f x ∷ ys) (map_keeps f g xs keeps)
 
+pub map_twice : {A : Type 0} (f g : A → A) (xs : List A) → map g (map f xs) ≡ map (λ (x : A). g (f x)) xs
+map_twice f g [] = refl
+map_twice {A} f g (x ∷ xs) = ap (λ (ys : List A). g (f x) ∷ ys) (map_twice f g xs)
+
 -- Ends
 
 -- an entry of a channel is at the channel's number

@@ -167,7 +167,7 @@ received_then (Sends log) items count h = absurd (cc)
 received_then (Both received log) items count h = refl
 
 -- and its log has what is put
-log_then : (end : End) (items : List ℤ) (count : ℕ) (log : LogState) → log_at (Some (counted count (pushed items end))) ≡ Some log → (before : LogState) × (log_at (Some end) ≡ Some before) × (log_with items before ≡ log)
+pub log_then : (end : End) (items : List ℤ) (count : ℕ) (log : LogState) → log_at (Some (counted count (pushed items end))) ≡ Some log → (before : LogState) × (log_at (Some end) ≡ Some before) × (log_with items before ≡ log)
 log_then (Receives received) items count log h = absurd (cc)
 log_then (Sends before) items count log h = (before, refl, cc)
 log_then (Both received before) items count log h = (before, refl, cc)

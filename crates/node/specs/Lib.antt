@@ -17,3 +17,4 @@ pub mod Opening
 pub mod ImageLaws
 pub mod ReachedLaws
 pub mod InstallLaws
+pub mod FitLaws
