@@ -14,3 +14,7 @@ pub mod Choosing
 pub mod Reached
 pub mod Trimming
 pub mod Opening
+pub mod ImageLaws
+pub mod ReachedLaws
+pub mod InstallLaws
+pub mod FitLaws

@@ -1,5 +1,5 @@
 -- How far a node has come: its images stand where its processes stand after so many acts, on one approximation of the network's histories.
-use Rattle.std.specs.Prelude.{◌≡◌, ℕ, zero, suc, ◌≤◌, ◌==◌, ℤ, List, [], ◌∷◌, map, length, take, find, Option, Some, None, slice_get, slice_index}
+use Rattle.std.specs.Prelude.{◌≡◌, ℕ, zero, suc, ◌≤◌, ◌==◌, Bool, true, false, ℤ, List, [], ◌∷◌, map, length, take, find, Option, Some, None, slice_get, slice_index}
 use Rattle.net_check.specs.Streams.{history_of}
 use Rattle.net_check.specs.Syntax.{Code, Network}
 use Rattle.net_check.specs.Statements.{Step}
@@ -7,7 +7,7 @@ use Rattle.net_check.specs.Processes.{StandsAt, process_trace, sent_on, got_on}
 use Rattle.net_check.specs.Approximations.{approximation}
 use Rattle.net_check.specs.declared.program.Channel.{Channel}
 use Rattle.net_check.specs.declared.program.Port.TheVariants.{Process}
-use Rattle.outlet.specs.LogState.{LogState, IsLogOf}
+use Rattle.outlet.specs.LogState.{LogState, IsLogOf, IsWithinLimits}
 use Rattle.node.specs.ProcessView.{SavedProcessView}
 use Rattle.node.specs.ImageView.{ImageView}
 use Rattle.node.specs.Ends.{received_at, log_at}
@@ -16,6 +16,7 @@ use Rattle.node.specs.NodeView.{NodeView}
 use Rattle.node.specs.Granting.{items_from, room_from}
 use Rattle.node.specs.declared.record.SavedEnd.{SavedEnd}
 use Rattle.node.specs.declared.record.End.{End}
+use Rattle.node.specs.declared.record.End.TheVariants.{Receives, Sends, Both}
 use Rattle.node.specs.declared.record.Tentative.{Tentative}
 
 -- the first m acts of a process on these histories
@@ -60,14 +61,27 @@ abbrev pub numbers_from : ℕ → ℕ → List ℕ
 numbers_from first zero = []
 numbers_from first (suc count) = first ∷ numbers_from (suc first) count
 
--- an image of a node that has every process and every channel has one entry for each, in order of their numbers
+-- an end counts what it receives
+abbrev pub is_counting : End → Bool
+is_counting (Receives received) = true
+is_counting (Sends log) = false
+is_counting (Both received log) = true
+
+-- an image of a node that has every process and every channel has one entry for each, in order of their numbers, and an end from which a
+-- process gets counts
 pub record IsLaidOut (net : Network) (image : ImageView) : Type 0 where
   pub processes : map (λ (saved : SavedProcessView). saved.number) image.processes ≡ numbers_from 0 (length net.codes)
   pub ends : map (λ (saved : SavedEnd). saved.channel) image.ends ≡ numbers_from 0 (length net.channels)
+  pub counting : (k p : ℕ) (saved : SavedEnd) (channel : Channel) → slice_get image.ends k ≡ Some saved → slice_get net.channels saved.channel ≡ Some channel
+      → channel.consumer ≡ Process p → is_counting saved.end ≡ true
 
 -- no more was received than there is
 abbrev pub CountsAreWithin : List (List ℤ) → ImageView → Type 0
 CountsAreWithin inputs image = (k : ℕ) (saved : SavedEnd) → slice_get image.ends k ≡ Some saved → received_at (Some (saved.end)) ≤ length (history_of inputs saved.channel)
+
+-- each log is one
+abbrev pub LogsAreWithin : ImageView → Type 0
+LogsAreWithin image = (k : ℕ) (saved : SavedEnd) (log : LogState) → slice_get image.ends k ≡ Some saved → log_at (Some (saved.end)) ≡ Some log → IsWithinLimits log
 
 -- the job that is out is of where its process stands now: with the items that come next, and no more room than there is
 pub record IsJobOf (net : Network) (inputs : List (List ℤ)) (image : ImageView) (job : JobView) : Type 0 where

@@ -1,0 +1,266 @@
+-- Laws of a turn that fits: what it takes is there, what it puts has room, and what is kept of an image is kept by it.
+use Rattle.std.proofs.Common.{◌≡◌, ◌≢◌, ◌⊎◌, inl, inr, ℕ, zero, suc, ◌+◌, ◌-◌, ◌^◌, ◌<◌, ◌≤◌, Bool, true, false, eqb, cond, ℤ, List, [], ◌∷◌, ◌++◌, length, take, drop, map, get_or, Option, Some, None, option_map, refl, sym, ap, subst, ◌∙◌, arith}
+use Rattle.std.specs.Prelude.{slice_get, slice_index, find, min}
+use Rattle.std.proofs.Math.Nat.{min-le_left, min-le_right}
+use Rattle.std.proofs.lemmas.Bool.{cases_lt}
+use Rattle.std.proofs.lemmas.List.{length-append, length-take, length-drop, get_or_past}
+use Rattle.std.proofs.lemmas.Option.{slice_get_cases, get_or_from_slice_get}
+use Rattle.net_check.specs.Streams.{history_of}
+use Rattle.net_check.specs.Fits.{Fits}
+use Rattle.net_check.specs.Syntax.{Code, Network}
+use Rattle.net_check.specs.Processes.{Standing}
+use Rattle.net_check.specs.Approximations.{approximation}
+use Rattle.net_check.specs.declared.program.Channel.{Channel}
+use Rattle.net_check.specs.declared.program.Port.{Port}
+use Rattle.net_check.specs.declared.program.Port.TheVariants.{Outside, Process}
+use Rattle.outlet.specs.LogState.{LogState, IsWithinLimits, Overfills, log_end}
+use Rattle.proc_step.specs.Turns.{Turn, IsTurn}
+use Rattle.proc_step.specs.TurnLaws.{sent_fits, taken_fits}
+use Rattle.node.specs.ProcessView.{SavedProcessView}
+use Rattle.node.specs.ImageView.{ImageView}
+use Rattle.node.specs.JobView.{JobView}
+use Rattle.node.specs.Ends.{received_of, received_at, log_of, log_at, sent_in, sent_of, end_of}
+use Rattle.node.specs.Granting.{is_process, next_items, items_from, room_in, room_from}
+use Rattle.node.specs.Installing.{is_consumer, is_producer, taken_from, put_on, log_with, pushed, counted, saved_pushed, saved_counted, moved, installed, LogTakes, EndTakes, ImageTakes}
+use Rattle.node.specs.Starting.{HasPutMore}
+use Rattle.node.specs.Reached.{ImageStands, is_counting, IsLaidOut, CountsAreWithin, LogsAreWithin, IsJobOf}
+use Rattle.node.specs.ImageLaws.{channel_at, received_is, log_is, map_got, map_keeps, map_twice, end_of_changed}
+use Rattle.node.specs.ReachedLaws.{items_at_hand, items_of_channel}
+use Rattle.node.specs.InstallLaws.{turn_of_job, log_then}
+use Rattle.node.specs.declared.record.SavedEnd.{SavedEnd}
+use Rattle.node.specs.declared.record.End.{End}
+use Rattle.node.specs.declared.record.End.TheVariants.{Receives, Sends, Both}
+
+-- What a turn takes
+
+-- no more is at hand than is left
+at_hand_is_left : (inputs : List (List ℤ)) (image : ImageView) (c : ℕ) (gets : Bool) (port : Port)
+    → length (cond gets (next_items inputs image c port) []) ≤ length (history_of inputs c) - received_of image c
+at_hand_is_left inputs image c false port = omega arith
+at_hand_is_left inputs image c true (Process q) = omega arith
+at_hand_is_left inputs image c true Outside =
+    let some = length-take 64 (drop (received_of image c) (history_of inputs c)) in
+    let few = min-le_right 64 (length (drop (received_of image c) (history_of inputs c))) in
+    let left = length-drop (received_of image c) (history_of inputs c) in
+    omega (arith, some, few, left)
+
+-- what a turn takes from a channel is there
+pub taken_is_there : (net : Network) (inputs : List (List ℤ)) (n : ℕ) (made : ℕ → ℕ) (image : ImageView) (job : JobView) (code : Code) (after : Standing) (taken : List ℕ) (sent : List (List ℤ))
+    → ImageStands net (approximation net inputs n) made image → IsLaidOut net image → CountsAreWithin inputs image → IsJobOf net inputs image job → slice_get net.codes job.process ≡ Some code
+    → IsTurn code job.standing job.items job.room after taken sent
+    → (k : ℕ) (saved : SavedEnd) → slice_get image.ends k ≡ Some saved
+    → received_at (Some (saved.end)) + taken_from net.channels job.process taken saved.channel ≤ length (history_of inputs saved.channel)
+taken_is_there net inputs n made image job code after taken sent stands laid counts of there turn k saved is = at (slice_get_cases net.channels saved.channel).1
+  where
+    within : received_at (Some (saved.end)) ≤ length (history_of inputs saved.channel)
+    within = counts k saved is
+
+    same : received_of image saved.channel ≡ received_at (Some (saved.end))
+    same =
+        let number = channel_at net image k saved laid is in
+        ap (received_of image) number ∙ received_is net image k saved laid is
+
+    by_test : (channel : Channel) → slice_get net.channels saved.channel ≡ Some channel → (gets : Bool) → is_process job.process channel.consumer ≡ gets
+        → received_at (Some (saved.end)) + cond gets (slice_index taken saved.channel) 0 ≤ length (history_of inputs saved.channel)
+    by_test channel on false test = omega (arith, within)
+    by_test channel on true test =
+        let done = turn_of_job net inputs n made image job code after taken sent stands laid of there turn in
+        let few = taken_fits code (approximation net inputs n) (made job.process) job.items job.room after taken sent done saved.channel in
+        let items : history_of job.items saved.channel ≡ items_at_hand inputs image job.process saved.channel channel =
+        ap (λ (items : List (List ℤ)). history_of items saved.channel) of.items ∙ items_of_channel net inputs image job.process saved.channel channel on in
+        let left = at_hand_is_left inputs image saved.channel (is_process job.process channel.consumer) channel.producer in
+        let count : length (history_of job.items saved.channel) ≤ length (history_of inputs saved.channel) - received_of image saved.channel = omega (arith, ap (length {A = ℤ}) items, left) in
+        omega (arith, few, count, same, within)
+
+    at : ((x : Channel) × (saved.channel < length net.channels) × (slice_get net.channels saved.channel ≡ Some x) × (get_or net.channels saved.channel x ≡ x)) ⊎ ((length net.channels ≤ saved.channel) × (slice_get net.channels saved.channel ≡ None))
+        → received_at (Some (saved.end)) + taken_from net.channels job.process taken saved.channel ≤ length (history_of inputs saved.channel)
+    at (inl here) =
+        let all = by_test here.0 here.2 (is_process job.process here.0.consumer) refl in
+        let tested : taken_from net.channels job.process taken saved.channel ≡ cond (is_process job.process here.0.consumer) (slice_index taken saved.channel) 0 =
+        ap (λ (o : Option Channel). cond (is_consumer job.process o) (slice_index taken saved.channel) 0) here.2 in
+        omega (arith, all, tested)
+    at (inr past) =
+        let tested : taken_from net.channels job.process taken saved.channel ≡ 0 = ap (λ (o : Option Channel). cond (is_consumer job.process o) (slice_index taken saved.channel) 0) past.1 in
+        omega (arith, within, tested)
+
+-- What a turn puts
+
+-- the room of a channel on which the process puts, and none on any other
+pub room_from-at : (image : ImageView) (process number : ℕ) (channels : List Channel) (c : ℕ) (channel : Channel) → slice_get channels c ≡ Some channel
+    → slice_index (room_from image process number channels) c ≡ cond (is_process process channel.producer) (room_in (log_of image (number + c))) 0
+room_from-at image process number [] c channel is = absurd (cc)
+room_from-at image process number (x ∷ channels) zero channel is =
+    let same : x ≡ channel = cc in
+    let here : number ≡ number + 0 = omega arith in
+    ap (λ (y : Channel). cond (is_process process y.producer) (room_in (log_of image number)) 0) same ∙ ap (λ (n : ℕ). cond (is_process process channel.producer) (room_in (log_of image n)) 0) here
+room_from-at image process number (x ∷ channels) (suc c) channel is =
+    let there : suc number + c ≡ number + suc c = omega arith in
+    room_from-at image process (suc number) channels c channel is ∙ ap (λ (n : ℕ). cond (is_process process channel.producer) (room_in (log_of image n)) 0) there
+
+-- what a turn puts on a channel has room in its log
+pub put_has_room : (net : Network) (inputs : List (List ℤ)) (n : ℕ) (made : ℕ → ℕ) (image : ImageView) (job : JobView) (code : Code) (after : Standing) (taken : List ℕ) (sent : List (List ℤ))
+    → ImageStands net (approximation net inputs n) made image → IsLaidOut net image → IsJobOf net inputs image job → slice_get net.codes job.process ≡ Some code
+    → IsTurn code job.standing job.items job.room after taken sent → (c : ℕ) → length (put_on net.channels job.process sent c) ≤ room_in (log_of image c)
+put_has_room net inputs n made image job code after taken sent stands laid of there turn c = at (slice_get_cases net.channels c).1
+  where
+    by_test : (channel : Channel) → slice_get net.channels c ≡ Some channel → (puts : Bool) → is_process job.process channel.producer ≡ puts → length (cond puts (history_of sent c) []) ≤ room_in (log_of image c)
+    by_test channel on false test = omega arith
+    by_test channel on true test =
+        let done = turn_of_job net inputs n made image job code after taken sent stands laid of there turn in
+        let few = sent_fits code (approximation net inputs n) (made job.process) job.items job.room after taken sent done c in
+        let sum : 0 + c ≡ c = omega arith in
+        let room : slice_index (room_from image job.process 0 net.channels) c ≡ room_in (log_of image c) =
+        room_from-at image job.process 0 net.channels c channel on
+        ∙ (ap (λ (b : Bool). cond b (room_in (log_of image (0 + c))) 0) test ∙ ap (λ (m : ℕ). room_in (log_of image m)) sum) in
+        let given = of.room c in
+        omega (arith, few, given, room)
+
+    at : ((x : Channel) × (c < length net.channels) × (slice_get net.channels c ≡ Some x) × (get_or net.channels c x ≡ x)) ⊎ ((length net.channels ≤ c) × (slice_get net.channels c ≡ None))
+        → length (put_on net.channels job.process sent c) ≤ room_in (log_of image c)
+    at (inl here) =
+        let all = by_test here.0 here.2 (is_process job.process here.0.producer) refl in
+        let tested : put_on net.channels job.process sent c ≡ cond (is_process job.process here.0.producer) (history_of sent c) [] =
+        ap (λ (o : Option Channel). cond (is_producer job.process o) (history_of sent c) []) here.2 in
+        omega (arith, all, ap (length {A = ℤ}) tested)
+    at (inr past) =
+        let tested : put_on net.channels job.process sent c ≡ [] = ap (λ (o : Option Channel). cond (is_producer job.process o) (history_of sent c) []) past.1 in
+        omega (arith, ap (length {A = ℤ}) tested)
+
+-- what has room in a log fits it
+fits_log : (log : LogState) (count : ℕ) → IsWithinLimits log → count ≤ room_in (Some log) → Overfills log count → ⊥
+fits_log log count limits room over = at over
+  where
+    all : count ≤ min (65536 - length log.items) (2 ^ 63 - 1 - log_end log)
+    all = let less = min-le_right 64 (min (65536 - length log.items) (2 ^ 63 - 1 - log_end log)) in omega (arith, room, less)
+
+    at : ((65536 < length log.items + count) ⊎ (2 ^ 63 - 1 < log_end log + count)) → ⊥
+    at (inl many) = let less = min-le_left (65536 - length log.items) (2 ^ 63 - 1 - log_end log) in let n = limits.count in omega (arith, all, less, many, n)
+    at (inr far) = let less = min-le_right (65536 - length log.items) (2 ^ 63 - 1 - log_end log) in let n = limits.last in omega (arith, all, less, far, n)
+
+-- the lists that fit are short
+history_is_short : (net : Network) (inputs : List (List ℤ)) (c : ℕ) → Fits net inputs → length (history_of inputs c) ≤ 1048576
+history_is_short net inputs c fits = at (slice_get_cases inputs c).1
+  where
+    at : ((x : List ℤ) × (c < length inputs) × (slice_get inputs c ≡ Some x) × (get_or inputs c x ≡ x)) ⊎ ((length inputs ≤ c) × (slice_get inputs c ≡ None)) → length (history_of inputs c) ≤ 1048576
+    at (inl here) = let few = fits.few c here.0 here.2 in omega (arith, few, ap (length {A = ℤ}) (get_or_from_slice_get inputs c here.0 [] here.2))
+    at (inr past) = omega (arith, ap (length {A = ℤ}) (get_or_past inputs c [] past.0))
+
+-- a turn on the job that was out fits the image: no count and no log comes past its limit
+pub turn_fits : (net : Network) (inputs : List (List ℤ)) (n : ℕ) (made : ℕ → ℕ) (image : ImageView) (job : JobView) (code : Code) (after : Standing) (taken : List ℕ) (sent : List (List ℤ))
+    → ImageStands net (approximation net inputs n) made image → IsLaidOut net image → CountsAreWithin inputs image → LogsAreWithin image → Fits net inputs
+    → IsJobOf net inputs image job → slice_get net.codes job.process ≡ Some code → IsTurn code job.standing job.items job.room after taken sent
+    → ImageTakes net.channels job.process taken sent image
+turn_fits net inputs n made image job code after taken sent stands laid counts logs fits of there turn k saved is = record {
+  received =
+      let sum = taken_is_there net inputs n made image job code after taken sent stands laid counts of there turn k saved is in
+      let short = history_is_short net inputs saved.channel fits in
+      omega (arith, sum, short);
+  put = at (log_at (Some (saved.end))) refl;
+}
+  where
+    at : (o : Option LogState) → log_at (Some (saved.end)) ≡ o → LogTakes (length (put_on net.channels job.process sent saved.channel)) o
+    at None e = tt
+    at (Some log) e =
+        let room = put_has_room net inputs n made image job code after taken sent stands laid of there turn saved.channel in
+        let same : log_of image saved.channel ≡ Some log = ap (log_of image) (channel_at net image k saved laid is) ∙ (log_is net image k saved laid is ∙ e) in
+        fits_log log (length (put_on net.channels job.process sent saved.channel)) (logs k saved log is e)
+        (subst (λ (o : Option LogState). length (put_on net.channels job.process sent saved.channel) ≤ room_in o) same room)
+
+-- What a turn keeps
+
+-- each end after the turn is one of before, with what the turn put and took
+pub end_before : (channels : List Channel) (process : ℕ) (after : Standing) (taken : List ℕ) (sent : List (List ℤ)) (image : ImageView) (k : ℕ) (saved : SavedEnd)
+    → slice_get (installed channels process after taken sent image).ends k ≡ Some saved
+    → (old : SavedEnd) × (slice_get image.ends k ≡ Some old) × (saved_counted channels process taken (saved_pushed channels process sent old) ≡ saved)
+end_before channels process after taken sent image k saved is =
+    let mid = map_got (saved_counted channels process taken) (map (saved_pushed channels process sent) image.ends) k saved is in
+    let old = map_got (saved_pushed channels process sent) image.ends k mid.0 mid.1 in
+    (old.0, old.1, ap (saved_counted channels process taken) old.2 ∙ mid.2)
+
+moved_keeps : (process : ℕ) (standing : Standing) (xs : List SavedProcessView) → map (λ (s : SavedProcessView). s.number) (moved process standing xs) ≡ map (λ (s : SavedProcessView). s.number) xs
+moved_keeps process standing [] = refl
+moved_keeps process standing (y ∷ xs) = at (eqb y.number process) (moved_keeps process standing xs)
+  where
+    at : (b : Bool) → map (λ (s : SavedProcessView). s.number) (moved process standing xs) ≡ map (λ (s : SavedProcessView). s.number) xs
+        → map (λ (s : SavedProcessView). s.number) (cond b (record { number = y.number; standing = standing } ∷ xs) (y ∷ moved process standing xs)) ≡ y.number ∷ map (λ (s : SavedProcessView). s.number) xs
+    at true later = refl
+    at false later = ap (λ (ns : List ℕ). y.number ∷ ns) later
+
+still_counting : (end : End) (items : List ℤ) (count : ℕ) → is_counting (counted count (pushed items end)) ≡ is_counting end
+still_counting (Receives received) items count = refl
+still_counting (Sends log) items count = refl
+still_counting (Both received log) items count = refl
+
+pub laid_out_installed : (net : Network) (process : ℕ) (after : Standing) (taken : List ℕ) (sent : List (List ℤ)) (image : ImageView)
+    → IsLaidOut net image → IsLaidOut net (installed net.channels process after taken sent image)
+laid_out_installed net process after taken sent image laid = record {
+  processes = moved_keeps process after image.processes ∙ laid.processes;
+  ends =
+      map_keeps (λ (s : SavedEnd). s.channel) (saved_counted net.channels process taken) (map (saved_pushed net.channels process sent) image.ends) (λ s. refl)
+      ∙ (map_keeps (λ (s : SavedEnd). s.channel) (saved_pushed net.channels process sent) image.ends (λ s. refl) ∙ laid.ends);
+  counting = counting;
+}
+  where
+    counting : (k p : ℕ) (saved : SavedEnd) (channel : Channel) → slice_get (installed net.channels process after taken sent image).ends k ≡ Some saved → slice_get net.channels saved.channel ≡ Some channel
+        → channel.consumer ≡ Process p → is_counting saved.end ≡ true
+    counting k p saved channel is on to =
+        let old = end_before net.channels process after taken sent image k saved is in
+        let number : old.0.channel ≡ saved.channel = ap (λ (s : SavedEnd). s.channel) old.2 in
+        ap (λ (s : SavedEnd). is_counting s.end) (sym old.2)
+        ∙ (still_counting old.0.end (put_on net.channels process sent old.0.channel) (taken_from net.channels process taken old.0.channel)
+        ∙ laid.counting k p old.0 channel old.1 (ap (slice_get net.channels) number ∙ on) to)
+
+at_most_counted : (end : End) (items : List ℤ) (count : ℕ) → received_at (Some (counted count (pushed items end))) ≤ received_at (Some end) + count
+at_most_counted (Receives received) items count = omega arith
+at_most_counted (Sends log) items count = omega arith
+at_most_counted (Both received log) items count = omega arith
+
+pub counts_installed : (net : Network) (inputs : List (List ℤ)) (n : ℕ) (made : ℕ → ℕ) (image : ImageView) (job : JobView) (code : Code) (after : Standing) (taken : List ℕ) (sent : List (List ℤ))
+    → ImageStands net (approximation net inputs n) made image → IsLaidOut net image → CountsAreWithin inputs image → IsJobOf net inputs image job → slice_get net.codes job.process ≡ Some code
+    → IsTurn code job.standing job.items job.room after taken sent → CountsAreWithin inputs (installed net.channels job.process after taken sent image)
+counts_installed net inputs n made image job code after taken sent stands laid counts of there turn k saved is =
+    let old = end_before net.channels job.process after taken sent image k saved is in
+    let most = at_most_counted old.0.end (put_on net.channels job.process sent old.0.channel) (taken_from net.channels job.process taken old.0.channel) in
+    let sum = taken_is_there net inputs n made image job code after taken sent stands laid counts of there turn k old.0 old.1 in
+    let count : received_at (Some (counted (taken_from net.channels job.process taken old.0.channel) (pushed (put_on net.channels job.process sent old.0.channel) old.0.end))) ≤ length (history_of inputs old.0.channel) =
+    omega (arith, most, sum) in
+    subst (λ (s : SavedEnd). received_at (Some (s.end)) ≤ length (history_of inputs s.channel)) old.2 count
+
+-- a log that takes so many items is one with them
+log_takes : (log : LogState) (items : List ℤ) → (Overfills log (length items) → ⊥) → IsWithinLimits (log_with items log)
+log_takes log items takes =
+    let sum = length-append log.items items in
+    let few = not_more 65536 (length log.items + length items) (λ h. takes (inl h)) in
+    let last = not_more (2 ^ 63 - 1) (log_end log + length items) (λ h. takes (inr h)) in
+    record { count = omega (arith, sum, few); last = omega (arith, sum, last) }
+  where
+    not_more : (a b : ℕ) → (a < b → ⊥) → b ≤ a
+    not_more a b h = elim (cases_lt a b) as (λ _. b ≤ a) [ inl lt ↦ absurd (h lt) | inr le ↦ le ]
+
+pub logs_installed : (channels : List Channel) (process : ℕ) (after : Standing) (taken : List ℕ) (sent : List (List ℤ)) (image : ImageView)
+    → ImageTakes channels process taken sent image → LogsAreWithin (installed channels process after taken sent image)
+logs_installed channels process after taken sent image takes k saved log is at_end =
+    let old = end_before channels process after taken sent image k saved is in
+    let same : log_at (Some (counted (taken_from channels process taken old.0.channel) (pushed (put_on channels process sent old.0.channel) old.0.end))) ≡ Some log = ap (λ (s : SavedEnd). log_at (Some (s.end))) old.2 ∙ at_end in
+    let before = log_then old.0.end (put_on channels process sent old.0.channel) (taken_from channels process taken old.0.channel) log same in
+    subst IsWithinLimits before.2
+    (log_takes before.0 (put_on channels process sent old.0.channel)
+    (subst (LogTakes (length (put_on channels process sent old.0.channel))) before.1 (takes k old.0 old.1).put))
+
+more_sent : (end : End) (items : List ℤ) (count : ℕ) → sent_in (log_at (Some end)) ≤ sent_in (log_at (Some (counted count (pushed items end))))
+more_sent (Receives received) items count = omega arith
+more_sent (Sends log) items count = let sum = length-append log.items items in omega (arith, sum)
+more_sent (Both received log) items count = let sum = length-append log.items items in omega (arith, sum)
+
+-- a turn takes back nothing that was put
+pub put_more_installed : (channels : List Channel) (process : ℕ) (after : Standing) (taken : List ℕ) (sent : List (List ℤ)) (image : ImageView) → HasPutMore image (installed channels process after taken sent image)
+put_more_installed channels process after taken sent image c =
+    let changed : end_of (installed channels process after taken sent image) c ≡ option_map (λ (s : SavedEnd). (saved_counted channels process taken (saved_pushed channels process sent s)).end) (find (λ (s : SavedEnd). eqb s.channel c) image.ends) =
+    end_of_changed image (installed channels process after taken sent image) c (λ (s : SavedEnd). saved_counted channels process taken (saved_pushed channels process sent s)) (λ s. refl)
+    (map_twice (saved_pushed channels process sent) (saved_counted channels process taken) image.ends) in
+    omega (arith, at (find (λ (s : SavedEnd). eqb s.channel c) image.ends), ap (λ (o : Option End). sent_in (log_at o)) changed)
+  where
+    at : (o : Option SavedEnd) → sent_in (log_at (option_map (λ (s : SavedEnd). s.end) o))
+        ≤ sent_in (log_at (option_map (λ (s : SavedEnd). (saved_counted channels process taken (saved_pushed channels process sent s)).end) o))
+    at None = omega arith
+    at (Some s) = more_sent s.end (put_on channels process sent s.channel) (taken_from channels process taken s.channel)
