@@ -1,16 +1,22 @@
 -- What is true of a node with its outputs, whatever events came before.
-use Rattle.std.specs.Prelude.{◌≡◌, ℕ, ◌≤◌, ℤ, List, length, Option, Some, slice_get}
+use Rattle.std.specs.Prelude.{◌≡◌, ℕ, suc, ◌≤◌, Bool, true, false, if◌then◌else◌, ℤ, List, [], ◌∷◌, map, length, Option, Some, slice_get}
 use Rattle.net_check.specs.Syntax.{Network}
 use Rattle.net_check.specs.Processes.{sent_on}
 use Rattle.net_check.specs.Approximations.{approximation}
 use Rattle.net_check.specs.declared.program.Channel.{Channel}
-use Rattle.net_check.specs.declared.program.Port.TheVariants.{Process}
+use Rattle.net_check.specs.declared.program.Port.{Port}
+use Rattle.net_check.specs.declared.program.Port.TheVariants.{Outside, Process}
 use Rattle.outlet.specs.Released.{IsBeginningOf}
 use Rattle.node.specs.JobView.{JobView}
 use Rattle.node.specs.NodeView.{NodeView}
 use Rattle.node.specs.Ends.{base_of, sent_of}
 use Rattle.node.specs.Reached.{HasReached, IsLaidOut, CountsAreWithin, IsJobOf, acts_of}
 use Rattle.world.specs.OutputView.{OutputView}
+
+-- items go outside there
+abbrev pub goes_outside : Port → Bool
+goes_outside Outside = true
+goes_outside (Process p) = false
 
 -- its image has every process and channel, and no more was received than there is
 pub record NodeIsSound (net : Network) (inputs : List (List ℤ)) (node : NodeView) : Type 0 where
@@ -32,3 +38,15 @@ pub record HasCome (net : Network) (inputs : List (List ℤ)) (node : NodeView) 
   pub out : (job : JobView) → node.out ≡ Some job → IsJobOf net inputs node.current job
   pub released : (j p : ℕ) (output : OutputView) (channel : Channel) → slice_get outputs j ≡ Some output → slice_get net.channels output.channel ≡ Some channel → channel.producer ≡ Process p
       → IsBeginningOf output.taken (sent_on output.channel (acts_of net (approximation net inputs reached.n) reached.current_acts p))
+
+-- the channels whose items go outside, the first one of this number
+abbrev pub output_channels : ℕ → List Channel → List ℕ
+output_channels number [] = []
+output_channels number (channel ∷ channels) = if goes_outside channel.consumer then number ∷ output_channels (suc number) channels else output_channels (suc number) channels
+
+-- All of it: there is an outlet for each output of the network, in order, and what is said above.
+pub record IsSound (net : Network) (inputs : List (List ℤ)) (node : NodeView) (outputs : List OutputView) : Type 0 where
+  pub listed : map (λ (output : OutputView). output.channel) outputs ≡ output_channels 0 net.channels
+  pub kept : NodeIsSound net inputs node
+  pub covered : OutputsAreSound node outputs
+  pub come : ∥ HasCome net inputs node outputs ∥₁

@@ -2,7 +2,7 @@
 ghost use Rattle.net_check.specs.Syntax.{network_of};
 ghost use Rattle.node.specs.NodeView.{node_view};
 ghost use Rattle.world.specs.OutputView.{outputs_view};
-ghost use Rattle.world.specs.Sound.{NodeIsSound, OutputsAreSound, HasCome};
+ghost use Rattle.world.specs.Sound.{IsSound};
 
 use crate::output::Output;
 use crate::turns::RoundTurns;
@@ -23,7 +23,5 @@ pub struct Station<C: StableCell, O: Outlet> {
     pub node: Node<C>,
     pub outputs: Vec<Output<O>>,
     pub turns: RoundTurns,
-    pub ghost sound: { NodeIsSound (network_of net.value.program) inputs.value (node_view node.state) },
-    pub ghost outputs_sound: { OutputsAreSound (node_view node.state) (outputs_view O.taken outputs.items) },
-    pub ghost come: { ∥ HasCome (network_of net.value.program) inputs.value (node_view node.state) (outputs_view O.taken outputs.items) ∥₁ },
+    pub ghost sound: { IsSound (network_of net.value.program) inputs.value (node_view node.state) (outputs_view O.taken outputs.items) },
 }
