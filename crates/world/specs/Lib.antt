@@ -1,2 +1,4 @@
 pub mod OutputView
 pub mod Sound
+pub mod Covered
+pub mod Replies

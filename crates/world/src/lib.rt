@@ -5,6 +5,7 @@
 //! cover.
 #![tactic(auto)]
 
+mod checkpoints;
 mod event;
 mod output;
 mod station;

@@ -1,0 +1,59 @@
+// A station's checkpoints.
+ghost use Rattle.std.specs.Prelude.{◌≡◌, IfOk, OnErr};
+ghost use Rattle.node.specs.NodeView.{node_view};
+ghost use Rattle.node.specs.Starting.{IsStart, IsDecision};
+ghost use Rattle.world.specs.OutputView.{outputs_view};
+ghost use Rattle.world.specs.Covered.{AreCoveredSince};
+ghost use Rattle.world.specs.Replies.{start_reply, decision_reply};
+
+use crate::event::Reply;
+use crate::station::Station;
+use crate::turns::RoundTurns;
+use node::{Putting, StableCell};
+use outlet::Outlet;
+use std::alloc::{AllocError, Global};
+
+impl RoundTurns {
+    // What is answered to a start, which is noted unless it couldn't happen.
+    fn note_start(&mut self, putting: Putting) -> Reply
+        ensures { result ≡ start_reply putting }
+    {
+        match putting {
+            Putting::NotDue => Reply::NotDue,
+            Putting::Stored => {
+                self.started = true;
+                Reply::Started
+            }
+            Putting::Refused(number) => {
+                self.started = true;
+                Reply::Refused(number)
+            }
+            Putting::Failed => Reply::Down,
+        }
+    }
+}
+
+// What is answered to a decision.
+fn decision_reply(putting: Putting) -> Reply
+    ensures { result ≡ decision_reply putting }
+{
+    match putting {
+        Putting::NotDue => Reply::NotDue,
+        Putting::Stored => Reply::Decided,
+        Putting::Refused(number) => Reply::Refused(number),
+        Putting::Failed => Reply::Down,
+    }
+}
+
+impl<C: StableCell, O: Outlet> Station<C, O> {
+    /// Begins a checkpoint.
+    pub(crate) fn start(&mut self, alloc: Global, round: u64) -> Result<Reply, AllocError>
+        ensures outputs { outputs_view O.taken self.new.outputs.items ≡ outputs_view O.taken self.old.outputs.items }
+        ensures same { (self.new.net ≡ self.old.net) × (self.new.inputs ≡ self.old.inputs) × (self.new.node.number ≡ self.old.node.number) }
+        ensures covered { AreCoveredSince C.moment C.left_since self.old.node.cell self.new.node.cell (outputs_view O.taken self.new.outputs.items) }
+        ensures refused { OnErr result (node_view self.new.node.state ≡ node_view self.old.node.state) }
+    {
+        let putting = self.node.start(alloc, round)?;
+        Ok(self.turns.note_start(putting))
+    }
+}
