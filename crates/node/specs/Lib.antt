@@ -20,3 +20,5 @@ pub mod InstallLaws
 pub mod FitLaws
 pub mod TrimLaws
 pub mod StepLaws
+pub mod ReleaseLaws
+pub mod OpeningLaws
