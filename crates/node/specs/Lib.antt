@@ -18,3 +18,7 @@ pub mod ImageLaws
 pub mod ReachedLaws
 pub mod InstallLaws
 pub mod FitLaws
+pub mod TrimLaws
+pub mod StepLaws
+pub mod ReleaseLaws
+pub mod OpeningLaws

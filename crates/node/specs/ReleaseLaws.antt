@@ -1,0 +1,66 @@
+-- Laws of what a node's logs hold: the last items of a beginning of each channel's history.
+use Rattle.std.proofs.Common.{◌≡◌, ℕ, suc, ◌<◌, ℤ, List, [], ◌++◌, length, take, drop, Option, Some, None, refl, sym, ap, subst, ◌∙◌, arith}
+use Rattle.std.specs.Prelude.{slice_get}
+use Rattle.std.proofs.lemmas.List.{take-append-drop}
+use Rattle.std.proofs.lemmas.Option.{slice_get_within}
+use Rattle.net_check.specs.Streams.{history_of, IsPrefix}
+use Rattle.net_check.specs.PrefixLaws.{prefix_nil, prefix_along}
+use Rattle.net_check.specs.Syntax.{Code, Network}
+use Rattle.net_check.specs.Processes.{process_trace, sent_on}
+use Rattle.net_check.specs.PutLaws.{sent_on-append}
+use Rattle.net_check.specs.Approximations.{approximation, next_history, output_at}
+use Rattle.net_check.specs.ApproximationLaws.{next_histories-at}
+use Rattle.net_check.specs.declared.program.Channel.{Channel}
+use Rattle.net_check.specs.declared.program.Port.{Port}
+use Rattle.net_check.specs.declared.program.Port.TheVariants.{Outside, Process}
+use Rattle.outlet.specs.LogState.{LogState, IsLogOf}
+use Rattle.node.specs.ImageView.{ImageView}
+use Rattle.node.specs.NodeView.{NodeView}
+use Rattle.node.specs.Ends.{log_of, log_at}
+use Rattle.node.specs.Reached.{first_acts, acts_of, ImageStands, HasReached, IsLaidOut}
+use Rattle.node.specs.ImageLaws.{numbered_there, channel_at, log_is}
+use Rattle.node.specs.declared.record.SavedEnd.{SavedEnd}
+
+-- what the first acts of a process put is a front of what it puts
+pub put_is_prefix : (code : Option Code) (histories : List (List ℤ)) (m c : ℕ) → IsPrefix (sent_on c (first_acts code histories m)) (output_at code histories c)
+put_is_prefix None histories m c = prefix_nil [] [] refl
+put_is_prefix (Some code) histories m c = record {
+  rest = sent_on c (drop m (process_trace code histories).steps);
+  is =
+      ap (sent_on c) (sym (take-append-drop m (process_trace code histories).steps))
+      ∙ sent_on-append c (take m (process_trace code histories).steps) (drop m (process_trace code histories).steps);
+}
+
+-- and so of its channel's next history
+pub acts_put_prefix : (net : Network) (inputs : List (List ℤ)) (n : ℕ) (made : ℕ → ℕ) (c p : ℕ) (channel : Channel) → slice_get net.channels c ≡ Some channel → channel.producer ≡ Process p
+    → IsPrefix (sent_on c (acts_of net (approximation net inputs n) made p)) (history_of (approximation net inputs (suc n)) c)
+acts_put_prefix net inputs n made c p channel is from =
+    prefix_along _ _ _ _ refl
+    (next_histories-at net inputs (approximation net inputs n) c channel is ∙ ap (λ (port : Port). next_history net.codes inputs (approximation net inputs n) c port) from)
+    (put_is_prefix (slice_get net.codes p) (approximation net inputs n) (made p) c)
+
+-- the log of an image holds what its producer's acts put
+pub log_stands : (net : Network) (histories : List (List ℤ)) (made : ℕ → ℕ) (image : ImageView) (c p : ℕ) (channel : Channel) (log : LogState) → ImageStands net histories made image → IsLaidOut net image
+    → slice_get net.channels c ≡ Some channel → channel.producer ≡ Process p → log_of image c ≡ Some log → IsLogOf log (sent_on c (acts_of net histories made p))
+log_stands net histories made image c p channel log stands laid is from has =
+    let there = numbered_there (λ (s : SavedEnd). s.channel) image.ends 0 (length net.channels) c laid.ends (slice_get_within net.channels c channel is) in
+    let here : there.0.channel ≡ c = channel_at net image c there.0 laid there.1 in
+    let end = stands.ends c there.0 channel there.1 (ap (slice_get net.channels) here ∙ is) in
+    subst (λ (d : ℕ). IsLogOf log (sent_on d (acts_of net histories made p))) here
+    (end.retained p log from (sym (log_is net image c there.0 laid there.1) ∙ has))
+
+-- a log of a history, and the history is a beginning of this one
+pub record IsLogOfBeginning (log : LogState) (whole : List ℤ) : Type 0 where
+  pub history : List ℤ
+  pub holds : IsLogOf log history
+  pub begins : IsPrefix history whole
+
+-- what a node's log of a channel holds is of a beginning of the channel's history in the approximation that comes next
+pub released_is_prefix : (net : Network) (inputs : List (List ℤ)) (node : NodeView) (c p : ℕ) (channel : Channel) (log : LogState) → (reached : HasReached net inputs node) → IsLaidOut net node.current
+    → slice_get net.channels c ≡ Some channel → channel.producer ≡ Process p → log_of node.current c ≡ Some log
+    → IsLogOfBeginning log (history_of (approximation net inputs (suc reached.n)) c)
+released_is_prefix net inputs node c p channel log reached laid is from has = record {
+  history = sent_on c (acts_of net (approximation net inputs reached.n) reached.current_acts p);
+  holds = log_stands net (approximation net inputs reached.n) reached.current_acts node.current c p channel log reached.current laid is from has;
+  begins = acts_put_prefix net inputs reached.n reached.current_acts c p channel is from;
+}

@@ -1,0 +1,256 @@
+-- Laws of a trimmed image: what is kept of an image is kept, and a node has come as far.
+use Rattle.std.proofs.Common.{◌≡◌, ◌≢◌, ◌⊎◌, inl, inr, ℕ, zero, suc, ◌+◌, ◌-◌, ◌^◌, ◌<◌, ◌≤◌, Bool, true, false, eqb, ltb, cond, ℤ, List, [], ◌∷◌, ◌++◌, length, take, drop, map, get_or, Option, Some, None, option_map, refl, sym, ap, subst, ◌∙◌, arith}
+use Rattle.std.specs.Prelude.{slice_get, slice_index, find, min, nat_lt}
+use Rattle.std.proofs.Math.Nat.{min-le_left, min-le_right, le-min}
+use Rattle.std.proofs.lemmas.Bool.{ltb-false}
+use Rattle.std.proofs.lemmas.List.{length-drop, drop-drop}
+use Rattle.net_check.specs.Streams.{history_of}
+use Rattle.net_check.specs.Syntax.{Network}
+use Rattle.net_check.specs.Processes.{sent_on}
+use Rattle.net_check.specs.Approximations.{approximation}
+use Rattle.net_check.specs.declared.program.Channel.{Channel}
+use Rattle.net_check.specs.declared.program.Port.{Port}
+use Rattle.net_check.specs.declared.program.Port.TheVariants.{Outside, Process}
+use Rattle.outlet.specs.LogState.{LogState, IsLogOf, IsWithinLimits, log_end, trimmed}
+use Rattle.node.specs.ImageView.{ImageView}
+use Rattle.node.specs.JobView.{JobView}
+use Rattle.node.specs.NodeView.{NodeView}
+use Rattle.node.specs.Ends.{received_of, received_at, log_of, log_at, sent_in, sent_of, end_of}
+use Rattle.node.specs.Granting.{is_process, next_items, items_from, room_in, room_from}
+use Rattle.node.specs.Trimming.{trimmed_log, trimmed_end, trimmed_saved, trimmed_image, with_current}
+use Rattle.node.specs.Starting.{HasPutMore}
+use Rattle.node.specs.Reached.{acts_of, EndStands, ImageStands, HasReached, is_counting, IsLaidOut, CountsAreWithin, LogsAreWithin, IsJobOf}
+use Rattle.node.specs.ImageLaws.{map_got, map_keeps, end_of_changed}
+use Rattle.node.specs.declared.record.SavedEnd.{SavedEnd}
+use Rattle.node.specs.declared.record.End.{End}
+use Rattle.node.specs.declared.record.End.TheVariants.{Receives, Sends, Both}
+
+-- Logs
+
+-- a trimmed log is as it was, or begins at one of its positions or at its end
+trimmed_cases : (position : ℕ) (log : LogState) → (trimmed_log position log ≡ log) ⊎ ((log.base ≤ position) × (position ≤ log_end log) × (trimmed_log position log ≡ trimmed log position))
+trimmed_cases position log = at (ltb position log.base) (ltb (log_end log) position) refl refl
+  where
+    at : (b d : Bool) → ltb position log.base ≡ b → ltb (log_end log) position ≡ d
+        → (cond b log (cond d log (trimmed log position)) ≡ log) ⊎ ((log.base ≤ position) × (position ≤ log_end log) × (cond b log (cond d log (trimmed log position)) ≡ trimmed log position))
+    at true d h k = inl refl
+    at false true h k = inl refl
+    at false false h k = inr (ltb-false position log.base h, ltb-false (log_end log) position k, refl)
+
+-- it ends where it ended, with no more items
+trimmed_end_stays : (position : ℕ) (log : LogState) → (log_end (trimmed_log position log) ≡ log_end log) × (length ((trimmed_log position log).items) ≤ length log.items)
+trimmed_end_stays position log = at (trimmed_cases position log)
+  where
+    at : ((trimmed_log position log ≡ log) ⊎ ((log.base ≤ position) × (position ≤ log_end log) × (trimmed_log position log ≡ trimmed log position)))
+        → (log_end (trimmed_log position log) ≡ log_end log) × (length ((trimmed_log position log).items) ≤ length log.items)
+    at (inl same) = (ap log_end same, omega (arith, ap (λ (l : LogState). length l.items) same))
+    at (inr cut) =
+        let left = length-drop (position - log.base) log.items in
+        let end : log_end (trimmed log position) ≡ log_end log = omega (arith, left, cut.0, cut.1) in
+        (ap log_end cut.2 ∙ end, omega (arith, left, ap (λ (l : LogState). length l.items) cut.2))
+
+-- and is of the same history
+pub trimmed_is_log_of : (position : ℕ) (log : LogState) (history : List ℤ) → IsLogOf log history → IsLogOf (trimmed_log position log) history
+trimmed_is_log_of position log history is = at (trimmed_cases position log)
+  where
+    at : ((trimmed_log position log ≡ log) ⊎ ((log.base ≤ position) × (position ≤ log_end log) × (trimmed_log position log ≡ trimmed log position))) → IsLogOf (trimmed_log position log) history
+    at (inl same) = subst (λ (l : LogState). IsLogOf l history) (sym same) is
+    at (inr cut) =
+        let left = length-drop (position - log.base) log.items in
+        let sum : log.base + (position - log.base) ≡ position = omega (arith, cut.0) in
+        subst (λ (l : LogState). IsLogOf l history) (sym cut.2)
+        (record {
+          count = omega (arith, left, cut.0, cut.1, is.count);
+          items = ap (drop (position - log.base)) is.items ∙ (drop-drop (position - log.base) log.base history ∙ ap (λ (n : ℕ). drop n history) sum);
+        })
+
+-- Ends
+
+-- what a trimmed end says: as many were received, and its log is the trimmed one
+still_received : (position : ℕ) (trims : Bool) (end : End) → received_at (Some (cond trims (trimmed_end position end) end)) ≡ received_at (Some end)
+still_received position false end = refl
+still_received position true (Receives received) = refl
+still_received position true (Sends log) = refl
+still_received position true (Both received log) = refl
+
+still_counting : (position : ℕ) (trims : Bool) (end : End) → is_counting (cond trims (trimmed_end position end) end) ≡ is_counting end
+still_counting position false end = refl
+still_counting position true (Receives received) = refl
+still_counting position true (Sends log) = refl
+still_counting position true (Both received log) = refl
+
+-- the log of a trimmed end is one of before, trimmed or not
+log_before : (position : ℕ) (trims : Bool) (end : End) (log : LogState) → log_at (Some (cond trims (trimmed_end position end) end)) ≡ Some log
+    → (before : LogState) × (log_at (Some end) ≡ Some before) × ((before ≡ log) ⊎ (trimmed_log position before ≡ log))
+log_before position false end log h = (log, h, inl refl)
+log_before position true (Receives received) log h = absurd (cc)
+log_before position true (Sends before) log h = (before, refl, inr (cc))
+log_before position true (Both received before) log h = (before, refl, inr (cc))
+
+-- as much was sent, and there is no less room
+still_sent : (position : ℕ) (trims : Bool) (end : End) → sent_in (log_at (Some (cond trims (trimmed_end position end) end))) ≡ sent_in (log_at (Some end))
+still_sent position false end = refl
+still_sent position true (Receives received) = refl
+still_sent position true (Sends log) = (trimmed_end_stays position log).0
+still_sent position true (Both received log) = (trimmed_end_stays position log).0
+
+more_room : (position : ℕ) (log : LogState) → room_in (Some log) ≤ room_in (Some (trimmed_log position log))
+more_room position log =
+    let stays = trimmed_end_stays position log in
+    let before = min (65536 - length log.items) (2 ^ 63 - 1 - log_end log) in
+    let few = min-le_left 64 before in
+    let all = min-le_right 64 before in
+    let items = min-le_left (65536 - length log.items) (2 ^ 63 - 1 - log_end log) in
+    let last = min-le_right (65536 - length log.items) (2 ^ 63 - 1 - log_end log) in
+    let in_items : min 64 before ≤ 65536 - length ((trimmed_log position log).items) = omega (arith, all, items, stays.1) in
+    let in_numbers : min 64 before ≤ 2 ^ 63 - 1 - log_end (trimmed_log position log) = omega (arith, all, last, stays.0) in
+    le-min few (le-min in_items in_numbers)
+
+room_stays : (position : ℕ) (trims : Bool) (end : End) → room_in (log_at (Some end)) ≤ room_in (log_at (Some (cond trims (trimmed_end position end) end)))
+room_stays position false end = omega arith
+room_stays position true (Receives received) = omega arith
+room_stays position true (Sends log) = more_room position log
+room_stays position true (Both received log) = more_room position log
+
+-- Images
+
+end_of_trimmed : (c position : ℕ) (image : ImageView) (d : ℕ)
+    → end_of (trimmed_image c position image) d ≡ option_map (λ (s : SavedEnd). (trimmed_saved c position s).end) (find (λ (s : SavedEnd). eqb s.channel d) image.ends)
+end_of_trimmed c position image d = end_of_changed image (trimmed_image c position image) d (trimmed_saved c position) (λ s. refl) refl
+
+-- as many items were received from each channel, and as many put
+pub received_trimmed : (c position : ℕ) (image : ImageView) (d : ℕ) → received_of (trimmed_image c position image) d ≡ received_of image d
+received_trimmed c position image d = ap received_at (end_of_trimmed c position image d) ∙ at (find (λ (s : SavedEnd). eqb s.channel d) image.ends)
+  where
+    at : (o : Option SavedEnd) → received_at (option_map (λ (s : SavedEnd). (trimmed_saved c position s).end) o) ≡ received_at (option_map (λ (s : SavedEnd). s.end) o)
+    at None = refl
+    at (Some s) = still_received position (eqb s.channel c) s.end
+
+pub put_more_trimmed : (c position : ℕ) (image : ImageView) (d : ℕ) → sent_of (trimmed_image c position image) d ≡ sent_of image d
+put_more_trimmed c position image d = ap (λ (o : Option End). sent_in (log_at o)) (end_of_trimmed c position image d) ∙ at (find (λ (s : SavedEnd). eqb s.channel d) image.ends)
+  where
+    at : (o : Option SavedEnd) → sent_in (log_at (option_map (λ (s : SavedEnd). (trimmed_saved c position s).end) o)) ≡ sent_in (log_at (option_map (λ (s : SavedEnd). s.end) o))
+    at None = refl
+    at (Some s) = still_sent position (eqb s.channel c) s.end
+
+pub room_trimmed : (c position : ℕ) (image : ImageView) (d : ℕ) → room_in (log_of image d) ≤ room_in (log_of (trimmed_image c position image) d)
+room_trimmed c position image d =
+    subst (λ (o : Option End). room_in (log_of image d) ≤ room_in (log_at o)) (sym (end_of_trimmed c position image d)) (at (find (λ (s : SavedEnd). eqb s.channel d) image.ends))
+  where
+    at : (o : Option SavedEnd) → room_in (log_at (option_map (λ (s : SavedEnd). s.end) o)) ≤ room_in (log_at (option_map (λ (s : SavedEnd). (trimmed_saved c position s).end) o))
+    at None = omega arith
+    at (Some s) = room_stays position (eqb s.channel c) s.end
+
+pub laid_out_trimmed : (net : Network) (c position : ℕ) (image : ImageView) → IsLaidOut net image → IsLaidOut net (trimmed_image c position image)
+laid_out_trimmed net c position image laid = record {
+  processes = laid.processes;
+  ends = map_keeps (λ (s : SavedEnd). s.channel) (trimmed_saved c position) image.ends (λ s. refl) ∙ laid.ends;
+  counting = counting;
+}
+  where
+    counting : (k p : ℕ) (saved : SavedEnd) (channel : Channel) → slice_get (map (trimmed_saved c position) image.ends) k ≡ Some saved → slice_get net.channels saved.channel ≡ Some channel
+        → channel.consumer ≡ Process p → is_counting saved.end ≡ true
+    counting k p saved channel is on to =
+        let old = map_got (trimmed_saved c position) image.ends k saved is in
+        let number : old.0.channel ≡ saved.channel = ap (λ (s : SavedEnd). s.channel) old.2 in
+        ap (λ (s : SavedEnd). is_counting s.end) (sym old.2)
+        ∙ (still_counting position (eqb old.0.channel c) old.0.end ∙ laid.counting k p old.0 channel old.1 (ap (slice_get net.channels) number ∙ on) to)
+
+pub counts_trimmed : (inputs : List (List ℤ)) (c position : ℕ) (image : ImageView) → CountsAreWithin inputs image → CountsAreWithin inputs (trimmed_image c position image)
+counts_trimmed inputs c position image counts k saved is =
+    let old = map_got (trimmed_saved c position) image.ends k saved is in
+    let same = still_received position (eqb old.0.channel c) old.0.end in
+    let before = counts k old.0 old.1 in
+    let count : received_at (Some ((trimmed_saved c position old.0).end)) ≤ length (history_of inputs old.0.channel) = omega (arith, same, before) in
+    subst (λ (s : SavedEnd). received_at (Some (s.end)) ≤ length (history_of inputs s.channel)) old.2 count
+
+pub logs_trimmed : (c position : ℕ) (image : ImageView) → LogsAreWithin image → LogsAreWithin (trimmed_image c position image)
+logs_trimmed c position image logs k saved log is at_end =
+    let old = map_got (trimmed_saved c position) image.ends k saved is in
+    let same : log_at (Some ((trimmed_saved c position old.0).end)) ≡ Some log = ap (λ (s : SavedEnd). log_at (Some (s.end))) old.2 ∙ at_end in
+    let before = log_before position (eqb old.0.channel c) old.0.end log same in
+    at before.0 (logs k old.0 before.0 old.1 before.1) before.2
+  where
+    at : (before : LogState) → IsWithinLimits before → ((before ≡ log) ⊎ (trimmed_log position before ≡ log)) → IsWithinLimits log
+    at before limits (inl same) = subst IsWithinLimits same limits
+    at before limits (inr same) =
+        let stays = trimmed_end_stays position before in
+        let n = limits.count in
+        let e = limits.last in
+        subst IsWithinLimits same (record { count = omega (arith, stays.1, n); last = omega (arith, stays.0, e) })
+
+-- Jobs
+
+items_same : (inputs : List (List ℤ)) (image later : ImageView) (process number : ℕ) (channels : List Channel) → ((d : ℕ) → received_of later d ≡ received_of image d)
+    → items_from inputs later process number channels ≡ items_from inputs image process number channels
+items_same inputs image later process number [] same = refl
+items_same inputs image later process number (x ∷ channels) same =
+    ap (λ (first : List ℤ). cond (is_process process x.consumer) first [] ∷ items_from inputs later process (suc number) channels) (at x.producer)
+    ∙ ap (λ (rest : List (List ℤ)). cond (is_process process x.consumer) (next_items inputs image number x.producer) [] ∷ rest) (items_same inputs image later process (suc number) channels same)
+  where
+    at : (port : Port) → next_items inputs later number port ≡ next_items inputs image number port
+    at Outside = ap (λ (k : ℕ). take 64 (drop k (history_of inputs number))) (same number)
+    at (Process q) = refl
+
+room_grows : (image later : ImageView) (process number : ℕ) (channels : List Channel) (d : ℕ) → ((d : ℕ) → room_in (log_of image d) ≤ room_in (log_of later d))
+    → slice_index (room_from image process number channels) d ≤ slice_index (room_from later process number channels) d
+room_grows image later process number [] d more = omega arith
+room_grows image later process number (x ∷ channels) zero more = at (is_process process x.producer)
+  where
+    at : (b : Bool) → cond b (room_in (log_of image number)) 0 ≤ cond b (room_in (log_of later number)) 0
+    at true = more number
+    at false = omega arith
+room_grows image later process number (x ∷ channels) (suc d) more = room_grows image later process (suc number) channels d more
+
+-- the job that is out stays one of the trimmed image: there is no less room
+pub job_trimmed : (net : Network) (inputs : List (List ℤ)) (c position : ℕ) (image : ImageView) (job : JobView) → IsJobOf net inputs image job → IsJobOf net inputs (trimmed_image c position image) job
+job_trimmed net inputs c position image job of = record {
+  process = of.process;
+  code = of.code;
+  items = of.items ∙ sym (items_same inputs image (trimmed_image c position image) job.process 0 net.channels (received_trimmed c position image));
+  room = λ d. (
+      let given = of.room d in
+      let more = room_grows image (trimmed_image c position image) job.process 0 net.channels d (room_trimmed c position image) in
+      omega (arith, given, more));
+}
+
+-- How far a node has come
+
+pub image_trimmed : (net : Network) (histories : List (List ℤ)) (made : ℕ → ℕ) (c position : ℕ) (image : ImageView) → ImageStands net histories made image → ImageStands net histories made (trimmed_image c position image)
+image_trimmed net histories made c position image stands = record { processes = stands.processes; ends = ends }
+  where
+    of_old : (s : SavedEnd) (channel : Channel) → EndStands net histories made s.channel channel s.end
+        → EndStands net histories made s.channel channel (cond (eqb s.channel c) (trimmed_end position s.end) s.end)
+    of_old s channel before = record { received = λ p to. still_received position (eqb s.channel c) s.end ∙ before.received p to; retained = retained }
+      where
+        retained : (p : ℕ) (log : LogState) → channel.producer ≡ Process p → log_at (Some (cond (eqb s.channel c) (trimmed_end position s.end) s.end)) ≡ Some log → IsLogOf log (sent_on s.channel (acts_of net histories made p))
+        retained p log from is =
+            let old = log_before position (eqb s.channel c) s.end log is in
+            at old.0 (before.retained p old.0 from old.1) old.2
+          where
+            at : (l : LogState) → IsLogOf l (sent_on s.channel (acts_of net histories made p)) → ((l ≡ log) ⊎ (trimmed_log position l ≡ log)) → IsLogOf log (sent_on s.channel (acts_of net histories made p))
+            at l is (inl same) = subst (λ (x : LogState). IsLogOf x (sent_on s.channel (acts_of net histories made p))) same is
+            at l is (inr same) =
+                subst (λ (x : LogState). IsLogOf x (sent_on s.channel (acts_of net histories made p))) same (trimmed_is_log_of position l (sent_on s.channel (acts_of net histories made p)) is)
+
+    ends : (k : ℕ) (saved : SavedEnd) (channel : Channel) → slice_get (map (trimmed_saved c position) image.ends) k ≡ Some saved → slice_get net.channels saved.channel ≡ Some channel
+        → EndStands net histories made saved.channel channel saved.end
+    ends k saved channel is on =
+        let old = map_got (trimmed_saved c position) image.ends k saved is in
+        let number : old.0.channel ≡ saved.channel = ap (λ (s : SavedEnd). s.channel) old.2 in
+        subst (λ (s : SavedEnd). EndStands net histories made s.channel channel s.end) old.2
+        (of_old old.0 channel (stands.ends k old.0 channel old.1 (ap (slice_get net.channels) number ∙ on)))
+
+-- a node whose image is trimmed has come as far as before
+pub reached_trim : (net : Network) (inputs : List (List ℤ)) (c position : ℕ) (node : NodeView) → HasReached net inputs node → HasReached net inputs (with_current (trimmed_image c position node.current) node)
+reached_trim net inputs c position node reached = record {
+  n = reached.n;
+  permanent_acts = reached.permanent_acts;
+  held_acts = reached.held_acts;
+  current_acts = reached.current_acts;
+  permanent = reached.permanent;
+  held = reached.held;
+  current = image_trimmed net (approximation net inputs reached.n) reached.current_acts c position node.current reached.current;
+  held_after = reached.held_after;
+  current_after = reached.current_after;
+}
