@@ -12,7 +12,7 @@ use Rattle.node.specs.RecordView.{RecordView}
 use Rattle.node.specs.NodeView.{NodeView}
 use Rattle.node.specs.Reached.{HasReached}
 use Rattle.node.specs.Starting.{with_own, with_kept, decided, decided_with, stopped, IsStart, IsDecision, HasPutMore, LeavesAsMuch, AreInOrder}
-use Rattle.node.specs.StepLaws.{reached_start, reached_decide, reached_stopped}
+use Rattle.node.specs.StepLaws.{reached_start, reached_decided, reached_stopped}
 use Rattle.node.specs.declared.record.Tentative.{Tentative}
 use Rattle.node.specs.declared.putting.Putting.{Putting}
 use Rattle.node.specs.declared.putting.Putting.TheVariants.{NotDue, Stored, Refused, Failed}
@@ -28,13 +28,13 @@ module _ (net : Network) (inputs : List (List ℤ)) (outputs : List OutputView) 
   come_start number old come = record { reached = reached_start net inputs number old come.reached; out = come.out; released = come.released }
 
   stored_sound : (number : ℕ) (old : NodeView) → IsSound net inputs old outputs → IsSound net inputs (with_kept (with_own number old.current old.kept) old) outputs
-  stored_sound number old sound = record { listed = sound.listed; kept = record { laid_out = sound.kept.laid_out; counts = sound.kept.counts }; covered = λ j output h. let at = sound.covered j output h in record { no_gap = at.no_gap; covered = at.covered }; come = ∥∥₁_map (come_start number old) sound.come }
+  stored_sound number old sound = record { listed = sound.listed; kept = record { laid_out = sound.kept.laid_out; counts = sound.kept.counts }; covered = λ j output h. let at = sound.covered j output h in record { no_gap = at.no_gap; covered = at.covered }; come = ∥∥₁_map sound.come (come_start number old) }
 
   come_stopped : (round : ℕ) (old : NodeView) → HasCome net inputs old outputs → HasCome net inputs (stopped round old) outputs
   come_stopped round old come = record { reached = reached_stopped net inputs round old come.reached; out = λ job h. absurd (cc); released = come.released }
 
   stopped_sound : (round : ℕ) (old : NodeView) → IsSound net inputs old outputs → IsSound net inputs (stopped round old) outputs
-  stopped_sound round old sound = record { listed = sound.listed; kept = record { laid_out = sound.kept.laid_out; counts = sound.kept.counts }; covered = λ j output h. let at = sound.covered j output h in record { no_gap = at.no_gap; covered = at.covered }; come = ∥∥₁_map (come_stopped round old) sound.come }
+  stopped_sound round old sound = record { listed = sound.listed; kept = record { laid_out = sound.kept.laid_out; counts = sound.kept.counts }; covered = λ j output h. let at = sound.covered j output h in record { no_gap = at.no_gap; covered = at.covered }; come = ∥∥₁_map sound.come (come_stopped round old) }
 
   start_sound : (number round : ℕ) (old : NodeView) (outcome : Putting) (new : NodeView) → IsStart number round old outcome new → IsSound net inputs old outputs → IsSound net inputs new outputs
   start_sound number round old NotDue new step sound = same_sound old new step.1 sound
@@ -47,3 +47,83 @@ module _ (net : Network) (inputs : List (List ℤ)) (outputs : List OutputView) 
       → IsSound net inputs old outputs → IsSound net inputs new outputs
   sound_started number round old new (Ok outcome) ok err sound = start_sound number round old outcome new ok sound
   sound_started number round old new (Err e) ok err sound = same_sound old new err sound
+
+  decided_more : (old : NodeView) → AreInOrder old.kept old.current → (held : Option Tentative) → old.kept.tentative ≡ held → HasPutMore old.kept.permanent (decided_with old.kept held).permanent
+  decided_more old order None h = λ channel. omega arith
+  decided_more old order (Some held) h = order.held_ahead held h
+
+  come_decided : (old : NodeView) → HasCome net inputs old outputs → (held : Option Tentative) → old.kept.tentative ≡ held → HasCome net inputs (with_kept (decided_with old.kept held) old) outputs
+  come_decided old come None h = record { reached = reached_decided net inputs old come.reached None h; out = come.out; released = come.released }
+  come_decided old come (Some held) h = record { reached = reached_decided net inputs old come.reached (Some held) h; out = come.out; released = come.released }
+
+  come_decide : (old : NodeView) → HasCome net inputs old outputs → HasCome net inputs (with_kept (decided old.kept) old) outputs
+  come_decide old come = come_decided old come old.kept.tentative refl
+
+  decided_sound : (old : NodeView) → AreInOrder old.kept old.current → IsSound net inputs old outputs → IsSound net inputs (with_kept (decided old.kept) old) outputs
+  decided_sound old order sound = record {
+    listed = sound.listed;
+    kept = record { laid_out = sound.kept.laid_out; counts = sound.kept.counts };
+    covered = λ j output h.
+      let at = sound.covered j output h in
+      let more : sent_of old.kept.permanent output.channel ≤ sent_of (decided old.kept).permanent output.channel = decided_more old order old.kept.tentative refl output.channel in
+      record { no_gap = at.no_gap; covered = omega (arith, at.covered, more) };
+    come = ∥∥₁_map sound.come (come_decide old);
+  }
+
+  decision_sound : (number round : ℕ) (old : NodeView) (outcome : Putting) (new : NodeView) → IsDecision number round old outcome new → AreInOrder old.kept old.current → IsSound net inputs old outputs → IsSound net inputs new outputs
+  decision_sound number round old NotDue new step order sound = same_sound old new step.1 sound
+  decision_sound number round old Stored new step order sound = same_sound _ new step.1 (decided_sound old order sound)
+  decision_sound number round old (Refused refusal) new step order sound = same_sound old new step.2 sound
+  decision_sound number round old Failed new step order sound = same_sound _ new step.1 (stopped_sound round old sound)
+
+  -- after a decision, whatever came of it
+  pub sound_decided : (number round : ℕ) (old new : NodeView) (result : Result Putting AllocError) → IfOk result (λ outcome. IsDecision number round old outcome new) → OnErr result (new ≡ old)
+      → AreInOrder old.kept old.current → IsSound net inputs old outputs → IsSound net inputs new outputs
+  sound_decided number round old new (Ok outcome) ok err order sound = decision_sound number round old outcome new ok order sound
+  sound_decided number round old new (Err e) ok err order sound = same_sound old new err sound
+
+  covered_by : (old : NodeView) (left : Option RecordView) → IsSound net inputs old outputs → LeavesAsMuch old.kept.permanent left → AreCovered left outputs
+  covered_by old left sound leaves = λ j output h.
+    let at = sound.covered j output h in
+    record {
+      something = leaves.something;
+      covers = λ kept is. let more : sent_of old.kept.permanent output.channel ≤ sent_of kept.permanent output.channel = leaves.as_much kept is output.channel in omega (arith, at.covered, more);
+    }
+
+  leaves_next : (image : ImageView) (kept : RecordView) (left : Option RecordView) → left ≡ Some kept → HasPutMore image kept.permanent → LeavesAsMuch image left
+  leaves_next image kept left is more = record {
+    something = λ none. absurd (nothing kept (sym is ∙ none));
+    as_much = λ other e channel. subst (λ (k : RecordView). sent_of image channel ≤ sent_of k.permanent channel) (same kept other (sym is ∙ e)) (more channel);
+  }
+    where
+      nothing : (k : RecordView) → Some k ≡ None → ⊥
+      nothing k e = cc
+      same : (k other : RecordView) → Some k ≡ Some other → k ≡ other
+      same k other e = cc
+
+  module _ {C : Type 0} (moment : C → ℕ) (left_since : C → ℕ → Option RecordView → Type 0) (may_leave : C → Option RecordView → Type 0) where
+    -- through a put, what has left is covered at each moment
+    pub covered_through : (old : NodeView) (cell cell' : C) (next : RecordView) → IsSound net inputs old outputs → LeavesOnly moment left_since cell cell' (λ left. may_leave cell left ⊎ (left ≡ Some next))
+        → ((left : Option RecordView) → may_leave cell left → LeavesAsMuch old.kept.permanent left) → HasPutMore old.kept.permanent next.permanent
+        → (left : Option RecordView) → left_since cell' (moment cell) left → AreCovered left outputs
+    covered_through old cell cell' next sound any durable more left since = at (any.each left since)
+      where
+        at : may_leave cell left ⊎ (left ≡ Some next) → AreCovered left outputs
+        at (inl was) = covered_by old left sound (durable left was)
+        at (inr is) = covered_by old left sound (leaves_next old.kept.permanent next left is more)
+
+    -- and where the cell isn't touched
+    pub covered_still : (old : NodeView) (cell : C) → IsSound net inputs old outputs → ((c : C) (left : Option RecordView) → left_since c (moment c) left → may_leave c left)
+        → ((left : Option RecordView) → may_leave cell left → LeavesAsMuch old.kept.permanent left)
+        → (left : Option RecordView) → left_since cell (moment cell) left → AreCovered left outputs
+    covered_still old cell sound only_now durable left since = covered_by old left sound (durable left (only_now cell left since))
+
+    pub covered_decision : (old : NodeView) (cell cell' : C) → AreInOrder old.kept old.current → IsSound net inputs old outputs → LeavesOnly moment left_since cell cell' (λ left. may_leave cell left ⊎ (left ≡ Some (decided old.kept)))
+        → ((left : Option RecordView) → may_leave cell left → LeavesAsMuch old.kept.permanent left)
+        → (left : Option RecordView) → left_since cell' (moment cell) left → AreCovered left outputs
+    covered_decision old cell cell' order sound any durable = covered_through old cell cell' (decided old.kept) sound any durable (decided_more old order old.kept.tentative refl)
+
+    pub covered_start : (number : ℕ) (old : NodeView) (cell cell' : C) → IsSound net inputs old outputs → LeavesOnly moment left_since cell cell' (λ left. may_leave cell left ⊎ (left ≡ Some (with_own number old.current old.kept)))
+        → ((left : Option RecordView) → may_leave cell left → LeavesAsMuch old.kept.permanent left)
+        → (left : Option RecordView) → left_since cell' (moment cell) left → AreCovered left outputs
+    covered_start number old cell cell' sound any durable = covered_through old cell cell' (with_own number old.current old.kept) sound any durable (λ channel. omega arith)

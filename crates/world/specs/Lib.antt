@@ -2,3 +2,4 @@ pub mod OutputView
 pub mod Sound
 pub mod Covered
 pub mod Replies
+pub mod Growing

@@ -56,4 +56,15 @@ impl<C: StableCell, O: Outlet> Station<C, O> {
         let putting = self.node.start(alloc, round)?;
         Ok(self.turns.note_start(putting))
     }
+
+    /// Makes the station's own tentative image permanent.
+    pub(crate) fn decide(&mut self, alloc: Global, round: u64) -> Result<Reply, AllocError>
+        ensures outputs { outputs_view O.taken self.new.outputs.items ≡ outputs_view O.taken self.old.outputs.items }
+        ensures same { (self.new.net ≡ self.old.net) × (self.new.inputs ≡ self.old.inputs) × (self.new.node.number ≡ self.old.node.number) }
+        ensures covered { AreCoveredSince C.moment C.left_since self.old.node.cell self.new.node.cell (outputs_view O.taken self.new.outputs.items) }
+        ensures refused { OnErr result (node_view self.new.node.state ≡ node_view self.old.node.state) }
+    {
+        let putting = self.node.decide(alloc, round)?;
+        Ok(decision_reply(putting))
+    }
 }

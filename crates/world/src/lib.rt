@@ -8,7 +8,9 @@
 mod checkpoints;
 mod event;
 mod output;
+mod releasing;
 mod station;
+mod turning;
 mod turns;
 
 pub use event::{Event, Freed, Refused, Reply};

@@ -1,0 +1,65 @@
+// A station's jobs: they are granted, and what came of them comes back.
+ghost use Rattle.std.specs.Prelude.{◌≡◌, ◌⊎◌, true, IfOk, OnErr, Some, slice_get, option_map};
+ghost use Rattle.net_check.specs.Syntax.{network_of};
+ghost use Rattle.net_check.specs.States.{standing_of};
+ghost use Rattle.node.specs.NodeView.{node_view};
+ghost use Rattle.node.specs.JobView.{job_view};
+ghost use Rattle.node.specs.Choosing.{next_job, after_grant};
+ghost use Rattle.node.specs.Installing.{IsOut, IsInstall};
+ghost use Rattle.world.specs.OutputView.{outputs_view};
+ghost use Rattle.world.specs.Covered.{AreCoveredSince};
+
+use crate::event::Reply;
+use crate::station::Station;
+use crate::turns::RoundTurns;
+use node::StableCell;
+use outlet::Outlet;
+use proc_step::{Done, Job};
+use std::alloc::{AllocError, Global};
+
+/// The most jobs that are counted in a round.
+pub(crate) const GRANTS: u8 = 64;
+
+impl RoundTurns {
+    // What is answered where a job was granted, or none.
+    fn note_grant(&mut self, granted: Option<Job>) -> Reply {
+        match granted {
+            Some(job) => {
+                if self.granted < GRANTS {
+                    self.granted += 1;
+                }
+                Reply::Granted(job)
+            }
+            None => Reply::NotDue,
+        }
+    }
+}
+
+impl<C: StableCell, O: Outlet> Station<C, O> {
+    /// Grants a job.
+    pub(crate) fn grant(&mut self, alloc: Global) -> Result<Reply, AllocError>
+        ensures outputs { outputs_view O.taken self.new.outputs.items ≡ outputs_view O.taken self.old.outputs.items }
+        ensures same { (self.new.net ≡ self.old.net) × (self.new.inputs ≡ self.old.inputs) × (self.new.node.number ≡ self.old.node.number) }
+        ensures cell { self.new.node.cell ≡ self.old.node.cell }
+        ensures covered { AreCoveredSince C.moment C.left_since self.old.node.cell self.new.node.cell (outputs_view O.taken self.new.outputs.items) }
+        ensures refused { OnErr result (node_view self.new.node.state ≡ node_view self.old.node.state) }
+    {
+        let granted = self.node.grant(alloc, &self.net, &self.inputs)?;
+        Ok(self.turns.note_grant(granted))
+    }
+
+    /// Takes in what came of a job.
+    pub(crate) fn install(&mut self, alloc: Global, done: &Done) -> Result<Reply, AllocError>
+        ensures outputs { outputs_view O.taken self.new.outputs.items ≡ outputs_view O.taken self.old.outputs.items }
+        ensures same { (self.new.net ≡ self.old.net) × (self.new.inputs ≡ self.old.inputs) × (self.new.node.number ≡ self.old.node.number) }
+        ensures cell { self.new.node.cell ≡ self.old.node.cell }
+        ensures covered { AreCoveredSince C.moment C.left_since self.old.node.cell self.new.node.cell (outputs_view O.taken self.new.outputs.items) }
+        ensures refused { OnErr result (node_view self.new.node.state ≡ node_view self.old.node.state) }
+    {
+        match self.node.install(alloc, &self.net.program.channels, done) {
+            Ok(true) => Ok(Reply::Installed),
+            Ok(false) => Ok(Reply::Discarded),
+            Err(_) => Err(AllocError),
+        }
+    }
+}
