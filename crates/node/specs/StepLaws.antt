@@ -8,7 +8,7 @@ use Rattle.node.specs.JobView.{JobView}
 use Rattle.node.specs.NodeView.{NodeView}
 use Rattle.node.specs.Choosing.{after_grant}
 use Rattle.node.specs.Starting.{with_own, decided, decided_with, with_kept, stopped}
-use Rattle.node.specs.Reached.{ImageStands, IsAsFar, HasReached}
+use Rattle.node.specs.Reached.{ImageStands, IsAsFar, HasReached, HasComeOn}
 use Rattle.node.specs.declared.record.Tentative.{Tentative}
 
 -- a node that takes a tentative image of what it has now
@@ -32,31 +32,33 @@ reached_start net inputs number node reached = record {
 
 -- a node whose tentative image becomes permanent, where one is held
 pub reached_decide : (net : Network) (inputs : List (List ℤ)) (node : NodeView) → HasReached net inputs node → HasReached net inputs (with_kept (decided node.kept) node)
-reached_decide net inputs node reached = at node.kept.tentative refl
+reached_decide net inputs node reached = record {
+  n = reached.n;
+  permanent_acts = permanent_then node.kept.tentative;
+  held_acts = reached.held_acts;
+  current_acts = reached.current_acts;
+  permanent = permanent node.kept.tentative refl;
+  held = λ tentative is. absurd (none_left node.kept.tentative refl tentative is);
+  held_after = held_after node.kept.tentative;
+  current = reached.current;
+  current_after = reached.current_after;
+}
   where
-    at : (o : Option Tentative) → node.kept.tentative ≡ o → HasReached net inputs (with_kept (decided_with node.kept o) node)
-    at None is = record {
-      n = reached.n;
-      permanent_acts = reached.permanent_acts;
-      held_acts = reached.held_acts;
-      current_acts = reached.current_acts;
-      permanent = reached.permanent;
-      held = reached.held;
-      current = reached.current;
-      held_after = reached.held_after;
-      current_after = reached.current_after;
-    }
-    at (Some tentative) is = record {
-      n = reached.n;
-      permanent_acts = reached.held_acts;
-      held_acts = reached.held_acts;
-      current_acts = reached.current_acts;
-      permanent = reached.held tentative is;
-      held = λ t e. absurd (cc);
-      current = reached.current;
-      held_after = λ p. omega arith;
-      current_after = reached.current_after;
-    }
+    permanent_then : Option Tentative → ℕ → ℕ
+    permanent_then None = reached.permanent_acts
+    permanent_then (Some tentative) = reached.held_acts
+
+    held_after : (o : Option Tentative) → IsAsFar (permanent_then o) reached.held_acts
+    held_after None = reached.held_after
+    held_after (Some tentative) = λ p. omega arith
+
+    permanent : (o : Option Tentative) → node.kept.tentative ≡ o → ImageStands net (approximation net inputs reached.n) (permanent_then o) (decided_with node.kept o).permanent
+    permanent None is = reached.permanent
+    permanent (Some tentative) is = reached.held tentative is
+
+    none_left : (o : Option Tentative) → node.kept.tentative ≡ o → (tentative : Tentative) → (decided_with node.kept o).tentative ≡ Some tentative → ⊥
+    none_left None is tentative e = cc
+    none_left (Some held) is tentative e = cc
 
 -- a node that went down
 pub reached_stopped : (net : Network) (inputs : List (List ℤ)) (round : ℕ) (node : NodeView) → HasReached net inputs node → HasReached net inputs (stopped round node)
@@ -86,3 +88,26 @@ reached_grant net inputs (Some job) node reached = record {
   held_after = reached.held_after;
   current_after = reached.current_after;
 }
+
+-- Each leaves the approximation and the acts as they were
+
+pub on_start : (net : Network) (inputs : List (List ℤ)) (number : ℕ) (node : NodeView) (reached : HasReached net inputs node)
+    → HasComeOn net inputs node (with_kept (with_own number node.current node.kept) node) reached (reached_start net inputs number node reached)
+unfolding reached_start
+on_start net inputs number node reached = record { same = refl; further = λ p. omega arith }
+
+pub on_decide : (net : Network) (inputs : List (List ℤ)) (node : NodeView) (reached : HasReached net inputs node)
+    → HasComeOn net inputs node (with_kept (decided node.kept) node) reached (reached_decide net inputs node reached)
+unfolding reached_decide
+on_decide net inputs node reached = record { same = refl; further = λ p. omega arith }
+
+pub on_stopped : (net : Network) (inputs : List (List ℤ)) (round : ℕ) (node : NodeView) (reached : HasReached net inputs node)
+    → HasComeOn net inputs node (stopped round node) reached (reached_stopped net inputs round node reached)
+unfolding reached_stopped
+on_stopped net inputs round node reached = record { same = refl; further = λ p. omega arith }
+
+pub on_grant : (net : Network) (inputs : List (List ℤ)) (job : Option JobView) (node : NodeView) (reached : HasReached net inputs node)
+    → HasComeOn net inputs node (after_grant job node) reached (reached_grant net inputs job node reached)
+unfolding reached_grant
+on_grant net inputs None node reached = record { same = refl; further = λ p. omega arith }
+on_grant net inputs (Some job) node reached = record { same = refl; further = λ p. omega arith }
