@@ -1,2 +1,3 @@
 pub mod OutputView
 pub mod Sound
+pub mod TurnLaws
