@@ -19,14 +19,15 @@ use Rattle.proc_step.specs.TurnLaws.{sent_fits, taken_fits}
 use Rattle.node.specs.ProcessView.{SavedProcessView}
 use Rattle.node.specs.ImageView.{ImageView}
 use Rattle.node.specs.JobView.{JobView}
-use Rattle.node.specs.Ends.{received_of, received_at, log_of, log_at, sent_in, sent_of, end_of}
+use Rattle.node.specs.NodeView.{NodeView}
+use Rattle.node.specs.Ends.{received_of, received_at, log_of, log_at, sent_in, sent_of, end_of, base_in, base_of}
 use Rattle.node.specs.Granting.{is_process, next_items, items_from, room_in, room_from}
 use Rattle.node.specs.Installing.{is_consumer, is_producer, taken_from, put_on, log_with, pushed, counted, saved_pushed, saved_counted, moved, installed, LogTakes, EndTakes, ImageTakes}
 use Rattle.node.specs.Starting.{HasPutMore}
-use Rattle.node.specs.Reached.{ImageStands, is_counting, IsLaidOut, CountsAreWithin, LogsAreWithin, IsJobOf}
+use Rattle.node.specs.Reached.{ImageStands, HasReached, is_counting, IsLaidOut, CountsAreWithin, LogsAreWithin, IsJobOf, IsTurnOf}
 use Rattle.node.specs.ImageLaws.{channel_at, received_is, log_is, map_got, map_keeps, map_twice, end_of_changed}
 use Rattle.node.specs.ReachedLaws.{items_at_hand, items_of_channel}
-use Rattle.node.specs.InstallLaws.{turn_of_job, log_then}
+use Rattle.node.specs.InstallLaws.{turn_of_job, job_has_code, log_then}
 use Rattle.node.specs.declared.record.SavedEnd.{SavedEnd}
 use Rattle.node.specs.declared.record.End.{End}
 use Rattle.node.specs.declared.record.End.TheVariants.{Receives, Sends, Both}
@@ -145,12 +146,12 @@ history_is_short net inputs c fits = at (slice_get_cases inputs c).1
     at (inl here) = let few = fits.few c here.0 here.2 in omega (arith, few, ap (length {A = ℤ}) (get_or_from_slice_get inputs c here.0 [] here.2))
     at (inr past) = omega (arith, ap (length {A = ℤ}) (get_or_past inputs c [] past.0))
 
--- a turn on the job that was out fits the image: no count and no log comes past its limit
-pub turn_fits : (net : Network) (inputs : List (List ℤ)) (n : ℕ) (made : ℕ → ℕ) (image : ImageView) (job : JobView) (code : Code) (after : Standing) (taken : List ℕ) (sent : List (List ℤ))
+-- the turn fits the image: no count and no log comes past its limit
+pub image_takes_turn : (net : Network) (inputs : List (List ℤ)) (n : ℕ) (made : ℕ → ℕ) (image : ImageView) (job : JobView) (code : Code) (after : Standing) (taken : List ℕ) (sent : List (List ℤ))
     → ImageStands net (approximation net inputs n) made image → IsLaidOut net image → CountsAreWithin inputs image → LogsAreWithin image → Fits net inputs
     → IsJobOf net inputs image job → slice_get net.codes job.process ≡ Some code → IsTurn code job.standing job.items job.room after taken sent
     → ImageTakes net.channels job.process taken sent image
-turn_fits net inputs n made image job code after taken sent stands laid counts logs fits of there turn k saved is = record {
+image_takes_turn net inputs n made image job code after taken sent stands laid counts logs fits of there turn k saved is = record {
   received =
       let sum = taken_is_there net inputs n made image job code after taken sent stands laid counts of there turn k saved is in
       let short = history_is_short net inputs saved.channel fits in
@@ -215,10 +216,10 @@ at_most_counted (Receives received) items count = omega arith
 at_most_counted (Sends log) items count = omega arith
 at_most_counted (Both received log) items count = omega arith
 
-pub counts_installed : (net : Network) (inputs : List (List ℤ)) (n : ℕ) (made : ℕ → ℕ) (image : ImageView) (job : JobView) (code : Code) (after : Standing) (taken : List ℕ) (sent : List (List ℤ))
+pub counts_after_turn : (net : Network) (inputs : List (List ℤ)) (n : ℕ) (made : ℕ → ℕ) (image : ImageView) (job : JobView) (code : Code) (after : Standing) (taken : List ℕ) (sent : List (List ℤ))
     → ImageStands net (approximation net inputs n) made image → IsLaidOut net image → CountsAreWithin inputs image → IsJobOf net inputs image job → slice_get net.codes job.process ≡ Some code
     → IsTurn code job.standing job.items job.room after taken sent → CountsAreWithin inputs (installed net.channels job.process after taken sent image)
-counts_installed net inputs n made image job code after taken sent stands laid counts of there turn k saved is =
+counts_after_turn net inputs n made image job code after taken sent stands laid counts of there turn k saved is =
     let old = end_before net.channels job.process after taken sent image k saved is in
     let most = at_most_counted old.0.end (put_on net.channels job.process sent old.0.channel) (taken_from net.channels job.process taken old.0.channel) in
     let sum = taken_is_there net inputs n made image job code after taken sent stands laid counts of there turn k old.0 old.1 in
@@ -252,6 +253,25 @@ more_sent (Receives received) items count = omega arith
 more_sent (Sends log) items count = let sum = length-append log.items items in omega (arith, sum)
 more_sent (Both received log) items count = let sum = length-append log.items items in omega (arith, sum)
 
+same_base : (end : End) (items : List ℤ) (count : ℕ) → base_in (log_at (Some (counted count (pushed items end)))) ≡ base_in (log_at (Some end))
+same_base (Receives received) items count = refl
+same_base (Sends log) items count = refl
+same_base (Both received log) items count = refl
+
+-- no log begins later
+pub base_installed : (channels : List Channel) (process : ℕ) (after : Standing) (taken : List ℕ) (sent : List (List ℤ)) (image : ImageView) (c : ℕ)
+    → base_of (installed channels process after taken sent image) c ≡ base_of image c
+base_installed channels process after taken sent image c =
+    ap (λ (o : Option End). base_in (log_at o))
+    (end_of_changed image (installed channels process after taken sent image) c (λ (s : SavedEnd). saved_counted channels process taken (saved_pushed channels process sent s)) (λ s. refl)
+    (map_twice (saved_pushed channels process sent) (saved_counted channels process taken) image.ends))
+    ∙ at (find (λ (s : SavedEnd). eqb s.channel c) image.ends)
+  where
+    at : (o : Option SavedEnd) → base_in (log_at (option_map (λ (s : SavedEnd). (saved_counted channels process taken (saved_pushed channels process sent s)).end) o))
+        ≡ base_in (log_at (option_map (λ (s : SavedEnd). s.end) o))
+    at None = refl
+    at (Some s) = same_base s.end (put_on channels process sent s.channel) (taken_from channels process taken s.channel)
+
 -- a turn takes back nothing that was put
 pub put_more_installed : (channels : List Channel) (process : ℕ) (after : Standing) (taken : List ℕ) (sent : List (List ℤ)) (image : ImageView) → HasPutMore image (installed channels process after taken sent image)
 put_more_installed channels process after taken sent image c =
@@ -264,3 +284,21 @@ put_more_installed channels process after taken sent image c =
         ≤ sent_in (log_at (option_map (λ (s : SavedEnd). (saved_counted channels process taken (saved_pushed channels process sent s)).end) o))
     at None = omega arith
     at (Some s) = more_sent s.end (put_on channels process sent s.channel) (taken_from channels process taken s.channel)
+
+-- Nodes
+
+-- a turn on the job that was out fits what the node has now
+pub turn_fits : (net : Network) (inputs : List (List ℤ)) (node : NodeView) (job : JobView) (after : Standing) (taken : List ℕ) (sent : List (List ℤ))
+    → HasReached net inputs node → IsLaidOut net node.current → CountsAreWithin inputs node.current → LogsAreWithin node.current → Fits net inputs
+    → IsJobOf net inputs node.current job → IsTurnOf net job after taken sent → ImageTakes net.channels job.process taken sent node.current
+turn_fits net inputs node job after taken sent reached laid counts logs fits of turn =
+    let code = job_has_code net inputs node.current job laid of in
+    image_takes_turn net inputs reached.n reached.current_acts node.current job code.0 after taken sent reached.current laid counts logs fits of code.1 (turn code.0 code.1)
+
+-- and then no more was received than there is
+pub counts_installed : (net : Network) (inputs : List (List ℤ)) (node : NodeView) (job : JobView) (after : Standing) (taken : List ℕ) (sent : List (List ℤ))
+    → HasReached net inputs node → IsLaidOut net node.current → CountsAreWithin inputs node.current → IsJobOf net inputs node.current job → IsTurnOf net job after taken sent
+    → CountsAreWithin inputs (installed net.channels job.process after taken sent node.current)
+counts_installed net inputs node job after taken sent reached laid counts of turn =
+    let code = job_has_code net inputs node.current job laid of in
+    counts_after_turn net inputs reached.n reached.current_acts node.current job code.0 after taken sent reached.current laid counts of code.1 (turn code.0 code.1)

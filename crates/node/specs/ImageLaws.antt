@@ -25,6 +25,14 @@ numbered_mark f (y ∷ xs) first (suc count) (suc k) x h is =
     let sum : suc first + k ≡ first + suc k = omega arith in
     numbered_mark f xs (suc first) count k x later is ∙ sum
 
+pub numbered_count : {A : Type 0} (f : A → ℕ) (xs : List A) (first count : ℕ) → map f xs ≡ numbers_from first count → length xs ≡ count
+numbered_count f [] first zero h = refl
+numbered_count f [] first (suc count) h = absurd (cc)
+numbered_count f (y ∷ xs) first zero h = absurd (cc)
+numbered_count f (y ∷ xs) first (suc count) h =
+    let later : map f xs ≡ numbers_from (suc first) count = cc in
+    ap suc (numbered_count f xs (suc first) count later)
+
 -- each number is there
 pub numbered_there : {A : Type 0} (f : A → ℕ) (xs : List A) (first count k : ℕ) → map f xs ≡ numbers_from first count → k < count → (x : A) × (slice_get xs k ≡ Some x)
 numbered_there f [] first zero k h lt = absurd (omega (arith, lt))

@@ -25,8 +25,8 @@ use Rattle.node.specs.NodeView.{NodeView}
 use Rattle.node.specs.Ends.{received_at, log_at}
 use Rattle.node.specs.Granting.{is_process, items_from}
 use Rattle.node.specs.Installing.{is_consumer, is_producer, taken_from, put_on, log_with, pushed, counted, saved_pushed, saved_counted, moved, installed, with_turn}
-use Rattle.node.specs.Reached.{first_acts, acts_of, EndStands, ImageStands, IsAsFar, HasReached, numbers_from, is_counting, IsLaidOut, IsJobOf}
-use Rattle.node.specs.ImageLaws.{numbered_mark, find_within, map_got}
+use Rattle.node.specs.Reached.{first_acts, acts_of, EndStands, ImageStands, IsAsFar, HasReached, numbers_from, is_counting, IsLaidOut, IsJobOf, IsTurnOf, HasComeOn}
+use Rattle.node.specs.ImageLaws.{numbered_mark, numbered_count, find_within, map_got}
 use Rattle.node.specs.ReachedLaws.{next_are_at_hand}
 use Rattle.node.specs.declared.record.SavedEnd.{SavedEnd}
 use Rattle.node.specs.declared.record.End.{End}
@@ -105,6 +105,13 @@ more_of process acts q = cond (eqb q process) acts []
 -- how many acts each process has made then
 abbrev pub made_then : ℕ → List Step → (ℕ → ℕ) → ℕ → ℕ
 made_then process acts made q = cond (eqb q process) (made q + length acts) (made q)
+
+as_far_then : (process : ℕ) (acts : List Step) (made : ℕ → ℕ) (q : ℕ) → made q ≤ made_then process acts made q
+as_far_then process acts made q = at (eqb q process)
+  where
+    at : (b : Bool) → made q ≤ cond b (made q + length acts) (made q)
+    at true = omega arith
+    at false = omega arith
 
 -- the turn on a job of an image that stands there
 pub turn_of_job : (net : Network) (inputs : List (List ℤ)) (n : ℕ) (made : ℕ → ℕ) (image : ImageView) (job : JobView) (code : Code) (after : Standing) (taken : List ℕ) (sent : List (List ℤ))
@@ -244,14 +251,34 @@ image_installed net histories made image process code items room after taken sen
                 (subst (λ (l : LogState). IsLogOf l (sent_on s.channel (acts_of net histories made q) ++ put_on net.channels process sent s.channel)) old.2
                 (log_with_more old.0 (sent_on s.channel (acts_of net histories made q)) (put_on net.channels process sent s.channel) (before.retained q old.0 from old.1)))
 
+-- the process of the job that is out is one of the network
+pub job_has_code : (net : Network) (inputs : List (List ℤ)) (image : ImageView) (job : JobView) → IsLaidOut net image → IsJobOf net inputs image job → (code : Code) × (slice_get net.codes job.process ≡ Some code)
+job_has_code net inputs image job laid of = at (slice_get_cases net.codes job.process).1
+  where
+    found : (k : ℕ) × (slice_get image.processes k ≡ Some (record { number = job.process; standing = job.standing }))
+    found = find_within (λ (saved : SavedProcessView). eqb saved.number job.process) image.processes (record { number = job.process; standing = job.standing }) of.process
+
+    below : job.process < length net.codes
+    below =
+        let number = numbered_mark (λ (s : SavedProcessView). s.number) image.processes 0 (length net.codes) found.0 (record { number = job.process; standing = job.standing }) laid.processes found.1 in
+        let count = numbered_count (λ (s : SavedProcessView). s.number) image.processes 0 (length net.codes) laid.processes in
+        let within = slice_get_within image.processes found.0 (record { number = job.process; standing = job.standing }) found.1 in
+        omega (arith, number, count, within)
+
+    at : ((x : Code) × (job.process < length net.codes) × (slice_get net.codes job.process ≡ Some x) × (get_or net.codes job.process x ≡ x)) ⊎ ((length net.codes ≤ job.process) × (slice_get net.codes job.process ≡ None))
+        → (code : Code) × (slice_get net.codes job.process ≡ Some code)
+    at (inl here) = (here.0, here.2)
+    at (inr past) = absurd (omega (arith, below, past.0))
+
 -- a node has come further by the turn on the job that was out
-pub reached_install : (net : Network) (inputs : List (List ℤ)) (node : NodeView) (job : JobView) (code : Code) (after : Standing) (taken : List ℕ) (sent : List (List ℤ))
-    → HasReached net inputs node → IsLaidOut net node.current → IsJobOf net inputs node.current job → slice_get net.codes job.process ≡ Some code
-    → IsTurn code job.standing job.items job.room after taken sent → HasReached net inputs (with_turn net.channels job.process after taken sent node)
-reached_install net inputs node job code after taken sent reached laid of there turn =
+pub reached_install : (net : Network) (inputs : List (List ℤ)) (node : NodeView) (job : JobView) (after : Standing) (taken : List ℕ) (sent : List (List ℤ))
+    → HasReached net inputs node → IsLaidOut net node.current → IsJobOf net inputs node.current job → IsTurnOf net job after taken sent
+    → HasReached net inputs (with_turn net.channels job.process after taken sent node)
+reached_install net inputs node job after taken sent reached laid of turn =
+    let code = job_has_code net inputs node.current job laid of in
     let found = find_within (λ (saved : SavedProcessView). eqb saved.number job.process) node.current.processes (record { number = job.process; standing = job.standing }) of.process in
-    let before = reached.current.processes found.0 (record { number = job.process; standing = job.standing }) code found.1 there in
-    let done = turn_of_job net inputs reached.n reached.current_acts node.current job code after taken sent reached.current laid of there turn in
+    let before = reached.current.processes found.0 (record { number = job.process; standing = job.standing }) code.0 found.1 code.1 in
+    let done = turn_of_job net inputs reached.n reached.current_acts node.current job code.0 after taken sent reached.current laid of code.1 (turn code.0 code.1) in
     record {
       n = reached.n;
       permanent_acts = reached.permanent_acts;
@@ -259,14 +286,16 @@ reached_install net inputs node job code after taken sent reached laid of there 
       current_acts = made_then job.process done.acts reached.current_acts;
       permanent = reached.permanent;
       held = reached.held;
-      current = image_installed net (approximation net inputs reached.n) reached.current_acts node.current job.process code job.items job.room after taken sent reached.current laid there before.within done;
+      current = image_installed net (approximation net inputs reached.n) reached.current_acts node.current job.process code.0 job.items job.room after taken sent reached.current laid code.1 before.within done;
       held_after = reached.held_after;
-      current_after = λ q. further q done.acts (reached.current_after q);
+      current_after = λ q. (let far = reached.current_after q in let more = as_far_then job.process done.acts reached.current_acts q in omega (arith, far, more));
     }
-  where
-    further : (q : ℕ) (acts : List Step) → reached.held_acts q ≤ reached.current_acts q → reached.held_acts q ≤ made_then job.process acts reached.current_acts q
-    further q acts h = at (eqb q job.process)
-      where
-        at : (b : Bool) → reached.held_acts q ≤ cond b (reached.current_acts q + length acts) (reached.current_acts q)
-        at true = omega (arith, h)
-        at false = h
+
+pub on_install : (net : Network) (inputs : List (List ℤ)) (node : NodeView) (job : JobView) (after : Standing) (taken : List ℕ) (sent : List (List ℤ))
+    → (reached : HasReached net inputs node) (laid : IsLaidOut net node.current) (of : IsJobOf net inputs node.current job) (turn : IsTurnOf net job after taken sent)
+    → HasComeOn net inputs node (with_turn net.channels job.process after taken sent node) reached (reached_install net inputs node job after taken sent reached laid of turn)
+unfolding reached_install
+on_install net inputs node job after taken sent reached laid of turn =
+    let code = job_has_code net inputs node.current job laid of in
+    let done = turn_of_job net inputs reached.n reached.current_acts node.current job code.0 after taken sent reached.current laid of code.1 (turn code.0 code.1) in
+    record { same = refl; further = as_far_then job.process done.acts reached.current_acts }

@@ -3,10 +3,11 @@ use Rattle.std.specs.Prelude.{◌≡◌, ℕ, zero, suc, ◌≤◌, ◌==◌, Bo
 use Rattle.net_check.specs.Streams.{history_of}
 use Rattle.net_check.specs.Syntax.{Code, Network}
 use Rattle.net_check.specs.Statements.{Step}
-use Rattle.net_check.specs.Processes.{StandsAt, process_trace, sent_on, got_on}
+use Rattle.net_check.specs.Processes.{Standing, StandsAt, process_trace, sent_on, got_on}
 use Rattle.net_check.specs.Approximations.{approximation}
 use Rattle.net_check.specs.declared.program.Channel.{Channel}
 use Rattle.net_check.specs.declared.program.Port.TheVariants.{Process}
+use Rattle.proc_step.specs.Turns.{IsTurn}
 use Rattle.outlet.specs.LogState.{LogState, IsLogOf, IsWithinLimits}
 use Rattle.node.specs.ProcessView.{SavedProcessView}
 use Rattle.node.specs.ImageView.{ImageView}
@@ -89,3 +90,12 @@ pub record IsJobOf (net : Network) (inputs : List (List ℤ)) (image : ImageView
   pub code : job.code ≡ slice_get net.codes job.process
   pub items : job.items ≡ items_from inputs image job.process 0 net.channels
   pub room : (c : ℕ) → slice_index job.room c ≤ slice_index (room_from image job.process 0 net.channels) c
+
+-- what came back is a turn of the job's process, from where the job says that it stands
+abbrev pub IsTurnOf : Network → JobView → Standing → List ℕ → List (List ℤ) → Type 0
+IsTurnOf net job after taken sent = (code : Code) → slice_get net.codes job.process ≡ Some code → IsTurn code job.standing job.items job.room after taken sent
+
+-- A node has come on: on the same approximation, its processes have made at least the acts of before.
+pub record HasComeOn (net : Network) (inputs : List (List ℤ)) (old new : NodeView) (before : HasReached net inputs old) (after : HasReached net inputs new) : Type 0 where
+  pub same : after.n ≡ before.n
+  pub further : IsAsFar before.current_acts after.current_acts

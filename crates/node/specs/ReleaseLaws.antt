@@ -1,11 +1,12 @@
 -- Laws of what a node's logs hold: the last items of a beginning of each channel's history.
-use Rattle.std.proofs.Common.{◌≡◌, ℕ, suc, ◌<◌, ℤ, List, [], ◌++◌, length, take, drop, Option, Some, None, refl, sym, ap, subst, ◌∙◌, arith}
+use Rattle.std.proofs.Common.{◌≡◌, ℕ, suc, ◌<◌, ◌≤◌, ℤ, List, [], ◌++◌, length, take, drop, Option, Some, None, refl, sym, ap, subst, ◌∙◌, arith}
 use Rattle.std.specs.Prelude.{slice_get}
-use Rattle.std.proofs.lemmas.List.{take-append-drop}
+use Rattle.std.proofs.lemmas.List.{take-append-drop, take-take}
 use Rattle.std.proofs.lemmas.Option.{slice_get_within}
 use Rattle.net_check.specs.Streams.{history_of, IsPrefix}
-use Rattle.net_check.specs.PrefixLaws.{prefix_nil, prefix_along}
+use Rattle.net_check.specs.PrefixLaws.{prefix_nil, prefix_along, prefix_trans, prefix_take, prefix_from_take}
 use Rattle.net_check.specs.Syntax.{Code, Network}
+use Rattle.net_check.specs.Statements.{Step}
 use Rattle.net_check.specs.Processes.{process_trace, sent_on}
 use Rattle.net_check.specs.PutLaws.{sent_on-append}
 use Rattle.net_check.specs.Approximations.{approximation, next_history, output_at}
@@ -14,10 +15,11 @@ use Rattle.net_check.specs.declared.program.Channel.{Channel}
 use Rattle.net_check.specs.declared.program.Port.{Port}
 use Rattle.net_check.specs.declared.program.Port.TheVariants.{Outside, Process}
 use Rattle.outlet.specs.LogState.{LogState, IsLogOf}
+use Rattle.outlet.specs.Released.{IsBeginningOf}
 use Rattle.node.specs.ImageView.{ImageView}
 use Rattle.node.specs.NodeView.{NodeView}
 use Rattle.node.specs.Ends.{log_of, log_at}
-use Rattle.node.specs.Reached.{first_acts, acts_of, ImageStands, HasReached, IsLaidOut}
+use Rattle.node.specs.Reached.{first_acts, acts_of, ImageStands, HasReached, IsLaidOut, HasComeOn}
 use Rattle.node.specs.ImageLaws.{numbered_there, channel_at, log_is}
 use Rattle.node.specs.declared.record.SavedEnd.{SavedEnd}
 
@@ -64,3 +66,32 @@ released_is_prefix net inputs node c p channel log reached laid is from has = re
   holds = log_stands net (approximation net inputs reached.n) reached.current_acts node.current c p channel log reached.current laid is from has;
   begins = acts_put_prefix net inputs reached.n reached.current_acts c p channel is from;
 }
+
+-- What has left the system stays a beginning of what was put
+
+-- the acts of before are a front of those of later
+acts_are_front : (code : Option Code) (histories : List (List ℤ)) (m n c : ℕ) → m ≤ n → IsPrefix (sent_on c (first_acts code histories m)) (sent_on c (first_acts code histories n))
+acts_are_front None histories m n c le = prefix_nil [] [] refl
+acts_are_front (Some code) histories m n c le =
+    let front : take m (take n (process_trace code histories).steps) ≡ take m (process_trace code histories).steps = take-take m n (process_trace code histories).steps le in
+    record {
+      rest = sent_on c (drop m (take n (process_trace code histories).steps));
+      is =
+          ap (sent_on c) (sym (take-append-drop m (take n (process_trace code histories).steps)))
+          ∙ (sent_on-append c (take m (take n (process_trace code histories).steps)) (drop m (take n (process_trace code histories).steps))
+          ∙ ap (λ (steps : List Step). sent_on c steps ++ sent_on c (drop m (take n (process_trace code histories).steps))) front);
+    }
+
+-- a beginning of a beginning
+beginning_of_whole : (taken part whole : List ℤ) → IsPrefix part whole → IsBeginningOf taken part → IsBeginningOf taken whole
+beginning_of_whole taken part whole front begins =
+    prefix_take taken whole (prefix_trans taken part whole (prefix_from_take taken part begins) front)
+
+-- what left is still a beginning of what the process put, once the node has come on
+pub beginning_stays : (net : Network) (inputs : List (List ℤ)) (old new : NodeView) (before : HasReached net inputs old) (after : HasReached net inputs new) (c p : ℕ) (taken : List ℤ)
+    → HasComeOn net inputs old new before after
+    → IsBeginningOf taken (sent_on c (acts_of net (approximation net inputs before.n) before.current_acts p))
+    → IsBeginningOf taken (sent_on c (acts_of net (approximation net inputs after.n) after.current_acts p))
+beginning_stays net inputs old new before after c p taken on begins =
+    subst (λ (n : ℕ). IsBeginningOf taken (sent_on c (acts_of net (approximation net inputs n) after.current_acts p))) (sym on.same)
+    (beginning_of_whole taken _ _ (acts_are_front (slice_get net.codes p) (approximation net inputs before.n) (before.current_acts p) (after.current_acts p) c (on.further p)) begins)

@@ -8,70 +8,60 @@ use Rattle.node.specs.JobView.{JobView}
 use Rattle.node.specs.NodeView.{NodeView}
 use Rattle.node.specs.Choosing.{after_grant}
 use Rattle.node.specs.Starting.{with_own, decided, decided_with, with_kept, stopped}
-use Rattle.node.specs.Reached.{ImageStands, IsAsFar, HasReached}
+use Rattle.node.specs.Reached.{ImageStands, IsAsFar, HasReached, HasComeOn}
 use Rattle.node.specs.declared.record.Tentative.{Tentative}
 
--- the image that a start takes stands where the node stands
-pub started_held : (net : Network) (inputs : List (List ℤ)) (number : ℕ) (node : NodeView) (reached : HasReached net inputs node) (tentative : Tentative)
-    → (with_own number node.current node.kept).tentative ≡ Some tentative → ImageStands net (approximation net inputs reached.n) reached.current_acts tentative.image
-started_held net inputs number node reached tentative is =
-    let image : node.current ≡ tentative.image = cc in
-    subst (λ (x : ImageView). ImageStands net (approximation net inputs reached.n) reached.current_acts x) image reached.current
-
-pub none_held : (net : Network) (histories : List (List ℤ)) (acts : ℕ → ℕ) (tentative : Tentative) → None ≡ Some tentative → ImageStands net histories acts tentative.image
-none_held net histories acts tentative is = absurd (cc)
-
-pub no_further : (acts : ℕ → ℕ) → IsAsFar acts acts
-no_further acts = λ p. omega arith
-
-pub as_far_as : (acts held later : ℕ → ℕ) → IsAsFar acts held → IsAsFar held later → IsAsFar acts later
-as_far_as acts held later a b = λ p. (let first = a p in let second = b p in omega (arith, first, second))
-
 -- a node that takes a tentative image of what it has now
-abbrev pub reached_start : (net : Network) (inputs : List (List ℤ)) (number : ℕ) (node : NodeView) → HasReached net inputs node → HasReached net inputs (with_kept (with_own number node.current node.kept) node)
+pub reached_start : (net : Network) (inputs : List (List ℤ)) (number : ℕ) (node : NodeView) → HasReached net inputs node → HasReached net inputs (with_kept (with_own number node.current node.kept) node)
 reached_start net inputs number node reached = record {
   n = reached.n;
   permanent_acts = reached.permanent_acts;
   held_acts = reached.current_acts;
   current_acts = reached.current_acts;
   permanent = reached.permanent;
-  held = started_held net inputs number node reached;
+  held = held;
   current = reached.current;
-  held_after = as_far_as reached.permanent_acts reached.held_acts reached.current_acts reached.held_after reached.current_after;
-  current_after = no_further reached.current_acts;
+  held_after = λ p. (let a = reached.held_after p in let b = reached.current_after p in omega (arith, a, b));
+  current_after = λ p. omega arith;
 }
+  where
+    held : (tentative : Tentative) → (with_own number node.current node.kept).tentative ≡ Some tentative → ImageStands net (approximation net inputs reached.n) reached.current_acts tentative.image
+    held tentative is =
+        let image : node.current ≡ tentative.image = cc in
+        subst (λ (x : ImageView). ImageStands net (approximation net inputs reached.n) reached.current_acts x) image reached.current
 
 -- a node whose tentative image becomes permanent, where one is held
-abbrev pub reached_decided : (net : Network) (inputs : List (List ℤ)) (node : NodeView) → HasReached net inputs node → (o : Option Tentative) → node.kept.tentative ≡ o
-    → HasReached net inputs (with_kept (decided_with node.kept o) node)
-reached_decided net inputs node reached None is = record {
-  n = reached.n;
-  permanent_acts = reached.permanent_acts;
-  held_acts = reached.held_acts;
-  current_acts = reached.current_acts;
-  permanent = reached.permanent;
-  held = reached.held;
-  current = reached.current;
-  held_after = reached.held_after;
-  current_after = reached.current_after;
-}
-reached_decided net inputs node reached (Some tentative) is = record {
-  n = reached.n;
-  permanent_acts = reached.held_acts;
-  held_acts = reached.held_acts;
-  current_acts = reached.current_acts;
-  permanent = reached.held tentative is;
-  held = none_held net (approximation net inputs reached.n) reached.held_acts;
-  current = reached.current;
-  held_after = no_further reached.held_acts;
-  current_after = reached.current_after;
-}
-
 pub reached_decide : (net : Network) (inputs : List (List ℤ)) (node : NodeView) → HasReached net inputs node → HasReached net inputs (with_kept (decided node.kept) node)
-reached_decide net inputs node reached = reached_decided net inputs node reached node.kept.tentative refl
+reached_decide net inputs node reached = record {
+  n = reached.n;
+  permanent_acts = permanent_then node.kept.tentative;
+  held_acts = reached.held_acts;
+  current_acts = reached.current_acts;
+  permanent = permanent node.kept.tentative refl;
+  held = λ tentative is. absurd (none_left node.kept.tentative refl tentative is);
+  held_after = held_after node.kept.tentative;
+  current = reached.current;
+  current_after = reached.current_after;
+}
+  where
+    permanent_then : Option Tentative → ℕ → ℕ
+    permanent_then None = reached.permanent_acts
+    permanent_then (Some tentative) = reached.held_acts
+
+    held_after : (o : Option Tentative) → IsAsFar (permanent_then o) reached.held_acts
+    held_after None = reached.held_after
+    held_after (Some tentative) = λ p. omega arith
+
+    permanent : (o : Option Tentative) → node.kept.tentative ≡ o → ImageStands net (approximation net inputs reached.n) (permanent_then o) (decided_with node.kept o).permanent
+    permanent None is = reached.permanent
+    permanent (Some tentative) is = reached.held tentative is
+
+    none_left : (o : Option Tentative) → node.kept.tentative ≡ o → (tentative : Tentative) → (decided_with node.kept o).tentative ≡ Some tentative → ⊥
+    none_left None is tentative e = cc
+    none_left (Some held) is tentative e = cc
 
 -- a node that went down
-abbrev pub reached_stopped : (net : Network) (inputs : List (List ℤ)) (round : ℕ) (node : NodeView) → HasReached net inputs node → HasReached net inputs (stopped round node)
+pub reached_stopped : (net : Network) (inputs : List (List ℤ)) (round : ℕ) (node : NodeView) → HasReached net inputs node → HasReached net inputs (stopped round node)
 reached_stopped net inputs round node reached = record {
   n = reached.n;
   permanent_acts = reached.permanent_acts;
@@ -85,7 +75,7 @@ reached_stopped net inputs round node reached = record {
 }
 
 -- a node that granted a job, or none
-abbrev pub reached_grant : (net : Network) (inputs : List (List ℤ)) (job : Option JobView) (node : NodeView) → HasReached net inputs node → HasReached net inputs (after_grant job node)
+pub reached_grant : (net : Network) (inputs : List (List ℤ)) (job : Option JobView) (node : NodeView) → HasReached net inputs node → HasReached net inputs (after_grant job node)
 reached_grant net inputs None node reached = reached
 reached_grant net inputs (Some job) node reached = record {
   n = reached.n;
@@ -98,3 +88,26 @@ reached_grant net inputs (Some job) node reached = record {
   held_after = reached.held_after;
   current_after = reached.current_after;
 }
+
+-- Each leaves the approximation and the acts as they were
+
+pub on_start : (net : Network) (inputs : List (List ℤ)) (number : ℕ) (node : NodeView) (reached : HasReached net inputs node)
+    → HasComeOn net inputs node (with_kept (with_own number node.current node.kept) node) reached (reached_start net inputs number node reached)
+unfolding reached_start
+on_start net inputs number node reached = record { same = refl; further = λ p. omega arith }
+
+pub on_decide : (net : Network) (inputs : List (List ℤ)) (node : NodeView) (reached : HasReached net inputs node)
+    → HasComeOn net inputs node (with_kept (decided node.kept) node) reached (reached_decide net inputs node reached)
+unfolding reached_decide
+on_decide net inputs node reached = record { same = refl; further = λ p. omega arith }
+
+pub on_stopped : (net : Network) (inputs : List (List ℤ)) (round : ℕ) (node : NodeView) (reached : HasReached net inputs node)
+    → HasComeOn net inputs node (stopped round node) reached (reached_stopped net inputs round node reached)
+unfolding reached_stopped
+on_stopped net inputs round node reached = record { same = refl; further = λ p. omega arith }
+
+pub on_grant : (net : Network) (inputs : List (List ℤ)) (job : Option JobView) (node : NodeView) (reached : HasReached net inputs node)
+    → HasComeOn net inputs node (after_grant job node) reached (reached_grant net inputs job node reached)
+unfolding reached_grant
+on_grant net inputs None node reached = record { same = refl; further = λ p. omega arith }
+on_grant net inputs (Some job) node reached = record { same = refl; further = λ p. omega arith }

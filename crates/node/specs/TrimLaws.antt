@@ -15,11 +15,11 @@ use Rattle.outlet.specs.LogState.{LogState, IsLogOf, IsWithinLimits, log_end, tr
 use Rattle.node.specs.ImageView.{ImageView}
 use Rattle.node.specs.JobView.{JobView}
 use Rattle.node.specs.NodeView.{NodeView}
-use Rattle.node.specs.Ends.{received_of, received_at, log_of, log_at, sent_in, sent_of, end_of}
+use Rattle.node.specs.Ends.{received_of, received_at, log_of, log_at, sent_in, sent_of, end_of, base_in, base_of}
 use Rattle.node.specs.Granting.{is_process, next_items, items_from, room_in, room_from}
 use Rattle.node.specs.Trimming.{trimmed_log, trimmed_end, trimmed_saved, trimmed_image, with_current}
 use Rattle.node.specs.Starting.{HasPutMore}
-use Rattle.node.specs.Reached.{acts_of, EndStands, ImageStands, HasReached, is_counting, IsLaidOut, CountsAreWithin, LogsAreWithin, IsJobOf}
+use Rattle.node.specs.Reached.{acts_of, EndStands, ImageStands, HasReached, is_counting, IsLaidOut, CountsAreWithin, LogsAreWithin, IsJobOf, HasComeOn}
 use Rattle.node.specs.ImageLaws.{map_got, map_keeps, end_of_changed}
 use Rattle.node.specs.declared.record.SavedEnd.{SavedEnd}
 use Rattle.node.specs.declared.record.End.{End}
@@ -254,3 +254,8 @@ reached_trim net inputs c position node reached = record {
   held_after = reached.held_after;
   current_after = reached.current_after;
 }
+
+pub on_trim : (net : Network) (inputs : List (List ℤ)) (c position : ℕ) (node : NodeView) (reached : HasReached net inputs node)
+    → HasComeOn net inputs node (with_current (trimmed_image c position node.current) node) reached (reached_trim net inputs c position node reached)
+unfolding reached_trim
+on_trim net inputs c position node reached = record { same = refl; further = λ p. omega arith }

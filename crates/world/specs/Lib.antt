@@ -3,3 +3,4 @@ pub mod Sound
 pub mod Covered
 pub mod Replies
 pub mod Growing
+pub mod TurnLaws

@@ -1,5 +1,5 @@
 -- What is true of a node with its outputs, whatever events came before.
-use Rattle.std.specs.Prelude.{◌≡◌, ℕ, suc, ◌≤◌, Bool, true, false, if◌then◌else◌, ℤ, List, [], ◌∷◌, map, length, Option, Some, slice_get}
+use Rattle.std.specs.Prelude.{◌≡◌, ℕ, suc, ◌≤◌, Bool, true, false, if◌then◌else◌, ℤ, List, [], ◌∷◌, map, length, Some, slice_get}
 use Rattle.net_check.specs.Syntax.{Network}
 use Rattle.net_check.specs.Processes.{sent_on}
 use Rattle.net_check.specs.Approximations.{approximation}
@@ -10,7 +10,7 @@ use Rattle.outlet.specs.Released.{IsBeginningOf}
 use Rattle.node.specs.JobView.{JobView}
 use Rattle.node.specs.NodeView.{NodeView}
 use Rattle.node.specs.Ends.{base_of, sent_of}
-use Rattle.node.specs.Reached.{HasReached, IsLaidOut, CountsAreWithin, IsJobOf, acts_of}
+use Rattle.node.specs.Reached.{HasReached, IsLaidOut, CountsAreWithin, LogsAreWithin, IsJobOf, acts_of}
 use Rattle.world.specs.OutputView.{OutputView}
 
 -- items go outside there
@@ -18,10 +18,12 @@ abbrev pub goes_outside : Port → Bool
 goes_outside Outside = true
 goes_outside (Process p) = false
 
--- its image has every process and channel, and no more was received than there is
+-- its image has every process and channel, no more was received than there is, and its logs are within their limits (a view of a node
+-- doesn't say so, and without it a turn might not fit)
 pub record NodeIsSound (net : Network) (inputs : List (List ℤ)) (node : NodeView) : Type 0 where
   pub laid_out : IsLaidOut net node.current
   pub counts : CountsAreWithin inputs node.current
+  pub logs : LogsAreWithin node.current
 
 -- the log of an output goes back to what its outlet has, and the permanent image covers all of that
 pub record OutputIsSound (node : NodeView) (output : OutputView) : Type 0 where

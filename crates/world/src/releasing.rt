@@ -1,7 +1,9 @@
 // A station's outputs: one item leaves the system.
-ghost use Rattle.std.specs.Prelude.{◌≡◌, ◌<◌, ℕ, length, find, nat_lt, IfSome, OnErr, Some, slice_get};
+ghost use Rattle.std.specs.Prelude.{◌≡◌, ◌⊎◌, ◌<◌, ◌+◌, ℕ, ℤ, List, length, IfSome, IfOk, OnErr, Some, slice_get};
+ghost use Rattle.outlet.specs.LogState.{LogState, IsLogOf};
 ghost use Rattle.outlet.specs.Released.{IsBeginningOf};
-ghost use Rattle.node.specs.Ends.{sent_of};
+ghost use Rattle.node.specs.Ends.{log_of, sent_of};
+ghost use Rattle.node.specs.Trimming.{trimmed_image, with_current, HasNext};
 ghost use Rattle.node.specs.NodeView.{node_view};
 ghost use Rattle.world.specs.OutputView.{OutputView, output_view, outputs_view};
 ghost use Rattle.world.specs.Covered.{AreCoveredSince};
@@ -10,23 +12,55 @@ ghost use Rattle.world.specs.Growing.{EachBegins};
 use crate::event::{Freed, Reply};
 use crate::output::Output;
 use crate::station::Station;
-use node::{Image, StableCell};
+use node::{Node, Record, StableCell};
 use outlet::{Outlet, OutletFault};
 use std::alloc::AllocError;
 
 // The first output with an item that the permanent image covers and that its outlet hasn't taken, if its outlet didn't
 // fail in this round.
-pub(crate) fn next_output<O: Outlet>(permanent: &Image, outputs: &[Output<O>]) -> Option<usize>
+pub(crate) fn next_output<O: Outlet>(kept: &Record, outputs: &[Output<O>]) -> Option<usize>
     ensures waiting { IfSome result (λ j. (output : OutputView) → slice_get (outputs_view O.taken outputs.now) j ≡ Some output
-        → length output.taken < sent_of permanent.now output.channel) }
+        → length output.taken < sent_of kept.now.permanent output.channel) }
     ensures within { IfSome result (λ j. j < length outputs.now) }
 {
     for (j, output) in outputs.iter().enumerate() {
-        if !output.failed && output.outlet.len() < permanent.sent(output.channel) {
+        if !output.failed && output.outlet.len() < kept.permanent.sent(output.channel) {
             return Some(j);
         }
     }
     None
+}
+
+// Lets the next item of an output leave.
+fn release_at<C: StableCell, O: Outlet>(
+    node: &mut Node<C>,
+    output: &mut Output<O>,
+) -> Result<Reply, AllocError>
+    requires { HasNext (log_of node.old.state.current output.old.channel) (length (O.taken output.old.outlet)) }
+    ensures channel { output.new.channel ≡ output.old.channel }
+    ensures length { (length (O.taken output.new.outlet) ≡ length (O.taken output.old.outlet))
+        ⊎ (length (O.taken output.new.outlet) ≡ length (O.taken output.old.outlet) + 1) }
+    ensures begins { IsBeginningOf (O.taken output.old.outlet) (O.taken output.new.outlet) }
+    ensures history { (log : LogState) (history : List ℤ) → log_of node.old.state.current output.old.channel ≡ Some log → IsLogOf log history
+        → IsBeginningOf (O.taken output.old.outlet) history → IsBeginningOf (O.taken output.new.outlet) history }
+    ensures refused { OnErr result ((node_view node.new.state ≡ node_view node.old.state)
+        × (O.taken output.new.outlet ≡ O.taken output.old.outlet)) }
+    ensures trimmed { IfOk result (λ reply. node_view node.new.state
+        ≡ with_current (trimmed_image output.old.channel (length (O.taken output.new.outlet)) node.old.state.current) (node_view node.old.state)) }
+    ensures same { (node.new.cell ≡ node.old.cell) × (node.new.number ≡ node.old.number) }
+{
+    let channel = output.channel;
+    match node.release(channel, &mut output.outlet) {
+        Ok(()) => Ok(Reply::Released(Freed {
+            output: channel,
+            number: output.outlet.len(),
+        })),
+        Err(OutletFault::NoMemory) => Err(AllocError),
+        Err(OutletFault::Failed) => {
+            output.failed = true;
+            Ok(Reply::OutletFailed)
+        }
+    }
 }
 
 impl<C: StableCell, O: Outlet> Station<C, O> {
@@ -42,20 +76,9 @@ impl<C: StableCell, O: Outlet> Station<C, O> {
         if !self.node.state.up {
             return Ok(Reply::NotDue);
         }
-        let Some(j) = next_output(&self.node.state.kept.permanent, &self.outputs) else {
+        let Some(j) = next_output(&self.node.state.kept, &self.outputs) else {
             return Ok(Reply::NotDue);
         };
-        let output = &mut self.outputs[j];
-        match self.node.release(output.channel, &mut output.outlet) {
-            Ok(()) => Ok(Reply::Released(Freed {
-                output: output.channel,
-                number: output.outlet.len(),
-            })),
-            Err(OutletFault::NoMemory) => Err(AllocError),
-            Err(OutletFault::Failed) => {
-                output.failed = true;
-                Ok(Reply::OutletFailed)
-            }
-        }
+        release_at(&mut self.node, &mut self.outputs[j])
     }
 }

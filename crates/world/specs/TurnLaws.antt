@@ -1,0 +1,117 @@
+-- A turn that comes back fits what the node has now, and what is true of a station stays so.
+use Rattle.std.proofs.Common.{◌≡◌, ℕ, List, ℤ, length, Option, Some, None, sym, subst, ◌∙◌, arith}
+use Rattle.std.specs.Prelude.{slice_get}
+use Rattle.std.proofs.Math.Logic.{∥∥₁_elim, ∥∥₁_map, ∥∥₁_map₂}
+use Rattle.std.proofs.Math.Bridge.{le_prop}
+use mathlib.Core.HLevel.{⊥_prop}
+use Rattle.net_check.specs.Fits.{Fits}
+use Rattle.net_check.specs.Valid.{IsValid}
+use Rattle.net_check.specs.Syntax.{Code, Network}
+use Rattle.net_check.specs.Processes.{Standing}
+use Rattle.outlet.specs.LogState.{LogState}
+use Rattle.proc_step.specs.Turns.{IsTurn}
+use Rattle.node.specs.JobView.{JobView}
+use Rattle.node.specs.NodeView.{NodeView}
+use Rattle.node.specs.Ends.{log_at, base_of}
+use Rattle.node.specs.Installing.{put_on, installed, with_turn, LogTakes, ImageTakes, IsOut}
+use Rattle.node.specs.Reached.{IsJobOf, IsTurnOf, CountsAreWithin}
+use Rattle.node.specs.InstallLaws.{reached_install, on_install}
+use Rattle.node.specs.FitLaws.{turn_fits, counts_installed, laid_out_installed, logs_installed, base_installed}
+use Rattle.node.specs.ReleaseLaws.{beginning_stays}
+use Rattle.world.specs.OutputView.{OutputView}
+use Rattle.world.specs.Sound.{OutputsAreSound, HasCome, IsSound}
+
+-- what comes back is a turn of the job's own code, whatever network that is of
+abbrev pub IsTurnOfJob : JobView → Standing → List ℕ → List (List ℤ) → Type 0
+IsTurnOfJob job after taken sent = (code : Code) → job.code ≡ Some code → IsTurn code job.standing job.items job.room after taken sent
+
+module _ (net : Network) (inputs : List (List ℤ)) (node : NodeView) (outputs : List OutputView) (job : JobView) (after : Standing) (taken : List ℕ) (sent : List (List ℤ)) where
+  -- Which code the turn is of
+
+  -- a turn of the code that the process has
+  turn_of_code : (code : Code) → slice_get net.codes job.process ≡ Some code → IsTurn code job.standing job.items job.room after taken sent → IsTurnOf net job after taken sent
+  turn_of_code code there turn other is =
+      let both : Some code ≡ Some other = sym there ∙ is in
+      let same : code ≡ other = cc in
+      subst (λ (c : Code). IsTurn c job.standing job.items job.room after taken sent) same turn
+
+  -- or of the job's own code: the job that is out is of this network
+  turn_of_done : IsJobOf net inputs node.current job → IsTurnOfJob job after taken sent → IsTurnOf net job after taken sent
+  turn_of_done of turn code there = turn code (of.code ∙ there)
+
+  turn_of_sound : IsSound net inputs node outputs → IsOut job node → ∥ IsTurnOfJob job after taken sent ∥₁ → ∥ IsTurnOf net job after taken sent ∥₁
+  turn_of_sound sound out turn = ∥∥₁_map₂ sound.come turn (λ come t. turn_of_done (come.out job out.1) t)
+
+  -- The turn fits
+
+  fits_by : Fits net inputs → IsSound net inputs node outputs → IsOut job node → HasCome net inputs node outputs → IsTurnOf net job after taken sent → ImageTakes net.channels job.process taken sent node.current
+  fits_by fits sound out come turn =
+      turn_fits net inputs node job after taken sent come.reached sound.kept.laid_out sound.kept.counts sound.kept.logs fits (come.out job out.1) turn
+
+  takes : Fits net inputs → IsSound net inputs node outputs → IsOut job node → ∥ IsTurnOf net job after taken sent ∥₁ → ImageTakes net.channels job.process taken sent node.current
+  takes fits sound out turn k saved is = record {
+    received = ∥∥₁_elim sound.come le_prop (λ come. ∥∥₁_elim turn le_prop (λ t. (fits_by fits sound out come t k saved is).received));
+    put = at (log_at (Some (saved.end))) (λ come t. (fits_by fits sound out come t k saved is).put);
+  }
+    where
+      at : (o : Option LogState) → (HasCome net inputs node outputs → IsTurnOf net job after taken sent → LogTakes (length (put_on net.channels job.process sent saved.channel)) o)
+          → LogTakes (length (put_on net.channels job.process sent saved.channel)) o
+      at None by = tt
+      at (Some log) by = λ over. ∥∥₁_elim sound.come ⊥_prop (λ come. ∥∥₁_elim turn ⊥_prop (λ t. by come t over))
+
+  -- What is true stays so
+
+  counts_then : IsSound net inputs node outputs → IsOut job node → ∥ IsTurnOf net job after taken sent ∥₁ → CountsAreWithin inputs (installed net.channels job.process after taken sent node.current)
+  counts_then sound out turn k saved is =
+      ∥∥₁_elim sound.come le_prop (λ come. ∥∥₁_elim turn le_prop
+      (λ t. counts_installed net inputs node job after taken sent come.reached sound.kept.laid_out sound.kept.counts (come.out job out.1) t k saved is))
+
+  come_then : IsSound net inputs node outputs → IsOut job node → HasCome net inputs node outputs → IsTurnOf net job after taken sent
+      → HasCome net inputs (with_turn net.channels job.process after taken sent node) outputs
+  come_then sound out come turn = record {
+    reached = reached_install net inputs node job after taken sent come.reached sound.kept.laid_out (come.out job out.1) turn;
+    out = λ other is. absurd (cc);
+    released = λ j p output channel is on from.
+        beginning_stays net inputs node (with_turn net.channels job.process after taken sent node) come.reached
+        (reached_install net inputs node job after taken sent come.reached sound.kept.laid_out (come.out job out.1) turn) output.channel p output.taken
+        (on_install net inputs node job after taken sent come.reached sound.kept.laid_out (come.out job out.1) turn) (come.released j p output channel is on from);
+  }
+
+  covered_then : OutputsAreSound node outputs → OutputsAreSound (with_turn net.channels job.process after taken sent node) outputs
+  covered_then covered j output is =
+      let before = covered j output is in
+      let base : base_of (installed net.channels job.process after taken sent node.current) output.channel ≡ base_of node.current output.channel =
+      base_installed net.channels job.process after taken sent node.current output.channel in
+      let gap = before.no_gap in
+      record { no_gap = omega (arith, base, gap); covered = before.covered }
+
+  stays : Fits net inputs → IsSound net inputs node outputs → IsOut job node → ∥ IsTurnOf net job after taken sent ∥₁ → IsSound net inputs (with_turn net.channels job.process after taken sent node) outputs
+  stays fits sound out turn = record {
+    listed = sound.listed;
+    kept = record {
+      laid_out = laid_out_installed net job.process after taken sent node.current sound.kept.laid_out;
+      counts = counts_then sound out turn;
+      logs = logs_installed net.channels job.process after taken sent node.current (takes fits sound out turn);
+    };
+    covered = covered_then sound.covered;
+    come = ∥∥₁_map₂ sound.come turn (λ come t. come_then sound out come t);
+  }
+
+  -- Of the code that the process has
+
+  pub takes_turn : (code : Code) → IsValid net → Fits net inputs → IsSound net inputs node outputs → IsOut job node → slice_get net.codes job.process ≡ Some code
+      → ∥ IsTurn code job.standing job.items job.room after taken sent ∥₁ → ImageTakes net.channels job.process taken sent node.current
+  takes_turn code valid fits sound out there turn = takes fits sound out (∥∥₁_map turn (turn_of_code code there))
+
+  pub sound_installed : (code : Code) → IsValid net → Fits net inputs → IsSound net inputs node outputs → IsOut job node → slice_get net.codes job.process ≡ Some code
+      → ∥ IsTurn code job.standing job.items job.room after taken sent ∥₁ → IsSound net inputs (with_turn net.channels job.process after taken sent node) outputs
+  sound_installed code valid fits sound out there turn = stays fits sound out (∥∥₁_map turn (turn_of_code code there))
+
+  -- The same of what a job that was run says of itself
+
+  pub takes_done : IsValid net → Fits net inputs → IsSound net inputs node outputs → IsOut job node → ∥ IsTurnOfJob job after taken sent ∥₁ → ImageTakes net.channels job.process taken sent node.current
+  takes_done valid fits sound out turn = takes fits sound out (turn_of_sound sound out turn)
+
+  pub sound_done : IsValid net → Fits net inputs → IsSound net inputs node outputs → IsOut job node → ∥ IsTurnOfJob job after taken sent ∥₁
+      → IsSound net inputs (with_turn net.channels job.process after taken sent node) outputs
+  sound_done valid fits sound out turn = stays fits sound out (turn_of_sound sound out turn)
