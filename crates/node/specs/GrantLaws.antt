@@ -1,5 +1,5 @@
 -- Laws of a job that is granted: it is of where its process stands.
-use Rattle.std.proofs.Common.{◌≡◌, ◌⊎◌, inl, inr, ℕ, ◌+◌, ◌≤◌, Bool, true, false, eqb, cond, ℤ, List, length, Option, Some, None, refl, sym, ap, subst, ◌∙◌, arith}
+use Rattle.std.proofs.Common.{◌≡◌, ◌⊎◌, inl, inr, ℕ, Bool, true, false, eqb, cond, ℤ, List, length, Option, Some, None, refl, ap, subst, ◌∙◌, arith}
 use Rattle.std.specs.Prelude.{slice_get, find, ◌&&◌}
 use Rattle.net_check.specs.Syntax.{Network}
 use Rattle.node.specs.ProcessView.{SavedProcessView}

@@ -1,14 +1,12 @@
 -- Laws of images that are laid out: an end is found at its channel's number, and what a step changes of an end is found there.
-use Rattle.std.proofs.Common.{◌≡◌, ◌≢◌, ◌⊎◌, inl, inr, ℕ, zero, suc, ◌+◌, ◌<◌, ◌≤◌, Bool, true, false, eqb, cond, List, [], ◌∷◌, length, map, Option, Some, None, option_map, refl, sym, ap, subst, ◌∙◌, arith}
+use Rattle.std.proofs.Common.{◌≡◌, ℕ, zero, suc, ◌+◌, ◌<◌, Bool, true, false, eqb, cond, List, [], ◌∷◌, length, map, Option, Some, None, option_map, refl, sym, ap, ◌∙◌, arith}
 use Rattle.std.specs.Prelude.{slice_get, find}
-use Rattle.std.proofs.lemmas.Bool.{eq-eqb, ne_eqb, cases_cond}
-use Rattle.std.proofs.lemmas.Bool.Decides.{eqb_tells}
+use Rattle.std.proofs.lemmas.Bool.{eq-eqb, ne_eqb}
 use Rattle.net_check.specs.Syntax.{Network}
 use Rattle.node.specs.ImageView.{ImageView}
 use Rattle.node.specs.Ends.{end_of, received_of, received_at, log_of, log_at}
 use Rattle.node.specs.Reached.{numbers_from, IsLaidOut}
 use Rattle.node.specs.declared.record.SavedEnd.{SavedEnd}
-use Rattle.node.specs.declared.record.End.{End}
 
 -- Lists whose elements are numbered in order
 

@@ -1,6 +1,6 @@
 -- Laws of a trimmed image: what is kept of an image is kept, and a node has come as far.
-use Rattle.std.proofs.Common.{◌≡◌, ◌≢◌, ◌⊎◌, inl, inr, ℕ, zero, suc, ◌+◌, ◌-◌, ◌^◌, ◌<◌, ◌≤◌, Bool, true, false, eqb, ltb, cond, ℤ, List, [], ◌∷◌, ◌++◌, length, take, drop, map, get_or, Option, Some, None, option_map, refl, sym, ap, subst, ◌∙◌, arith}
-use Rattle.std.specs.Prelude.{slice_get, slice_index, find, min, nat_lt}
+use Rattle.std.proofs.Common.{◌≡◌, ◌≢◌, ◌⊎◌, inl, inr, ℕ, zero, suc, ◌+◌, ◌-◌, ◌^◌, ◌≤◌, Bool, true, false, eqb, ltb, cond, ℤ, List, [], ◌∷◌, length, take, drop, map, Option, Some, None, option_map, refl, sym, ap, subst, ◌∙◌, arith}
+use Rattle.std.specs.Prelude.{slice_get, slice_index, find, min}
 use Rattle.std.proofs.Math.Nat.{min-le_left, min-le_right, le-min}
 use Rattle.std.proofs.lemmas.Bool.{ltb-false, eqb-true, ne_eqb}
 use Rattle.std.proofs.lemmas.List.{length-drop, drop-drop}
@@ -18,7 +18,6 @@ use Rattle.node.specs.NodeView.{NodeView}
 use Rattle.node.specs.Ends.{received_of, received_at, log_of, log_at, sent_in, sent_of, end_of, base_in, base_of}
 use Rattle.node.specs.Granting.{is_process, next_items, items_from, room_in, room_from}
 use Rattle.node.specs.Trimming.{trimmed_log, trimmed_end, trimmed_saved, trimmed_image, with_current}
-use Rattle.node.specs.Starting.{HasPutMore}
 use Rattle.node.specs.Reached.{acts_of, EndStands, ImageStands, HasReached, is_counting, IsLaidOut, CountsAreWithin, LogsAreWithin, IsJobOf, HasComeOn}
 use Rattle.node.specs.ImageLaws.{find_passes, map_got, map_keeps, end_of_changed}
 use Rattle.node.specs.declared.record.SavedEnd.{SavedEnd}
