@@ -1,5 +1,5 @@
 -- Laws of a turn that fits: what it takes is there, what it puts has room, and what is kept of an image is kept by it.
-use Rattle.std.proofs.Common.{◌≡◌, ◌≢◌, ◌⊎◌, inl, inr, ℕ, zero, suc, ◌+◌, ◌-◌, ◌^◌, ◌<◌, ◌≤◌, Bool, true, false, eqb, cond, ℤ, List, [], ◌∷◌, ◌++◌, length, take, drop, map, get_or, Option, Some, None, option_map, refl, sym, ap, subst, ◌∙◌, arith}
+use Rattle.std.proofs.Common.{◌≡◌, ◌⊎◌, inl, inr, ℕ, zero, suc, ◌+◌, ◌-◌, ◌^◌, ◌<◌, ◌≤◌, Bool, true, false, eqb, cond, ℤ, List, [], ◌∷◌, length, drop, map, get_or, Option, Some, None, option_map, refl, sym, ap, subst, ◌∙◌, arith}
 use Rattle.std.specs.Prelude.{slice_get, slice_index, find, min}
 use Rattle.std.proofs.Math.Nat.{min-le_left, min-le_right}
 use Rattle.std.proofs.lemmas.Bool.{cases_lt}
@@ -14,15 +14,15 @@ use Rattle.net_check.specs.declared.program.Channel.{Channel}
 use Rattle.net_check.specs.declared.program.Port.{Port}
 use Rattle.net_check.specs.declared.program.Port.TheVariants.{Outside, Process}
 use Rattle.outlet.specs.LogState.{LogState, IsWithinLimits, Overfills, log_end}
-use Rattle.proc_step.specs.Turns.{Turn, IsTurn}
+use Rattle.proc_step.specs.Turns.{IsTurn}
 use Rattle.proc_step.specs.TurnLaws.{sent_fits, taken_fits}
 use Rattle.node.specs.ProcessView.{SavedProcessView}
 use Rattle.node.specs.ImageView.{ImageView}
 use Rattle.node.specs.JobView.{JobView}
 use Rattle.node.specs.NodeView.{NodeView}
-use Rattle.node.specs.Ends.{received_of, received_at, log_of, log_at, sent_in, sent_of, end_of, base_in, base_of}
-use Rattle.node.specs.Granting.{is_process, next_items, items_from, room_in, room_from}
-use Rattle.node.specs.Installing.{is_consumer, is_producer, taken_from, put_on, log_with, pushed, counted, saved_pushed, saved_counted, moved, installed, LogTakes, EndTakes, ImageTakes}
+use Rattle.node.specs.Ends.{received_of, received_at, log_of, log_at, sent_in, end_of, base_in, base_of}
+use Rattle.node.specs.Granting.{is_process, next_items, room_in, room_from}
+use Rattle.node.specs.Installing.{is_consumer, is_producer, taken_from, put_on, log_with, pushed, counted, saved_pushed, saved_counted, moved, installed, LogTakes, ImageTakes}
 use Rattle.node.specs.Starting.{HasPutMore}
 use Rattle.node.specs.Reached.{ImageStands, HasReached, is_counting, IsLaidOut, CountsAreWithin, LogsAreWithin, IsJobOf, IsTurnOf}
 use Rattle.node.specs.ImageLaws.{channel_at, received_is, log_is, map_got, map_keeps, map_twice, end_of_changed}

@@ -1,14 +1,12 @@
 -- Laws of images that are laid out: an end is found at its channel's number, and what a step changes of an end is found there.
-use Rattle.std.proofs.Common.{◌≡◌, ◌≢◌, ◌⊎◌, inl, inr, ℕ, zero, suc, ◌+◌, ◌<◌, ◌≤◌, Bool, true, false, eqb, cond, List, [], ◌∷◌, length, map, Option, Some, None, option_map, refl, sym, ap, subst, ◌∙◌, arith}
+use Rattle.std.proofs.Common.{◌≡◌, ℕ, zero, suc, ◌+◌, ◌<◌, Bool, true, false, eqb, cond, List, [], ◌∷◌, length, map, Option, Some, None, option_map, refl, sym, ap, ◌∙◌, arith}
 use Rattle.std.specs.Prelude.{slice_get, find}
-use Rattle.std.proofs.lemmas.Bool.{eq-eqb, ne_eqb, cases_cond}
-use Rattle.std.proofs.lemmas.Bool.Decides.{eqb_tells}
+use Rattle.std.proofs.lemmas.Bool.{eq-eqb, ne_eqb}
 use Rattle.net_check.specs.Syntax.{Network}
 use Rattle.node.specs.ImageView.{ImageView}
 use Rattle.node.specs.Ends.{end_of, received_of, received_at, log_of, log_at}
 use Rattle.node.specs.Reached.{numbers_from, IsLaidOut}
 use Rattle.node.specs.declared.record.SavedEnd.{SavedEnd}
-use Rattle.node.specs.declared.record.End.{End}
 
 -- Lists whose elements are numbered in order
 
@@ -74,6 +72,15 @@ find_within {A} test (y ∷ xs) x h = at (test y) (λ e. find_within test xs x e
     at : (b : Bool) → (find test xs ≡ Some x → (k : ℕ) × (slice_get xs k ≡ Some x)) → cond b (Some y) (find test xs) ≡ Some x → (k : ℕ) × (slice_get (y ∷ xs) k ≡ Some x)
     at true later e = (0, e)
     at false later e = let r = later e in (suc r.0, r.1)
+
+-- and passes the test
+pub find_passes : {A : Type 0} (test : A → Bool) (xs : List A) (x : A) → find test xs ≡ Some x → test x ≡ true
+find_passes test [] x h = absurd (cc)
+find_passes {A} test (y ∷ xs) x h = at (test y) refl (λ e. find_passes test xs x e) h
+  where
+    at : (b : Bool) → test y ≡ b → (find test xs ≡ Some x → test x ≡ true) → cond b (Some y) (find test xs) ≡ Some x → test x ≡ true
+    at true is later e = let same : y ≡ x = cc in ap test (sym same) ∙ is
+    at false is later e = later e
 
 -- what is found in a list that keeps each number
 pub find_map : {A : Type 0} (f : A → ℕ) (g : A → A) (xs : List A) (n : ℕ) → ((x : A) → f (g x) ≡ f x) → find (λ (z : A). eqb (f z) n) (map g xs) ≡ option_map g (find (λ (z : A). eqb (f z) n) xs)

@@ -1,12 +1,11 @@
 -- Laws of a turn taken in: the node has come further by the turn's acts, and what the turn took and put fits.
-use Rattle.std.proofs.Common.{◌≡◌, ◌≢◌, ◌⊎◌, inl, inr, ℕ, zero, suc, ◌+◌, ◌-◌, ◌^◌, ◌<◌, ◌≤◌, Bool, true, false, eqb, cond, ℤ, List, [], ◌∷◌, ◌++◌, length, take, drop, map, get_or, Option, Some, None, option_map, refl, sym, ap, subst, ◌∙◌, append-nil, append_assoc, arith}
-use Rattle.std.specs.Prelude.{slice_get, slice_index, find, min}
-use Rattle.std.proofs.Math.Nat.{min-le_left, min-le_right}
+use Rattle.std.proofs.Common.{◌≡◌, ◌≢◌, ◌⊎◌, inl, inr, ℕ, zero, suc, ◌+◌, ◌-◌, ◌<◌, ◌≤◌, Bool, true, false, eqb, cond, ℤ, List, [], ◌∷◌, ◌++◌, length, take, drop, map, get_or, Option, Some, None, refl, sym, ap, subst, ◌∙◌, append-nil, append_assoc, arith}
+use Rattle.std.specs.Prelude.{slice_get, slice_index}
 use Rattle.std.proofs.lemmas.Bool.{eq-eqb, ne_eqb}
 use Rattle.std.proofs.lemmas.Bool.Decides.{eqb_tells}
-use Rattle.std.proofs.lemmas.List.{take-append-drop, length-append, length-take-le, length-drop, take_at, drop-append-le}
-use Rattle.std.proofs.lemmas.Option.{slice_get_cases, slice_get_within, get_or_from_slice_get}
-use Rattle.net_check.specs.Streams.{history_of, IsPrefix}
+use Rattle.std.proofs.lemmas.List.{take-append-drop, length-append, length-take-le, take_at, drop-append-le}
+use Rattle.std.proofs.lemmas.Option.{slice_get_cases, slice_get_within}
+use Rattle.net_check.specs.Streams.{history_of}
 use Rattle.net_check.specs.Syntax.{Code, Network}
 use Rattle.net_check.specs.Statements.{Step}
 use Rattle.net_check.specs.Processes.{Standing, StandsAt, process_trace, sent_on, got_on}
@@ -15,8 +14,8 @@ use Rattle.net_check.specs.GotLaws.{got_on-append}
 use Rattle.net_check.specs.PutLaws.{sent_on-append}
 use Rattle.net_check.specs.declared.program.Channel.{Channel}
 use Rattle.net_check.specs.declared.program.Port.{Port}
-use Rattle.net_check.specs.declared.program.Port.TheVariants.{Outside, Process}
-use Rattle.outlet.specs.LogState.{LogState, IsLogOf, log_end}
+use Rattle.net_check.specs.declared.program.Port.TheVariants.{Process}
+use Rattle.outlet.specs.LogState.{LogState, IsLogOf}
 use Rattle.proc_step.specs.Turns.{AreNext, Turn, IsTurn}
 use Rattle.node.specs.ProcessView.{SavedProcessView}
 use Rattle.node.specs.ImageView.{ImageView}
@@ -25,7 +24,7 @@ use Rattle.node.specs.NodeView.{NodeView}
 use Rattle.node.specs.Ends.{received_at, log_at}
 use Rattle.node.specs.Granting.{is_process, items_from}
 use Rattle.node.specs.Installing.{is_consumer, is_producer, taken_from, put_on, log_with, pushed, counted, saved_pushed, saved_counted, moved, installed, with_turn}
-use Rattle.node.specs.Reached.{first_acts, acts_of, EndStands, ImageStands, IsAsFar, HasReached, numbers_from, is_counting, IsLaidOut, IsJobOf, IsTurnOf, HasComeOn}
+use Rattle.node.specs.Reached.{first_acts, acts_of, EndStands, ImageStands, HasReached, numbers_from, is_counting, IsLaidOut, IsJobOf, IsTurnOf, HasComeOn}
 use Rattle.node.specs.ImageLaws.{numbered_mark, numbered_count, find_within, map_got}
 use Rattle.node.specs.ReachedLaws.{next_are_at_hand}
 use Rattle.node.specs.declared.record.SavedEnd.{SavedEnd}

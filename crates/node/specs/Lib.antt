@@ -22,3 +22,4 @@ pub mod TrimLaws
 pub mod StepLaws
 pub mod ReleaseLaws
 pub mod OpeningLaws
+pub mod GrantLaws

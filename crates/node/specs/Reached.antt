@@ -80,7 +80,7 @@ pub record IsLaidOut (net : Network) (image : ImageView) : Type 0 where
 abbrev pub CountsAreWithin : List (List ℤ) → ImageView → Type 0
 CountsAreWithin inputs image = (k : ℕ) (saved : SavedEnd) → slice_get image.ends k ≡ Some saved → received_at (Some (saved.end)) ≤ length (history_of inputs saved.channel)
 
--- each log is one
+-- each log is within the limits that every log keeps
 abbrev pub LogsAreWithin : ImageView → Type 0
 LogsAreWithin image = (k : ℕ) (saved : SavedEnd) (log : LogState) → slice_get image.ends k ≡ Some saved → log_at (Some (saved.end)) ≡ Some log → IsWithinLimits log
 

@@ -1,13 +1,12 @@
 -- Laws of how far a node has come: what a process has at hand comes next there.
-use Rattle.std.proofs.Common.{◌≡◌, ◌≢◌, ◌⊎◌, inl, inr, ℕ, zero, suc, ◌+◌, ◌<◌, ◌≤◌, Bool, true, false, eqb, cond, ℤ, List, [], ◌∷◌, ◌++◌, length, take, drop, get_or, Option, Some, None, refl, sym, ap, subst, ◌∙◌, arith}
-use Rattle.std.specs.Prelude.{slice_get, ◌==◌}
-use Rattle.std.proofs.lemmas.Bool.{eq-eqb, ne_eqb}
+use Rattle.std.proofs.Common.{◌≡◌, ◌≢◌, ◌⊎◌, inl, inr, ℕ, zero, suc, ◌+◌, ◌<◌, ◌≤◌, Bool, true, false, eqb, cond, ℤ, List, [], ◌∷◌, length, take, drop, get_or, Some, None, refl, sym, ap, ◌∙◌, arith}
+use Rattle.std.specs.Prelude.{slice_get}
 use Rattle.std.proofs.lemmas.Bool.Decides.{eqb_tells}
 use Rattle.std.proofs.lemmas.List.{get_or_past, take-append-drop}
 use Rattle.std.proofs.lemmas.Option.{slice_get_cases, slice_get_within}
 use Rattle.net_check.specs.Streams.{history_of, IsPrefix}
-use Rattle.net_check.specs.PrefixLaws.{prefix_refl, prefix_nil, prefix_along}
-use Rattle.net_check.specs.Syntax.{Code, Network}
+use Rattle.net_check.specs.PrefixLaws.{prefix_nil, prefix_along}
+use Rattle.net_check.specs.Syntax.{Network}
 use Rattle.net_check.specs.Processes.{got_on}
 use Rattle.net_check.specs.Approximations.{approximation, next_history}
 use Rattle.net_check.specs.ApproximationLaws.{next_histories-at}
@@ -16,9 +15,9 @@ use Rattle.net_check.specs.declared.program.Port.{Port}
 use Rattle.net_check.specs.declared.program.Port.TheVariants.{Outside, Process}
 use Rattle.proc_step.specs.Turns.{AreNext}
 use Rattle.node.specs.ImageView.{ImageView}
-use Rattle.node.specs.Ends.{received_of, received_at}
+use Rattle.node.specs.Ends.{received_of}
 use Rattle.node.specs.Granting.{is_process, next_items, items_from}
-use Rattle.node.specs.Reached.{acts_of, EndStands, ImageStands, IsLaidOut}
+use Rattle.node.specs.Reached.{acts_of, ImageStands, IsLaidOut}
 use Rattle.node.specs.ImageLaws.{numbered_there, channel_at, received_is}
 use Rattle.node.specs.declared.record.SavedEnd.{SavedEnd}
 

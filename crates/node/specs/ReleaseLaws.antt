@@ -1,5 +1,5 @@
 -- Laws of what a node's logs hold: the last items of a beginning of each channel's history.
-use Rattle.std.proofs.Common.{◌≡◌, ℕ, suc, ◌<◌, ◌≤◌, ℤ, List, [], ◌++◌, length, take, drop, Option, Some, None, refl, sym, ap, subst, ◌∙◌, arith}
+use Rattle.std.proofs.Common.{◌≡◌, ℕ, suc, ◌≤◌, ℤ, List, [], ◌++◌, length, take, drop, Option, Some, None, refl, sym, ap, subst, ◌∙◌}
 use Rattle.std.specs.Prelude.{slice_get}
 use Rattle.std.proofs.lemmas.List.{take-append-drop, take-take}
 use Rattle.std.proofs.lemmas.Option.{slice_get_within}
@@ -13,12 +13,12 @@ use Rattle.net_check.specs.Approximations.{approximation, next_history, output_a
 use Rattle.net_check.specs.ApproximationLaws.{next_histories-at}
 use Rattle.net_check.specs.declared.program.Channel.{Channel}
 use Rattle.net_check.specs.declared.program.Port.{Port}
-use Rattle.net_check.specs.declared.program.Port.TheVariants.{Outside, Process}
+use Rattle.net_check.specs.declared.program.Port.TheVariants.{Process}
 use Rattle.outlet.specs.LogState.{LogState, IsLogOf}
 use Rattle.outlet.specs.Released.{IsBeginningOf}
 use Rattle.node.specs.ImageView.{ImageView}
 use Rattle.node.specs.NodeView.{NodeView}
-use Rattle.node.specs.Ends.{log_of, log_at}
+use Rattle.node.specs.Ends.{log_of}
 use Rattle.node.specs.Reached.{first_acts, acts_of, ImageStands, HasReached, IsLaidOut, HasComeOn}
 use Rattle.node.specs.ImageLaws.{numbered_there, channel_at, log_is}
 use Rattle.node.specs.declared.record.SavedEnd.{SavedEnd}

@@ -1,9 +1,8 @@
 -- Laws of how far a node has come: what it keeps changes, and what it has now doesn't.
-use Rattle.std.proofs.Common.{◌≡◌, ℕ, ◌+◌, ◌≤◌, ℤ, List, Option, Some, None, refl, sym, ap, subst, ◌∙◌, arith}
+use Rattle.std.proofs.Common.{◌≡◌, ℕ, ℤ, List, Option, Some, None, refl, subst, arith}
 use Rattle.net_check.specs.Syntax.{Network}
 use Rattle.net_check.specs.Approximations.{approximation}
 use Rattle.node.specs.ImageView.{ImageView}
-use Rattle.node.specs.RecordView.{RecordView}
 use Rattle.node.specs.JobView.{JobView}
 use Rattle.node.specs.NodeView.{NodeView}
 use Rattle.node.specs.Choosing.{after_grant}

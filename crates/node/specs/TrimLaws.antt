@@ -1,8 +1,8 @@
 -- Laws of a trimmed image: what is kept of an image is kept, and a node has come as far.
-use Rattle.std.proofs.Common.{◌≡◌, ◌≢◌, ◌⊎◌, inl, inr, ℕ, zero, suc, ◌+◌, ◌-◌, ◌^◌, ◌<◌, ◌≤◌, Bool, true, false, eqb, ltb, cond, ℤ, List, [], ◌∷◌, ◌++◌, length, take, drop, map, get_or, Option, Some, None, option_map, refl, sym, ap, subst, ◌∙◌, arith}
-use Rattle.std.specs.Prelude.{slice_get, slice_index, find, min, nat_lt}
+use Rattle.std.proofs.Common.{◌≡◌, ◌≢◌, ◌⊎◌, inl, inr, ℕ, zero, suc, ◌+◌, ◌-◌, ◌^◌, ◌≤◌, Bool, true, false, eqb, ltb, cond, ℤ, List, [], ◌∷◌, length, take, drop, map, Option, Some, None, option_map, refl, sym, ap, subst, ◌∙◌, arith}
+use Rattle.std.specs.Prelude.{slice_get, slice_index, find, min}
 use Rattle.std.proofs.Math.Nat.{min-le_left, min-le_right, le-min}
-use Rattle.std.proofs.lemmas.Bool.{ltb-false}
+use Rattle.std.proofs.lemmas.Bool.{ltb-false, eqb-true, ne_eqb}
 use Rattle.std.proofs.lemmas.List.{length-drop, drop-drop}
 use Rattle.net_check.specs.Streams.{history_of}
 use Rattle.net_check.specs.Syntax.{Network}
@@ -18,9 +18,8 @@ use Rattle.node.specs.NodeView.{NodeView}
 use Rattle.node.specs.Ends.{received_of, received_at, log_of, log_at, sent_in, sent_of, end_of, base_in, base_of}
 use Rattle.node.specs.Granting.{is_process, next_items, items_from, room_in, room_from}
 use Rattle.node.specs.Trimming.{trimmed_log, trimmed_end, trimmed_saved, trimmed_image, with_current}
-use Rattle.node.specs.Starting.{HasPutMore}
 use Rattle.node.specs.Reached.{acts_of, EndStands, ImageStands, HasReached, is_counting, IsLaidOut, CountsAreWithin, LogsAreWithin, IsJobOf, HasComeOn}
-use Rattle.node.specs.ImageLaws.{map_got, map_keeps, end_of_changed}
+use Rattle.node.specs.ImageLaws.{find_passes, map_got, map_keeps, end_of_changed}
 use Rattle.node.specs.declared.record.SavedEnd.{SavedEnd}
 use Rattle.node.specs.declared.record.End.{End}
 use Rattle.node.specs.declared.record.End.TheVariants.{Receives, Sends, Both}
@@ -132,6 +131,39 @@ put_more_trimmed c position image d = ap (λ (o : Option End). sent_in (log_at o
     at : (o : Option SavedEnd) → sent_in (log_at (option_map (λ (s : SavedEnd). (trimmed_saved c position s).end) o)) ≡ sent_in (log_at (option_map (λ (s : SavedEnd). s.end) o))
     at None = refl
     at (Some s) = still_sent position (eqb s.channel c) s.end
+
+-- where a log of this channel begins, it is no later than the position, if it wasn't before
+base_at : (position : ℕ) (log : LogState) → log.base ≤ position → (trimmed_log position log).base ≤ position
+base_at position log h = at (trimmed_cases position log)
+  where
+    at : ((trimmed_log position log ≡ log) ⊎ ((log.base ≤ position) × (position ≤ log_end log) × (trimmed_log position log ≡ trimmed log position))) → (trimmed_log position log).base ≤ position
+    at (inl same) = omega (arith, h, ap (λ (l : LogState). l.base) same)
+    at (inr cut) = omega (arith, ap (λ (l : LogState). l.base) cut.2)
+
+base_below : (position : ℕ) (trims : Bool) (end : End) → base_in (log_at (Some end)) ≤ position → base_in (log_at (Some (cond trims (trimmed_end position end) end))) ≤ position
+base_below position false end h = h
+base_below position true (Receives received) h = omega arith
+base_below position true (Sends log) h = base_at position log h
+base_below position true (Both received log) h = base_at position log h
+
+pub base_trimmed : (c position : ℕ) (image : ImageView) (d : ℕ) → base_of image d ≤ position → base_of (trimmed_image c position image) d ≤ position
+base_trimmed c position image d h =
+    subst (λ (o : Option End). base_in (log_at o) ≤ position) (sym (end_of_trimmed c position image d)) (at (find (λ (s : SavedEnd). eqb s.channel d) image.ends) h)
+  where
+    at : (o : Option SavedEnd) → base_in (log_at (option_map (λ (s : SavedEnd). s.end) o)) ≤ position → base_in (log_at (option_map (λ (s : SavedEnd). (trimmed_saved c position s).end) o)) ≤ position
+    at None h = omega arith
+    at (Some s) h = base_below position (eqb s.channel c) s.end h
+
+-- and any other log begins where it did
+pub other_log_stays : (c position : ℕ) (image : ImageView) (d : ℕ) → d ≢ c → log_of (trimmed_image c position image) d ≡ log_of image d
+other_log_stays c position image d other = ap log_at (end_of_trimmed c position image d) ∙ at (find (λ (s : SavedEnd). eqb s.channel d) image.ends) refl
+  where
+    at : (o : Option SavedEnd) → find (λ (s : SavedEnd). eqb s.channel d) image.ends ≡ o → log_at (option_map (λ (s : SavedEnd). (trimmed_saved c position s).end) o) ≡ log_at (option_map (λ (s : SavedEnd). s.end) o)
+    at None is = refl
+    at (Some s) is =
+        let number : s.channel ≡ d = eqb-true s.channel d (find_passes (λ (z : SavedEnd). eqb z.channel d) image.ends s is) in
+        let ne : s.channel ≡ c → ⊥ = (λ e. other (sym number ∙ e)) in
+        ap (λ (b : Bool). log_at (Some (cond b (trimmed_end position s.end) s.end))) (ne_eqb s.channel c ne)
 
 pub room_trimmed : (c position : ℕ) (image : ImageView) (d : ℕ) → room_in (log_of image d) ≤ room_in (log_of (trimmed_image c position image) d)
 room_trimmed c position image d =
