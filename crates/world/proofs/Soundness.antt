@@ -1,5 +1,5 @@
 -- What is true of a station stays so through its checkpoints.
-use Rattle.std.proofs.Common.{◌≡◌, ◌⊎◌, ℕ, ◌≤◌, Bool, List, ℤ, length, Option, Some, None, inl, inr, refl, sym, ap, subst, ◌∙◌, arith}
+use Rattle.std.proofs.Common.{◌≡◌, ◌⊎◌, ℕ, ◌≤◌, Bool, true, false, List, ℤ, length, Option, Some, None, inl, inr, refl, sym, ap, subst, ◌∙◌, arith}
 use Rattle.std.specs.Prelude.{Result, Ok, Err, IfOk, OnErr, slice_get}
 use Rattle.std.proofs.Math.Logic.{∥∥₁_map}
 use Rattle.std.specs.declared.alloc.AllocError.{AllocError}
@@ -10,12 +10,22 @@ use Rattle.node.specs.Ends.{sent_of}
 use Rattle.node.specs.JobView.{JobView}
 use Rattle.node.specs.RecordView.{RecordView}
 use Rattle.node.specs.NodeView.{NodeView}
-use Rattle.node.specs.Reached.{HasReached}
+use Rattle.node.specs.Reached.{HasReached, IsJobOf}
+use Rattle.proc_step.specs.declared.job.Job.{Job}
 use Rattle.node.specs.Starting.{with_own, with_kept, decided, decided_with, stopped, IsStart, IsDecision, HasPutMore, LeavesAsMuch, AreInOrder}
-use Rattle.node.specs.StepLaws.{reached_start, reached_decided, reached_stopped}
+use Rattle.node.specs.StepLaws.{reached_start, reached_decide, reached_stopped, reached_grant, on_start, on_decide, on_stopped, on_grant}
 use Rattle.node.specs.declared.record.Tentative.{Tentative}
 use Rattle.node.specs.declared.putting.Putting.{Putting}
 use Rattle.node.specs.declared.putting.Putting.TheVariants.{NotDue, Stored, Refused, Failed}
+use Rattle.node.specs.Choosing.{next_job, after_grant}
+use Rattle.node.specs.GrantLaws.{job_granted}
+use Rattle.node.specs.ReleaseLaws.{beginning_stays}
+use Rattle.node.specs.Installing.{IsInstall}
+use Rattle.net_check.specs.Fits.{Fits}
+use Rattle.net_check.specs.Valid.{IsValid}
+use Rattle.net_check.specs.Processes.{Standing}
+use Rattle.outlet.specs.declared.fault.LogFault.{LogFault}
+use Rattle.world.specs.TurnLaws.{IsTurnOfJob, sound_done}
 use Rattle.world.specs.OutputView.{OutputView}
 use Rattle.world.specs.Sound.{HasCome, NodeIsSound, OutputsAreSound, IsSound}
 use Rattle.world.specs.Covered.{IsCovered, AreCovered}
@@ -25,16 +35,24 @@ module _ (net : Network) (inputs : List (List ℤ)) (outputs : List OutputView) 
   same_sound old new same sound = subst (λ (n : NodeView). IsSound net inputs n outputs) (sym same) sound
 
   come_start : (number : ℕ) (old : NodeView) → HasCome net inputs old outputs → HasCome net inputs (with_kept (with_own number old.current old.kept) old) outputs
-  come_start number old come = record { reached = reached_start net inputs number old come.reached; out = come.out; released = come.released }
+  come_start number old come = record {
+    reached = reached_start net inputs number old come.reached;
+    out = come.out;
+    released = λ j p output channel h at from. beginning_stays net inputs old _ come.reached _ output.channel p output.taken (on_start net inputs number old come.reached) (come.released j p output channel h at from);
+  }
 
   stored_sound : (number : ℕ) (old : NodeView) → IsSound net inputs old outputs → IsSound net inputs (with_kept (with_own number old.current old.kept) old) outputs
-  stored_sound number old sound = record { listed = sound.listed; kept = record { laid_out = sound.kept.laid_out; counts = sound.kept.counts }; covered = λ j output h. let at = sound.covered j output h in record { no_gap = at.no_gap; covered = at.covered }; come = ∥∥₁_map sound.come (come_start number old) }
+  stored_sound number old sound = record { listed = sound.listed; kept = record { laid_out = sound.kept.laid_out; counts = sound.kept.counts; logs = sound.kept.logs }; covered = λ j output h. let at = sound.covered j output h in record { no_gap = at.no_gap; covered = at.covered }; come = ∥∥₁_map sound.come (come_start number old) }
 
   come_stopped : (round : ℕ) (old : NodeView) → HasCome net inputs old outputs → HasCome net inputs (stopped round old) outputs
-  come_stopped round old come = record { reached = reached_stopped net inputs round old come.reached; out = λ job h. absurd (cc); released = come.released }
+  come_stopped round old come = record {
+    reached = reached_stopped net inputs round old come.reached;
+    out = λ job h. absurd (cc);
+    released = λ j p output channel h at from. beginning_stays net inputs old _ come.reached _ output.channel p output.taken (on_stopped net inputs round old come.reached) (come.released j p output channel h at from);
+  }
 
   stopped_sound : (round : ℕ) (old : NodeView) → IsSound net inputs old outputs → IsSound net inputs (stopped round old) outputs
-  stopped_sound round old sound = record { listed = sound.listed; kept = record { laid_out = sound.kept.laid_out; counts = sound.kept.counts }; covered = λ j output h. let at = sound.covered j output h in record { no_gap = at.no_gap; covered = at.covered }; come = ∥∥₁_map sound.come (come_stopped round old) }
+  stopped_sound round old sound = record { listed = sound.listed; kept = record { laid_out = sound.kept.laid_out; counts = sound.kept.counts; logs = sound.kept.logs }; covered = λ j output h. let at = sound.covered j output h in record { no_gap = at.no_gap; covered = at.covered }; come = ∥∥₁_map sound.come (come_stopped round old) }
 
   start_sound : (number round : ℕ) (old : NodeView) (outcome : Putting) (new : NodeView) → IsStart number round old outcome new → IsSound net inputs old outputs → IsSound net inputs new outputs
   start_sound number round old NotDue new step sound = same_sound old new step.1 sound
@@ -48,21 +66,42 @@ module _ (net : Network) (inputs : List (List ℤ)) (outputs : List OutputView) 
   sound_started number round old new (Ok outcome) ok err sound = start_sound number round old outcome new ok sound
   sound_started number round old new (Err e) ok err sound = same_sound old new err sound
 
+  come_grant : (job : Option JobView) (old : NodeView) → next_job net inputs old ≡ job → IsSound net inputs old outputs → HasCome net inputs old outputs → HasCome net inputs (after_grant job old) outputs
+  come_grant None old is sound come = come
+  come_grant (Some job) old is sound come = record {
+    reached = reached_grant net inputs (Some job) old come.reached;
+    out = λ other h. subst (IsJobOf net inputs old.current) (same job other h) (job_granted net inputs old job sound.kept.laid_out is);
+    released = λ j p output channel h at from. beginning_stays net inputs old _ come.reached _ output.channel p output.taken (on_grant net inputs (Some job) old come.reached) (come.released j p output channel h at from);
+  }
+    where
+      same : (a b : JobView) → Some a ≡ Some b → a ≡ b
+      same a b e = cc
+
+  granted_sound : (job : Option JobView) (old : NodeView) → next_job net inputs old ≡ job → IsSound net inputs old outputs → IsSound net inputs (after_grant job old) outputs
+  granted_sound None old is sound = sound
+  granted_sound (Some job) old is sound = record { listed = sound.listed; kept = record { laid_out = sound.kept.laid_out; counts = sound.kept.counts; logs = sound.kept.logs }; covered = λ j output h. let at = sound.covered j output h in record { no_gap = at.no_gap; covered = at.covered }; come = ∥∥₁_map sound.come (come_grant (Some job) old is sound) }
+
+  -- after a grant, whatever came of it
+  pub sound_granted : (old new : NodeView) (result : Result (Option Job) AllocError) → IfOk result (λ job. new ≡ after_grant (next_job net inputs old) old) → OnErr result (new ≡ old)
+      → IsSound net inputs old outputs → IsSound net inputs new outputs
+  sound_granted old new (Ok job) ok err sound = same_sound _ new ok (granted_sound (next_job net inputs old) old refl sound)
+  sound_granted old new (Err e) ok err sound = same_sound old new err sound
+
   decided_more : (old : NodeView) → AreInOrder old.kept old.current → (held : Option Tentative) → old.kept.tentative ≡ held → HasPutMore old.kept.permanent (decided_with old.kept held).permanent
   decided_more old order None h = λ channel. omega arith
   decided_more old order (Some held) h = order.held_ahead held h
 
-  come_decided : (old : NodeView) → HasCome net inputs old outputs → (held : Option Tentative) → old.kept.tentative ≡ held → HasCome net inputs (with_kept (decided_with old.kept held) old) outputs
-  come_decided old come None h = record { reached = reached_decided net inputs old come.reached None h; out = come.out; released = come.released }
-  come_decided old come (Some held) h = record { reached = reached_decided net inputs old come.reached (Some held) h; out = come.out; released = come.released }
-
   come_decide : (old : NodeView) → HasCome net inputs old outputs → HasCome net inputs (with_kept (decided old.kept) old) outputs
-  come_decide old come = come_decided old come old.kept.tentative refl
+  come_decide old come = record {
+    reached = reached_decide net inputs old come.reached;
+    out = come.out;
+    released = λ j p output channel h at from. beginning_stays net inputs old _ come.reached _ output.channel p output.taken (on_decide net inputs old come.reached) (come.released j p output channel h at from);
+  }
 
   decided_sound : (old : NodeView) → AreInOrder old.kept old.current → IsSound net inputs old outputs → IsSound net inputs (with_kept (decided old.kept) old) outputs
   decided_sound old order sound = record {
     listed = sound.listed;
-    kept = record { laid_out = sound.kept.laid_out; counts = sound.kept.counts };
+    kept = record { laid_out = sound.kept.laid_out; counts = sound.kept.counts; logs = sound.kept.logs };
     covered = λ j output h.
       let at = sound.covered j output h in
       let more : sent_of old.kept.permanent output.channel ≤ sent_of (decided old.kept).permanent output.channel = decided_more old order old.kept.tentative refl output.channel in
@@ -81,6 +120,14 @@ module _ (net : Network) (inputs : List (List ℤ)) (outputs : List OutputView) 
       → AreInOrder old.kept old.current → IsSound net inputs old outputs → IsSound net inputs new outputs
   sound_decided number round old new (Ok outcome) ok err order sound = decision_sound number round old outcome new ok order sound
   sound_decided number round old new (Err e) ok err order sound = same_sound old new err sound
+
+  -- after a turn came back, whatever came of it
+  pub sound_taken : (old new : NodeView) (job : JobView) (standing : Standing) (taken : List ℕ) (sent : List (List ℤ)) (result : Result Bool LogFault) → IsValid net → Fits net inputs
+      → ∥ IsTurnOfJob job standing taken sent ∥₁ → IfOk result (λ applied. IsInstall net.channels job standing taken sent old applied new) → OnErr result (new ≡ old)
+      → IsSound net inputs old outputs → IsSound net inputs new outputs
+  sound_taken old new job standing taken sent (Ok true) valid fits turn ok err sound = same_sound _ new ok.1 (sound_done net inputs old outputs job standing taken sent valid fits sound ok.0 turn)
+  sound_taken old new job standing taken sent (Ok false) valid fits turn ok err sound = same_sound old new ok.1 sound
+  sound_taken old new job standing taken sent (Err e) valid fits turn ok err sound = same_sound old new err sound
 
   covered_by : (old : NodeView) (left : Option RecordView) → IsSound net inputs old outputs → LeavesAsMuch old.kept.permanent left → AreCovered left outputs
   covered_by old left sound leaves = λ j output h.
@@ -127,3 +174,10 @@ module _ (net : Network) (inputs : List (List ℤ)) (outputs : List OutputView) 
         → ((left : Option RecordView) → may_leave cell left → LeavesAsMuch old.kept.permanent left)
         → (left : Option RecordView) → left_since cell' (moment cell) left → AreCovered left outputs
     covered_start number old cell cell' sound any durable = covered_through old cell cell' (with_own number old.current old.kept) sound any durable (λ channel. omega arith)
+
+    -- or is as it was
+    pub covered_same : (old : NodeView) (cell cell' : C) → cell' ≡ cell → IsSound net inputs old outputs → ((c : C) (left : Option RecordView) → left_since c (moment c) left → may_leave c left)
+        → ((left : Option RecordView) → may_leave cell left → LeavesAsMuch old.kept.permanent left)
+        → (left : Option RecordView) → left_since cell' (moment cell) left → AreCovered left outputs
+    covered_same old cell cell' same sound only_now durable left since =
+        covered_still old cell sound only_now durable left (subst (λ (c : C). left_since c (moment cell) left) same since)

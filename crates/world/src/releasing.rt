@@ -73,10 +73,11 @@ impl<C: StableCell, O: Outlet> Station<C, O> {
         ensures refused { OnErr result ((node_view self.new.node.state ≡ node_view self.old.node.state)
             × (outputs_view O.taken self.new.outputs.items ≡ outputs_view O.taken self.old.outputs.items)) }
     {
-        if !self.node.state.up {
+        let node = &self.node;
+        if !node.state.up {
             return Ok(Reply::NotDue);
         }
-        let Some(j) = next_output(&self.node.state.kept, &self.outputs) else {
+        let Some(j) = next_output(&node.state.kept, &self.outputs) else {
             return Ok(Reply::NotDue);
         };
         release_at(&mut self.node, &mut self.outputs[j])

@@ -1,4 +1,5 @@
 //! A node with its outputs, and what turn-taking remembers of it.
+ghost use Rattle.net_check.specs.Fits.{Fits};
 ghost use Rattle.net_check.specs.Syntax.{network_of};
 ghost use Rattle.node.specs.NodeView.{node_view};
 ghost use Rattle.world.specs.OutputView.{outputs_view};
@@ -23,5 +24,6 @@ pub struct Station<C: StableCell, O: Outlet> {
     pub node: Node<C>,
     pub outputs: Vec<Output<O>>,
     pub turns: RoundTurns,
+    pub ghost fits: { Fits (network_of net.value.program) inputs.value },
     pub ghost sound: { IsSound (network_of net.value.program) inputs.value (node_view node.state) (outputs_view O.taken outputs.items) },
 }

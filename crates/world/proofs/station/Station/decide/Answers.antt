@@ -9,10 +9,10 @@ returns-in_err-putting-clause-covered g c =
     let C = g.C.StableCell in
     covered_decision _ _ _ C.moment C.left_since C.may_leave (node_view was.node.state) was.node.cell _ was.node.in_order was.sound c.decide.ensures.any_moment was.node.durable
 
-pub invariant_of-self-2 : goal.invariant_of-self-2
-invariant_of-self-2 g c =
+pub invariant_of-self : goal.invariant_of-self
+invariant_of-self g c =
     let was = c.args.self.now in
-    record { sound = sound_decided _ _ _ was.node.number c.args.round (node_view was.node.state) _ _ c.decide.ensures.step c.decide.ensures.refused was.node.in_order was.sound }
+    record { fits = was.fits; sound = sound_decided _ _ _ was.node.number c.args.round (node_view was.node.state) _ _ c.decide.ensures.step c.decide.ensures.refused was.node.in_order was.sound }
 
 pub returns-clause-covered : goal.returns-clause-covered
 returns-clause-covered g c =

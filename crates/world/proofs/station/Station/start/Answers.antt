@@ -12,7 +12,7 @@ returns-in_err-putting-clause-covered g c =
 pub invariant_of-self-2 : goal.invariant_of-self-2
 invariant_of-self-2 g c =
     let was = c.args.self.now in
-    record { sound = sound_started _ _ _ was.node.number c.args.round (node_view was.node.state) _ _ c.start.ensures.step c.start.ensures.refused was.sound }
+    record { fits = was.fits; sound = sound_started _ _ _ was.node.number c.args.round (node_view was.node.state) _ _ c.start.ensures.step c.start.ensures.refused was.sound }
 
 pub returns-clause-covered : goal.returns-clause-covered
 returns-clause-covered g c =
