@@ -3,3 +3,4 @@ mod Slices
 mod Walks
 mod Installs
 mod Choices
+mod Seen
