@@ -4,5 +4,6 @@ mod Walks
 mod Installs
 mod Keeping
 mod Sending
-mod Choices
 mod Taking
+mod Choices
+mod Seen

@@ -3,7 +3,7 @@ use Rattle.std.specs.Prelude.{◌≡◌, ℕ, ◌+◌, ◌-◌, ◌≤◌, ◌^�
 use Rattle.net_check.specs.Streams.{history_of}
 use Rattle.net_check.specs.Processes.{Standing}
 use Rattle.net_check.specs.declared.program.Channel.{Channel}
-use Rattle.outlet.specs.LogState.{LogState, log_end, Overfills}
+use Rattle.outlet.specs.LogState.{LogState, Overfills}
 use Rattle.node.specs.ProcessView.{SavedProcessView}
 use Rattle.node.specs.ImageView.{ImageView}
 use Rattle.node.specs.Ends.{received_at, log_at}

@@ -17,7 +17,12 @@ use proc_step::{Done, Job};
 use std::alloc::Global;
 
 // How many items a process took from a channel.
-fn count_taken(channels: &[Channel], process: usize, taken: &[usize], channel: u8) -> usize
+pub(crate) fn count_taken(
+    channels: &[Channel],
+    process: usize,
+    taken: &[usize],
+    channel: u8,
+) -> usize
     ensures { result ≡ taken_from channels.now process taken.now channel }
 {
     match channels.get(usize::from(channel)) {
@@ -29,7 +34,7 @@ fn count_taken(channels: &[Channel], process: usize, taken: &[usize], channel: u
 }
 
 // The items that a process put on a channel.
-fn items_put<'a>(
+pub(crate) fn items_put<'a>(
     channels: &[Channel],
     process: usize,
     sent: &'a [History],

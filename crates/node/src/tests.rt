@@ -1,10 +1,17 @@
-ghost use Rattle.std.specs.Prelude.{◌≡◌, ◌⊎◌, IfOk, Some};
+ghost use Rattle.std.specs.Prelude.{◌≡◌, ◌⊎◌, IfOk, IsTrue, Some};
+ghost use Rattle.outlet.specs.LogState.{Overfills};
 ghost use Rattle.sector_disk.specs.Clock.{LeavesOnly};
+ghost use Rattle.node.specs.Ends.{received_at, log_at};
+ghost use Rattle.node.specs.Installing.{LogTakes, EndTakes, ImageTakes};
 
 use super::*;
-use net_check::{Place, ProcState};
-use outlet::Log;
+use crate::installing::{count_taken, items_put};
+use net_check::{Channel, Inputs, Net, Place, ProcState, bind, check};
+use net_text::{parse, parse_inputs};
+use outlet::{LOG_ITEMS, Log};
+use proc_step::{Done, Job};
 use std::alloc::Global;
+use std::sync::Arc;
 use std::test::Fail;
 
 // The log of these items, without those before a position.
@@ -269,4 +276,248 @@ fn sends<T: Send>(_: &T) {}
 #[test]
 fn a_cell_may_go_to_another_thread(rt: HostRuntime) {
     sends(&MemCell::new(rt.alloc(), first_record(rt.alloc())));
+}
+
+// The running sum: input 0, output 1.
+const SUM: &str =
+    "kahn 1; input i; output o; process sum on 0 { var a; var v; loop { v = get i; a = a + v; put a to o; } }";
+
+fn sum_net(alloc: Global) -> Result<Arc<Net>, Fail> {
+    let net = check(alloc, parse(alloc, SUM)?)?;
+    Ok(Arc::new(alloc, net)?)
+}
+
+fn items_in(alloc: Global, net: &Net, text: &str) -> Result<Inputs, Fail> {
+    Ok(bind(alloc, net, parse_inputs(alloc, text)?)?)
+}
+
+// The node of the running sum, with its process here, so many items received and this log of its output.
+fn sum_node(alloc: Global, place: Place, received: u64, log: Log) -> Result<NodeState, Fail> {
+    let mut processes = Vec::new(alloc);
+    processes.push(saved_process(alloc, 0, place, &[0, 0])?)?;
+    let input = SavedEnd {
+        channel: 0,
+        end: End::Receives { received },
+    };
+    let output = SavedEnd {
+        channel: 1,
+        end: End::Sends { log },
+    };
+    let current = Image {
+        processes,
+        ends: saved_ends(alloc, input, output)?,
+    };
+    let mut kept = first_record(alloc);
+    kept.permanent = current.copy(alloc)?;
+    Ok(NodeState {
+        kept,
+        current,
+        out: None,
+        version: 7,
+        last: None,
+        up: true,
+        restart: 0,
+    })
+}
+
+fn received_at(end: &End) -> u64
+    ensures { result ≡ received_at (Some end.now) }
+{
+    match end {
+        End::Receives { received } | End::Both { received, .. } => *received,
+        End::Sends { .. } => 0,
+    }
+}
+
+fn log_fits(log: &Log, count: usize) -> bool
+    ensures { IsTrue result → ¬ (Overfills log.now count) }
+{
+    count <= LOG_ITEMS - log.len() && count as u64 <= LAST_NUMBER - log.end()
+}
+
+fn put_fits(end: &End, count: usize) -> bool
+    ensures { IsTrue result → LogTakes count (log_at (Some end.now)) }
+{
+    match end {
+        End::Receives { .. } => true,
+        End::Sends { log } | End::Both { log, .. } => log_fits(log, count),
+    }
+}
+
+// Whether an end takes what came of a job.
+fn end_fits(channels: &[Channel], done: &Done, saved: &SavedEnd) -> bool
+    ensures { IsTrue result → EndTakes channels.now done.now.job.process done.now.taken.items done.now.sent.items saved.now }
+{
+    let process = done.job.process;
+    let taken = count_taken(channels, process, &done.taken, saved.channel) as u64;
+    let put = items_put(channels, process, &done.sent, saved.channel).len();
+    taken <= LAST_NUMBER
+        && received_at(&saved.end) <= LAST_NUMBER - taken
+        && put_fits(&saved.end, put)
+}
+
+fn image_fits(channels: &[Channel], done: &Done, image: &Image) -> bool
+    ensures { IsTrue result → ImageTakes channels.now done.now.job.process done.now.taken.items done.now.sent.items image.now }
+{
+    for saved in &image.ends {
+        if !end_fits(channels, done, saved) {
+            return false;
+        }
+    }
+    true
+}
+
+// Takes in what came of a job.
+fn take_in(alloc: Global, node: &mut NodeState, net: &Net, done: &Done) -> Result<bool, Fail> {
+    if !image_fits(&net.program.channels, done, &node.current) {
+        return Err("the turn doesn't fit".into());
+    }
+    Ok(node.install(alloc, &net.program.channels, done)?)
+}
+
+fn granted(
+    alloc: Global,
+    node: &mut NodeState,
+    net: &Arc<Net>,
+    inputs: &Inputs,
+) -> Result<Job, Fail> {
+    match node.grant(alloc, net, inputs)? {
+        Some(job) => Ok(job),
+        None => Err("no job".into()),
+    }
+}
+
+// What was put on a channel and is retained.
+fn retained(alloc: Global, image: &Image, channel: u8) -> Result<Vec<i64>, Fail> {
+    let mut items = Vec::new(alloc);
+    for position in image.base(channel)..image.sent(channel) {
+        if let Some(item) = item(image, channel, position) {
+            items.push(item)?;
+        }
+    }
+    Ok(items)
+}
+
+#[test]
+fn a_turn_of_the_running_sum(rt: HostRuntime) -> Result<(), Fail> {
+    let alloc = rt.alloc();
+    let net = sum_net(alloc)?;
+    let inputs = items_in(alloc, &net, "i: 5 -2 4")?;
+    let mut node = sum_node(alloc, Place::NotBegun, 0, Log::new(alloc))?;
+    assert!(rt; node.has_job(&net, &inputs));
+    let job = granted(alloc, &mut node, &net, &inputs)?;
+    assert_eq!(rt; (job.process, job.version), (0, 7));
+    match job.items.as_slice() {
+        [input, output] => {
+            assert_eq!(rt; input.as_slice(), [5, -2, 4].as_slice());
+            assert_eq!(rt; output.len(), 0);
+        }
+        _ => return Err("not two channels".into()),
+    }
+    assert_eq!(rt; job.room.as_slice(), [0, 64].as_slice());
+    assert!(rt; !node.has_job(&net, &inputs), "one is out");
+    assert!(rt; node.grant(alloc, &net, &inputs)?.is_none());
+    let done = job.run(alloc)?;
+    assert_eq!(rt; take_in(alloc, &mut node, &net, &done)?, true);
+    assert_eq!(rt; counts(&node.current, 0), (3, 0, 0));
+    assert_eq!(rt;
+        retained(alloc, &node.current, 1)?.as_slice(),
+        [5, 3, 7].as_slice()
+    );
+    assert!(rt; node.out.is_none());
+    assert_eq!(rt;
+        take_in(alloc, &mut node, &net, &done)?,
+        false,
+        "it isn't out any more"
+    );
+    assert_eq!(rt; counts(&node.current, 1), (0, 3, 0));
+    Ok(())
+}
+
+#[test]
+fn where_a_process_stands_after_a_turn(rt: HostRuntime) -> Result<(), Fail> {
+    let alloc = rt.alloc();
+    let net = sum_net(alloc)?;
+    let inputs = items_in(alloc, &net, "i: 5 -2 4")?;
+    let mut node = sum_node(alloc, Place::NotBegun, 0, Log::new(alloc))?;
+    let done = granted(alloc, &mut node, &net, &inputs)?.run(alloc)?;
+    take_in(alloc, &mut node, &net, &done)?;
+    match node.current.processes.as_slice() {
+        [sum] => {
+            assert_eq!(rt; sum.state.place, Place::At(0));
+            assert_eq!(rt; sum.state.variables.as_slice(), [7, 4].as_slice());
+        }
+        _ => return Err("not one process".into()),
+    }
+    assert!(rt; !node.has_job(&net, &inputs), "no item is left");
+    Ok(())
+}
+
+#[test]
+fn what_came_of_another_job_is_left(rt: HostRuntime) -> Result<(), Fail> {
+    let alloc = rt.alloc();
+    let net = sum_net(alloc)?;
+    let inputs = items_in(alloc, &net, "i: 5 -2 4")?;
+    let mut node = sum_node(alloc, Place::NotBegun, 0, Log::new(alloc))?;
+    let stale = granted(alloc, &mut node, &net, &inputs)?.run(alloc)?;
+    // As after a crash, and then the same job again.
+    node.out = None;
+    node.version = 8;
+    node.last = None;
+    let again = granted(alloc, &mut node, &net, &inputs)?.run(alloc)?;
+    assert_eq!(rt;
+        take_in(alloc, &mut node, &net, &stale)?,
+        false,
+        "another version"
+    );
+    let mut other = sum_node(alloc, Place::NotBegun, 0, Log::new(alloc))?;
+    other.version = 8;
+    let others = items_in(alloc, &net, "i: 5 -2 9")?;
+    let foreign = granted(alloc, &mut other, &net, &others)?.run(alloc)?;
+    assert_eq!(rt;
+        take_in(alloc, &mut node, &net, &foreign)?,
+        false,
+        "other items"
+    );
+    assert_eq!(rt; counts(&node.current, 0), (0, 0, 0));
+    assert_eq!(rt; counts(&node.current, 1), (0, 0, 0));
+    node.up = false;
+    assert_eq!(rt; take_in(alloc, &mut node, &net, &again)?, false, "down");
+    node.up = true;
+    assert_eq!(rt; take_in(alloc, &mut node, &net, &again)?, true);
+    assert_eq!(rt; counts(&node.current, 1), (0, 3, 0));
+    Ok(())
+}
+
+#[test]
+fn a_get_waits_for_an_item(rt: HostRuntime) -> Result<(), Fail> {
+    let alloc = rt.alloc();
+    let net = sum_net(alloc)?;
+    let inputs = items_in(alloc, &net, "i: 5 -2 4")?;
+    let mut node = sum_node(alloc, Place::At(0), 3, Log::new(alloc))?;
+    assert!(rt; !node.has_job(&net, &inputs));
+    assert!(rt; node.grant(alloc, &net, &inputs)?.is_none());
+    let mut node = sum_node(alloc, Place::At(0), 2, Log::new(alloc))?;
+    let job = granted(alloc, &mut node, &net, &inputs)?;
+    assert_eq!(rt;
+        job.items.first().map(|items| items.as_slice()),
+        Some([4].as_slice())
+    );
+    Ok(())
+}
+
+#[test]
+fn a_put_waits_for_room(rt: HostRuntime) -> Result<(), Fail> {
+    let alloc = rt.alloc();
+    let net = sum_net(alloc)?;
+    let inputs = items_in(alloc, &net, "i: 5 -2 4")?;
+    let full = Log::starting_at(alloc, LAST_NUMBER);
+    let mut node = sum_node(alloc, Place::At(1), 0, full)?;
+    assert!(rt; !node.has_job(&net, &inputs));
+    assert!(rt; node.grant(alloc, &net, &inputs)?.is_none());
+    let one_place = Log::starting_at(alloc, LAST_NUMBER - 1);
+    let mut node = sum_node(alloc, Place::At(1), 0, one_place)?;
+    let job = granted(alloc, &mut node, &net, &inputs)?;
+    assert_eq!(rt; job.room.as_slice(), [0, 1].as_slice());
+    Ok(())
 }

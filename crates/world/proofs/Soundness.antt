@@ -20,12 +20,13 @@ use Rattle.node.specs.declared.putting.Putting.TheVariants.{NotDue, Stored, Refu
 use Rattle.node.specs.Choosing.{next_job, after_grant}
 use Rattle.node.specs.GrantLaws.{job_granted}
 use Rattle.node.specs.ReleaseLaws.{beginning_stays}
-use Rattle.node.specs.Installing.{IsInstall}
+use Rattle.node.specs.Installing.{ImageTakes, IsOut, IsInstall}
+use Rattle.net_check.specs.declared.program.Channel.{Channel}
 use Rattle.net_check.specs.Fits.{Fits}
 use Rattle.net_check.specs.Valid.{IsValid}
 use Rattle.net_check.specs.Processes.{Standing}
 use Rattle.outlet.specs.declared.fault.LogFault.{LogFault}
-use Rattle.world.specs.TurnLaws.{IsTurnOfJob, sound_done}
+use Rattle.world.specs.TurnLaws.{IsTurnOfJob, takes_done, sound_done}
 use Rattle.world.specs.OutputView.{OutputView}
 use Rattle.world.specs.Sound.{HasCome, NodeIsSound, OutputsAreSound, IsSound}
 use Rattle.world.specs.Covered.{IsCovered, AreCovered}
@@ -82,10 +83,10 @@ module _ (net : Network) (inputs : List (List ℤ)) (outputs : List OutputView) 
   granted_sound (Some job) old is sound = record { listed = sound.listed; kept = record { laid_out = sound.kept.laid_out; counts = sound.kept.counts; logs = sound.kept.logs }; covered = λ j output h. let at = sound.covered j output h in record { no_gap = at.no_gap; covered = at.covered }; come = ∥∥₁_map sound.come (come_grant (Some job) old is sound) }
 
   -- after a grant, whatever came of it
-  pub sound_granted : (old new : NodeView) (result : Result (Option Job) AllocError) → IfOk result (λ job. new ≡ after_grant (next_job net inputs old) old) → OnErr result (new ≡ old)
+  pub sound_granted : (old new : NodeView) (given : List (List ℤ)) (result : Result (Option Job) AllocError) → given ≡ inputs → IfOk result (λ job. new ≡ after_grant (next_job net given old) old) → OnErr result (new ≡ old)
       → IsSound net inputs old outputs → IsSound net inputs new outputs
-  sound_granted old new (Ok job) ok err sound = same_sound _ new ok (granted_sound (next_job net inputs old) old refl sound)
-  sound_granted old new (Err e) ok err sound = same_sound old new err sound
+  sound_granted old new given (Ok job) is ok err sound = same_sound _ new (subst (λ (lists : List (List ℤ)). new ≡ after_grant (next_job net lists old) old) is ok) (granted_sound (next_job net inputs old) old refl sound)
+  sound_granted old new given (Err e) is ok err sound = same_sound old new err sound
 
   decided_more : (old : NodeView) → AreInOrder old.kept old.current → (held : Option Tentative) → old.kept.tentative ≡ held → HasPutMore old.kept.permanent (decided_with old.kept held).permanent
   decided_more old order None h = λ channel. omega arith
@@ -122,12 +123,20 @@ module _ (net : Network) (inputs : List (List ℤ)) (outputs : List OutputView) 
   sound_decided number round old new (Err e) ok err order sound = same_sound old new err sound
 
   -- after a turn came back, whatever came of it
-  pub sound_taken : (old new : NodeView) (job : JobView) (standing : Standing) (taken : List ℕ) (sent : List (List ℤ)) (result : Result Bool LogFault) → IsValid net → Fits net inputs
-      → ∥ IsTurnOfJob job standing taken sent ∥₁ → IfOk result (λ applied. IsInstall net.channels job standing taken sent old applied new) → OnErr result (new ≡ old)
+  pub sound_taken : (old new : NodeView) (channels : List Channel) (job : JobView) (standing : Standing) (taken : List ℕ) (sent : List (List ℤ)) (result : Result Bool LogFault) → IsValid net → Fits net inputs
+      → channels ≡ net.channels → ∥ IsTurnOfJob job standing taken sent ∥₁ → IfOk result (λ applied. IsInstall channels job standing taken sent old applied new) → OnErr result (new ≡ old)
       → IsSound net inputs old outputs → IsSound net inputs new outputs
-  sound_taken old new job standing taken sent (Ok true) valid fits turn ok err sound = same_sound _ new ok.1 (sound_done net inputs old outputs job standing taken sent valid fits sound ok.0 turn)
-  sound_taken old new job standing taken sent (Ok false) valid fits turn ok err sound = same_sound old new ok.1 sound
-  sound_taken old new job standing taken sent (Err e) valid fits turn ok err sound = same_sound old new err sound
+  sound_taken old new channels job standing taken sent (Ok true) valid fits is turn ok err sound =
+      let step = subst (λ (list : List Channel). IsInstall list job standing taken sent old true new) is ok in
+      same_sound _ new step.1 (sound_done net inputs old outputs job standing taken sent valid fits sound step.0 turn)
+  sound_taken old new channels job standing taken sent (Ok false) valid fits is turn ok err sound = same_sound old new ok.1 sound
+  sound_taken old new channels job standing taken sent (Err e) valid fits is turn ok err sound = same_sound old new err sound
+
+  -- a turn that comes back fits
+  pub takes_given : (node : NodeView) (channels : List Channel) (job : JobView) (standing : Standing) (taken : List ℕ) (sent : List (List ℤ)) → IsValid net → Fits net inputs
+      → channels ≡ net.channels → ∥ IsTurnOfJob job standing taken sent ∥₁ → IsSound net inputs node outputs → IsOut job node → ImageTakes channels job.process taken sent node.current
+  takes_given node channels job standing taken sent valid fits is turn sound out =
+      subst (λ (list : List Channel). ImageTakes list job.process taken sent node.current) (sym is) (takes_done net inputs node outputs job standing taken sent valid fits sound out turn)
 
   covered_by : (old : NodeView) (left : Option RecordView) → IsSound net inputs old outputs → LeavesAsMuch old.kept.permanent left → AreCovered left outputs
   covered_by old left sound leaves = λ j output h.

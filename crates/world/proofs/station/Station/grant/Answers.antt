@@ -14,7 +14,7 @@ returns-in_err-granted-clause-covered g c =
 pub invariant_of-self-2 : goal.invariant_of-self-2
 invariant_of-self-2 g c =
     let was = c.args.self.now in
-    record { fits = was.fits; sound = sound_granted _ _ _ (node_view was.node.state) _ c.grant.result ? c.grant.ensures.err was.sound }
+    record { fits = was.fits; sound = sound_granted _ _ _ (node_view was.node.state) _ _ c.grant.result c.deref.ensures c.grant.ensures.state c.grant.ensures.err was.sound }
 
 pub returns-clause-covered : goal.returns-clause-covered
 returns-clause-covered g c =

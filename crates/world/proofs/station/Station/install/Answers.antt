@@ -1,22 +1,28 @@
+use Rattle.std.proofs.Common.{ap, ◌∙◌}
 use Rattle.net_check.specs.Syntax.{network_of}
+use Rattle.net_check.specs.declared.net.Net.{Net}
 use Rattle.net_check.specs.States.{standing_of}
 use Rattle.node.specs.JobView.{job_view}
 use Rattle.node.specs.NodeView.{node_view}
-use Rattle.world.specs.TurnLaws.{takes_done}
-use Rattle.world.proofs.Soundness.{sound_taken, covered_same}
+use Rattle.world.proofs.Soundness.{takes_given, sound_taken, covered_same}
 use Rattle.world.proofs.station.Station.install.Goals as goal
 
 pub install-requires : goal.install-requires
 install-requires g c =
     let was = c.args.self.now in
     let done = c.args.done.now in
-    λ out. takes_done (network_of was.net.value.program) was.inputs.value (node_view was.node.state) _ (job_view done.job) (standing_of done.state) done.taken.items done.sent.items ? was.fits was.sound out done.turn
+    takes_given (network_of was.net.value.program) was.inputs.value _ (node_view was.node.state) c.deref-2.result.now (job_view done.job) (standing_of done.state) done.taken.items done.sent.items was.net.value.valid was.fits
+    (c.deref-2.ensures.value ∙ ap (λ (n : Net). n.program.channels.items) c.deref.ensures) done.turn was.sound
 
 pub invariant_of-self : goal.invariant_of-self
 invariant_of-self g c =
     let was = c.args.self.now in
     let done = c.args.done.now in
-    record { fits = was.fits; sound = sound_taken _ _ _ (node_view was.node.state) _ (job_view done.job) (standing_of done.state) done.taken.items done.sent.items c.install.result ? was.fits done.turn ? c.install.ensures.err was.sound }
+    record {
+      fits = was.fits;
+      sound = sound_taken (network_of was.net.value.program) was.inputs.value _ (node_view was.node.state) _ c.deref-2.result.now (job_view done.job) (standing_of done.state) done.taken.items done.sent.items c.install.result was.net.value.valid was.fits
+        (c.deref-2.ensures.value ∙ ap (λ (n : Net). n.program.channels.items) c.deref.ensures) done.turn c.install.ensures.step c.install.ensures.err was.sound;
+    }
 
 pub returns-in-Ok-true-clause-covered : goal.returns-in-Ok-true-clause-covered
 returns-in-Ok-true-clause-covered g c =
