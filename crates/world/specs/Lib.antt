@@ -1,3 +1,5 @@
 pub mod OutputView
 pub mod Sound
+pub mod OutputLaws
 pub mod TurnLaws
+pub mod LeaveLaws
