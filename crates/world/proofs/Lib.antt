@@ -1,1 +1,2 @@
 mod Soundness
+mod Leaving

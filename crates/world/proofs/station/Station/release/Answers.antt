@@ -1,0 +1,97 @@
+use Rattle.std.proofs.Common.{◌≡◌, ◌<◌, List, ℤ, length, Option, Some, refl, sym, subst, ◌∙◌}
+use Rattle.std.specs.Prelude.{OnErr, slice_get}
+use Rattle.node.specs.RecordView.{RecordView}
+use Rattle.world.specs.Sound.{IsSound}
+use Rattle.world.specs.Covered.{AreCovered}
+use Rattle.world.specs.declared.output.Output.{Output}
+use Rattle.net_check.specs.Syntax.{network_of}
+use Rattle.node.specs.NodeView.{node_view}
+use Rattle.world.specs.OutputView.{OutputView, output_view, outputs_view}
+use Rattle.world.specs.Growing.{EachBegins}
+use Rattle.world.proofs.Soundness.{covered_same}
+use Rattle.world.proofs.Leaving.{seen_at, seen_set, next_there, sound_after, begins_after, same_after}
+use Rattle.world.proofs.station.Station.release.Goals as goal
+
+pub returns-then-not-node-clause-covered : goal.returns-then-not-node-clause-covered
+returns-then-not-node-clause-covered g c =
+    let was = c.args.self.now in
+    let C = g.C.StableCell in
+    covered_same _ _ _ C.moment C.left_since C.may_leave (node_view was.node.state) was.node.cell _ refl was.sound g.met.C.StableCell.only_now was.node.durable
+
+pub returns-in_default-clause-covered : goal.returns-in_default-clause-covered
+returns-in_default-clause-covered g c =
+    let was = c.args.self.now in
+    let C = g.C.StableCell in
+    covered_same _ _ _ C.moment C.left_since C.may_leave (node_view was.node.state) was.node.cell _ refl was.sound g.met.C.StableCell.only_now was.node.durable
+
+pub release_at-requires : goal.release_at-requires
+release_at-requires g c =
+    let was = c.args.self.now in
+    let taken = g.O.Outlet.taken in
+    let x = c.index_mut.result.now in
+    let within = subst (λ (l : List (Output g.row.O.Denot)). c.in-Some.j < length l) c.deref.ensures.value c.in-Some.ensures.within in
+    let there = seen_at taken was.outputs.items c.in-Some.j x within c.index_mut.ensures.value in
+    let more = c.in-Some.ensures.waiting (output_view taken x) (subst (λ (l : List (Output g.row.O.Denot)). slice_get (outputs_view taken l) c.in-Some.j ≡ Some (output_view taken x)) (sym c.deref.ensures.value) there) in
+    next_there (network_of was.net.value.program) was.inputs.value (node_view was.node.state) (node_view was.node.state) _ c.in-Some.j (output_view taken x) (output_view taken x) was.sound was.node.in_order there more
+
+pub invariant_of-self-2 : goal.invariant_of-self-2
+invariant_of-self-2 g c =
+    let was = c.args.self.now in
+    let taken = g.O.Outlet.taken in
+    let x = c.index_mut.result.now in
+    let within = subst (λ (l : List (Output g.row.O.Denot)). c.in-Some.j < length l) c.deref.ensures.value c.in-Some.ensures.within in
+    let there = seen_at taken was.outputs.items c.in-Some.j x within c.index_mut.ensures.value in
+    let more = c.in-Some.ensures.waiting (output_view taken x) (subst (λ (l : List (Output g.row.O.Denot)). slice_get (outputs_view taken l) c.in-Some.j ≡ Some (output_view taken x)) (sym c.deref.ensures.value) there) in
+    let made = c.release_at.ensures in
+    let set = seen_set taken was.outputs.items c.in-Some.j c.release_at.new.output in
+    let now = sound_after (network_of was.net.value.program) was.inputs.value (node_view was.node.state) (node_view c.release_at.new.node.state) _ c.in-Some.j (output_view taken x) (output_view taken c.release_at.new.output) was.sound was.node.in_order there more
+        made.channel made.length made.begins made.history c.release_at.result made.trimmed made.refused in
+    record {
+      fits = was.fits;
+      sound = subst (λ (l : List OutputView). IsSound (network_of was.net.value.program) was.inputs.value (node_view c.release_at.new.node.state) l) (sym set) now;
+    }
+
+pub returns-clause-begins : goal.returns-clause-begins
+returns-clause-begins g c =
+    let was = c.args.self.now in
+    let taken = g.O.Outlet.taken in
+    let x = c.index_mut.result.now in
+    let within = subst (λ (l : List (Output g.row.O.Denot)). c.in-Some.j < length l) c.deref.ensures.value c.in-Some.ensures.within in
+    let there = seen_at taken was.outputs.items c.in-Some.j x within c.index_mut.ensures.value in
+    let more = c.in-Some.ensures.waiting (output_view taken x) (subst (λ (l : List (Output g.row.O.Denot)). slice_get (outputs_view taken l) c.in-Some.j ≡ Some (output_view taken x)) (sym c.deref.ensures.value) there) in
+    let made = c.release_at.ensures in
+    let set = seen_set taken was.outputs.items c.in-Some.j c.release_at.new.output in
+    subst (EachBegins (outputs_view taken was.outputs.items)) (sym set)
+    (begins_after (network_of was.net.value.program) was.inputs.value (node_view was.node.state) (node_view c.release_at.new.node.state) _ c.in-Some.j (output_view taken x) (output_view taken c.release_at.new.output) was.sound was.node.in_order there more
+    made.channel made.length made.begins made.history)
+
+pub returns-clause-covered : goal.returns-clause-covered
+returns-clause-covered g c =
+    let was = c.args.self.now in
+    let taken = g.O.Outlet.taken in
+    let x = c.index_mut.result.now in
+    let within = subst (λ (l : List (Output g.row.O.Denot)). c.in-Some.j < length l) c.deref.ensures.value c.in-Some.ensures.within in
+    let there = seen_at taken was.outputs.items c.in-Some.j x within c.index_mut.ensures.value in
+    let more = c.in-Some.ensures.waiting (output_view taken x) (subst (λ (l : List (Output g.row.O.Denot)). slice_get (outputs_view taken l) c.in-Some.j ≡ Some (output_view taken x)) (sym c.deref.ensures.value) there) in
+    let made = c.release_at.ensures in
+    let set = seen_set taken was.outputs.items c.in-Some.j c.release_at.new.output in
+    let C = g.C.StableCell in
+    let now = sound_after (network_of was.net.value.program) was.inputs.value (node_view was.node.state) (node_view c.release_at.new.node.state) _ c.in-Some.j (output_view taken x) (output_view taken c.release_at.new.output) was.sound was.node.in_order there more
+        made.channel made.length made.begins made.history c.release_at.result made.trimmed made.refused in
+    subst (λ (l : List OutputView). (left : Option RecordView) → C.left_since c.release_at.new.node.cell (C.moment was.node.cell) left → AreCovered left l) (sym set)
+    (covered_same _ _ _ C.moment C.left_since C.may_leave (node_view c.release_at.new.node.state) was.node.cell _ made.same.0 now g.met.C.StableCell.only_now
+    (λ left might. c.release_at.new.node.durable left (subst (λ (cell : g.row.C.Denot). C.may_leave cell left) (sym made.same.0) might)))
+
+pub returns-clause-refused : goal.returns-clause-refused
+returns-clause-refused g c =
+    let was = c.args.self.now in
+    let taken = g.O.Outlet.taken in
+    let x = c.index_mut.result.now in
+    let within = subst (λ (l : List (Output g.row.O.Denot)). c.in-Some.j < length l) c.deref.ensures.value c.in-Some.ensures.within in
+    let there = seen_at taken was.outputs.items c.in-Some.j x within c.index_mut.ensures.value in
+    let more = c.in-Some.ensures.waiting (output_view taken x) (subst (λ (l : List (Output g.row.O.Denot)). slice_get (outputs_view taken l) c.in-Some.j ≡ Some (output_view taken x)) (sym c.deref.ensures.value) there) in
+    let made = c.release_at.ensures in
+    let set = seen_set taken was.outputs.items c.in-Some.j c.release_at.new.output in
+    subst (λ (l : List OutputView). OnErr c.release_at.result ((node_view c.release_at.new.node.state ≡ node_view was.node.state) × (l ≡ outputs_view taken was.outputs.items))) (sym set)
+    (same_after (network_of was.net.value.program) was.inputs.value (node_view was.node.state) (node_view c.release_at.new.node.state) _ c.in-Some.j (output_view taken x) (output_view taken c.release_at.new.output) was.sound was.node.in_order there more
+    made.channel c.release_at.result made.refused)
