@@ -3,3 +3,4 @@ pub mod Sound
 pub mod OutputLaws
 pub mod TurnLaws
 pub mod LeaveLaws
+pub mod GrantLaws
