@@ -4,3 +4,4 @@ pub mod OutputLaws
 pub mod TurnLaws
 pub mod LeaveLaws
 pub mod GrantLaws
+pub mod Headline
