@@ -5,3 +5,4 @@ pub mod TurnLaws
 pub mod LeaveLaws
 pub mod GrantLaws
 pub mod Headline
+pub mod OpenLaws
