@@ -109,11 +109,10 @@ module _ (net : Network) (inputs : List (List ℤ)) (node : NodeView) (outputs :
   -- After an item left, or all that the outlet took of it
 
   module _ (j : ℕ) (output : OutputView) (taken : List ℤ) (sound : IsSound net inputs node outputs) (is : slice_get outputs j ≡ Some output)
-    (longer : IsBeginningOf output.taken taken)
-    (covers : length taken ≤ sent_of node.kept.permanent output.channel)
-    (goes_on : (log : LogState) (history : List ℤ) → log_of node.current output.channel ≡ Some log → IsLogOf log history → IsBeginningOf output.taken history → IsBeginningOf taken history)
-    (logged : log_of node.current output.channel ≢ None) where
-
+      (longer : IsBeginningOf output.taken taken)
+      (covers : length taken ≤ sent_of node.kept.permanent output.channel)
+      (goes_on : (log : LogState) (history : List ℤ) → log_of node.current output.channel ≡ Some log → IsLogOf log history → IsBeginningOf output.taken history → IsBeginningOf taken history)
+      (logged : log_of node.current output.channel ≢ None) where
     covered_then : OutputsAreSound (with_current (trimmed_image output.channel (length taken) node.current) node) (slice_set outputs j (record { channel = output.channel; taken = taken }))
     covered_then i one there = at (set_cases outputs j i (record { channel = output.channel; taken = taken }) one there)
       where

@@ -6,3 +6,6 @@ pub mod Growing
 pub mod OutputLaws
 pub mod TurnLaws
 pub mod LeaveLaws
+pub mod GrantLaws
+pub mod Headline
+pub mod OpenLaws

@@ -1,5 +1,5 @@
 -- Laws of a station's outputs: each is of a channel of its own, which goes outside.
-use Rattle.std.proofs.Common.{◌≡◌, ◌≢◌, ◌⊎◌, inl, inr, ℕ, zero, suc, ◌+◌, ◌≤◌, Bool, true, false, cond, ℤ, List, [], ◌∷◌, map, Some, refl, sym, ap, ◌∙◌, arith}
+use Rattle.std.proofs.Common.{◌≡◌, ◌≢◌, ◌⊎◌, inl, inr, ℕ, zero, suc, ◌+◌, ◌≤◌, Bool, true, false, cond, ℤ, List, [], ◌∷◌, map, Some, refl, sym, ap, subst, ◌∙◌, arith}
 use Rattle.std.specs.Prelude.{slice_get, slice_set}
 use Rattle.net_check.specs.Syntax.{Network}
 use Rattle.net_check.specs.declared.program.Channel.{Channel}
@@ -52,7 +52,7 @@ channel_there number (x ∷ channels) j c is = at (goes_outside x.consumer) refl
 
     at : (b : Bool) → goes_outside x.consumer ≡ b → (j : ℕ)
         → ((i : ℕ) → slice_get (output_channels (suc number) channels) i ≡ Some c
-            → (k : ℕ) × (channel : Channel) × (c ≡ suc number + k) × (slice_get channels k ≡ Some channel) × (channel.consumer ≡ Outside))
+        → (k : ℕ) × (channel : Channel) × (c ≡ suc number + k) × (slice_get channels k ≡ Some channel) × (channel.consumer ≡ Outside))
         → slice_get (cond b (number ∷ output_channels (suc number) channels) (output_channels (suc number) channels)) j ≡ Some c
         → (k : ℕ) × (channel : Channel) × (c ≡ number + k) × (slice_get (x ∷ channels) k ≡ Some channel) × (channel.consumer ≡ Outside)
     at false test j later e = further (later j e)
@@ -87,6 +87,12 @@ set_keeps f [] j x y is same = refl
 set_keeps {A} {B} f (z ∷ xs) zero x y is same = let here : z ≡ x = cc in ap (λ (w : B). w ∷ map f xs) (same ∙ ap f (sym here))
 set_keeps {A} {B} f (z ∷ xs) (suc j) x y is same = ap (λ (ws : List B). f z ∷ ws) (set_keeps f xs j x y is same)
 
+-- setting what stands there changes nothing
+pub set_same : {A : Type 0} (xs : List A) (j : ℕ) (x : A) → slice_get xs j ≡ Some x → slice_set xs j x ≡ xs
+set_same [] j x is = refl
+set_same {A} (z ∷ xs) zero x is = let same : z ≡ x = cc in ap (λ (w : A). w ∷ xs) (sym same)
+set_same {A} (z ∷ xs) (suc j) x is = ap (λ (ws : List A). z ∷ ws) (set_same xs j x is)
+
 -- Outputs
 
 module _ (net : Network) (inputs : List (List ℤ)) (node : NodeView) (outputs : List OutputView) where
@@ -105,3 +111,7 @@ module _ (net : Network) (inputs : List (List ℤ)) (node : NodeView) (outputs :
       let there = channel_there 0 net.channels j output.channel (listed_at sound j output is) in
       let sum : 0 + there.0 ≡ there.0 = omega arith in
       (there.1, ap (slice_get net.channels) (there.2 ∙ sum) ∙ there.3, there.4)
+
+  -- and where nothing left they are as they were
+  pub sound_same_outputs : (j : ℕ) (output : OutputView) → slice_get outputs j ≡ Some output → IsSound net inputs node outputs → IsSound net inputs node (slice_set outputs j output)
+  sound_same_outputs j output is sound = subst (λ (os : List OutputView). IsSound net inputs node os) (sym (set_same outputs j output is)) sound

@@ -1,0 +1,60 @@
+-- A station before its first event: nothing was done, and nothing has left.
+use Rattle.std.proofs.Common.{◌≡◌, ℕ, suc, Bool, true, false, eqb, cond, ℤ, List, [], ◌∷◌, length, take, map, Some, option_map, refl, sym, ap, ◌∙◌, arith}
+use Rattle.std.specs.Prelude.{slice_get, find}
+use Rattle.net_check.specs.Valid.{IsValid}
+use Rattle.net_check.specs.Syntax.{Network}
+use Rattle.net_check.specs.declared.program.Channel.{Channel}
+use Rattle.net_check.specs.declared.program.Port.{Port}
+use Rattle.net_check.specs.declared.program.Port.TheVariants.{Outside, Process}
+use Rattle.outlet.specs.Released.{IsBeginningOf}
+use Rattle.node.specs.Ends.{log_at, base_in, base_of}
+use Rattle.node.specs.Opening.{opening_end, opening_ends, opening_image, opening_node}
+use Rattle.node.specs.OpeningLaws.{reached_opening, laid_out_opening, counts_opening, logs_opening}
+use Rattle.node.specs.declared.record.SavedEnd.{SavedEnd}
+use Rattle.world.specs.OutputView.{OutputView}
+use Rattle.world.specs.Sound.{output_channels, HasCome, IsSound}
+
+-- nothing has left of any output
+abbrev pub NothingLeft : List OutputView → Type 0
+NothingLeft outputs = (j : ℕ) (output : OutputView) → slice_get outputs j ≡ Some output → output.taken ≡ []
+
+-- no log begins later than at the first item
+end_begins : (producer consumer : Port) → base_in (log_at (Some (opening_end producer consumer))) ≡ 0
+end_begins Outside consumer = refl
+end_begins (Process p) Outside = refl
+end_begins (Process p) (Process q) = refl
+
+begins_from : (number c : ℕ) (channels : List Channel) → base_in (log_at (option_map (λ (s : SavedEnd). s.end) (find (λ (s : SavedEnd). eqb s.channel c) (opening_ends number channels)))) ≡ 0
+begins_from number c [] = refl
+begins_from number c (x ∷ channels) = at (eqb number c) (begins_from (suc number) c channels)
+  where
+    at : (b : Bool) → base_in (log_at (option_map (λ (s : SavedEnd). s.end) (find (λ (s : SavedEnd). eqb s.channel c) (opening_ends (suc number) channels)))) ≡ 0
+        → base_in (log_at (option_map (λ (s : SavedEnd). s.end) (cond b (Some (record { channel = number; end = opening_end x.producer x.consumer })) (find (λ (s : SavedEnd). eqb s.channel c) (opening_ends (suc number) channels))))) ≡ 0
+    at true later = end_begins x.producer x.consumer
+    at false later = later
+
+module _ (net : Network) (inputs : List (List ℤ)) (nodes : ℕ) (outputs : List OutputView) where
+  no_base : (c : ℕ) → base_of (opening_image net) c ≡ 0
+  no_base c = begins_from 0 c net.channels
+
+  come_opened : NothingLeft outputs → HasCome net inputs (opening_node net nodes) outputs
+  come_opened none = record {
+    reached = reached_opening net inputs nodes;
+    out = λ job is. absurd (cc);
+    released = λ j p output channel is on from. nothing output.taken _ (none j output is);
+  }
+    where
+      nothing : (taken whole : List ℤ) → taken ≡ [] → IsBeginningOf taken whole
+      nothing taken whole e = e ∙ ap (λ (t : List ℤ). take (length t) whole) (sym e)
+
+  pub sound_opened : IsValid net → map (λ (output : OutputView). output.channel) outputs ≡ output_channels 0 net.channels → NothingLeft outputs
+      → IsSound net inputs (opening_node net nodes) outputs
+  sound_opened valid listed none = record {
+    listed = listed;
+    kept = record { laid_out = laid_out_opening net; counts = counts_opening net inputs; logs = logs_opening net };
+    covered = λ j output is. (
+        let count : length output.taken ≡ 0 = ap (length {A = ℤ}) (none j output is) in
+        let base = no_base output.channel in
+        record { no_gap = omega (arith, base); covered = omega (arith, count) });
+    come = ∣ come_opened none ∣₁;
+  }
