@@ -94,3 +94,15 @@ module _ (net : Network) (inputs : List (List ℤ)) (node new : NodeView) (xs : 
   pub same_after : y.channel ≡ x.channel → (result : Result Reply AllocError) → OnErr result ((new ≡ node) × (y.taken ≡ x.taken)) → OnErr result ((new ≡ node) × (slice_set xs j y ≡ xs))
   same_after channel (Ok reply) err = tt
   same_after channel (Err e) err = (err.0, set_same xs j x y is (same_output x y channel err.1))
+
+-- outputs that stay begin with what they had
+pub begins_same : (xs : List OutputView) → EachBegins xs xs
+begins_same xs = record {
+  count = refl;
+  begins = λ i output later h g. at output later (sym h ∙ g);
+}
+  where
+    at : (output later : OutputView) → Some output ≡ Some later → (later.channel ≡ output.channel) × IsBeginningOf output.taken later.taken
+    at output later e =
+        let same : output ≡ later = cc in
+        subst (λ (o : OutputView). (o.channel ≡ output.channel) × IsBeginningOf output.taken o.taken) same (refl, sym (take-length output.taken))

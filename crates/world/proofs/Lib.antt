@@ -1,2 +1,3 @@
 mod Soundness
 mod Leaving
+mod Openings

@@ -9,3 +9,5 @@ pub mod LeaveLaws
 pub mod GrantLaws
 pub mod Headline
 pub mod OpenLaws
+pub mod Pairs
+pub mod PairLaws

@@ -5,15 +5,21 @@
 //! cover.
 #![tactic(auto)]
 
+mod acting;
 mod checkpoints;
 mod event;
+mod opening;
 mod output;
+mod picking;
 mod releasing;
 mod station;
 mod turning;
 mod turns;
+mod world;
 
 pub use event::{Event, Freed, Refused, Reply};
+pub use opening::list_outputs;
 pub use output::Output;
 pub use station::Station;
 pub use turns::RoundTurns;
+pub use world::World;

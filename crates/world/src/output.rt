@@ -7,6 +7,6 @@ use outlet::Outlet;
 pub struct Output<O: Outlet> {
     pub channel: u8,
     pub outlet: O,
-    /// The outlet failed in this round.
-    pub failed: bool,
+    /// The last round in which the outlet failed.
+    pub failed: Option<u64>,
 }

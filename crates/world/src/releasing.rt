@@ -18,13 +18,13 @@ use std::alloc::AllocError;
 
 // The first output with an item that the permanent image covers and that its outlet hasn't taken, if its outlet didn't
 // fail in this round.
-pub(crate) fn next_output<O: Outlet>(kept: &Record, outputs: &[Output<O>]) -> Option<usize>
+pub(crate) fn next_output<O: Outlet>(kept: &Record, outputs: &[Output<O>], round: u64) -> Option<usize>
     ensures waiting { IfSome result (λ j. (output : OutputView) → slice_get (outputs_view O.taken outputs.now) j ≡ Some output
         → length output.taken < sent_of kept.now.permanent output.channel) }
     ensures within { IfSome result (λ j. j < length outputs.now) }
 {
     for (j, output) in outputs.iter().enumerate() {
-        if !output.failed && output.outlet.len() < kept.permanent.sent(output.channel) {
+        if output.failed != Some(round) && output.outlet.len() < kept.permanent.sent(output.channel) {
             return Some(j);
         }
     }
@@ -35,6 +35,7 @@ pub(crate) fn next_output<O: Outlet>(kept: &Record, outputs: &[Output<O>]) -> Op
 fn release_at<C: StableCell, O: Outlet>(
     node: &mut Node<C>,
     output: &mut Output<O>,
+    round: u64,
 ) -> Result<Reply, AllocError>
     requires { HasNext (log_of node.old.state.current output.old.channel) (length (O.taken output.old.outlet)) }
     ensures channel { output.new.channel ≡ output.old.channel }
@@ -57,7 +58,7 @@ fn release_at<C: StableCell, O: Outlet>(
         })),
         Err(OutletFault::NoMemory) => Err(AllocError),
         Err(OutletFault::Failed) => {
-            output.failed = true;
+            output.failed = Some(round);
             Ok(Reply::OutletFailed)
         }
     }
@@ -65,7 +66,7 @@ fn release_at<C: StableCell, O: Outlet>(
 
 impl<C: StableCell, O: Outlet> Station<C, O> {
     /// Lets one item leave.
-    pub(crate) fn release(&mut self) -> Result<Reply, AllocError>
+    pub(crate) fn release(&mut self, round: u64) -> Result<Reply, AllocError>
         ensures begins { EachBegins (outputs_view O.taken self.old.outputs.items) (outputs_view O.taken self.new.outputs.items) }
         ensures same { (self.new.net ≡ self.old.net) × (self.new.inputs ≡ self.old.inputs) × (self.new.node.number ≡ self.old.node.number) }
         ensures cell { self.new.node.cell ≡ self.old.node.cell }
@@ -77,9 +78,9 @@ impl<C: StableCell, O: Outlet> Station<C, O> {
         if !node.state.up {
             return Ok(Reply::NotDue);
         }
-        let Some(j) = next_output(&node.state.kept, &self.outputs) else {
+        let Some(j) = next_output(&node.state.kept, &self.outputs, round) else {
             return Ok(Reply::NotDue);
         };
-        release_at(&mut self.node, &mut self.outputs[j])
+        release_at(&mut self.node, &mut self.outputs[j], round)
     }
 }

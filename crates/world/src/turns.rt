@@ -3,6 +3,8 @@
 /// What a node has done in this round.
 #[derive(Clone, Copy, Debug, PartialEq, Eq)]
 pub struct RoundTurns {
+    /// The round of which this is remembered.
+    pub round: u64,
     /// How many jobs were granted: 64 at most are counted.
     pub granted: u8,
     /// A checkpoint was begun, or its beginning refused.
@@ -15,14 +17,24 @@ pub struct RoundTurns {
 }
 
 impl RoundTurns {
-    /// Nothing yet.
-    pub fn new() -> RoundTurns {
+    /// Nothing yet in this round.
+    pub fn new(round: u64) -> RoundTurns {
         RoundTurns {
+            round,
             granted: 0,
             started: false,
             sent: false,
             sent_holding: false,
             idled: false,
+        }
+    }
+
+    /// What is remembered of this round: nothing, where it is of an earlier one.
+    pub fn of(self, round: u64) -> RoundTurns {
+        if self.round == round {
+            self
+        } else {
+            RoundTurns::new(round)
         }
     }
 }

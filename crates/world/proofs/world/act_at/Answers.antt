@@ -1,0 +1,40 @@
+use Rattle.std.proofs.Common.{◌≡◌, refl, inl, rules}
+use Rattle.world.specs.OutputView.{outputs_view}
+use Rattle.world.specs.declared.station.Station.{Station}
+use Rattle.node.specs.NodeView.{node_view}
+use Rattle.world.specs.PairLaws.{pairs_refl, pairs_set, on_err_map}
+use Rattle.world.proofs.Soundness.{covered_still}
+use Rattle.world.proofs.Leaving.{begins_same}
+use Rattle.world.proofs.world.act_at.Goals as goal
+
+pub returns-then-number-len-clause-grown : goal.returns-then-number-len-clause-grown
+returns-then-number-len-clause-grown g c =
+    let C = g.C.StableCell in
+    pairs_refl _ (λ station. record {
+      begins = begins_same _;
+      covered = covered_still _ _ _ C.moment C.left_since C.may_leave (node_view station.node.state) station.node.cell station.sound g.met.C.StableCell.only_now station.node.durable;
+      apart = inl refl;
+    }) _
+
+pub returns-then-number-len-clause-same : goal.returns-then-number-len-clause-same
+returns-then-number-len-clause-same g c = pairs_refl _ (λ station. (refl, refl)) _
+
+pub returns-clause-grown : goal.returns-clause-grown
+returns-clause-grown g c =
+    let C = g.C.StableCell in
+    pairs_set _ (λ station. record {
+      begins = begins_same _;
+      covered = covered_still _ _ _ C.moment C.left_since C.may_leave (node_view station.node.state) station.node.cell station.sound g.met.C.StableCell.only_now station.node.durable;
+      apart = inl refl;
+    }) _ _ c.index_mut.result.now _ (search rules) c.index_mut.ensures.value c.act.ensures.grown
+
+pub returns-clause-same : goal.returns-clause-same
+returns-clause-same g c = pairs_set _ (λ station. (refl, refl)) _ _ c.index_mut.result.now _ (search rules) c.index_mut.ensures.value (c.act.ensures.same.0, c.act.ensures.same.1)
+
+pub returns-clause-refused : goal.returns-clause-refused
+returns-clause-refused g c =
+    let was = c.index_mut.result.now in
+    let now = c.act.new.self in
+    on_err_map {P = (node_view now.node.state ≡ node_view was.node.state) × (outputs_view g.O.Outlet.taken now.outputs.items ≡ outputs_view g.O.Outlet.taken was.outputs.items)} _ c.act.ensures.refused (λ same.
+    pairs_set (λ (old new : Station g.row.C.Denot g.row.O.Denot g.C.StableCell g.O.Outlet). (node_view new.node.state ≡ node_view old.node.state) × (outputs_view g.O.Outlet.taken new.outputs.items ≡ outputs_view g.O.Outlet.taken old.outputs.items))
+    (λ station. (refl, refl)) c.args.stations.now.items c.args.number was _ (search rules) c.index_mut.ensures.value (same.0, same.1))

@@ -1,0 +1,119 @@
+// A world before its first event.
+ghost use Rattle.std.specs.Prelude.{◌≡◌, ◌++◌, ℕ, ◌≤◌, List, [], ◌∷◌, if◌then◌else◌, length, map, IfOk, OnOk, IsTrue};
+ghost use Rattle.net_check.specs.Fits.{Fits};
+ghost use Rattle.net_check.specs.Nodes.{IsOnOneNode};
+ghost use Rattle.net_check.specs.Syntax.{network_of};
+ghost use Rattle.node.specs.NodeView.{node_view};
+ghost use Rattle.node.specs.Opening.{opening_node};
+ghost use Rattle.world.specs.OutputView.{OutputView, outputs_view};
+ghost use Rattle.world.specs.Sound.{goes_outside, output_channels};
+ghost use Rattle.world.specs.OpenLaws.{NothingLeft};
+ghost use Rattle.world.specs.Pairs.{Every};
+
+use crate::output::Output;
+use crate::station::Station;
+use crate::turns::RoundTurns;
+use crate::world::World;
+use net_check::{Channel, Inputs, Net, Port};
+use node::{CellFault, Node, StableCell};
+use outlet::{ListOutlet, Outlet};
+use std::alloc::{AllocError, Global};
+use std::sync::Arc;
+
+// Adds an outlet in memory for a channel whose items go outside.
+fn add_output(
+    alloc: Global,
+    outputs: &mut Vec<Output<ListOutlet>>,
+    number: u8,
+    channel: &Channel,
+) -> Result<(), AllocError>
+    requires { Every outputs.old.items (λ output. output.outlet ≡ []) }
+    ensures listed { OnOk result (map (λ output. output.channel) outputs.new.items
+        ≡ map (λ output. output.channel) outputs.old.items ++ (if goes_outside channel.now.consumer then number ∷ [] else [])) }
+    ensures empty { OnOk result (Every outputs.new.items (λ output. output.outlet ≡ [])) }
+{
+    if let Port::Outside = channel.consumer {
+        outputs.push(Output {
+            channel: number,
+            outlet: ListOutlet::new(alloc),
+            failed: None,
+        })?;
+    }
+    Ok(())
+}
+
+// An outlet in memory for each channel whose items go outside.
+fn open_outputs(alloc: Global, channels: &[Channel]) -> Result<Vec<Output<ListOutlet>>, AllocError>
+    requires { length channels.now ≤ 256 }
+    ensures listed { IfOk result (λ outputs. map (λ output. output.channel) outputs.items ≡ output_channels 0 channels.now) }
+    ensures empty { IfOk result (λ outputs. Every outputs.items (λ output. output.outlet ≡ [])) }
+{
+    let mut outputs = Vec::new(alloc);
+    for (number, channel) in channels.iter().enumerate() {
+        add_output(alloc, &mut outputs, number as u8, channel)?;
+    }
+    Ok(outputs)
+}
+
+/// An outlet in memory for each output of a network.
+pub fn list_outputs(alloc: Global, net: &Net) -> Result<Vec<Output<ListOutlet>>, AllocError>
+    ensures listed { IfOk result (λ outputs. map (λ output. output.channel) outputs.items ≡ output_channels 0 (network_of net.now.program).channels) }
+    ensures empty { IfOk result (λ outputs. Every outputs.items (λ output. output.outlet ≡ [])) }
+{
+    open_outputs(alloc, &net.program.channels)
+}
+
+impl<C: StableCell, O: Outlet> Station<C, O> {
+    /// The one station of a network on one node, before its first event: its node's opening record is put into the cell.
+    fn open(
+        alloc: Global,
+        net: Arc<Net>,
+        inputs: Arc<Inputs>,
+        cell: C,
+        outputs: Vec<Output<O>>,
+    ) -> Result<Station<C, O>, CellFault>
+        requires fits { Fits (network_of net.value.program) inputs.value }
+        requires ready { IsTrue (C.is_ready cell) }
+        requires listed { map (λ output. output.channel) outputs.items ≡ output_channels 0 (network_of net.value.program).channels }
+        requires empty { Every outputs.items (λ output. O.taken output.outlet ≡ []) }
+        ensures node { IfOk result (λ station. node_view station.node.state ≡ opening_node (network_of net.value.program) 1) }
+        ensures same { IfOk result (λ station. (station.net ≡ net) × (station.inputs ≡ inputs) × (station.outputs ≡ outputs)) }
+    {
+        let node = Node::open(alloc, &net, 0, 1, cell)?;
+        Ok(Station {
+            net,
+            inputs,
+            node,
+            outputs,
+            turns: RoundTurns::new(0),
+        })
+    }
+}
+
+impl<C: StableCell, O: Outlet> World<C, O> {
+    /// The world of a network on one node, before its first event: no process has begun, no item was received or put,
+    /// and the cell holds the opening record. The outputs are those of the network, in order, and nothing has left by
+    /// them. Refuses as `put` of the cell does.
+    pub fn new(
+        alloc: Global,
+        net: Arc<Net>,
+        inputs: Arc<Inputs>,
+        cell: C,
+        outputs: Vec<Output<O>>,
+    ) -> Result<World<C, O>, CellFault>
+        requires one_node { IsOnOneNode (network_of net.value.program) }
+        requires fits { Fits (network_of net.value.program) inputs.value }
+        requires ready { IsTrue (C.is_ready cell) }
+        requires listed { map (λ output. output.channel) outputs.items ≡ output_channels 0 (network_of net.value.program).channels }
+        requires empty { Every outputs.items (λ output. O.taken output.outlet ≡ []) }
+        ensures opening { IfOk result (λ world. Every world.stations.items (λ station. (station.net ≡ net) × (station.inputs ≡ inputs) × (station.outputs ≡ outputs)
+            × (node_view station.node.state ≡ opening_node (network_of net.value.program) 1))) }
+        ensures one { IfOk result (λ world. length world.stations.items ≡ 1) }
+        ensures round { IfOk result (λ world. world.round ≡ 0) }
+    {
+        let station = Station::open(alloc, net, inputs, cell, outputs)?;
+        let mut stations = Vec::with_capacity(alloc, 1)?;
+        stations.push(station)?;
+        Ok(World { stations, round: 0 })
+    }
+}

@@ -1,0 +1,108 @@
+//! A world, and its events.
+ghost use Rattle.std.specs.Prelude.{◌≡◌, IfErr, OnErr};
+ghost use Rattle.net_check.specs.Syntax.{network_of};
+ghost use Rattle.node.specs.NodeView.{node_view};
+ghost use Rattle.world.specs.OutputView.{outputs_view};
+ghost use Rattle.world.specs.Headline.{AreApproximated};
+ghost use Rattle.world.specs.Pairs.{Pairs, Every, HasGrown};
+
+use crate::event::{Event, Refused, Reply};
+use crate::station::Station;
+use node::{StableCell, next_after};
+use outlet::Outlet;
+use std::alloc::{AllocError, Global};
+
+/// A network that runs: its stations, by node number, and the round. A world has one station as yet.
+#[derive(Drop)]
+pub struct World<C: StableCell, O: Outlet> {
+    pub stations: Vec<Station<C, O>>,
+    pub round: u64,
+}
+
+// The node of an event.
+fn node_of(event: &Event) -> u8 {
+    match event {
+        Event::Install(done) => done.job.node(),
+        Event::Grant(node) => *node,
+        Event::Send(node) => *node,
+        Event::Start(node) => *node,
+        Event::Decide(node) => *node,
+        Event::Release(node) => *node,
+        Event::Idle(node) => *node,
+    }
+}
+
+// An event at the station of this number, where there is one.
+fn act_at<C: StableCell, O: Outlet>(
+    alloc: Global,
+    stations: &mut Vec<Station<C, O>>,
+    number: usize,
+    round: u64,
+    event: &Event,
+) -> Result<Reply, AllocError>
+    ensures grown { Pairs stations.old.items stations.new.items (λ old new. HasGrown C.moment C.left_since old.node.cell new.node.cell
+        (outputs_view O.taken old.outputs.items) (outputs_view O.taken new.outputs.items)) }
+    ensures same { Pairs stations.old.items stations.new.items (λ old new. (new.net ≡ old.net) × (new.inputs ≡ old.inputs)) }
+    ensures refused { OnErr result (Pairs stations.old.items stations.new.items (λ old new. (node_view new.node.state ≡ node_view old.node.state)
+        × (outputs_view O.taken new.outputs.items ≡ outputs_view O.taken old.outputs.items))) }
+{
+    if number >= stations.len() {
+        return Ok(Reply::NotDue);
+    }
+    stations[number].act(alloc, round, event)
+}
+
+impl<C: StableCell, O: Outlet> Station<C, O> {
+    // Whether the round need not wait for this node: it has idled, or it is down and not to be recovered yet.
+    fn is_done_with(&self, round: u64) -> bool {
+        let node = &self.node;
+        self.turns.of(round).idled || (!node.state.up && node.state.restart > round)
+    }
+}
+
+fn are_done_with<C: StableCell, O: Outlet>(stations: &[Station<C, O>], round: u64) -> bool {
+    for station in stations {
+        if !station.is_done_with(round) {
+            return false;
+        }
+    }
+    true
+}
+
+impl<C: StableCell, O: Outlet> World<C, O> {
+    /// The round, from 0.
+    pub fn round(&self) -> u64
+        ensures { result ≡ self.now.round }
+    {
+        self.round
+    }
+
+    /// One event. An event that can't happen now, or whose node isn't of this world, is answered by `NotDue`. Refuses
+    /// for want of memory alone (1), with the event, and then nothing is changed.
+    pub fn apply(&mut self, alloc: Global, event: Event) -> Result<Reply, Refused>
+        // Each stream that has left begins with what had left before; whatever a crash of a node at any moment of the event
+        // leaves covers all that has left; and no event both lets an item leave and writes a record.
+        ensures grown { Pairs self.old.stations.items self.new.stations.items (λ old new. HasGrown C.moment C.left_since old.node.cell new.node.cell
+            (outputs_view O.taken old.outputs.items) (outputs_view O.taken new.outputs.items)) }
+        // Each stream that has left is a prefix of its channel's history in one approximation on the inputs.
+        ensures prefix { Every self.new.stations.items (λ station. AreApproximated (network_of station.net.value.program) station.inputs.value
+            (outputs_view O.taken station.outputs.items)) }
+        // The network and its inputs stay.
+        ensures same { Pairs self.old.stations.items self.new.stations.items (λ old new. (new.net ≡ old.net) × (new.inputs ≡ old.inputs)) }
+        ensures refused { OnErr result (Pairs self.old.stations.items self.new.stations.items (λ old new. (node_view new.node.state ≡ node_view old.node.state)
+            × (outputs_view O.taken new.outputs.items ≡ outputs_view O.taken old.outputs.items))) }
+        ensures handed_back { IfErr result (λ refused. refused.event ≡ event) }
+    {
+        let number = usize::from(node_of(&event));
+        match act_at(alloc, &mut self.stations, number, self.round, &event) {
+            Ok(Reply::Idled) => {
+                if are_done_with(&self.stations, self.round) {
+                    self.round = next_after(self.round);
+                }
+                Ok(Reply::Idled)
+            }
+            Ok(reply) => Ok(reply),
+            Err(_) => Err(Refused { event }),
+        }
+    }
+}
