@@ -6,6 +6,8 @@ mod failure;
 mod printing;
 mod reading;
 mod reporting;
+mod running;
+mod turns;
 mod words;
 
 pub use asked::Options;
@@ -13,6 +15,7 @@ pub use failure::{Failure, Source};
 pub use printing::{print_failure, print_report};
 pub use reading::{read_inputs, read_net};
 pub use reporting::{Stream, count_outputs, report};
+pub use running::run;
 pub use words::{not_text, options};
 
 #[cfg(test)]

@@ -2,6 +2,7 @@
 
 mod printing;
 mod reading;
+mod running;
 mod words;
 
 use crate::{Failure, Source, Stream, count_outputs, report};

@@ -1,0 +1,45 @@
+//! The program behind its words.
+
+ghost use Rattle.std.specs.Prelude.{◌≡◌, ◌≤◌};
+
+use crate::failure::Failure;
+use crate::printing::{print_failure, print_report};
+use crate::reading::{read_inputs, read_net};
+use crate::turns::report_of_run;
+use std::alloc::Global;
+use std::io::{Read, Write};
+
+/// The whole report of the network that one reader describes, on the inputs that the other gives, and whether the
+/// run is complete.
+fn report_of_readers<N: Read + Drop, I: Read + Drop>(
+    alloc: Global,
+    net: Option<N>,
+    inputs: Option<I>,
+) -> Result<(Vec<u8>, bool), Failure> {
+    let net = read_net(alloc, net)?;
+    let inputs = read_inputs(alloc, inputs, &net)?;
+    report_of_run(alloc, net, inputs)
+}
+
+/// Runs the network of one reader on the inputs of the other; no reader stands for a file that can't be opened.
+/// Writes the whole report to `out`, or the line of a failure to `err`, and gives the exit status: 0 where the run
+/// is complete, 3 where it isn't, 2 where a text is refused, 1 for any other failure.
+pub fn run<N: Read + Drop, I: Read + Drop, W: Write, E: Write>(
+    alloc: Global,
+    net: Option<N>,
+    inputs: Option<I>,
+    out: &mut W,
+    err: &mut E,
+) -> u8
+    ensures status { result ≤ 3 }
+    // Where a text is refused, nothing is written to `out`.
+    ensures refused { result ≡ 2 → out.new ≡ out.old }
+    // Where the run comes to a report, nothing is written to `err`.
+    ensures complete { result ≡ 0 → err.new ≡ err.old }
+    ensures partial { result ≡ 3 → err.new ≡ err.old }
+{
+    match report_of_readers(alloc, net, inputs) {
+        Ok((report, complete)) => print_report(&report, complete, out),
+        Err(failure) => print_failure(failure, err),
+    }
+}
