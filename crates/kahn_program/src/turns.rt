@@ -1,0 +1,135 @@
+//! A network's run, and its report.
+
+ghost use Rattle.std.specs.Prelude.{◌≡◌, ◌≤◌, length, IfOk};
+ghost use Rattle.net_check.specs.Fits.{Fits};
+ghost use Rattle.net_check.specs.Nodes.{IsOnOneNode};
+ghost use Rattle.net_check.specs.Syntax.{network_of};
+ghost use Rattle.kahn_program.specs.Report.{output_count};
+
+use crate::failure::Failure;
+use crate::reporting::{Stream, report};
+use net_check::{Channel, Inputs, Net, Port};
+use node::{CellFault, Image, MemCell, Record};
+use outlet::ListOutlet;
+use std::alloc::{AllocError, Global};
+use std::sync::Arc;
+use world::{Event, Reply, World, list_outputs};
+
+/// The rounds of a run.
+const ROUNDS: u64 = 1_000;
+
+/// The one node's number.
+const NODE: u8 = 0;
+
+/// A cell in memory, before a world puts its first record there.
+fn empty_cell(alloc: Global) -> MemCell {
+    MemCell::new(
+        alloc,
+        Record {
+            epoch: 0,
+            highest: Vec::new(alloc),
+            decision: None,
+            permanent: Image {
+                processes: Vec::new(alloc),
+                ends: Vec::new(alloc),
+            },
+            tentative: None,
+        },
+    )
+}
+
+/// A failure of a cell.
+fn cell_failure(fault: CellFault) -> Failure {
+    match fault {
+        CellFault::NoMemory => Failure::NoMemory,
+        CellFault::Device | CellFault::TooLarge | CellFault::Reopen => Failure::Other {
+            number: fault.number(),
+        },
+    }
+}
+
+/// The event that is next. A job that it grants is run and comes back at once.
+fn take_turn(
+    alloc: Global,
+    world: &mut World<MemCell, ListOutlet>,
+) -> Result<(), Failure> {
+    let event = world.pick(NODE);
+    match world.apply(alloc, event) {
+        Ok(Reply::Granted(job)) => {
+            let Ok(done) = job.run(alloc) else {
+                return Err(Failure::NoMemory);
+            };
+            match world.apply(alloc, Event::Install(done)) {
+                Ok(_) => Ok(()),
+                Err(_) => Err(Failure::NoMemory),
+            }
+        }
+        Ok(_) => Ok(()),
+        Err(_) => Err(Failure::NoMemory),
+    }
+}
+
+/// Takes turns until nothing is left to do, or the rounds are over.
+fn take_turns(
+    alloc: Global,
+    world: &mut World<MemCell, ListOutlet>,
+) -> Result<(), Failure> {
+    for _ in 0..u64::MAX {
+        if world.complete() || world.round() >= ROUNDS {
+            return Ok(());
+        }
+        take_turn(alloc, world)?;
+    }
+    Ok(())
+}
+
+/// What has left by each output, in order of the channels.
+fn streams<'a>(
+    alloc: Global,
+    channels: &[Channel],
+    world: &'a World<MemCell, ListOutlet>,
+) -> Result<Vec<Stream<'a>>, AllocError>
+    requires { length channels.now ≤ 256 }
+    ensures { IfOk result (λ streams. length streams.items ≡ output_count channels.now) }
+{
+    let mut streams = Vec::new(alloc);
+    for (number, channel) in channels.iter().enumerate() {
+        if let Port::Outside = channel.consumer {
+            streams.push(Stream::new(world.released(number as u8)))?;
+        }
+    }
+    Ok(streams)
+}
+
+/// Runs a network on its inputs, until nothing is left to do or 1,000 rounds are over. Gives the whole report, and
+/// whether the run is complete.
+pub fn report_of_run(alloc: Global, net: Net, inputs: Inputs) -> Result<(Vec<u8>, bool), Failure>
+    requires fitting { Fits (network_of net.program) inputs }
+    requires one_node { IsOnOneNode (network_of net.program) }
+{
+    let Ok(outputs) = list_outputs(alloc, &net) else {
+        return Err(Failure::NoMemory);
+    };
+    let Ok(net) = Arc::new(alloc, net) else {
+        return Err(Failure::NoMemory);
+    };
+    let Ok(inputs) = Arc::new(alloc, inputs) else {
+        return Err(Failure::NoMemory);
+    };
+    let Ok(share) = Arc::try_clone(&net) else {
+        return Err(Failure::NoMemory);
+    };
+    let mut world = match World::new(alloc, share, inputs, empty_cell(alloc), outputs) {
+        Ok(world) => world,
+        Err(fault) => return Err(cell_failure(fault)),
+    };
+    take_turns(alloc, &mut world)?;
+    let complete = world.complete();
+    let Ok(streams) = streams(alloc, &net.program.channels, &world) else {
+        return Err(Failure::NoMemory);
+    };
+    match report(alloc, &net, &streams, complete) {
+        Ok(bytes) => Ok((bytes, complete)),
+        Err(_) => Err(Failure::NoMemory),
+    }
+}
