@@ -49,10 +49,7 @@ fn cell_failure(fault: CellFault) -> Failure {
 }
 
 /// The event that is next. A job that it grants is run and comes back at once.
-fn take_turn(
-    alloc: Global,
-    world: &mut World<MemCell, ListOutlet>,
-) -> Result<(), Failure> {
+fn take_turn(alloc: Global, world: &mut World<MemCell, ListOutlet>) -> Result<(), Failure> {
     let event = world.pick(NODE);
     match world.apply(alloc, event) {
         Ok(Reply::Granted(job)) => {
@@ -70,10 +67,7 @@ fn take_turn(
 }
 
 /// Takes turns until nothing is left to do, or the rounds are over.
-fn take_turns(
-    alloc: Global,
-    world: &mut World<MemCell, ListOutlet>,
-) -> Result<(), Failure> {
+fn take_turns(alloc: Global, world: &mut World<MemCell, ListOutlet>) -> Result<(), Failure> {
     for _ in 0..u64::MAX {
         if world.complete() || world.round() >= ROUNDS {
             return Ok(());

@@ -109,7 +109,7 @@ leaves_itself image kept left is more = record {
     nothing e = cc
 
 module _ {C : Type 0} (moment : C → ℕ) (left_since : C → ℕ → Option RecordView → Type 0) (may_leave : C → Option RecordView → Type 0)
-  (includes_now : (cell : C) (t : ℕ) (left : Option RecordView) → t ≤ moment cell → may_leave cell left → left_since cell t left) where
+    (includes_now : (cell : C) (t : ℕ) (left : Option RecordView) → t ≤ moment cell → may_leave cell left → left_since cell t left) where
   -- what a crash leaves after a put has as much as the permanent image before
   pub durable_after : (old new : C) (next : RecordView) (image : ImageView) → LeavesOnly moment left_since old new (λ left. may_leave old left ⊎ (left ≡ Some next))
       → ((left : Option RecordView) → may_leave old left → LeavesAsMuch image left) → HasPutMore image next.permanent → (left : Option RecordView) → may_leave new left → LeavesAsMuch image left
@@ -133,13 +133,16 @@ module _ {C : Type 0} (moment : C → ℕ) (left_since : C → ℕ → Option Re
       held_more : (held : Option Tentative) → old.kept.tentative ≡ held → HasPutMore old.kept.permanent (decided_with old.kept held).permanent
       held_more None h = put_more_refl old.kept.permanent
       held_more (Some held) h = order.held_ahead held h
+
       as_before : new.kept.permanent ≡ old.kept.permanent → LeavesAsMuch new.kept.permanent left
       as_before same = subst (λ (image : ImageView). LeavesAsMuch image left) (sym same)
           (durable_after cell cell' (decided old.kept) old.kept.permanent any before (held_more old.kept.tentative refl) left might)
+
       stored : IsTrue old.up → new ≡ with_kept (decided old.kept) old → LeavesAsMuch new.kept.permanent left
       stored up is =
           let now = agree (subst (λ (n : NodeView). IsTrue n.up) (sym is) up) in
           leaves_itself new.kept.permanent new.kept left (settled cell' now.0 left might ∙ ap (λ (k : RecordView). Some k) now.1) (put_more_refl new.kept.permanent)
+
       by_outcome : (outcome : Putting) → IsDecision number round old outcome new → LeavesAsMuch new.kept.permanent left
       by_outcome NotDue step = as_before (ap (λ (n : NodeView). n.kept.permanent) step.1)
       by_outcome Stored step = stored (was_up old.up _ step.0) step.1
@@ -149,6 +152,7 @@ module _ {C : Type 0} (moment : C → ℕ) (left_since : C → ℕ → Option Re
           was_up false own h = h
       by_outcome (Refused refusal) step = as_before (ap (λ (n : NodeView). n.kept.permanent) step.2)
       by_outcome Failed step = as_before (ap (λ (n : NodeView). n.kept.permanent) step.1)
+
       at : (r : Result Putting AllocError) → IfOk r (λ outcome. IsDecision number round old outcome new) → OnErr r (new ≡ old) → LeavesAsMuch new.kept.permanent left
       at (Ok outcome) step e = by_outcome outcome step
       at (Err e) step same = as_before (ap (λ (n : NodeView). n.kept.permanent) same)

@@ -44,8 +44,8 @@ same_output : (x y : OutputView) → y.channel ≡ x.channel → y.taken ≡ x.t
 same_output x y channel taken = ap (λ (c : ℕ). output_of c y.taken) channel ∙ ap (output_of x.channel) taken
 
 module _ (net : Network) (inputs : List (List ℤ)) (node new : NodeView) (xs : List OutputView) (j : ℕ) (x y : OutputView)
-  (sound : IsSound net inputs node xs) (order : AreInOrder node.kept node.current) (is : slice_get xs j ≡ Some x)
-  (more : length x.taken < sent_of node.kept.permanent x.channel) where
+    (sound : IsSound net inputs node xs) (order : AreInOrder node.kept node.current) (is : slice_get xs j ≡ Some x)
+    (more : length x.taken < sent_of node.kept.permanent x.channel) where
   -- the log has what comes next
   pub next_there : HasNext (log_of node.current x.channel) (length x.taken)
   next_there = has_next net inputs node xs j x sound order is more
@@ -54,7 +54,7 @@ module _ (net : Network) (inputs : List (List ℤ)) (node new : NodeView) (xs : 
   logged none = subst (λ (o : Option LogState). HasNext o (length x.taken)) none next_there
 
   module _ (channel : y.channel ≡ x.channel) (longer : (length y.taken ≡ length x.taken) ⊎ (length y.taken ≡ length x.taken + 1)) (begins : IsBeginningOf x.taken y.taken)
-    (goes_on : (log : LogState) (history : List ℤ) → log_of node.current x.channel ≡ Some log → IsLogOf log history → IsBeginningOf x.taken history → IsBeginningOf y.taken history) where
+      (goes_on : (log : LogState) (history : List ℤ) → log_of node.current x.channel ≡ Some log → IsLogOf log history → IsBeginningOf x.taken history → IsBeginningOf y.taken history) where
     covers : length y.taken ≤ sent_of node.kept.permanent x.channel
     covers = at longer
       where
@@ -81,6 +81,7 @@ module _ (net : Network) (inputs : List (List ℤ)) (node new : NodeView) (xs : 
       where
         some_same : (a b : OutputView) → Some a ≡ Some b → a ≡ b
         some_same a b e = cc
+
         at : (i : ℕ) (output later : OutputView) → slice_get xs i ≡ Some output → ((i ≡ j) × (y ≡ later)) ⊎ ((i ≢ j) × (slice_get xs i ≡ Some later)) → (later.channel ≡ output.channel) × IsBeginningOf output.taken later.taken
         at i output later h (inl here) =
             let first : x ≡ output = some_same x output (sym is ∙ (ap (slice_get xs) (sym here.0) ∙ h)) in

@@ -104,9 +104,9 @@ module _ (net : Network) (inputs : List (List ℤ)) (outputs : List OutputView) 
     listed = sound.listed;
     kept = record { laid_out = sound.kept.laid_out; counts = sound.kept.counts; logs = sound.kept.logs };
     covered = λ j output h.
-      let at = sound.covered j output h in
-      let more : sent_of old.kept.permanent output.channel ≤ sent_of (decided old.kept).permanent output.channel = decided_more old order old.kept.tentative refl output.channel in
-      record { no_gap = at.no_gap; covered = omega (arith, at.covered, more) };
+        let at = sound.covered j output h in
+        let more : sent_of old.kept.permanent output.channel ≤ sent_of (decided old.kept).permanent output.channel = decided_more old order old.kept.tentative refl output.channel in
+        record { no_gap = at.no_gap; covered = omega (arith, at.covered, more) };
     come = ∥∥₁_map sound.come (come_decide old);
   }
 
@@ -140,11 +140,11 @@ module _ (net : Network) (inputs : List (List ℤ)) (outputs : List OutputView) 
 
   covered_by : (old : NodeView) (left : Option RecordView) → IsSound net inputs old outputs → LeavesAsMuch old.kept.permanent left → AreCovered left outputs
   covered_by old left sound leaves = λ j output h.
-    let at = sound.covered j output h in
-    record {
-      something = leaves.something;
-      covers = λ kept is. let more : sent_of old.kept.permanent output.channel ≤ sent_of kept.permanent output.channel = leaves.as_much kept is output.channel in omega (arith, at.covered, more);
-    }
+      let at = sound.covered j output h in
+      record {
+        something = leaves.something;
+        covers = λ kept is. let more : sent_of old.kept.permanent output.channel ≤ sent_of kept.permanent output.channel = leaves.as_much kept is output.channel in omega (arith, at.covered, more);
+      }
 
   leaves_next : (image : ImageView) (kept : RecordView) (left : Option RecordView) → left ≡ Some kept → HasPutMore image kept.permanent → LeavesAsMuch image left
   leaves_next image kept left is more = record {
@@ -154,6 +154,7 @@ module _ (net : Network) (inputs : List (List ℤ)) (outputs : List OutputView) 
     where
       nothing : (k : RecordView) → Some k ≡ None → ⊥
       nothing k e = cc
+
       same : (k other : RecordView) → Some k ≡ Some other → k ≡ other
       same k other e = cc
 

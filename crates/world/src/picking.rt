@@ -33,11 +33,21 @@ fn has_more(now: &Image, before: &Image) -> bool {
 }
 
 // Whether a process can do nothing more: it has finished, or it gets from an input of which every item was received.
-fn is_at_rest(net: &Net, inputs: &[net_check::History], image: &Image, saved: &SavedProcess) -> bool {
+fn is_at_rest(
+    net: &Net,
+    inputs: &[net_check::History],
+    image: &Image,
+    saved: &SavedProcess,
+) -> bool {
     match net.program.processes.get(usize::from(saved.number)) {
         Some(process) => match next_act(process, &saved.state) {
             NextAct::Nothing => true,
-            NextAct::Get { channel } => has_received_all(&net.program.channels, inputs, image, channel),
+            NextAct::Get { channel } => has_received_all(
+                &net.program.channels,
+                inputs,
+                image,
+                channel,
+            ),
             NextAct::Begin | NextAct::Put { .. } => false,
         },
         None => true,
@@ -51,7 +61,11 @@ fn has_received_all(
     image: &Image,
     channel: usize,
 ) -> bool {
-    match (channels.get(channel), inputs.get(channel), u8::try_from(channel)) {
+    match (
+        channels.get(channel),
+        inputs.get(channel),
+        u8::try_from(channel),
+    ) {
         (Some(ends), Some(input), Ok(number)) => match ends.producer {
             Port::Outside => image.received(number) == input.len() as u64,
             Port::Process(_) => image.received(number) == image.sent(number),

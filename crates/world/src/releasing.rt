@@ -18,13 +18,19 @@ use std::alloc::AllocError;
 
 // The first output with an item that the permanent image covers and that its outlet hasn't taken, if its outlet didn't
 // fail in this round.
-pub(crate) fn next_output<O: Outlet>(kept: &Record, outputs: &[Output<O>], round: u64) -> Option<usize>
+pub(crate) fn next_output<O: Outlet>(
+    kept: &Record,
+    outputs: &[Output<O>],
+    round: u64,
+) -> Option<usize>
     ensures waiting { IfSome result (λ j. (output : OutputView) → slice_get (outputs_view O.taken outputs.now) j ≡ Some output
         → length output.taken < sent_of kept.now.permanent output.channel) }
     ensures within { IfSome result (λ j. j < length outputs.now) }
 {
     for (j, output) in outputs.iter().enumerate() {
-        if output.failed != Some(round) && output.outlet.len() < kept.permanent.sent(output.channel) {
+        if output.failed != Some(round)
+            && output.outlet.len() < kept.permanent.sent(output.channel)
+        {
             return Some(j);
         }
     }

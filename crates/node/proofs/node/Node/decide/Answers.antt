@@ -13,6 +13,6 @@ invariant_of-self g c =
       agree = c.put_decision.ensures.agree;
       in_order = order_decided was.number c.args.round (node_view was.state) _ _ step refused was.in_order;
       durable = durable_decided g.C.StableCell.moment g.C.StableCell.left_since g.C.StableCell.may_leave g.met.C.StableCell.includes_now
-        was.number c.args.round (node_view was.state) _ was.cell _ _ g.C.StableCell.is_ready g.C.StableCell.value step refused c.put_decision.ensures.any_moment was.durable was.in_order
-        c.put_decision.ensures.agree g.met.C.StableCell.settled;
+          was.number c.args.round (node_view was.state) _ was.cell _ _ g.C.StableCell.is_ready g.C.StableCell.value step refused c.put_decision.ensures.any_moment was.durable was.in_order
+          c.put_decision.ensures.agree g.met.C.StableCell.settled;
     }

@@ -21,7 +21,7 @@ invariant_of-self g c =
     record {
       fits = was.fits;
       sound = sound_taken (network_of was.net.value.program) was.inputs.value _ (node_view was.node.state) _ c.deref-2.result.now (job_view done.job) (standing_of done.state) done.taken.items done.sent.items c.install.result was.net.value.valid was.fits
-        (c.deref-2.ensures.value ∙ ap (λ (n : Net). n.program.channels.items) c.deref.ensures) done.turn c.install.ensures.step c.install.ensures.err was.sound;
+          (c.deref-2.ensures.value ∙ ap (λ (n : Net). n.program.channels.items) c.deref.ensures) done.turn c.install.ensures.step c.install.ensures.err was.sound;
     }
 
 pub returns-in-Ok-true-clause-covered : goal.returns-in-Ok-true-clause-covered

@@ -45,7 +45,7 @@ invariant_of-self-2 g c =
     let made = c.release_at.ensures in
     let set = seen_set taken was.outputs.items c.in-Some.j c.release_at.new.output in
     let now = sound_after (network_of was.net.value.program) was.inputs.value (node_view was.node.state) (node_view c.release_at.new.node.state) _ c.in-Some.j (output_view taken x) (output_view taken c.release_at.new.output) was.sound was.node.in_order there more
-        made.channel made.length made.begins made.history c.release_at.result made.trimmed made.refused in
+    made.channel made.length made.begins made.history c.release_at.result made.trimmed made.refused in
     record {
       fits = was.fits;
       sound = subst (λ (l : List OutputView). IsSound (network_of was.net.value.program) was.inputs.value (node_view c.release_at.new.node.state) l) (sym set) now;
@@ -77,7 +77,7 @@ returns-clause-covered g c =
     let set = seen_set taken was.outputs.items c.in-Some.j c.release_at.new.output in
     let C = g.C.StableCell in
     let now = sound_after (network_of was.net.value.program) was.inputs.value (node_view was.node.state) (node_view c.release_at.new.node.state) _ c.in-Some.j (output_view taken x) (output_view taken c.release_at.new.output) was.sound was.node.in_order there more
-        made.channel made.length made.begins made.history c.release_at.result made.trimmed made.refused in
+    made.channel made.length made.begins made.history c.release_at.result made.trimmed made.refused in
     subst (λ (l : List OutputView). (left : Option RecordView) → C.left_since c.release_at.new.node.cell (C.moment was.node.cell) left → AreCovered left l) (sym set)
     (covered_same _ _ _ C.moment C.left_since C.may_leave (node_view c.release_at.new.node.state) was.node.cell _ made.same.0 now g.met.C.StableCell.only_now
     (λ left might. c.release_at.new.node.durable left (subst (λ (cell : g.row.C.Denot). C.may_leave cell left) (sym made.same.0) might)))
