@@ -1,6 +1,6 @@
 ghost use Rattle.std.specs.Prelude.{◌+◌, if◌then◌else◌};
 
-use outlet::{ListOutlet, Log, LogFault, Outlet, OutletFault, can_release, release};
+use outlet::{LAST_POSITION, ListOutlet, Log, LogFault, Outlet, OutletFault, can_release, release};
 use std::alloc::Global;
 use std::test::Fail;
 
