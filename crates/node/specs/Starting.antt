@@ -1,5 +1,6 @@
 -- A node's record while a checkpoint of its own is taken and decided, and how a put of it comes out.
-use Rattle.std.specs.Prelude.{◌≡◌, ◌⊎◌, ◌≢◌, ℕ, ◌+◌, ◌-◌, ◌<◌, ◌≤◌, ◌^◌, ◌==◌, nat_lt, if◌then◌else◌, Bool, true, false, ◌&&◌, IsTrue, Option, Some, None, slice_set, slice_index}
+use Rattle.std.specs.Prelude.{◌≡◌, ◌⊎◌, ◌≢◌, ℕ, ◌+◌, ◌-◌, ◌<◌, ◌≤◌, ◌^◌, ◌==◌, nat_lt, if◌then◌else◌, Bool, true, false, ◌&&◌, IsTrue, Option, Some, None, Result, Ok, Err, slice_set, slice_index}
+use Rattle.std.specs.declared.alloc.AllocError.{AllocError}
 use Rattle.node.specs.ImageView.{ImageView}
 use Rattle.node.specs.Ends.{sent_of}
 use Rattle.node.specs.RecordView.{RecordView}
@@ -97,6 +98,22 @@ IsFailedPut NoMemory round old outcome new = ⊥
 IsFailedPut TooLarge round old outcome new = (outcome ≡ Refused 22) × (new ≡ old)
 IsFailedPut Device round old outcome new = (outcome ≡ Failed) × (new ≡ stopped round old)
 IsFailedPut Reopen round old outcome new = (outcome ≡ Failed) × (new ≡ stopped round old)
+
+-- What the cell has to do with how a put of a node came out, where its device failed so often before and after: the record fits, unless it
+-- was refused because it doesn't; and the device failed exactly where the node went down.
+abbrev pub IsPut : Bool → ℕ → ℕ → Putting → Type 0
+IsPut fits before after NotDue = after ≡ before
+IsPut fits before after Stored = IsTrue fits × (after ≡ before)
+IsPut fits before after (Refused refusal) = (refusal ≡ 22 → fits ≡ false) × (after ≡ before)
+IsPut fits before after Failed = IsTrue fits × (before < after)
+
+-- the cell wasn't touched: nothing was to be put, it didn't fit, or memory was missing
+abbrev pub LeavesCell : Result Putting AllocError → Type 0
+LeavesCell (Ok NotDue) = Unit {0}
+LeavesCell (Ok Stored) = ⊥
+LeavesCell (Ok (Refused refusal)) = Unit {0}
+LeavesCell (Ok Failed) = ⊥
+LeavesCell (Err e) = Unit {0}
 
 -- while a node is up, its cell is ready and holds its record
 abbrev pub AgreeWhileUp : {C : Type 0} → (C → Bool) → (C → RecordView) → Bool → RecordView → C → Type 0

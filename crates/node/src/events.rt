@@ -11,7 +11,8 @@ ghost use Rattle.node.specs.JobView.{job_view};
 ghost use Rattle.node.specs.NodeView.{node_view};
 ghost use Rattle.node.specs.Choosing.{next_job, after_grant};
 ghost use Rattle.node.specs.Installing.{ImageTakes, IsOut, IsInstall};
-ghost use Rattle.node.specs.Starting.{with_own, decided, IsStart, IsDecision};
+ghost use Rattle.node.specs.Cell.{IsUnchanged};
+ghost use Rattle.node.specs.Starting.{with_own, decided, IsStart, IsDecision, IsPut, LeavesCell};
 ghost use Rattle.node.specs.Trimming.{trimmed_image, with_current, HasNext};
 
 use crate::cell::StableCell;
@@ -68,6 +69,8 @@ impl<C: StableCell> Node<C> {
     pub fn start(&mut self, alloc: Global, round: u64) -> Result<Putting, AllocError>
         ensures step { IfOk result (λ outcome. IsStart self.old.number round (node_view self.old.state) outcome (node_view self.new.state)) }
         ensures refused { OnErr result (node_view self.new.state ≡ node_view self.old.state) }
+        ensures put { IfOk result (IsPut (C.fits self.old.cell (with_own self.old.number self.old.state.current self.old.state.kept)) (C.failure_count self.old.cell) (C.failure_count self.new.cell)) }
+        ensures unchanged { LeavesCell result → IsUnchanged C.value C.is_ready C.may_leave C.moment C.left_since C.failure_count self.old.cell self.new.cell }
         ensures any_moment { LeavesOnly C.moment C.left_since self.old.cell self.new.cell
             (λ left. C.may_leave self.old.cell left
             ⊎ (left ≡ Some (with_own self.old.number self.old.state.current self.old.state.kept))) }
@@ -81,6 +84,8 @@ impl<C: StableCell> Node<C> {
     pub fn decide(&mut self, alloc: Global, round: u64) -> Result<Putting, AllocError>
         ensures step { IfOk result (λ outcome. IsDecision self.old.number round (node_view self.old.state) outcome (node_view self.new.state)) }
         ensures refused { OnErr result (node_view self.new.state ≡ node_view self.old.state) }
+        ensures put { IfOk result (IsPut (C.fits self.old.cell (decided self.old.state.kept)) (C.failure_count self.old.cell) (C.failure_count self.new.cell)) }
+        ensures unchanged { LeavesCell result → IsUnchanged C.value C.is_ready C.may_leave C.moment C.left_since C.failure_count self.old.cell self.new.cell }
         ensures any_moment { LeavesOnly C.moment C.left_since self.old.cell self.new.cell
             (λ left. C.may_leave self.old.cell left ⊎ (left ≡ Some (decided self.old.state.kept))) }
         ensures same_number { self.new.number ≡ self.old.number }

@@ -4,7 +4,7 @@ ghost use Rattle.gate_cell.specs.declared.fault.CellFault.TheVariants.{NoMemory}
 ghost use Rattle.node.specs.NodeView.{node_view};
 ghost use Rattle.sector_disk.specs.Clock.{LeavesOnly};
 ghost use Rattle.node.specs.Cell.{IsUnchanged};
-ghost use Rattle.node.specs.Starting.{highest_used, may_start, with_own, decided, is_own, IsStart, IsDecision, IsFailedPut, stopped, next_number, AgreeWhileUp};
+ghost use Rattle.node.specs.Starting.{highest_used, may_start, with_own, decided, is_own, IsStart, IsDecision, IsFailedPut, IsPut, LeavesCell, stopped, next_number, AgreeWhileUp};
 
 use crate::cell::StableCell;
 use crate::putting::Putting;
@@ -95,6 +95,8 @@ pub(crate) fn put_own<C: StableCell>(
     requires agree { AgreeWhileUp C.is_ready C.value state.old.up state.old.kept cell.old }
     ensures step { IfOk result (λ outcome. IsStart number round (node_view state.old) outcome (node_view state.new)) }
     ensures refused { OnErr result (node_view state.new ≡ node_view state.old) }
+    ensures put { IfOk result (IsPut (C.fits cell.old (with_own number state.old.current state.old.kept)) (C.failure_count cell.old) (C.failure_count cell.new)) }
+    ensures unchanged { LeavesCell result → IsUnchanged C.value C.is_ready C.may_leave C.moment C.left_since C.failure_count cell.old cell.new }
     ensures agree { AgreeWhileUp C.is_ready C.value state.new.up state.new.kept cell.new }
     ensures any_moment { LeavesOnly C.moment C.left_since cell.old cell.new
         (λ left. C.may_leave cell.old left ⊎ (left ≡ Some (with_own number state.old.current state.old.kept))) }
@@ -146,6 +148,8 @@ pub(crate) fn put_decision<C: StableCell>(
     requires agree { AgreeWhileUp C.is_ready C.value state.old.up state.old.kept cell.old }
     ensures step { IfOk result (λ outcome. IsDecision number round (node_view state.old) outcome (node_view state.new)) }
     ensures refused { OnErr result (node_view state.new ≡ node_view state.old) }
+    ensures put { IfOk result (IsPut (C.fits cell.old (decided state.old.kept)) (C.failure_count cell.old) (C.failure_count cell.new)) }
+    ensures unchanged { LeavesCell result → IsUnchanged C.value C.is_ready C.may_leave C.moment C.left_since C.failure_count cell.old cell.new }
     ensures agree { AgreeWhileUp C.is_ready C.value state.new.up state.new.kept cell.new }
     ensures any_moment { LeavesOnly C.moment C.left_since cell.old cell.new
         (λ left. C.may_leave cell.old left ⊎ (left ≡ Some (decided state.old.kept))) }

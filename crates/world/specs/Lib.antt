@@ -11,3 +11,8 @@ pub mod Headline
 pub mod OpenLaws
 pub mod Pairs
 pub mod PairLaws
+pub mod StationView
+pub mod Turns
+pub mod Steps
+pub mod Choice
+pub mod Quiet

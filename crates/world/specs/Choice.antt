@@ -1,0 +1,49 @@
+-- Which event is next for a node: the first one of a list that is due.
+use Rattle.std.specs.Prelude.{◌==◌, ℕ, ◌%◌, nat_lt, Bool, true, false, ◌&&◌, ◌||◌, not, if◌then◌else◌, List, [], ◌∷◌, length, Option, Some, None, is_some, slice_get}
+use Rattle.node.specs.ImageView.{ImageView}
+use Rattle.node.specs.Ends.{received_of, sent_of}
+use Rattle.node.specs.Choosing.{next_job}
+use Rattle.node.specs.Starting.{is_none, may_start, may_decide}
+use Rattle.node.specs.declared.record.SavedEnd.{SavedEnd}
+use Rattle.world.specs.Turns.{turns_of}
+use Rattle.world.specs.StationView.{StationView}
+use Rattle.world.specs.Steps.{WorldView, next_release}
+use Rattle.world.specs.declared.event.Event.{Event}
+use Rattle.world.specs.declared.event.Event.TheVariants.{Grant, Send, Start, Decide, Release, Idle}
+
+-- a count of one of these channels is above what it is in an earlier image
+abbrev pub counts_rose : ImageView → ImageView → List SavedEnd → Bool
+counts_rose now before [] = false
+counts_rose now before (saved ∷ ends) =
+    (nat_lt (received_of before saved.channel) (received_of now saved.channel) || nat_lt (sent_of before saved.channel) (sent_of now saved.channel)) || counts_rose now before ends
+
+-- the turn to begin a checkpoint goes round: in each round it is one node's
+abbrev pub has_turn : ℕ → ℕ → ℕ → Bool
+has_turn nodes round number = nat_lt 0 nodes && (round % nodes == number)
+
+-- it is this node's turn to begin a checkpoint, it hasn't yet in this round, and has something new to keep
+abbrev pub wants_checkpoint : ℕ → ℕ → StationView → Bool
+wants_checkpoint nodes round station =
+    has_turn nodes round station.number && (not (turns_of round station.turns).started && (may_start station.node && counts_rose station.node.current station.node.kept.permanent station.node.current.ends))
+
+-- it has sent in this round; what it sent while it held a tentative image doesn't count afterwards
+abbrev pub has_sent : ℕ → StationView → Bool
+has_sent round station = (turns_of round station.turns).sent && not ((turns_of round station.turns).sent_holding && is_none station.node.kept.tentative)
+
+-- the first that is due: an item leaves, a job is granted (64 at most a round), a checkpoint is decided or begun, the node sends, or its turn passes
+abbrev pub station_choice : ℕ → ℕ → StationView → Event
+station_choice nodes round station =
+    if is_some (next_release round station) then Release station.number
+    else (if nat_lt (turns_of round station.turns).granted 64 && is_some (next_job station.net station.inputs station.node) then Grant station.number
+    else (if may_decide station.number station.node then Decide station.number
+    else (if wants_checkpoint nodes round station then Start station.number
+    else (if station.node.up && not (has_sent round station) then Send station.number
+    else Idle station.number))))
+
+abbrev pub choice_of : WorldView → ℕ → Option StationView → Event
+choice_of world node None = Idle node
+choice_of world node (Some station) = station_choice (length world.stations) world.round station
+
+-- the event that is next for this node
+abbrev pub choice : WorldView → ℕ → Event
+choice world node = choice_of world node (slice_get world.stations node)

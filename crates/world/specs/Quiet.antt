@@ -1,0 +1,54 @@
+-- A world in which nothing is left to do.
+use Rattle.std.specs.Prelude.{◌≡◌, ◌==◌, ℕ, Bool, true, false, ◌&&◌, ℤ, List, [], ◌∷◌, length, Option, Some, None, slice_get}
+use Rattle.net_check.specs.Streams.{history_of}
+use Rattle.net_check.specs.Syntax.{Network}
+use Rattle.net_check.specs.NextActs.{Next, Begins, Gets, Puts, NoNext}
+use Rattle.net_check.specs.Approximations.{approximation, IsReached}
+use Rattle.net_check.specs.declared.program.Channel.{Channel}
+use Rattle.net_check.specs.declared.program.Port.{Port}
+use Rattle.net_check.specs.declared.program.Port.TheVariants.{Outside, Process}
+use Rattle.node.specs.ProcessView.{SavedProcessView}
+use Rattle.node.specs.ImageView.{ImageView}
+use Rattle.node.specs.NodeView.{NodeView}
+use Rattle.node.specs.Ends.{received_of, sent_of}
+use Rattle.node.specs.Choosing.{next_at}
+use Rattle.node.specs.Starting.{is_none}
+use Rattle.world.specs.OutputView.{OutputView}
+
+-- every item of a channel was received: of an input all that there are, of any other all that was put
+abbrev pub got_all : List (List ℤ) → ImageView → ℕ → Port → Bool
+got_all inputs image channel Outside = received_of image channel == length (history_of inputs channel)
+got_all inputs image channel (Process p) = received_of image channel == sent_of image channel
+
+abbrev pub has_got_all : List (List ℤ) → ImageView → ℕ → Option Channel → Bool
+has_got_all inputs image channel None = false
+has_got_all inputs image channel (Some ends) = got_all inputs image channel ends.producer
+
+-- a process can do nothing more: it has finished, or it gets from a channel of which every item was received
+abbrev pub can_rest : Network → List (List ℤ) → ImageView → Next → Bool
+can_rest net inputs image Begins = false
+can_rest net inputs image (Gets channel) = has_got_all inputs image channel (slice_get net.channels channel)
+can_rest net inputs image (Puts channel) = false
+can_rest net inputs image NoNext = true
+
+abbrev pub is_at_rest : Network → List (List ℤ) → ImageView → SavedProcessView → Bool
+is_at_rest net inputs image saved = can_rest net inputs image (next_at (slice_get net.codes saved.number) saved.standing)
+
+abbrev pub are_at_rest : Network → List (List ℤ) → ImageView → List SavedProcessView → Bool
+are_at_rest net inputs image [] = true
+are_at_rest net inputs image (saved ∷ processes) = is_at_rest net inputs image saved && are_at_rest net inputs image processes
+
+-- each outlet has all that was put
+abbrev pub have_all_left : ImageView → List OutputView → Bool
+have_all_left image [] = true
+have_all_left image (output ∷ outputs) = (length output.taken == sent_of image output.channel) && have_all_left image outputs
+
+-- nothing is left to do at a node: it is up, no job is out, its processes are at rest, and all that they put has left
+abbrev pub is_quiet : Network → List (List ℤ) → NodeView → List OutputView → Bool
+is_quiet net inputs node outputs = node.up && (is_none node.out && (are_at_rest net inputs node.current node.current.processes && have_all_left node.current outputs))
+
+-- The streams that left are whole: the approximations come to rest at some n, which is then the network's least solution, and each output
+-- has left to its end there.
+abbrev pub AreWhole : Network → List (List ℤ) → List OutputView → Type 0
+AreWhole net inputs outputs = ∥ ((n : ℕ) × IsReached net inputs n
+    × ((j : ℕ) (output : OutputView) → slice_get outputs j ≡ Some output → output.taken ≡ history_of (approximation net inputs n) output.channel)) ∥₁

@@ -1,0 +1,195 @@
+-- An event of a world, as a relation of what was before, what is answered, and what is after.
+--
+-- A relation goes by cases of the event; a reply that an event never has is nowhere in its case. An event that can't happen is answered by
+-- `NotDue` and changes nothing, and only such an event is. What the network and the nodes' own state don't settle is whether a device or an
+-- outlet fails, and whether an outlet that fails took the item.
+use Rattle.std.specs.Prelude.{◌≡◌, ◌⊎◌, ℕ, ◌+◌, nat_lt, Bool, true, false, ◌&&◌, ◌||◌, not, if◌then◌else◌, ℤ, List, [], ◌∷◌, length, Option, Some, None, slice_get, slice_set, option_map}
+use Rattle.net_check.specs.Syntax.{Code, network_of}
+use Rattle.net_check.specs.States.{standing_of}
+use Rattle.outlet.specs.LogState.{LogState, IsLogOf}
+use Rattle.outlet.specs.Released.{IsBeginningOf}
+use Rattle.proc_step.specs.declared.job.Job.{Job}
+use Rattle.proc_step.specs.declared.job.Done.{Done}
+use Rattle.node.specs.Ends.{log_of, sent_of}
+use Rattle.node.specs.JobView.{JobView, job_view}
+use Rattle.node.specs.RecordView.{RecordView}
+use Rattle.node.specs.NodeView.{NodeView}
+use Rattle.node.specs.Choosing.{next_job, after_grant}
+use Rattle.node.specs.Installing.{IsInstall}
+use Rattle.node.specs.Starting.{is_none, next_number, with_own, decided, IsStart, IsDecision, IsPut}
+use Rattle.node.specs.Trimming.{trimmed_image, with_current}
+use Rattle.node.specs.declared.putting.Putting.{Putting}
+use Rattle.world.specs.Replies.{start_reply, decision_reply}
+use Rattle.world.specs.Turns.{turns_of, turns_granted, turns_started, count_send, count_idle}
+use Rattle.world.specs.StationView.{OutletView, StationView}
+use Rattle.world.specs.declared.event.Event.{Event}
+use Rattle.world.specs.declared.event.Event.TheVariants as event
+use Rattle.world.specs.declared.event.Reply.{Reply}
+use Rattle.world.specs.declared.event.Reply.TheVariants as reply
+use Rattle.world.specs.declared.turns.RoundTurns.{RoundTurns}
+
+-- One station
+
+-- the same station with its node so, its device having failed so often, and what is remembered of its round
+abbrev pub moved_to : NodeView → ℕ → RoundTurns → StationView → StationView
+moved_to node failures turns station = record { net = station.net; inputs = station.inputs; number = station.number; node = node; failures = failures; outlets = station.outlets; turns = turns }
+
+-- the job that can be granted is, and is in the reply
+abbrev pub IsGrantReply : Option JobView → Reply → Type 0
+IsGrantReply None answer = answer ≡ reply.NotDue
+IsGrantReply (Some job) answer = (granted : Job) × (answer ≡ reply.Granted granted) × (job_view granted ≡ job)
+
+abbrev pub IsGrant : ℕ → Option JobView → StationView → Reply → StationView → Type 0
+IsGrant round job old answer new = IsGrantReply job answer × (new ≡ moved_to (after_grant job old.node) old.failures (turns_granted job round old.turns) old)
+
+-- what came back is taken in where it is of the job that is out
+abbrev pub install_reply : Bool → Reply
+install_reply true = reply.Installed
+install_reply false = reply.Discarded
+
+pub record IsInstalled (done : Done) (old : StationView) (answer : Reply) (new : StationView) : Type 0 where
+  pub applied : Bool
+  pub step : IsInstall old.net.channels (job_view done.job) (standing_of done.state) done.taken.items done.sent.items old.node applied new.node
+  pub answers : answer ≡ install_reply applied
+  pub same : new ≡ moved_to new.node old.failures old.turns old
+
+-- a node that is up sends
+abbrev pub IsSendOf : Bool → ℕ → StationView → Reply → StationView → Type 0
+IsSendOf false round old answer new = (answer ≡ reply.NotDue) × (new ≡ old)
+IsSendOf true round old answer new = (answer ≡ reply.Sent) × (new ≡ moved_to old.node old.failures (count_send (not (is_none old.node.kept.tentative)) (turns_of round old.turns)) old)
+
+-- a checkpoint is begun; `fits` is what the node's cell has room for
+pub record IsBegun (fits : RecordView → Bool) (round : ℕ) (old : StationView) (answer : Reply) (new : StationView) : Type 0 where
+  pub outcome : Putting
+  pub step : IsStart old.number round old.node outcome new.node
+  pub put : IsPut (fits (with_own old.number old.node.current old.node.kept)) old.failures new.failures outcome
+  pub answers : answer ≡ start_reply outcome
+  pub same : new ≡ moved_to new.node new.failures (turns_started outcome round old.turns) old
+
+-- and decided
+pub record IsDecided (fits : RecordView → Bool) (round : ℕ) (old : StationView) (answer : Reply) (new : StationView) : Type 0 where
+  pub outcome : Putting
+  pub step : IsDecision old.number round old.node outcome new.node
+  pub put : IsPut (fits (decided old.node.kept)) old.failures new.failures outcome
+  pub answers : answer ≡ decision_reply outcome
+  pub same : new ≡ moved_to new.node new.failures old.turns old
+
+-- an outlet failed in this round
+abbrev pub has_failed_in : ℕ → Option ℕ → Bool
+has_failed_in round None = false
+has_failed_in round (Some failed) = failed == round
+
+-- the permanent image covers an item that an outlet hasn't got, and the outlet didn't fail in this round
+abbrev pub is_waiting : RecordView → ℕ → OutletView → Bool
+is_waiting kept round outlet = not (has_failed_in round outlet.failed) && nat_lt (length outlet.taken) (sent_of kept.permanent outlet.channel)
+
+-- the place of the first outlet with an item to take, the first of the list having this place
+abbrev pub first_waiting : RecordView → ℕ → ℕ → List OutletView → Option ℕ
+first_waiting kept round place [] = None
+first_waiting kept round place (outlet ∷ outlets) = if is_waiting kept round outlet then Some place else first_waiting kept round (place + 1) outlets
+
+-- where the next item of a station would leave, if its node is up
+abbrev pub next_release : ℕ → StationView → Option ℕ
+next_release round station = if station.node.up then first_waiting station.node.kept round 0 station.outlets else None
+
+-- the outlet was handed the next item of this log
+pub record IsHanded (round : ℕ) (log : Option LogState) (outlet : OutletView) (answer : Reply) (later : OutletView) : Type 0 where
+  pub channel : later.channel ≡ outlet.channel
+  pub begins : IsBeginningOf outlet.taken later.taken
+  pub next : (held : LogState) (history : List ℤ) → log ≡ Some held → IsLogOf held history → IsBeginningOf outlet.taken history → IsBeginningOf later.taken history
+  pub came : ((answer ≡ reply.Released (record { output = outlet.channel; number = length later.taken }))
+      × (length later.taken ≡ length outlet.taken + 1) × (later.failed ≡ outlet.failed) × (later.failures ≡ outlet.failures))
+      ⊎ ((answer ≡ reply.OutletFailed)
+      × ((length later.taken ≡ length outlet.taken) ⊎ (length later.taken ≡ length outlet.taken + 1)) × (later.failed ≡ Some round) × (later.failures ≡ outlet.failures + 1))
+
+-- and the log lets go of what the outlet has
+abbrev pub released_to : OutletView → ℕ → OutletView → StationView → StationView
+released_to outlet place later station = record {
+  net = station.net;
+  inputs = station.inputs;
+  number = station.number;
+  node = with_current (trimmed_image outlet.channel (length later.taken) station.node.current) station.node;
+  failures = station.failures;
+  outlets = slice_set station.outlets place later;
+  turns = station.turns;
+}
+
+pub record IsReleaseAt (round place : ℕ) (old : StationView) (answer : Reply) (new : StationView) : Type 0 where
+  pub outlet : OutletView
+  pub later : OutletView
+  pub there : slice_get old.outlets place ≡ Some outlet
+  pub handed : IsHanded round (log_of old.node.current outlet.channel) outlet answer later
+  pub same : new ≡ released_to outlet place later old
+
+abbrev pub IsRelease : ℕ → Option ℕ → StationView → Reply → StationView → Type 0
+IsRelease round None old answer new = (answer ≡ reply.NotDue) × (new ≡ old)
+IsRelease round (Some place) old answer new = IsReleaseAt round place old answer new
+
+-- a node lets its turn pass
+abbrev pub IsIdle : ℕ → StationView → Reply → StationView → Type 0
+IsIdle round old answer new = (answer ≡ reply.Idled) × (new ≡ moved_to old.node old.failures (count_idle (turns_of round old.turns)) old)
+
+-- An event of the node of this station
+abbrev pub IsStationStep : (RecordView → Bool) → ℕ → Event → StationView → Reply → StationView → Type 0
+IsStationStep fits round (event.Grant k) old answer new = IsGrant round (next_job old.net old.inputs old.node) old answer new
+IsStationStep fits round (event.Install done) old answer new = IsInstalled done old answer new
+IsStationStep fits round (event.Send k) old answer new = IsSendOf old.node.up round old answer new
+IsStationStep fits round (event.Start k) old answer new = IsBegun fits round old answer new
+IsStationStep fits round (event.Decide k) old answer new = IsDecided fits round old answer new
+IsStationStep fits round (event.Release k) old answer new = IsRelease round (next_release round old) old answer new
+IsStationStep fits round (event.Idle k) old answer new = IsIdle round old answer new
+
+-- A world
+
+pub record WorldView : Type 0 where
+  pub stations : List StationView
+  pub round : ℕ
+
+-- the node of a process
+abbrev pub node_in : Option Code → ℕ
+node_in None = 0
+node_in (Some code) = code.node
+
+-- the node of an event
+abbrev pub event_node : Event → ℕ
+event_node (event.Grant k) = k
+event_node (event.Install done) = node_in (slice_get (network_of done.job.net.value.program).codes done.job.process)
+event_node (event.Send k) = k
+event_node (event.Start k) = k
+event_node (event.Decide k) = k
+event_node (event.Release k) = k
+event_node (event.Idle k) = k
+
+-- a round need not wait for this node: it has idled, or it is down and not to be recovered yet
+abbrev pub is_done_with : ℕ → StationView → Bool
+is_done_with round station = (turns_of round station.turns).idled || (not station.node.up && nat_lt round station.node.restart)
+
+abbrev pub are_done_with : ℕ → List StationView → Bool
+are_done_with round [] = true
+are_done_with round (station ∷ stations) = is_done_with round station && are_done_with round stations
+
+-- the round after an event: after an idle one it advances if it need wait for nobody
+abbrev pub round_after : Event → ℕ → List StationView → ℕ
+round_after (event.Grant k) round stations = round
+round_after (event.Install done) round stations = round
+round_after (event.Send k) round stations = round
+round_after (event.Start k) round stations = round
+round_after (event.Decide k) round stations = round
+round_after (event.Release k) round stations = round
+round_after (event.Idle k) round stations = if are_done_with round stations then next_number round else round
+
+pub record IsStepAt (place : ℕ) (fits : RecordView → Bool) (station : StationView) (event : Event) (old : WorldView) (answer : Reply) (new : WorldView) : Type 0 where
+  pub later : StationView
+  pub step : IsStationStep fits old.round event station answer later
+  pub stations : new.stations ≡ slice_set old.stations place later
+  pub round : new.round ≡ round_after event old.round new.stations
+
+-- an event at a node that is of this world, or isn't
+abbrev pub IsStepOf : ℕ → Option (RecordView → Bool) → Option StationView → Event → WorldView → Reply → WorldView → Type 0
+IsStepOf place (Some fits) (Some station) event old answer new = IsStepAt place fits station event old answer new
+IsStepOf place (Some fits) None event old answer new = (answer ≡ reply.NotDue) × (new ≡ old)
+IsStepOf place None station event old answer new = (answer ≡ reply.NotDue) × (new ≡ old)
+
+-- One event of a world: `fits` is, of each station, what its node's cell has room for
+abbrev pub IsStep : List (RecordView → Bool) → Event → WorldView → Reply → WorldView → Type 0
+IsStep fits event old answer new = IsStepOf (event_node event) (slice_get fits (event_node event)) (slice_get old.stations (event_node event)) event old answer new
