@@ -16,3 +16,5 @@ pub mod Turns
 pub mod Steps
 pub mod Choice
 pub mod Quiet
+pub mod WorldView
+pub mod Released

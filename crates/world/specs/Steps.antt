@@ -3,7 +3,7 @@
 -- A relation goes by cases of the event; a reply that an event never has is nowhere in its case. An event that can't happen is answered by
 -- `NotDue` and changes nothing, and only such an event is. What the network and the nodes' own state don't settle is whether a device or an
 -- outlet fails, and whether an outlet that fails took the item.
-use Rattle.std.specs.Prelude.{◌≡◌, ◌⊎◌, ℕ, ◌+◌, nat_lt, Bool, true, false, ◌&&◌, ◌||◌, not, if◌then◌else◌, ℤ, List, [], ◌∷◌, length, Option, Some, None, slice_get, slice_set, option_map}
+use Rattle.std.specs.Prelude.{◌≡◌, ◌⊎◌, ◌==◌, ℕ, ◌+◌, nat_lt, Bool, true, false, ◌&&◌, ◌||◌, not, if◌then◌else◌, ℤ, List, [], ◌∷◌, length, Option, Some, None, slice_get, slice_set, option_map}
 use Rattle.net_check.specs.Syntax.{Code, network_of}
 use Rattle.net_check.specs.States.{standing_of}
 use Rattle.outlet.specs.LogState.{LogState, IsLogOf}

@@ -11,6 +11,8 @@ mod event;
 mod opening;
 mod output;
 mod picking;
+mod quiet;
+mod released;
 mod releasing;
 mod station;
 mod turning;

@@ -2,7 +2,7 @@ use Rattle.std.proofs.Common.{◌≡◌, ◌<◌, List, length, get_or, sym, ap,
 use Rattle.net_check.specs.Syntax.{code_of, network_of}
 use Rattle.net_check.specs.ValidLaws.{valid_at}
 use Rattle.net_check.specs.declared.program.Process.{Process}
-use Rattle.world.proofs.picking.is_at_rest.Goals as goal
+use Rattle.world.proofs.quiet.is_at_rest.Goals as goal
 
 pub next_act-requires : goal.next_act-requires
 next_act-requires c =
