@@ -1,8 +1,9 @@
 -- What is answered where a record was put.
+use Rattle.std.specs.Prelude.{Result, Ok, Err}
 use Rattle.node.specs.declared.putting.Putting.{Putting}
 use Rattle.node.specs.declared.putting.Putting.TheVariants as putting
 use Rattle.world.specs.declared.event.Reply.{Reply}
-use Rattle.world.specs.declared.event.Reply.TheVariants.{Started, Decided, Refused, Down, NotDue}
+use Rattle.world.specs.declared.event.Reply.TheVariants.{Granted, Installed, Discarded, Sent, Started, Decided, Refused, Released, OutletFailed, Down, Idled, NotDue}
 
 abbrev pub start_reply : Putting → Reply
 start_reply putting.NotDue = NotDue
@@ -15,3 +16,19 @@ decision_reply putting.NotDue = NotDue
 decision_reply putting.Stored = Decided
 decision_reply (putting.Refused refusal) = Refused refusal
 decision_reply putting.Failed = Down
+
+-- the cell wasn't touched, as this answer, or a refusal for want of memory, tells
+abbrev pub LeavesCells : {E : Type 0} → Result Reply E → Type 0
+LeavesCells (Err e) = Unit {0}
+LeavesCells (Ok (Granted job)) = Unit {0}
+LeavesCells (Ok Installed) = Unit {0}
+LeavesCells (Ok Discarded) = Unit {0}
+LeavesCells (Ok Sent) = Unit {0}
+LeavesCells (Ok Started) = ⊥
+LeavesCells (Ok Decided) = ⊥
+LeavesCells (Ok (Refused refusal)) = Unit {0}
+LeavesCells (Ok (Released freed)) = Unit {0}
+LeavesCells (Ok OutletFailed) = Unit {0}
+LeavesCells (Ok Down) = ⊥
+LeavesCells (Ok Idled) = Unit {0}
+LeavesCells (Ok NotDue) = Unit {0}

@@ -168,28 +168,38 @@ abbrev pub are_done_with : ℕ → List StationView → Bool
 are_done_with round [] = true
 are_done_with round (station ∷ stations) = is_done_with round station && are_done_with round stations
 
--- the round after an event: after an idle one it advances if it need wait for nobody
-abbrev pub round_after : Event → ℕ → List StationView → ℕ
-round_after (event.Grant k) round stations = round
-round_after (event.Install done) round stations = round
-round_after (event.Send k) round stations = round
-round_after (event.Start k) round stations = round
-round_after (event.Decide k) round stations = round
-round_after (event.Release k) round stations = round
-round_after (event.Idle k) round stations = if are_done_with round stations then next_number round else round
+-- the round after this answer: after an idle node it advances if it need wait for nobody
+abbrev pub round_after : Reply → ℕ → List StationView → ℕ
+round_after (reply.Granted job) round stations = round
+round_after reply.Installed round stations = round
+round_after reply.Discarded round stations = round
+round_after reply.Sent round stations = round
+round_after reply.Started round stations = round
+round_after reply.Decided round stations = round
+round_after (reply.Refused refusal) round stations = round
+round_after (reply.Released freed) round stations = round
+round_after reply.OutletFailed round stations = round
+round_after reply.Down round stations = round
+round_after reply.Idled round stations = if are_done_with round stations then next_number round else round
+round_after reply.NotDue round stations = round
 
-pub record IsStepAt (place : ℕ) (fits : RecordView → Bool) (station : StationView) (event : Event) (old : WorldView) (answer : Reply) (new : WorldView) : Type 0 where
+-- an event at the station of this place
+pub record IsActAt (place : ℕ) (fits : RecordView → Bool) (station : StationView) (round : ℕ) (event : Event) (old : List StationView) (answer : Reply) (new : List StationView) : Type 0 where
   pub later : StationView
-  pub step : IsStationStep fits old.round event station answer later
-  pub stations : new.stations ≡ slice_set old.stations place later
-  pub round : new.round ≡ round_after event old.round new.stations
+  pub step : IsStationStep fits round event station answer later
+  pub stations : new ≡ slice_set old place later
 
--- an event at a node that is of this world, or isn't
-abbrev pub IsStepOf : ℕ → Option (RecordView → Bool) → Option StationView → Event → WorldView → Reply → WorldView → Type 0
-IsStepOf place (Some fits) (Some station) event old answer new = IsStepAt place fits station event old answer new
-IsStepOf place (Some fits) None event old answer new = (answer ≡ reply.NotDue) × (new ≡ old)
-IsStepOf place None station event old answer new = (answer ≡ reply.NotDue) × (new ≡ old)
+-- and where there may be none
+abbrev pub IsActOf : ℕ → Option (RecordView → Bool) → Option StationView → ℕ → Event → List StationView → Reply → List StationView → Type 0
+IsActOf place (Some fits) (Some station) round event old answer new = IsActAt place fits station round event old answer new
+IsActOf place (Some fits) None round event old answer new = (answer ≡ reply.NotDue) × (new ≡ old)
+IsActOf place None station round event old answer new = (answer ≡ reply.NotDue) × (new ≡ old)
 
--- One event of a world: `fits` is, of each station, what its node's cell has room for
-abbrev pub IsStep : List (RecordView → Bool) → Event → WorldView → Reply → WorldView → Type 0
-IsStep fits event old answer new = IsStepOf (event_node event) (slice_get fits (event_node event)) (slice_get old.stations (event_node event)) event old answer new
+-- an event at the station of its node; `fits` is, of each station, what its node's cell has room for
+abbrev pub IsAct : ℕ → List (RecordView → Bool) → ℕ → Event → List StationView → Reply → List StationView → Type 0
+IsAct place fits round event old answer new = IsActOf place (slice_get fits place) (slice_get old place) round event old answer new
+
+-- One event of a world
+pub record IsStep (fits : List (RecordView → Bool)) (event : Event) (old : WorldView) (answer : Reply) (new : WorldView) : Type 0 where
+  pub act : IsAct (event_node event) fits old.round event old.stations answer new.stations
+  pub round : new.round ≡ round_after answer old.round new.stations

@@ -4,7 +4,10 @@ ghost use Rattle.node.specs.NodeView.{node_view};
 ghost use Rattle.node.specs.Starting.{IsStart, IsDecision};
 ghost use Rattle.world.specs.OutputView.{outputs_view};
 ghost use Rattle.world.specs.Covered.{AreCoveredSince};
-ghost use Rattle.world.specs.Replies.{start_reply, decision_reply};
+ghost use Rattle.world.specs.Replies.{start_reply, decision_reply, LeavesCells};
+ghost use Rattle.world.specs.Turns.{count_start, turns_started};
+ghost use Rattle.world.specs.Steps.{IsBegun, IsDecided};
+ghost use Rattle.world.specs.WorldView.{station_view, IsCellUnchanged};
 
 use crate::event::Reply;
 use crate::station::Station;
@@ -14,18 +17,28 @@ use outlet::Outlet;
 use std::alloc::{AllocError, Global};
 
 impl RoundTurns {
+    // A checkpoint was begun, or its beginning refused.
+    fn with_start(self) -> RoundTurns
+        ensures { result ≡ count_start self }
+    {
+        let mut turns = self;
+        turns.started = true;
+        turns
+    }
+
     // What is answered to a start, which is noted unless it couldn't happen.
-    fn note_start(&mut self, putting: Putting) -> Reply
-        ensures { result ≡ start_reply putting }
+    fn note_start(&mut self, putting: Putting, round: u64) -> Reply
+        ensures reply { result ≡ start_reply putting }
+        ensures turns { self.new ≡ turns_started putting round self.old }
     {
         match putting {
             Putting::NotDue => Reply::NotDue,
             Putting::Stored => {
-                self.started = true;
+                *self = self.of(round).with_start();
                 Reply::Started
             }
             Putting::Refused(number) => {
-                self.started = true;
+                *self = self.of(round).with_start();
                 Reply::Refused(number)
             }
             Putting::Failed => Reply::Down,
@@ -52,9 +65,11 @@ impl<C: StableCell, O: Outlet> Station<C, O> {
         ensures same { (self.new.net ≡ self.old.net) × (self.new.inputs ≡ self.old.inputs) × (self.new.node.number ≡ self.old.node.number) }
         ensures covered { AreCoveredSince C.moment C.left_since self.old.node.cell self.new.node.cell (outputs_view O.taken self.new.outputs.items) }
         ensures refused { OnErr result (node_view self.new.node.state ≡ node_view self.old.node.state) }
+        ensures step { IfOk result (λ reply. IsBegun (C.fits self.old.node.cell) round (station_view self.old) reply (station_view self.new)) }
+        ensures unchanged { LeavesCells result → IsCellUnchanged self.old self.new }
     {
         let putting = self.node.start(alloc, round)?;
-        Ok(self.turns.note_start(putting))
+        Ok(self.turns.note_start(putting, round))
     }
 
     /// Makes the station's own tentative image permanent.
@@ -63,6 +78,8 @@ impl<C: StableCell, O: Outlet> Station<C, O> {
         ensures same { (self.new.net ≡ self.old.net) × (self.new.inputs ≡ self.old.inputs) × (self.new.node.number ≡ self.old.node.number) }
         ensures covered { AreCoveredSince C.moment C.left_since self.old.node.cell self.new.node.cell (outputs_view O.taken self.new.outputs.items) }
         ensures refused { OnErr result (node_view self.new.node.state ≡ node_view self.old.node.state) }
+        ensures step { IfOk result (λ reply. IsDecided (C.fits self.old.node.cell) round (station_view self.old) reply (station_view self.new)) }
+        ensures unchanged { LeavesCells result → IsCellUnchanged self.old self.new }
     {
         let putting = self.node.decide(alloc, round)?;
         Ok(decision_reply(putting))

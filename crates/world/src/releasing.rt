@@ -8,6 +8,9 @@ ghost use Rattle.node.specs.NodeView.{node_view};
 ghost use Rattle.world.specs.OutputView.{OutputView, output_view, outputs_view};
 ghost use Rattle.world.specs.Covered.{AreCoveredSince};
 ghost use Rattle.world.specs.Growing.{EachBegins};
+ghost use Rattle.world.specs.StationView.{outlet_view, outlet_views};
+ghost use Rattle.world.specs.Steps.{next_release, IsHanded, IsRelease};
+ghost use Rattle.world.specs.WorldView.{station_view};
 
 use crate::event::{Freed, Reply};
 use crate::output::Output;
@@ -55,6 +58,8 @@ fn release_at<C: StableCell, O: Outlet>(
     ensures trimmed { IfOk result (λ reply. node_view node.new.state
         ≡ with_current (trimmed_image output.old.channel (length (O.taken output.new.outlet)) node.old.state.current) (node_view node.old.state)) }
     ensures same { (node.new.cell ≡ node.old.cell) × (node.new.number ≡ node.old.number) }
+    ensures handed { IfOk result (λ reply. IsHanded round (log_of node.old.state.current output.old.channel)
+        (outlet_view O.taken O.failures output.old) reply (outlet_view O.taken O.failures output.new)) }
 {
     let channel = output.channel;
     match node.release(channel, &mut output.outlet) {
@@ -79,6 +84,7 @@ impl<C: StableCell, O: Outlet> Station<C, O> {
         ensures covered { AreCoveredSince C.moment C.left_since self.old.node.cell self.new.node.cell (outputs_view O.taken self.new.outputs.items) }
         ensures refused { OnErr result ((node_view self.new.node.state ≡ node_view self.old.node.state)
             × (outputs_view O.taken self.new.outputs.items ≡ outputs_view O.taken self.old.outputs.items)) }
+        ensures step { IfOk result (λ reply. IsRelease round (next_release round (station_view self.old)) (station_view self.old) reply (station_view self.new)) }
     {
         let node = &self.node;
         if !node.state.up {
