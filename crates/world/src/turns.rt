@@ -1,4 +1,6 @@
 // What turn-taking remembers of a node's round.
+ghost use Rattle.std.specs.Prelude.{◌≡◌};
+ghost use Rattle.world.specs.Turns.{no_turns, turns_of};
 
 /// What a node has done in this round.
 #[derive(Clone, Copy, Debug, PartialEq, Eq)]
@@ -18,7 +20,9 @@ pub struct RoundTurns {
 
 impl RoundTurns {
     /// Nothing yet in this round.
-    pub fn new(round: u64) -> RoundTurns {
+    pub fn new(round: u64) -> RoundTurns
+        ensures { result ≡ no_turns round }
+    {
         RoundTurns {
             round,
             granted: 0,
@@ -30,7 +34,9 @@ impl RoundTurns {
     }
 
     /// What is remembered of this round: nothing, where it is of an earlier one.
-    pub fn of(self, round: u64) -> RoundTurns {
+    pub fn of(self, round: u64) -> RoundTurns
+        ensures { result ≡ turns_of round self }
+    {
         if self.round == round {
             self
         } else {
