@@ -9,7 +9,7 @@ ghost use Rattle.world.specs.OutputView.{OutputView, output_view, outputs_view};
 ghost use Rattle.world.specs.Covered.{AreCoveredSince};
 ghost use Rattle.world.specs.Growing.{EachBegins};
 ghost use Rattle.world.specs.StationView.{outlet_view, outlet_views};
-ghost use Rattle.world.specs.Steps.{next_release, IsHanded, IsRelease};
+ghost use Rattle.world.specs.Steps.{has_failed_in, is_waiting, first_waiting, next_release, IsHanded, IsRelease};
 ghost use Rattle.world.specs.WorldView.{station_view};
 
 use crate::event::{Freed, Reply};
@@ -18,6 +18,24 @@ use crate::station::Station;
 use node::{Node, Record, StableCell};
 use outlet::{Outlet, OutletFault};
 use std::alloc::AllocError;
+
+// Whether an outlet failed in this round.
+fn has_failed_in(failed: Option<u64>, round: u64) -> bool
+    ensures { result ≡ has_failed_in round failed }
+{
+    match failed {
+        Some(failed) => failed == round,
+        None => false,
+    }
+}
+
+// Whether the permanent image covers an item that an outlet hasn't taken, and the outlet didn't fail in this round.
+fn is_waiting<O: Outlet>(kept: &Record, output: &Output<O>, round: u64) -> bool
+    ensures { result ≡ is_waiting kept.now round (outlet_view O.taken O.failures output.now) }
+{
+    !has_failed_in(output.failed, round)
+        && output.outlet.len() < kept.permanent.sent(output.channel)
+}
 
 // The first output with an item that the permanent image covers and that its outlet hasn't taken, if its outlet didn't
 // fail in this round.
@@ -29,11 +47,10 @@ pub(crate) fn next_output<O: Outlet>(
     ensures waiting { IfSome result (λ j. (output : OutputView) → slice_get (outputs_view O.taken outputs.now) j ≡ Some output
         → length output.taken < sent_of kept.now.permanent output.channel) }
     ensures within { IfSome result (λ j. j < length outputs.now) }
+    ensures first { result ≡ first_waiting kept.now round 0 (outlet_views O.taken O.failures outputs.now) }
 {
     for (j, output) in outputs.iter().enumerate() {
-        if output.failed != Some(round)
-            && output.outlet.len() < kept.permanent.sent(output.channel)
-        {
+        if is_waiting(kept, output, round) {
             return Some(j);
         }
     }
