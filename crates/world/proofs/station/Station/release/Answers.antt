@@ -1,4 +1,4 @@
-use Rattle.std.proofs.Common.{◌≡◌, ◌<◌, List, ℤ, length, Option, Some, refl, sym, subst, ◌∙◌}
+use Rattle.std.proofs.Common.{◌≡◌, ◌<◌, List, ℤ, length, ℕ, Option, Some, None, refl, sym, ap, subst, ◌∙◌}
 use Rattle.std.specs.Prelude.{OnErr, slice_get}
 use Rattle.node.specs.RecordView.{RecordView}
 use Rattle.world.specs.Sound.{IsSound}
@@ -10,6 +10,11 @@ use Rattle.world.specs.OutputView.{OutputView, output_view, outputs_view}
 use Rattle.world.specs.Growing.{EachBegins}
 use Rattle.world.proofs.Soundness.{covered_same}
 use Rattle.world.proofs.Leaving.{seen_at, seen_set, next_there, sound_after, begins_after, same_after}
+use Rattle.world.specs.StationView.{outlet_view, outlet_views}
+use Rattle.world.specs.Steps.{first_waiting, IsRelease}
+use Rattle.world.specs.WorldView.{station_view}
+use Rattle.world.specs.declared.event.Reply.TheVariants as reply
+use Rattle.world.proofs.Views.{outlet_at, outlet_set, none_waits, release_step}
 use Rattle.world.proofs.station.Station.release.Goals as goal
 
 pub returns-then-not-node-clause-covered : goal.returns-then-not-node-clause-covered
@@ -95,3 +100,26 @@ returns-clause-refused g c =
     subst (λ (l : List OutputView). OnErr c.release_at.result ((node_view c.release_at.new.node.state ≡ node_view was.node.state) × (l ≡ outputs_view taken was.outputs.items))) (sym set)
     (same_after (network_of was.net.value.program) was.inputs.value (node_view was.node.state) (node_view c.release_at.new.node.state) _ c.in-Some.j (output_view taken x) (output_view taken c.release_at.new.output) was.sound was.node.in_order there more
     made.channel c.release_at.result made.refused)
+
+pub returns-in_default-clause-step : goal.returns-in_default-clause-step
+returns-in_default-clause-step g c =
+    let was = station_view c.args.self.now in
+    let none : first_waiting was.node.kept c.args.round 0 was.outlets ≡ None =
+        sym (c.in_default.ensures.first ∙ ap (λ (l : List (Output g.row.O.Denot)). first_waiting was.node.kept c.args.round 0 (outlet_views g.O.Outlet.taken g.O.Outlet.failures l)) c.deref.ensures.value) in
+    subst (λ (next : Option ℕ). IsRelease c.args.round next was reply.NotDue was) (sym (none_waits c.args.round was c.if-not-node.false none)) (refl, refl)
+
+pub returns-clause-step : goal.returns-clause-step
+returns-clause-step g c =
+    let was = station_view c.args.self.now in
+    let taken = g.O.Outlet.taken in
+    let failures = g.O.Outlet.failures in
+    let x = c.index_mut.result.now in
+    let j = c.in-Some.j in
+    let within = subst (λ (l : List (Output g.row.O.Denot)). j < length l) c.deref.ensures.value c.in-Some.ensures.within in
+    let first : first_waiting was.node.kept c.args.round 0 was.outlets ≡ Some j =
+        sym (c.in-Some.ensures.first ∙ ap (λ (l : List (Output g.row.O.Denot)). first_waiting was.node.kept c.args.round 0 (outlet_views taken failures l)) c.deref.ensures.value) in
+    let made = c.release_at.ensures in
+    let now = c.release_at.new in
+    release_step c.args.round j was (outlet_view taken failures x) (outlet_view taken failures now.output) (node_view now.node.state) (g.C.StableCell.failure_count now.node.cell) now.node.number _ c.release_at.result c.if-not-node.false first
+    (outlet_at taken failures c.args.self.now.outputs.items j x within c.index_mut.ensures.value)
+    made.same.1 (ap g.C.StableCell.failure_count made.same.0) (outlet_set taken failures c.args.self.now.outputs.items j now.output) made.trimmed made.handed

@@ -1,0 +1,58 @@
+-- Views of stations.
+use Rattle.std.proofs.Common.{◌≡◌, ◌⊎◌, ℕ, ◌+◌, ◌<◌, Bool, true, false, cond, List, ℤ, length, get_or, Option, Some, None, map, refl, sym, ap, subst, ◌∙◌}
+use Rattle.std.specs.Prelude.{Result, Ok, Err, IfOk, slice_get, slice_set}
+use Rattle.std.proofs.lemmas.List.{map-set}
+use Rattle.std.proofs.lemmas.Option.{slice_get_read}
+use Rattle.std.specs.declared.alloc.AllocError.{AllocError}
+use Rattle.node.specs.Ends.{log_of}
+use Rattle.node.specs.NodeView.{NodeView}
+use Rattle.node.specs.Trimming.{trimmed_image, with_current}
+use Rattle.world.specs.OutputLaws.{map_at}
+use Rattle.world.specs.StationView.{OutletView, StationView, outlet_view, outlet_views}
+use Rattle.world.specs.Steps.{first_waiting, next_release, IsHanded, IsReleaseAt, IsRelease, released_to}
+use Rattle.world.specs.declared.output.Output.{Output}
+use Rattle.world.specs.declared.event.Reply.{Reply}
+
+-- an outlet of the list, as it is seen
+pub outlet_at : {O : Type 0} (taken : O → List ℤ) (failures : O → ℕ) (outputs : List (Output O)) (j : ℕ) (x : Output O) → j < length outputs → x ≡ get_or outputs j x
+    → slice_get (outlet_views taken failures outputs) j ≡ Some (outlet_view taken failures x)
+outlet_at taken failures outputs j x within is = map_at (outlet_view taken failures) outputs j x (slice_get_read outputs (length outputs) j x refl within is)
+
+pub outlet_set : {O : Type 0} (taken : O → List ℤ) (failures : O → ℕ) (outputs : List (Output O)) (j : ℕ) (y : Output O)
+    → outlet_views taken failures (slice_set outputs j y) ≡ slice_set (outlet_views taken failures outputs) j (outlet_view taken failures y)
+outlet_set taken failures outputs j y = map-set (outlet_view taken failures) outputs j y
+
+-- Items that leave
+
+next_at : (round place : ℕ) (old : StationView) → old.node.up ≡ true → first_waiting old.node.kept round 0 old.outlets ≡ Some place → next_release round old ≡ Some place
+next_at round place old up first = ap (λ (b : Bool). cond b (first_waiting old.node.kept round 0 old.outlets) None) up ∙ first
+
+-- nothing is to leave
+pub none_waits : (round : ℕ) (old : StationView) → old.node.up ≡ true → first_waiting old.node.kept round 0 old.outlets ≡ None → next_release round old ≡ None
+none_waits round old up first = ap (λ (b : Bool). cond b (first_waiting old.node.kept round 0 old.outlets) None) up ∙ first
+
+module _ (round place : ℕ) (old : StationView) (outlet later : OutletView) (node : NodeView) where
+  abbrev stands : NodeView → ℕ → ℕ → List OutletView → StationView
+  stands state number failures outlets = record { net = old.net; inputs = old.inputs; number = number; node = state; failures = failures; outlets = outlets; turns = old.turns }
+
+  -- one item left, or didn't
+  pub release_step : (failures number : ℕ) (outlets : List OutletView) (result : Result Reply AllocError) → old.node.up ≡ true → first_waiting old.node.kept round 0 old.outlets ≡ Some place
+      → slice_get old.outlets place ≡ Some outlet
+      → number ≡ old.number → failures ≡ old.failures → outlets ≡ slice_set old.outlets place later
+      → IfOk result (λ reply. node ≡ with_current (trimmed_image outlet.channel (length later.taken) old.node.current) old.node)
+      → IfOk result (λ reply. IsHanded round (log_of old.node.current outlet.channel) outlet reply later)
+      → IfOk result (λ reply. IsRelease round (next_release round old) old reply (stands node number failures outlets))
+  release_step failures number outlets (Err e) up first there same_number same_failures set trimmed handed = tt
+  release_step failures number outlets (Ok reply) up first there same_number same_failures set trimmed handed =
+      subst (λ (next : Option ℕ). IsRelease round next old reply (stands node number failures outlets)) (sym (next_at round place old up first))
+      (record {
+        outlet = outlet;
+        later = later;
+        there = there;
+        handed = handed;
+        same =
+            ap (λ (n : ℕ). stands node n failures outlets) same_number
+            ∙ (ap (λ (n : ℕ). stands node old.number n outlets) same_failures
+            ∙ (ap (stands node old.number old.failures) set
+            ∙ ap (λ (state : NodeView). stands state old.number old.failures (slice_set old.outlets place later)) trimmed));
+      })
