@@ -9,7 +9,13 @@ use Rattle.node.specs.NodeView.{NodeView}
 use Rattle.node.specs.Trimming.{trimmed_image, with_current}
 use Rattle.world.specs.OutputLaws.{map_at}
 use Rattle.world.specs.StationView.{OutletView, StationView, outlet_view, outlet_views}
-use Rattle.world.specs.Steps.{first_waiting, next_release, IsHanded, IsReleaseAt, IsRelease, released_to}
+use Rattle.world.specs.Steps.{first_waiting, next_release, IsHanded, IsReleaseAt, IsRelease, released_to, IsStationStep, IsActOf, IsAct}
+use Rattle.world.specs.WorldView.{IsCellUnchanged}
+use Rattle.world.specs.declared.event.Event.{Event}
+use Rattle.world.specs.declared.station.Station.{Station}
+use Rattle.node.specs.declared.cell.StableCell.{Ghosts as CellWords}
+use Rattle.outlet.specs.declared.outlet.Outlet.{Ghosts as OutletWords}
+use Rattle.node.specs.RecordView.{RecordView}
 use Rattle.world.specs.declared.output.Output.{Output}
 use Rattle.world.specs.declared.event.Reply.{Reply}
 
@@ -56,3 +62,29 @@ module _ (round place : ℕ) (old : StationView) (outlet later : OutletView) (no
             ∙ (ap (stands node old.number old.failures) set
             ∙ ap (λ (state : NodeView). stands state old.number old.failures (slice_set old.outlets place later)) trimmed));
       })
+
+-- Stations of a world
+
+-- an event at the station of this place is one of the list of stations
+pub acted : {S : Type 0} (view : S → StationView) (room : S → RecordView → Bool) (round : ℕ) (event : Event) (xs : List S) (place : ℕ) (x y : S) (result : Result Reply AllocError) → place < length xs → x ≡ get_or xs place x
+    → IfOk result (λ reply. IsStationStep (room x) round event (view x) reply (view y))
+    → IfOk result (λ reply. IsAct place (map room xs) round event (map view xs) reply (map view (slice_set xs place y)))
+acted view room round event xs place x y (Err e) within is step = tt
+acted {S} view room round event xs place x y (Ok reply) within is step =
+    let there : slice_get xs place ≡ Some x = slice_get_read xs (length xs) place x refl within is in
+    let fits : slice_get (map room xs) place ≡ Some (room x) = map_at room xs place x there in
+    let seen : slice_get (map view xs) place ≡ Some (view x) = map_at view xs place x there in
+    subst (λ (f : Option (RecordView → Bool)). IsActOf place f (slice_get (map view xs) place) round event (map view xs) reply (map view (slice_set xs place y))) (sym fits)
+    (subst (λ (s : Option StationView). IsActOf place (Some (room x)) s round event (map view xs) reply (map view (slice_set xs place y))) (sym seen)
+    (record { later = view y; step = step; stations = map-set view xs place y }))
+
+-- a cell that nobody called
+pub cell_stays : {C O : Type 0} {cell : CellWords C} {outlet : OutletWords O} (station : Station C O cell outlet) → IsCellUnchanged station station
+cell_stays station = record {
+  same_value = refl;
+  same_readiness = refl;
+  now = λ left. (λ h. h, λ h. h);
+  same_moment = refl;
+  since = λ t left. (λ h. h, λ h. h);
+  same_failures = refl;
+}

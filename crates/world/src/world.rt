@@ -1,10 +1,13 @@
 //! A world, and its events.
-ghost use Rattle.std.specs.Prelude.{◌≡◌, IfErr, OnErr};
+ghost use Rattle.std.specs.Prelude.{◌≡◌, map, IfOk, IfErr, OnErr};
 ghost use Rattle.net_check.specs.Syntax.{network_of};
 ghost use Rattle.node.specs.NodeView.{node_view};
 ghost use Rattle.world.specs.OutputView.{outputs_view};
 ghost use Rattle.world.specs.Headline.{AreApproximated};
 ghost use Rattle.world.specs.Pairs.{Pairs, Every, HasGrown};
+ghost use Rattle.world.specs.Replies.{LeavesCells};
+ghost use Rattle.world.specs.Steps.{event_node, is_done_with, are_done_with, round_after, IsAct, IsStep};
+ghost use Rattle.world.specs.WorldView.{station_view, world_view, rooms, IsCellUnchanged};
 
 use crate::event::{Event, Refused, Reply};
 use crate::station::Station;
@@ -20,7 +23,9 @@ pub struct World<C: StableCell, O: Outlet> {
 }
 
 // The node of an event.
-fn node_of(event: &Event) -> u8 {
+fn node_of(event: &Event) -> u8
+    ensures { result ≡ event_node event.now }
+{
     match event {
         Event::Install(done) => done.job.node(),
         Event::Grant(node) => *node,
@@ -45,6 +50,8 @@ fn act_at<C: StableCell, O: Outlet>(
     ensures same { Pairs stations.old.items stations.new.items (λ old new. (new.net ≡ old.net) × (new.inputs ≡ old.inputs)) }
     ensures refused { OnErr result (Pairs stations.old.items stations.new.items (λ old new. (node_view new.node.state ≡ node_view old.node.state)
         × (outputs_view O.taken new.outputs.items ≡ outputs_view O.taken old.outputs.items))) }
+    ensures step { IfOk result (λ reply. IsAct number (rooms stations.old.items) round event.now (map station_view stations.old.items) reply (map station_view stations.new.items)) }
+    ensures unchanged { LeavesCells result → Pairs stations.old.items stations.new.items IsCellUnchanged }
 {
     if number >= stations.len() {
         return Ok(Reply::NotDue);
@@ -54,19 +61,37 @@ fn act_at<C: StableCell, O: Outlet>(
 
 impl<C: StableCell, O: Outlet> Station<C, O> {
     // Whether the round need not wait for this node: it has idled, or it is down and not to be recovered yet.
-    fn is_done_with(&self, round: u64) -> bool {
+    fn is_done_with(&self, round: u64) -> bool
+        ensures { result ≡ is_done_with round (station_view self.now) }
+    {
         let node = &self.node;
         self.turns.of(round).idled || (!node.state.up && node.state.restart > round)
     }
 }
 
-fn are_done_with<C: StableCell, O: Outlet>(stations: &[Station<C, O>], round: u64) -> bool {
+fn are_done_with<C: StableCell, O: Outlet>(stations: &[Station<C, O>], round: u64) -> bool
+    ensures { result ≡ are_done_with round (map station_view stations.now) }
+{
     for station in stations {
         if !station.is_done_with(round) {
             return false;
         }
     }
     true
+}
+
+// The round after this answer.
+fn round_after<C: StableCell, O: Outlet>(
+    reply: &Reply,
+    round: u64,
+    stations: &[Station<C, O>],
+) -> u64
+    ensures { result ≡ round_after reply.now round (map station_view stations.now) }
+{
+    match reply {
+        Reply::Idled if are_done_with(stations, round) => next_after(round),
+        _ => round,
+    }
 }
 
 impl<C: StableCell, O: Outlet> World<C, O> {
@@ -91,17 +116,19 @@ impl<C: StableCell, O: Outlet> World<C, O> {
         ensures same { Pairs self.old.stations.items self.new.stations.items (λ old new. (new.net ≡ old.net) × (new.inputs ≡ old.inputs)) }
         ensures refused { OnErr result (Pairs self.old.stations.items self.new.stations.items (λ old new. (node_view new.node.state ≡ node_view old.node.state)
             × (outputs_view O.taken new.outputs.items ≡ outputs_view O.taken old.outputs.items))) }
+        // It is a step of the world: what is answered, and what is there afterwards.
+        ensures step { IfOk result (λ reply. IsStep (rooms self.old.stations.items) event (world_view self.old.stations.items self.old.round) reply
+            (world_view self.new.stations.items self.new.round)) }
+        ensures unchanged { LeavesCells result → Pairs self.old.stations.items self.new.stations.items IsCellUnchanged }
+        ensures same_round { OnErr result (self.new.round ≡ self.old.round) }
         ensures handed_back { IfErr result (λ refused. refused.event ≡ event) }
     {
         let number = usize::from(node_of(&event));
         match act_at(alloc, &mut self.stations, number, self.round, &event) {
-            Ok(Reply::Idled) => {
-                if are_done_with(&self.stations, self.round) {
-                    self.round = next_after(self.round);
-                }
-                Ok(Reply::Idled)
+            Ok(reply) => {
+                self.round = round_after(&reply, self.round, &self.stations);
+                Ok(reply)
             }
-            Ok(reply) => Ok(reply),
             Err(_) => Err(Refused { event }),
         }
     }

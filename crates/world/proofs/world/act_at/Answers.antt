@@ -5,6 +5,8 @@ use Rattle.node.specs.NodeView.{node_view}
 use Rattle.world.specs.PairLaws.{pairs_refl, pairs_set, on_err_map}
 use Rattle.world.proofs.Soundness.{covered_still}
 use Rattle.world.proofs.Leaving.{begins_same}
+use Rattle.world.proofs.Views.{acted, cell_stays}
+use Rattle.world.specs.WorldView.{station_view}
 use Rattle.world.proofs.world.act_at.Goals as goal
 
 pub returns-then-number-len-clause-grown : goal.returns-then-number-len-clause-grown
@@ -38,3 +40,13 @@ returns-clause-refused g c =
     on_err_map {P = (node_view now.node.state ≡ node_view was.node.state) × (outputs_view g.O.Outlet.taken now.outputs.items ≡ outputs_view g.O.Outlet.taken was.outputs.items)} _ c.act.ensures.refused (λ same.
     pairs_set (λ (old new : Station g.row.C.Denot g.row.O.Denot g.C.StableCell g.O.Outlet). (node_view new.node.state ≡ node_view old.node.state) × (outputs_view g.O.Outlet.taken new.outputs.items ≡ outputs_view g.O.Outlet.taken old.outputs.items))
     (λ station. (refl, refl)) c.args.stations.now.items c.args.number was _ (search rules) c.index_mut.ensures.value (same.0, same.1))
+
+pub returns-then-number-len-clause-unchanged : goal.returns-then-number-len-clause-unchanged
+returns-then-number-len-clause-unchanged g c = λ h. pairs_refl _ cell_stays _
+
+pub returns-clause-step : goal.returns-clause-step
+returns-clause-step g c =
+    acted station_view (λ (station : Station g.row.C.Denot g.row.O.Denot g.C.StableCell g.O.Outlet). g.C.StableCell.fits station.node.cell) c.args.round c.args.event.now c.args.stations.now.items c.args.number c.index_mut.result.now _ c.act.result (search rules) c.index_mut.ensures.value c.act.ensures.step
+
+pub returns-clause-unchanged : goal.returns-clause-unchanged
+returns-clause-unchanged g c = λ leaves. pairs_set _ cell_stays _ _ c.index_mut.result.now _ (search rules) c.index_mut.ensures.value (c.act.ensures.unchanged leaves)

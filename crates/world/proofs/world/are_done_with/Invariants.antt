@@ -1,0 +1,8 @@
+use Rattle.std.proofs.Common.{◌≡◌, drop, map}
+use Rattle.world.specs.Steps.{are_done_with}
+use Rattle.world.specs.WorldView.{station_view}
+use Rattle.world.proofs.world.are_done_with.Given as goal
+
+-- the round waits for none of those that were looked at
+abbrev pub invariant-loop-station : goal.invariant-loop-station
+invariant-loop-station g l = are_done_with l.round (map station_view (drop l.station-index l.stations)) ≡ are_done_with l.round (map station_view l.stations)
