@@ -1,7 +1,8 @@
 // A node before its first event.
-ghost use Rattle.std.specs.Prelude.{◌≡◌, ◌<◌, ◌≤◌, ℕ, map, length, replicate, IfOk, IsTrue};
+ghost use Rattle.std.specs.Prelude.{◌≡◌, ◌<◌, ◌≤◌, ℕ, map, length, replicate, false, IfOk, IsErrOf, IsTrue};
 ghost use Rattle.net_check.specs.Syntax.{Network, code_of, network_of};
 ghost use Rattle.node.specs.NodeView.{node_view};
+ghost use Rattle.node.specs.Cell.{HasFailed};
 ghost use Rattle.node.specs.Opening.{opening_processes, opening_end, opening_ends, opening_image, opening_record, opening_node};
 
 use crate::cell::StableCell;
@@ -106,6 +107,10 @@ impl<C: StableCell> Node<C> {
         requires listed { number < nodes }
         ensures number { IfOk result (λ node. node.number ≡ number) }
         ensures state { IfOk result (λ node. node_view node.state ≡ opening_node (network_of net.now.program) nodes) }
+        ensures fits { IfOk result (λ node. IsTrue (C.fits cell (opening_record (network_of net.now.program) nodes)) × (C.failure_count node.cell ≡ C.failure_count cell)) }
+        ensures too_large { IsErrOf result CellFault.TooLarge → C.fits cell (opening_record (network_of net.now.program) nodes) ≡ false }
+        ensures device { IsErrOf result CellFault.Device → HasFailed C.failure_count cell }
+        ensures reopen { ¬ (IsErrOf result CellFault.Reopen) }
     {
         let state = open_state(alloc, net, nodes)?;
         cell.put(&state.kept)?;

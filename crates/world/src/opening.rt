@@ -1,10 +1,11 @@
 // A world before its first event.
-ghost use Rattle.std.specs.Prelude.{◌≡◌, ◌++◌, ℕ, ◌≤◌, List, [], ◌∷◌, if◌then◌else◌, length, map, IfOk, OnOk, IsTrue};
+ghost use Rattle.std.specs.Prelude.{◌≡◌, ◌++◌, ℕ, ◌≤◌, List, [], ◌∷◌, if◌then◌else◌, length, map, false, IfOk, OnOk, IsErrOf, IsTrue};
 ghost use Rattle.net_check.specs.Fits.{Fits};
 ghost use Rattle.net_check.specs.Nodes.{IsOnOneNode};
 ghost use Rattle.net_check.specs.Syntax.{network_of};
 ghost use Rattle.node.specs.NodeView.{node_view};
-ghost use Rattle.node.specs.Opening.{opening_node};
+ghost use Rattle.node.specs.Cell.{HasFailed};
+ghost use Rattle.node.specs.Opening.{opening_record, opening_node};
 ghost use Rattle.world.specs.OutputView.{OutputView, outputs_view};
 ghost use Rattle.world.specs.Sound.{goes_outside, output_channels};
 ghost use Rattle.world.specs.OpenLaws.{NothingLeft};
@@ -78,6 +79,10 @@ impl<C: StableCell, O: Outlet> Station<C, O> {
         requires empty { Every outputs.items (λ output. O.taken output.outlet ≡ []) }
         ensures node { IfOk result (λ station. node_view station.node.state ≡ opening_node (network_of net.value.program) 1) }
         ensures same { IfOk result (λ station. (station.net ≡ net) × (station.inputs ≡ inputs) × (station.outputs ≡ outputs)) }
+        ensures fits { IfOk result (λ station. IsTrue (C.fits cell (opening_record (network_of net.value.program) 1)) × (C.failure_count station.node.cell ≡ C.failure_count cell)) }
+        ensures too_large { IsErrOf result CellFault.TooLarge → C.fits cell (opening_record (network_of net.value.program) 1) ≡ false }
+        ensures device { IsErrOf result CellFault.Device → HasFailed C.failure_count cell }
+        ensures reopen { ¬ (IsErrOf result CellFault.Reopen) }
     {
         let node = Node::open(alloc, &net, 0, 1, cell)?;
         Ok(Station {
@@ -110,6 +115,11 @@ impl<C: StableCell, O: Outlet> World<C, O> {
             × (node_view station.node.state ≡ opening_node (network_of net.value.program) 1))) }
         ensures one { IfOk result (λ world. length world.stations.items ≡ 1) }
         ensures round { IfOk result (λ world. world.round ≡ 0) }
+        // A device failure is told where the device failed, 22 where the record doesn't fit, and 23 never.
+        ensures fits { IfOk result (λ world. IsTrue (C.fits cell (opening_record (network_of net.value.program) 1))) }
+        ensures too_large { IsErrOf result CellFault.TooLarge → C.fits cell (opening_record (network_of net.value.program) 1) ≡ false }
+        ensures device { IsErrOf result CellFault.Device → HasFailed C.failure_count cell }
+        ensures reopen { ¬ (IsErrOf result CellFault.Reopen) }
     {
         let station = Station::open(alloc, net, inputs, cell, outputs)?;
         let mut stations = Vec::with_capacity(alloc, 1)?;
