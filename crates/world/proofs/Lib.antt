@@ -1,3 +1,4 @@
 mod Soundness
 mod Leaving
 mod Openings
+mod Showing
