@@ -2,3 +2,4 @@ mod Soundness
 mod Leaving
 mod Openings
 mod Views
+mod Showing

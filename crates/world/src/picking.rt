@@ -1,63 +1,125 @@
 // Which event is next for a node.
+ghost use Rattle.std.specs.Prelude.{◌≡◌, ◌||◌, ◌&&◌, nat_lt, is_some};
+ghost use Rattle.net_check.specs.Syntax.{network_of};
+ghost use Rattle.node.specs.Ends.{received_of, sent_of};
+ghost use Rattle.node.specs.Choosing.{next_job};
+ghost use Rattle.node.specs.NodeView.{node_view};
+ghost use Rattle.node.specs.Starting.{is_own, may_decide, may_start};
+ghost use Rattle.world.specs.Choice.{counts_rose, has_turn, wants_checkpoint, has_sent, station_choice, choice};
+ghost use Rattle.world.specs.Steps.{next_release};
+ghost use Rattle.world.specs.Turns.{turns_of};
+ghost use Rattle.world.specs.WorldView.{station_view, world_view};
+
 use crate::event::Event;
 use crate::releasing::next_output;
 use crate::station::Station;
 use crate::turning::GRANTS;
 use crate::world::World;
-use node::{Image, NodeState, StableCell};
+use node::{Image, NodeState, Record, StableCell};
 use outlet::Outlet;
 
-// Whether the node holds its own tentative image, which it may then make permanent.
-fn holds_own(state: &NodeState, number: u8) -> bool {
-    match &state.kept.tentative {
+// Whether a node holds its own tentative image.
+fn holds_own(kept: &Record, number: u8) -> bool
+    ensures { result ≡ is_own number kept.now.tentative }
+{
+    match &kept.tentative {
         Some(held) => held.initiator == number,
         None => false,
     }
 }
 
-// Whether some count of the one image is above that of the other.
-fn has_more(now: &Image, before: &Image) -> bool {
+// Whether a node may make its own tentative image permanent.
+fn may_decide(state: &NodeState, number: u8) -> bool
+    ensures { result ≡ may_decide number (node_view state.now) }
+{
+    state.up && holds_own(&state.kept, number)
+}
+
+// Whether a node may take a tentative image of its own.
+fn may_start(state: &NodeState) -> bool
+    ensures { result ≡ may_start (node_view state.now) }
+{
+    state.up && state.kept.tentative.is_none() && state.kept.decision.is_none()
+}
+
+// Whether a count of this channel is above what it is in an earlier image.
+fn has_risen(now: &Image, before: &Image, channel: u8) -> bool
+    ensures { result ≡ (nat_lt (received_of before.now channel) (received_of now.now channel)
+        || nat_lt (sent_of before.now channel) (sent_of now.now channel)) }
+{
+    now.received(channel) > before.received(channel) || now.sent(channel) > before.sent(channel)
+}
+
+// Whether some count of an image is above what it is in an earlier one.
+fn has_more(now: &Image, before: &Image) -> bool
+    ensures { result ≡ counts_rose now.now before.now now.now.ends }
+{
     for saved in &now.ends {
-        if now.received(saved.channel) > before.received(saved.channel)
-            || now.sent(saved.channel) > before.sent(saved.channel)
-        {
+        if has_risen(now, before, saved.channel) {
             return true;
         }
     }
     false
 }
 
+// Whether it is this node's turn in this round to begin a checkpoint.
+fn has_turn(nodes: usize, round: u64, number: u8) -> bool
+    ensures { result ≡ has_turn nodes round number }
+{
+    nodes > 0 && round % (nodes as u64) == u64::from(number)
+}
+
 impl<C: StableCell, O: Outlet> Station<C, O> {
+    // Whether an item is next to leave here.
+    fn has_release(&self, round: u64) -> bool
+        ensures { result ≡ is_some (next_release round (station_view self.now)) }
+    {
+        let node = &self.node;
+        node.state.up && next_output(&node.state.kept, &self.outputs, round).is_some()
+    }
+
+    // Whether a job is next: a process is ready, and fewer were granted in this round than may be.
+    fn has_grant(&self, round: u64) -> bool
+        ensures { result ≡ (nat_lt (turns_of round self.now.turns).granted 64
+            && is_some (next_job (network_of self.now.net.value.program) self.now.inputs.value (node_view self.now.node.state))) }
+    {
+        let node = &self.node;
+        self.turns.of(round).granted < GRANTS && node.state.has_job(&self.net, &self.inputs)
+    }
+
     // Whether its node is the one whose turn it is to begin a checkpoint in this round, and has something new to keep.
-    fn wants_checkpoint(&self, nodes: usize, round: u64) -> bool {
+    fn wants_checkpoint(&self, nodes: usize, round: u64) -> bool
+        ensures { result ≡ wants_checkpoint nodes round (station_view self.now) }
+    {
         let node = &self.node;
         let state = &node.state;
-        nodes > 0
-            && round % (nodes as u64) == u64::from(node.number)
+        has_turn(nodes, round, node.number)
             && !self.turns.of(round).started
-            && state.up
-            && state.kept.tentative.is_none()
-            && state.kept.decision.is_none()
+            && may_start(state)
             && has_more(&state.current, &state.kept.permanent)
     }
 
     // Whether its node has sent in this round; what it sent while it held a tentative image doesn't count afterwards.
-    fn has_sent(&self, round: u64) -> bool {
+    fn has_sent(&self, round: u64) -> bool
+        ensures { result ≡ has_sent round (station_view self.now) }
+    {
         let turns = self.turns.of(round);
         let node = &self.node;
         turns.sent && !(turns.sent_holding && node.state.kept.tentative.is_none())
     }
 
     // The event that is next for its node.
-    fn pick(&self, nodes: usize, round: u64) -> Event {
+    fn pick(&self, nodes: usize, round: u64) -> Event
+        ensures { result ≡ station_choice nodes round (station_view self.now) }
+    {
         let node = &self.node;
         let state = &node.state;
         let number = node.number;
-        if state.up && next_output(&state.kept, &self.outputs, round).is_some() {
+        if self.has_release(round) {
             Event::Release(number)
-        } else if self.turns.of(round).granted < GRANTS && state.has_job(&self.net, &self.inputs) {
+        } else if self.has_grant(round) {
             Event::Grant(number)
-        } else if state.up && holds_own(state, number) {
+        } else if may_decide(state, number) {
             Event::Decide(number)
         } else if self.wants_checkpoint(nodes, round) {
             Event::Start(number)
@@ -72,7 +134,9 @@ impl<C: StableCell, O: Outlet> Station<C, O> {
 impl<C: StableCell, O: Outlet> World<C, O> {
     /// The event that is next for a node: a release, a grant (at most 64 a round), a decision, a start, a send, or else
     /// letting its turn pass. Takes no memory.
-    pub fn pick(&self, node: u8) -> Event {
+    pub fn pick(&self, node: u8) -> Event
+        ensures { result ≡ choice (world_view self.now.stations.items self.now.round) node }
+    {
         match self.stations.get(usize::from(node)) {
             Some(station) => station.pick(self.stations.len(), self.round),
             None => Event::Idle(node),

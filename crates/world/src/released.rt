@@ -1,29 +1,45 @@
 // What has left the system.
+ghost use Rattle.std.specs.Prelude.{◌≡◌, ◌==◌, find, map, option_copied, option_map};
+ghost use Rattle.world.specs.StationView.{OutletView, outlet_views};
+ghost use Rattle.world.specs.Released.{released_of};
+ghost use Rattle.world.specs.WorldView.{station_view};
+
+use crate::output::Output;
 use crate::station::Station;
 use crate::world::World;
 use node::StableCell;
 use outlet::Outlet;
 
-impl<C: StableCell, O: Outlet> Station<C, O> {
-    // The items that have left by the output of this channel.
-    fn released(&self, channel: u8) -> Option<&[i64]> {
-        for output in &self.outputs {
-            if output.channel == channel {
-                return Some(output.outlet.items());
-            }
+// The items that have left by the output of this channel, where it is one of these.
+fn released_by<O: Outlet>(outputs: &[Output<O>], channel: u8) -> Option<&[i64]>
+    ensures { option_copied result ≡ option_map (λ (outlet : OutletView). outlet.taken)
+        (find (λ (outlet : OutletView). outlet.channel == channel) (outlet_views O.taken O.failures outputs.now)) }
+{
+    for output in outputs {
+        if output.channel == channel {
+            return Some(output.outlet.items());
         }
-        None
     }
+    None
 }
 
 impl<C: StableCell, O: Outlet> World<C, O> {
     /// The items that have left by the output of this channel, in order; none where the channel is no output.
-    pub fn released(&self, channel: u8) -> &[i64] {
+    pub fn released(&self, channel: u8) -> &[i64]
+        ensures { result.now ≡ released_of channel (map station_view self.now.stations.items) }
+    {
         for station in &self.stations {
-            if let Some(items) = station.released(channel) {
+            if let Some(items) = released_by(&station.outputs, channel) {
                 return items;
             }
         }
         &[]
+    }
+
+    /// Ends the world: its stations as they stand, with their cells and outlets.
+    pub fn close(self) -> Vec<Station<C, O>>
+        ensures { result ≡ self.stations }
+    {
+        self.stations
     }
 }

@@ -1,0 +1,8 @@
+use Rattle.std.proofs.Common.{◌≡◌, drop, map}
+use Rattle.world.specs.Released.{released_of}
+use Rattle.world.specs.WorldView.{station_view}
+use Rattle.world.proofs.world.World.released.Given as goal
+
+-- the output is of a station that wasn't looked at yet
+abbrev pub invariant-loop-station : goal.invariant-loop-station
+invariant-loop-station g l = released_of l.channel (map station_view (drop l.station-index l.station-items)) ≡ released_of l.channel (map station_view l.self.stations.items)
