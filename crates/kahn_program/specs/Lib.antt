@@ -3,3 +3,4 @@ pub mod Failures
 pub mod Readings
 pub mod Report
 pub mod Statuses
+pub mod Runs

@@ -1,10 +1,13 @@
 //! A network's run, and its report.
 
-ghost use Rattle.std.specs.Prelude.{◌≡◌, ◌≤◌, length, IfOk};
+ghost use Rattle.std.specs.Prelude.{◌≡◌, ◌≤◌, ◌++◌, ◌∷◌, [], if◌then◌else◌, length, map, IfOk, OnOk};
 ghost use Rattle.net_check.specs.Fits.{Fits};
 ghost use Rattle.net_check.specs.Nodes.{IsOnOneNode};
 ghost use Rattle.net_check.specs.Syntax.{network_of};
-ghost use Rattle.kahn_program.specs.Report.{output_count};
+ghost use Rattle.world.specs.Pairs.{Pairs};
+ghost use Rattle.world.specs.Released.{released_of};
+ghost use Rattle.world.specs.Sound.{goes_outside, output_channels};
+ghost use Rattle.world.specs.WorldView.{station_view, IsOfSame};
 
 use crate::failure::Failure;
 use crate::reporting::{Stream, report};
@@ -49,7 +52,9 @@ fn cell_failure(fault: CellFault) -> Failure {
 }
 
 /// The event that is next. A job that it grants is run and comes back at once.
-fn take_turn(alloc: Global, world: &mut World<MemCell, ListOutlet>) -> Result<(), Failure> {
+fn take_turn(alloc: Global, world: &mut World<MemCell, ListOutlet>) -> Result<(), Failure>
+    ensures same { Pairs world.old.stations.items world.new.stations.items IsOfSame }
+{
     let event = world.pick(NODE);
     match world.apply(alloc, event) {
         Ok(Reply::Granted(job)) => {
@@ -67,12 +72,30 @@ fn take_turn(alloc: Global, world: &mut World<MemCell, ListOutlet>) -> Result<()
 }
 
 /// Takes turns until nothing is left to do, or the rounds are over.
-fn take_turns(alloc: Global, world: &mut World<MemCell, ListOutlet>) -> Result<(), Failure> {
+fn take_turns(alloc: Global, world: &mut World<MemCell, ListOutlet>) -> Result<(), Failure>
+    ensures same { Pairs world.old.stations.items world.new.stations.items IsOfSame }
+{
     for _ in 0..u64::MAX {
         if world.complete() || world.round() >= ROUNDS {
             return Ok(());
         }
         take_turn(alloc, world)?;
+    }
+    Ok(())
+}
+
+/// Adds what has left by a channel, if its items go outside.
+fn add_stream<'a>(
+    streams: &mut Vec<Stream<'a>>,
+    number: u8,
+    channel: &Channel,
+    world: &'a World<MemCell, ListOutlet>,
+) -> Result<(), AllocError>
+    ensures { OnOk result (streams.new.items
+        ≡ streams.old.items ++ (if goes_outside channel.now.consumer then released_of number (map station_view world.now.stations.items) ∷ [] else [])) }
+{
+    if let Port::Outside = channel.consumer {
+        streams.push(Stream::new(world.released(number)))?;
     }
     Ok(())
 }
@@ -84,13 +107,12 @@ fn streams<'a>(
     world: &'a World<MemCell, ListOutlet>,
 ) -> Result<Vec<Stream<'a>>, AllocError>
     requires { length channels.now ≤ 256 }
-    ensures { IfOk result (λ streams. length streams.items ≡ output_count channels.now) }
+    ensures { IfOk result (λ streams. streams.items
+        ≡ map (λ channel. released_of channel (map station_view world.now.stations.items)) (output_channels 0 channels.now)) }
 {
     let mut streams = Vec::new(alloc);
     for (number, channel) in channels.iter().enumerate() {
-        if let Port::Outside = channel.consumer {
-            streams.push(Stream::new(world.released(number as u8)))?;
-        }
+        add_stream(&mut streams, number as u8, channel, world)?;
     }
     Ok(streams)
 }

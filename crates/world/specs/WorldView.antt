@@ -31,3 +31,7 @@ rooms {C} {O} {cell} {outlet} stations = map (λ (station : Station C O cell out
 -- a station's cell wasn't touched
 abbrev pub IsCellUnchanged : {C O : Type 0} {cell : CellWords C} {outlet : OutletWords O} → Station C O cell outlet → Station C O cell outlet → Type 0
 IsCellUnchanged {C} {O} {cell} {outlet} old new = IsUnchanged cell.value cell.is_ready cell.may_leave cell.moment cell.left_since cell.failure_count old.node.cell new.node.cell
+
+-- a station is of the same network and inputs as another
+abbrev pub IsOfSame : {C O : Type 0} {cell : CellWords C} {outlet : OutletWords O} → Station C O cell outlet → Station C O cell outlet → Type 0
+IsOfSame old new = (new.net ≡ old.net) × (new.inputs ≡ old.inputs)
