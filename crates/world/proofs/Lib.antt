@@ -1,3 +1,5 @@
 mod Soundness
 mod Leaving
 mod Openings
+mod Rests
+mod Quieting

@@ -63,7 +63,7 @@ left_at image (x ∷ outputs) zero output all is =
 left_at image (x ∷ outputs) (suc j) output all is =
     left_at image outputs j output (and_parts (length x.taken == sent_of image x.channel) (have_all_left image outputs) all).1 is
 
--- a network that is quiet has its processes at rest, and all that was put has left
+-- where nothing is left to do, the processes are at rest, and all that was put has left
 rest_of : (net : Network) (inputs : List (List ℤ)) (node : NodeView) (outputs : List OutputView) → IsTrue (is_quiet net inputs node outputs)
     → IsTrue (are_at_rest net inputs node.current node.current.processes) × IsTrue (have_all_left node.current outputs)
 rest_of net inputs node outputs quiet =
@@ -141,7 +141,7 @@ module _ (net : Network) (inputs : List (List ℤ)) (node : NodeView) (outputs :
     got_there c channel is gets =
         received_stands net base come.reached.current_acts node.current c p channel come.reached.current sound.kept.laid_out is ((valid.consumer c p channel code is there).0 gets)
 
-    -- and no more than is there
+    -- and no more than is there (of a channel that joins two processes it got nothing, since nothing brings items from a process yet)
     got_few : (c : ℕ) → IsTrue (code_gets c code) → length (got_on c (made p)) ≤ length (history_of now c)
     got_few c gets = at (slice_get_cases net.channels c).1
       where
