@@ -35,3 +35,5 @@ pub mod ResumeLaws
 pub mod ApproximationLaws
 pub mod NextActs
 pub mod NextLaws
+pub mod RestLaws
+pub mod SettledLaws

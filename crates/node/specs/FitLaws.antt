@@ -24,7 +24,7 @@ use Rattle.node.specs.Ends.{received_of, received_at, log_of, log_at, sent_in, e
 use Rattle.node.specs.Granting.{is_process, next_items, room_in, room_from}
 use Rattle.node.specs.Installing.{is_consumer, is_producer, taken_from, put_on, log_with, pushed, counted, saved_pushed, saved_counted, moved, installed, LogTakes, ImageTakes}
 use Rattle.node.specs.Starting.{HasPutMore}
-use Rattle.node.specs.Reached.{ImageStands, HasReached, is_counting, IsLaidOut, CountsAreWithin, LogsAreWithin, IsJobOf, IsTurnOf}
+use Rattle.node.specs.Reached.{ImageStands, HasReached, is_counting, is_logging, IsLaidOut, CountsAreWithin, LogsAreWithin, IsJobOf, IsTurnOf}
 use Rattle.node.specs.ImageLaws.{channel_at, received_is, log_is, map_got, map_keeps, map_twice, end_of_changed}
 use Rattle.node.specs.ReachedLaws.{items_at_hand, items_of_channel}
 use Rattle.node.specs.InstallLaws.{turn_of_job, job_has_code, log_then}
@@ -192,6 +192,11 @@ still_counting (Receives received) items count = refl
 still_counting (Sends log) items count = refl
 still_counting (Both received log) items count = refl
 
+still_logging : (end : End) (items : List ℤ) (count : ℕ) → is_logging (counted count (pushed items end)) ≡ is_logging end
+still_logging (Receives received) items count = refl
+still_logging (Sends log) items count = refl
+still_logging (Both received log) items count = refl
+
 pub laid_out_installed : (net : Network) (process : ℕ) (after : Standing) (taken : List ℕ) (sent : List (List ℤ)) (image : ImageView)
     → IsLaidOut net image → IsLaidOut net (installed net.channels process after taken sent image)
 laid_out_installed net process after taken sent image laid = record {
@@ -200,6 +205,7 @@ laid_out_installed net process after taken sent image laid = record {
       map_keeps (λ (s : SavedEnd). s.channel) (saved_counted net.channels process taken) (map (saved_pushed net.channels process sent) image.ends) (λ s. refl)
       ∙ (map_keeps (λ (s : SavedEnd). s.channel) (saved_pushed net.channels process sent) image.ends (λ s. refl) ∙ laid.ends);
   counting = counting;
+  logging = logging;
 }
   where
     counting : (k p : ℕ) (saved : SavedEnd) (channel : Channel) → slice_get (installed net.channels process after taken sent image).ends k ≡ Some saved → slice_get net.channels saved.channel ≡ Some channel
@@ -210,6 +216,15 @@ laid_out_installed net process after taken sent image laid = record {
         ap (λ (s : SavedEnd). is_counting s.end) (sym old.2)
         ∙ (still_counting old.0.end (put_on net.channels process sent old.0.channel) (taken_from net.channels process taken old.0.channel)
         ∙ laid.counting k p old.0 channel old.1 (ap (slice_get net.channels) number ∙ on) to)
+
+    logging : (k p : ℕ) (saved : SavedEnd) (channel : Channel) → slice_get (installed net.channels process after taken sent image).ends k ≡ Some saved → slice_get net.channels saved.channel ≡ Some channel
+        → channel.producer ≡ Process p → is_logging saved.end ≡ true
+    logging k p saved channel is on from =
+        let old = end_before net.channels process after taken sent image k saved is in
+        let number : old.0.channel ≡ saved.channel = ap (λ (s : SavedEnd). s.channel) old.2 in
+        ap (λ (s : SavedEnd). is_logging s.end) (sym old.2)
+        ∙ (still_logging old.0.end (put_on net.channels process sent old.0.channel) (taken_from net.channels process taken old.0.channel)
+        ∙ laid.logging k p old.0 channel old.1 (ap (slice_get net.channels) number ∙ on) from)
 
 at_most_counted : (end : End) (items : List ℤ) (count : ℕ) → received_at (Some (counted count (pushed items end))) ≤ received_at (Some end) + count
 at_most_counted (Receives received) items count = omega arith

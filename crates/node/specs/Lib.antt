@@ -23,3 +23,4 @@ pub mod StepLaws
 pub mod ReleaseLaws
 pub mod OpeningLaws
 pub mod GrantLaws
+pub mod SentLaws

@@ -11,7 +11,7 @@ use Rattle.node.specs.ProcessView.{SavedProcessView}
 use Rattle.node.specs.Ends.{received_at, log_at}
 use Rattle.node.specs.Opening.{opening_processes, opening_end, opening_ends, opening_image, opening_record, opening_node}
 use Rattle.node.specs.Starting.{AreInOrder}
-use Rattle.node.specs.Reached.{first_acts, EndStands, ImageStands, HasReached, numbers_from, is_counting, IsLaidOut, CountsAreWithin, LogsAreWithin}
+use Rattle.node.specs.Reached.{first_acts, EndStands, ImageStands, HasReached, numbers_from, is_counting, is_logging, IsLaidOut, CountsAreWithin, LogsAreWithin}
 use Rattle.node.specs.declared.record.SavedEnd.{SavedEnd}
 use Rattle.node.specs.declared.record.End.{End}
 
@@ -64,6 +64,11 @@ counts_there : (producer consumer : Port) (q : ℕ) → consumer ≡ Process q �
 counts_there Outside consumer q to = refl
 counts_there (Process p) Outside q to = absurd (cc)
 counts_there (Process p) (Process r) q to = refl
+
+logs_there : (producer consumer : Port) (q : ℕ) → producer ≡ Process q → is_logging (opening_end producer consumer) ≡ true
+logs_there Outside consumer q from = absurd (cc)
+logs_there (Process p) Outside q from = refl
+logs_there (Process p) (Process r) q from = refl
 
 no_acts : (code : Option Code) (histories : List (List ℤ)) → first_acts code histories 0 ≡ []
 no_acts None histories = refl
@@ -131,6 +136,8 @@ laid_out_opening net = record {
   ends = channel_numbers 0 net.channels;
   counting = λ k p saved channel is on to.
       ap is_counting (own_end net k saved channel is on) ∙ counts_there channel.producer channel.consumer p to;
+  logging = λ k p saved channel is on from.
+      ap is_logging (own_end net k saved channel is on) ∙ logs_there channel.producer channel.consumer p from;
 }
 
 pub counts_opening : (net : Network) (inputs : List (List ℤ)) → CountsAreWithin inputs (opening_image net)

@@ -68,13 +68,21 @@ is_counting (Receives received) = true
 is_counting (Sends log) = false
 is_counting (Both received log) = true
 
--- an image of a node that has every process and every channel has one entry for each, in order of their numbers, and an end from which a
--- process gets counts
+-- an end has a log of what is put there
+abbrev pub is_logging : End → Bool
+is_logging (Receives received) = false
+is_logging (Sends log) = true
+is_logging (Both received log) = true
+
+-- an image of a node that has every process and every channel has one entry for each, in order of their numbers, an end from which a process
+-- gets counts, and one on which a process puts has a log
 pub record IsLaidOut (net : Network) (image : ImageView) : Type 0 where
   pub processes : map (λ (saved : SavedProcessView). saved.number) image.processes ≡ numbers_from 0 (length net.codes)
   pub ends : map (λ (saved : SavedEnd). saved.channel) image.ends ≡ numbers_from 0 (length net.channels)
   pub counting : (k p : ℕ) (saved : SavedEnd) (channel : Channel) → slice_get image.ends k ≡ Some saved → slice_get net.channels saved.channel ≡ Some channel
       → channel.consumer ≡ Process p → is_counting saved.end ≡ true
+  pub logging : (k p : ℕ) (saved : SavedEnd) (channel : Channel) → slice_get image.ends k ≡ Some saved → slice_get net.channels saved.channel ≡ Some channel
+      → channel.producer ≡ Process p → is_logging saved.end ≡ true
 
 -- no more was received than there is
 abbrev pub CountsAreWithin : List (List ℤ) → ImageView → Type 0

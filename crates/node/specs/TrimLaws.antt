@@ -18,7 +18,7 @@ use Rattle.node.specs.NodeView.{NodeView}
 use Rattle.node.specs.Ends.{received_of, received_at, log_of, log_at, sent_in, sent_of, end_of, base_in, base_of}
 use Rattle.node.specs.Granting.{is_process, next_items, items_from, room_in, room_from}
 use Rattle.node.specs.Trimming.{trimmed_log, trimmed_end, trimmed_saved, trimmed_image, with_current}
-use Rattle.node.specs.Reached.{acts_of, EndStands, ImageStands, HasReached, is_counting, IsLaidOut, CountsAreWithin, LogsAreWithin, IsJobOf, HasComeOn}
+use Rattle.node.specs.Reached.{acts_of, EndStands, ImageStands, HasReached, is_counting, is_logging, IsLaidOut, CountsAreWithin, LogsAreWithin, IsJobOf, HasComeOn}
 use Rattle.node.specs.ImageLaws.{find_passes, map_got, map_keeps, end_of_changed}
 use Rattle.node.specs.declared.record.SavedEnd.{SavedEnd}
 use Rattle.node.specs.declared.record.End.{End}
@@ -77,6 +77,12 @@ still_counting position false end = refl
 still_counting position true (Receives received) = refl
 still_counting position true (Sends log) = refl
 still_counting position true (Both received log) = refl
+
+still_logging : (position : ℕ) (trims : Bool) (end : End) → is_logging (cond trims (trimmed_end position end) end) ≡ is_logging end
+still_logging position false end = refl
+still_logging position true (Receives received) = refl
+still_logging position true (Sends log) = refl
+still_logging position true (Both received log) = refl
 
 -- the log of a trimmed end is one of before, trimmed or not
 log_before : (position : ℕ) (trims : Bool) (end : End) (log : LogState) → log_at (Some (cond trims (trimmed_end position end) end)) ≡ Some log
@@ -178,6 +184,7 @@ laid_out_trimmed net c position image laid = record {
   processes = laid.processes;
   ends = map_keeps (λ (s : SavedEnd). s.channel) (trimmed_saved c position) image.ends (λ s. refl) ∙ laid.ends;
   counting = counting;
+  logging = logging;
 }
   where
     counting : (k p : ℕ) (saved : SavedEnd) (channel : Channel) → slice_get (map (trimmed_saved c position) image.ends) k ≡ Some saved → slice_get net.channels saved.channel ≡ Some channel
@@ -187,6 +194,14 @@ laid_out_trimmed net c position image laid = record {
         let number : old.0.channel ≡ saved.channel = ap (λ (s : SavedEnd). s.channel) old.2 in
         ap (λ (s : SavedEnd). is_counting s.end) (sym old.2)
         ∙ (still_counting position (eqb old.0.channel c) old.0.end ∙ laid.counting k p old.0 channel old.1 (ap (slice_get net.channels) number ∙ on) to)
+
+    logging : (k p : ℕ) (saved : SavedEnd) (channel : Channel) → slice_get (map (trimmed_saved c position) image.ends) k ≡ Some saved → slice_get net.channels saved.channel ≡ Some channel
+        → channel.producer ≡ Process p → is_logging saved.end ≡ true
+    logging k p saved channel is on from =
+        let old = map_got (trimmed_saved c position) image.ends k saved is in
+        let number : old.0.channel ≡ saved.channel = ap (λ (s : SavedEnd). s.channel) old.2 in
+        ap (λ (s : SavedEnd). is_logging s.end) (sym old.2)
+        ∙ (still_logging position (eqb old.0.channel c) old.0.end ∙ laid.logging k p old.0 channel old.1 (ap (slice_get net.channels) number ∙ on) from)
 
 pub counts_trimmed : (inputs : List (List ℤ)) (c position : ℕ) (image : ImageView) → CountsAreWithin inputs image → CountsAreWithin inputs (trimmed_image c position image)
 counts_trimmed inputs c position image counts k saved is =

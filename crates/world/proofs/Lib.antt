@@ -3,3 +3,5 @@ mod Leaving
 mod Openings
 mod Views
 mod Showing
+mod Rests
+mod Quieting

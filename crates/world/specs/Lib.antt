@@ -16,5 +16,6 @@ pub mod Turns
 pub mod Steps
 pub mod Choice
 pub mod Quiet
+pub mod QuietLaws
 pub mod WorldView
 pub mod Released

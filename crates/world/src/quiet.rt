@@ -1,57 +1,63 @@
 // When nothing is left to do.
-ghost use Rattle.std.specs.Prelude.{◌≡◌};
+ghost use Rattle.std.specs.Prelude.{◌≡◌, ◌↔◌, ◌≤◌, length, slice_get, IsTrue};
+ghost use Rattle.net_check.specs.Streams.{history_of};
+ghost use Rattle.net_check.specs.Syntax.{network_of};
+ghost use Rattle.node.specs.NodeView.{node_view};
+ghost use Rattle.world.specs.OutputView.{outputs_view};
+ghost use Rattle.world.specs.Pairs.{Every};
+ghost use Rattle.world.specs.Quiet.{has_got_all, is_at_rest, are_at_rest, have_all_left, is_quiet, AreWhole};
 
 use crate::output::Output;
 use crate::station::Station;
 use crate::world::World;
-use net_check::{Channel, Net, Port};
+use net_check::{Channel, History, Net, Port};
 use node::{Image, SavedProcess, StableCell};
 use outlet::Outlet;
 use proc_step::{NextAct, next_act};
 
-// Whether a process can do nothing more: it has finished, or it gets from an input of which every item was received.
-fn is_at_rest(
-    net: &Net,
-    inputs: &[net_check::History],
-    image: &Image,
-    saved: &SavedProcess,
-) -> bool {
+// How many items an input has; none where there is no such channel.
+fn count_of(inputs: &[History], channel: usize) -> usize
+    ensures { result ≡ length (history_of inputs.now channel) }
+{
+    match inputs.get(channel) {
+        Some(input) => input.len(),
+        None => 0,
+    }
+}
+
+// Whether each item of a channel was received: of an input all that there are, of any other all that was put.
+fn has_got_all(channels: &[Channel], inputs: &[History], image: &Image, channel: usize) -> bool
+    requires { length channels.now ≤ 256 }
+    ensures { result ≡ has_got_all inputs.now image.now channel (slice_get channels.now channel) }
+{
+    match channels.get(channel) {
+        Some(ends) => match ends.producer {
+            Port::Outside => image.received(channel as u8) == count_of(inputs, channel) as u64,
+            Port::Process(_) => image.received(channel as u8) == image.sent(channel as u8),
+        },
+        None => false,
+    }
+}
+
+// Whether a process can do nothing more: it has finished, or it gets from a channel of which every item was received.
+fn is_at_rest(net: &Net, inputs: &[History], image: &Image, saved: &SavedProcess) -> bool
+    ensures { result ≡ is_at_rest (network_of net.now.program) inputs.now image.now saved.now }
+{
     match net.program.processes.get(usize::from(saved.number)) {
         Some(process) => match next_act(process, &saved.state) {
+            NextAct::Begin => false,
+            NextAct::Get { channel } => has_got_all(&net.program.channels, inputs, image, channel),
+            NextAct::Put { .. } => false,
             NextAct::Nothing => true,
-            NextAct::Get { channel } => has_received_all(
-                &net.program.channels,
-                inputs,
-                image,
-                channel,
-            ),
-            NextAct::Begin | NextAct::Put { .. } => false,
         },
         None => true,
     }
 }
 
-// Whether each item of an input was received.
-fn has_received_all(
-    channels: &[Channel],
-    inputs: &[net_check::History],
-    image: &Image,
-    channel: usize,
-) -> bool {
-    match (
-        channels.get(channel),
-        inputs.get(channel),
-        u8::try_from(channel),
-    ) {
-        (Some(ends), Some(input), Ok(number)) => match ends.producer {
-            Port::Outside => image.received(number) == input.len() as u64,
-            Port::Process(_) => image.received(number) == image.sent(number),
-        },
-        _ => false,
-    }
-}
-
-fn are_at_rest(net: &Net, inputs: &[net_check::History], image: &Image) -> bool {
+// Whether no process can do anything more.
+fn are_at_rest(net: &Net, inputs: &[History], image: &Image) -> bool
+    ensures { result ≡ are_at_rest (network_of net.now.program) inputs.now image.now image.now.processes }
+{
     for saved in &image.processes {
         if !is_at_rest(net, inputs, image, saved) {
             return false;
@@ -60,7 +66,10 @@ fn are_at_rest(net: &Net, inputs: &[net_check::History], image: &Image) -> bool 
     true
 }
 
-fn have_all_left<O: Outlet>(image: &Image, outputs: &[Output<O>]) -> bool {
+// Whether each outlet has all that was put.
+fn have_all_left<O: Outlet>(image: &Image, outputs: &[Output<O>]) -> bool
+    ensures { result ≡ have_all_left image.now (outputs_view O.taken outputs.now) }
+{
     for output in outputs {
         if output.outlet.len() != image.sent(output.channel) {
             return false;
@@ -70,8 +79,12 @@ fn have_all_left<O: Outlet>(image: &Image, outputs: &[Output<O>]) -> bool {
 }
 
 impl<C: StableCell, O: Outlet> Station<C, O> {
-    // Whether nothing is left to do here.
-    fn is_complete(&self) -> bool {
+    // Whether nothing is left to do here: the node is up, no job is out, and no process can do more than it did, all of
+    // which has left.
+    fn is_complete(&self) -> bool
+        ensures { result ≡ is_quiet (network_of self.now.net.value.program) self.now.inputs.value (node_view self.now.node.state)
+            (outputs_view O.taken self.now.outputs.items) }
+    {
         let node = &self.node;
         let state = &node.state;
         state.up
@@ -84,7 +97,15 @@ impl<C: StableCell, O: Outlet> Station<C, O> {
 impl<C: StableCell, O: Outlet> World<C, O> {
     /// Whether nothing is left to do: each process has finished or waits for an item that nobody will put, no job is
     /// out, and each outlet has all that was put. Takes no memory.
-    pub fn complete(&self) -> bool {
+    pub fn complete(&self) -> bool
+        // It says just that, of each station.
+        ensures quiet { IsTrue result ↔ Every self.now.stations.items (λ station. IsTrue (is_quiet (network_of station.net.value.program) station.inputs.value
+            (node_view station.node.state) (outputs_view O.taken station.outputs.items))) }
+        // And then the approximations have come to rest, at the network's least solution, and each stream that has left
+        // is its channel's whole history there.
+        ensures whole { IsTrue result → Every self.now.stations.items (λ station. AreWhole (network_of station.net.value.program) station.inputs.value
+            (outputs_view O.taken station.outputs.items)) }
+    {
         for station in &self.stations {
             if !station.is_complete() {
                 return false;

@@ -1,13 +1,37 @@
-use Rattle.std.proofs.Common.{◌≡◌, ◌<◌, List, length, get_or, sym, ap, subst, ◌∙◌}
+use Rattle.std.proofs.Common.{◌∙◌}
 use Rattle.net_check.specs.Syntax.{code_of, network_of}
-use Rattle.net_check.specs.ValidLaws.{valid_at}
-use Rattle.net_check.specs.declared.program.Process.{Process}
+use Rattle.net_check.specs.States.{standing_of}
+use Rattle.net_check.specs.ValidLaws.{units_few}
+use Rattle.world.proofs.Rests.{code_found, rest_at, rest_past, got_of}
 use Rattle.world.proofs.quiet.is_at_rest.Goals as goal
 
 pub next_act-requires : goal.next_act-requires
 next_act-requires c =
-    let net = c.args.net.now in
-    let p = c.in-Some.process.now in
-    let within : c.from.result < length net.program.processes.items = subst (λ (l : List Process). c.from.result < length l) c.deref.ensures.value c.in-Some.ensures.lookup.3.0 in
-    let is : p ≡ get_or net.program.processes.items c.from.result p = subst (λ (l : List Process). p ≡ get_or l c.from.result p) c.deref.ensures.value c.in-Some.ensures.lookup.1 in
-    (valid_at net.program c.from.result p net.valid within is).units
+    units_few (network_of c.args.net.now.program) c.saved.inside.number (code_of c.in-Some.process.now) c.args.net.now.valid
+    (code_found c.args.net.now.program c.deref.result.now c.from.result c.saved.inside.number c.in-Some.process.now c.deref.ensures.value c.from.ensures c.in-Some.ensures.lookup.3.0 c.in-Some.ensures.lookup.1)
+
+pub returns-in-Begin : goal.returns-in-Begin
+returns-in-Begin c =
+    rest_at c.args.net.now.program c.args.inputs.now c.args.image.now c.deref.result.now c.from.result c.saved.inside.number c.in-Some.process.now (standing_of c.saved.inside.state) _ c.next_act.result _
+    c.deref.ensures.value c.from.ensures c.in-Some.ensures.lookup.3.0 c.in-Some.ensures.lookup.1 c.next_act.ensures c.in-Begin.is c.saved.view_is
+
+pub returns-in-Get : goal.returns-in-Get
+returns-in-Get c =
+    got_of _ (network_of c.args.net.now.program) _ c.args.image.now _ _ c.has_got_all.ensures c.deref-in-Get.ensures.value
+    ∙ rest_at c.args.net.now.program c.args.inputs.now c.args.image.now c.deref.result.now c.from.result c.saved.inside.number c.in-Some.process.now (standing_of c.saved.inside.state) _ c.next_act.result _
+    c.deref.ensures.value c.from.ensures c.in-Some.ensures.lookup.3.0 c.in-Some.ensures.lookup.1 c.next_act.ensures c.in-Get.is c.saved.view_is
+
+pub returns-in-Put : goal.returns-in-Put
+returns-in-Put c =
+    rest_at c.args.net.now.program c.args.inputs.now c.args.image.now c.deref.result.now c.from.result c.saved.inside.number c.in-Some.process.now (standing_of c.saved.inside.state) _ c.next_act.result _
+    c.deref.ensures.value c.from.ensures c.in-Some.ensures.lookup.3.0 c.in-Some.ensures.lookup.1 c.next_act.ensures c.in-Put.is c.saved.view_is
+
+pub returns-in-Nothing : goal.returns-in-Nothing
+returns-in-Nothing c =
+    rest_at c.args.net.now.program c.args.inputs.now c.args.image.now c.deref.result.now c.from.result c.saved.inside.number c.in-Some.process.now (standing_of c.saved.inside.state) _ c.next_act.result _
+    c.deref.ensures.value c.from.ensures c.in-Some.ensures.lookup.3.0 c.in-Some.ensures.lookup.1 c.next_act.ensures c.in-Nothing.is c.saved.view_is
+
+pub returns-in-None : goal.returns-in-None
+returns-in-None c =
+    rest_past c.args.net.now.program c.args.inputs.now c.args.image.now c.deref.result.now c.from.result c.saved.inside.number (standing_of c.saved.inside.state) _
+    c.deref.ensures.value c.from.ensures c.in-None.ensures.lookup.3 c.saved.view_is

@@ -1,0 +1,8 @@
+use Rattle.std.proofs.Common.{◌≡◌, drop}
+use Rattle.net_check.specs.Syntax.{network_of}
+use Rattle.world.specs.Quiet.{are_at_rest}
+use Rattle.world.proofs.quiet.are_at_rest.Given as goal
+
+-- all are at rest where those are that weren't looked at yet
+abbrev pub invariant-loop-saved : goal.invariant-loop-saved
+invariant-loop-saved l = are_at_rest (network_of l.net.program) l.inputs l.image (drop l.saved-index l.saved-items) ≡ are_at_rest (network_of l.net.program) l.inputs l.image l.image.processes
