@@ -5,7 +5,7 @@ use Rattle.std.proofs.Math.Logic.{∥∥₁_map}
 use Rattle.std.proofs.Math.Seq.{drop-cons}
 use Rattle.std.proofs.lemmas.Bool.Decides.{nat_tests}
 use Rattle.net_check.specs.Streams.{history_of, IsPrefix}
-use Rattle.net_check.specs.Syntax.{Network}
+use Rattle.net_check.specs.Syntax.{Network, network_of}
 use Rattle.net_check.specs.Approximations.{approximation, IsReached}
 use Rattle.net_check.specs.declared.program.Channel.{Channel}
 use Rattle.world.specs.Sound.{goes_outside, output_channels}
@@ -15,13 +15,17 @@ use Rattle.world.specs.OutputLaws.{map_at}
 use Rattle.world.specs.OutputView.{OutputView, output_view, outputs_view}
 use Rattle.world.specs.StationView.{OutletView, StationView, outlet_view, outlet_views}
 use Rattle.world.specs.Released.{taken_or, released_of}
-use Rattle.world.specs.Pairs.{Pairs}
+use Rattle.net_check.specs.declared.program.Port.{Port}
+use Rattle.net_check.specs.declared.program.Port.TheVariants.{Outside, Process}
+use Rattle.node.specs.NodeView.{node_view}
+use Rattle.world.specs.Pairs.{Pairs, Every}
 use Rattle.world.specs.PairLaws.{pairs_refl, pairs_then}
-use Rattle.world.specs.WorldView.{IsOfSame}
+use Rattle.world.specs.WorldView.{station_view, IsOfSame}
 use Rattle.world.specs.declared.output.Output.{Output}
 use Rattle.world.specs.declared.station.Station.{Station}
 use Rattle.node.specs.declared.cell.StableCell.{Ghosts as CellWords}
 use Rattle.outlet.specs.declared.outlet.Outlet.{Ghosts as OutletWords}
+use Rattle.kahn_program.specs.Report.{one_if_output, output_count}
 use Rattle.kahn_program.specs.Runs.{released_streams, AreWithin, AreAll, IsRun}
 
 -- The outlet of a channel
@@ -132,3 +136,45 @@ same_then xs ys zs p q = pairs_then IsOfSame IsOfSame IsOfSame (λ x y z a b. (b
 
 pub same_still : {C O : Type 0} {cell : CellWords C} {outlet : OutletWords O} (xs : List (Station C O cell outlet)) → Pairs xs xs IsOfSame
 same_still xs = pairs_refl IsOfSame (λ x. (refl, refl)) xs
+
+-- as many streams as outputs
+pub counted_streams : (f : ℕ → List ℤ) (number : ℕ) (channels : List Channel) → length (map f (output_channels number channels)) ≡ output_count channels
+counted_streams f number [] = refl
+counted_streams f number (channel ∷ channels) = at channel.consumer (counted_streams f (suc number) channels)
+  where
+    at : (port : Port) → length (map f (output_channels (suc number) channels)) ≡ output_count channels
+        → length (map f (if goes_outside port then number ∷ output_channels (suc number) channels else output_channels (suc number) channels)) ≡ one_if_output port (output_count channels)
+    at Outside rest = let more : suc (output_count channels) ≡ output_count channels + 1 = omega arith in ap suc rest ∙ more
+    at (Process p) rest = rest
+
+-- The streams of a world of one station
+
+abbrev IsOf : {C O : Type 0} {cell : CellWords C} {outlet : OutletWords O} → Network → List (List ℤ) → Station C O cell outlet → Type 0
+IsOf net inputs station = (network_of station.net.value.program ≡ net) × (station.inputs.value ≡ inputs)
+
+one_run : {C O : Type 0} {cell : CellWords C} {outlet : OutletWords O} (complete : Bool) (station : Station C O cell outlet)
+    → (IsTrue complete → quiet.AreWhole (network_of station.net.value.program) station.inputs.value (outputs_view outlet.taken station.outputs.items))
+    → IsRun (network_of station.net.value.program) station.inputs.value (released_streams (network_of station.net.value.program) (station_view station ∷ [])) complete
+one_run {C} {O} {cell} {outlet} complete station whole =
+    station_run outlet.taken outlet.failures station.outputs.items (network_of station.net.value.program) station.inputs.value (station_view station) refl station.sound.listed complete
+    (headline.released_prefix (network_of station.net.value.program) station.inputs.value (node_view station.node.state) (outputs_view outlet.taken station.outputs.items) station.net.value.valid station.fits station.sound)
+    whole
+
+pub world_run : {C O : Type 0} {cell : CellWords C} {outlet : OutletWords O} (net : Network) (inputs : List (List ℤ)) (first now : List (Station C O cell outlet)) (complete : Bool) → length first ≡ 1
+    → Every first (λ (station : Station C O cell outlet). (network_of station.net.value.program ≡ net) × (station.inputs.value ≡ inputs)) → Pairs first now IsOfSame
+    → (IsTrue complete → Every now (λ (station : Station C O cell outlet). quiet.AreWhole (network_of station.net.value.program) station.inputs.value (outputs_view outlet.taken station.outputs.items)))
+    → IsRun net inputs (released_streams net (map station_view now)) complete
+world_run net inputs [] now complete one of same whole = absurd (cc)
+world_run net inputs (s ∷ t ∷ first) now complete one of same whole = absurd (cc)
+world_run net inputs (s ∷ []) [] complete one of same whole = absurd same
+world_run net inputs (s ∷ []) (t ∷ u ∷ now) complete one of same whole = absurd same.1
+world_run {C} {O} {cell} {outlet} net inputs (s ∷ []) (t ∷ []) complete one of same whole =
+    let program : network_of t.net.value.program ≡ net = ap (λ a. network_of a.value.program) same.0.0 ∙ of.0.0 in
+    let items : t.inputs.value ≡ inputs = ap (λ a. a.value) same.0.1 ∙ of.0.1 in
+    subst (λ (n : Network). IsRun n inputs (released_streams n (station_view t ∷ [])) complete) program
+    (subst (λ (i : List (List ℤ)). IsRun (network_of t.net.value.program) i (released_streams (network_of t.net.value.program) (station_view t ∷ [])) complete) items
+    (one_run complete t (λ done. (whole done).0)))
+
+pub every_map : {A : Type 0} (P Q : A → Type 0) → ((x : A) → P x → Q x) → (xs : List A) → Every xs P → Every xs Q
+every_map P Q f [] all = tt
+every_map P Q f (x ∷ xs) all = (f x all.0, every_map P Q f xs all.1)

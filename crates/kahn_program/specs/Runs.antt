@@ -1,5 +1,6 @@
 -- What a run of a network releases, and its report.
-use Rattle.std.specs.Prelude.{◌≡◌, ℕ, Bool, IsTrue, ℤ, List, Some, length, map, slice_get}
+use Rattle.std.specs.Prelude.{◌≡◌, ℕ, Bool, IsTrue, ℤ, List, Option, Some, IfSome, length, map, slice_get}
+use Rattle.std.specs.Io.KnownBytes.{Appends}
 use Rattle.net_check.specs.Streams.{history_of, IsPrefix}
 use Rattle.net_check.specs.Syntax.{Network, network_of}
 use Rattle.net_check.specs.Approximations.{approximation, IsReached}
@@ -7,6 +8,7 @@ use Rattle.net_check.specs.declared.net.Net.{Net}
 use Rattle.world.specs.Sound.{output_channels}
 use Rattle.world.specs.Released.{released_of}
 use Rattle.world.specs.StationView.{StationView}
+use Rattle.kahn_program.specs.Readings.{IsNetOf, AreInputsOf}
 use Rattle.kahn_program.specs.Report.{report_text}
 
 -- what the stations' outlets took, for each of a network's outputs in order
@@ -34,3 +36,13 @@ pub record IsRun (net : Network) (inputs streams : List (List ℤ)) (complete : 
 abbrev pub IsReport : Net → List (List ℤ) → List ℕ → Bool → Type 0
 IsReport net inputs text complete =
     ∥ ((streams : List (List ℤ)) × (text ≡ report_text net.program.channels.items net.channel_names.items streams complete) × IsRun (network_of net.program) inputs streams complete) ∥₁
+
+-- A text is the report of a run of the network that a reader with these bytes describes, on the inputs that another gives, where the bytes
+-- are known.
+abbrev pub IsReported : Option (List ℕ) → Option (List ℕ) → List ℕ → Bool → Type 0
+IsReported net_bytes input_bytes text complete =
+    ∥ ((net : Net) × (inputs : List (List ℤ)) × IfSome net_bytes (λ bytes. IsNetOf bytes net) × IfSome input_bytes (λ bytes. AreInputsOf bytes net inputs) × IsReport net inputs text complete) ∥₁
+
+-- and such a text was written
+abbrev pub HasWritten : Option (List ℕ) → Option (List ℕ) → Option (List ℕ) → Option (List ℕ) → Bool → Type 0
+HasWritten net_bytes input_bytes before after complete = ∥ ((text : List ℕ) × IsReported net_bytes input_bytes text complete × Appends before after text) ∥₁

@@ -1,6 +1,8 @@
 //! The program behind its words.
 
-ghost use Rattle.std.specs.Prelude.{◌≡◌, ◌≤◌};
+ghost use Rattle.std.specs.Prelude.{◌≡◌, ◌≤◌, Bool, IfOk, option_and_then};
+ghost use Rattle.kahn_program.specs.Runs.{IsReported, HasWritten};
+ghost use Rattle.kahn_program.specs.Statuses.{status_of_run};
 
 use crate::failure::Failure;
 use crate::printing::{print_failure, print_report};
@@ -15,7 +17,9 @@ fn report_of_readers<N: Read + Drop, I: Read + Drop>(
     alloc: Global,
     net: Option<N>,
     inputs: Option<I>,
-) -> Result<(Vec<u8>, bool), Failure> {
+) -> Result<(Vec<u8>, bool), Failure>
+    ensures { IfOk result (λ report. IsReported (option_and_then N.remaining net) (option_and_then I.remaining inputs) report.0.items report.1) }
+{
     let net = read_net(alloc, net)?;
     let inputs = read_inputs(alloc, inputs, &net)?;
     report_of_run(alloc, net, inputs)
@@ -32,6 +36,11 @@ pub fn run<N: Read + Drop, I: Read + Drop, W: Write, E: Write>(
     err: &mut E,
 ) -> u8
     ensures status { result ≤ 3 }
+    // Where the status is 0 or 3, what is written to `out` is the report of a run of the network that the one reader
+    // describes, on the inputs that the other gives: each stream a prefix of its history in one approximation, and where
+    // the status is 0 whole, in the least solution.
+    ensures written { (complete : Bool) → result ≡ status_of_run complete
+        → HasWritten (option_and_then N.remaining net) (option_and_then I.remaining inputs) (W.contents out.old) (W.contents out.new) complete }
     // Where a text is refused, nothing is written to `out`.
     ensures refused { result ≡ 2 → out.new ≡ out.old }
     // Where the run comes to a report, nothing is written to `err`.

@@ -8,6 +8,7 @@ ghost use Rattle.world.specs.Pairs.{Pairs};
 ghost use Rattle.world.specs.Released.{released_of};
 ghost use Rattle.world.specs.Sound.{goes_outside, output_channels};
 ghost use Rattle.world.specs.WorldView.{station_view, IsOfSame};
+ghost use Rattle.kahn_program.specs.Runs.{IsReport};
 
 use crate::failure::Failure;
 use crate::reporting::{Stream, report};
@@ -122,6 +123,7 @@ fn streams<'a>(
 pub fn report_of_run(alloc: Global, net: Net, inputs: Inputs) -> Result<(Vec<u8>, bool), Failure>
     requires fitting { Fits (network_of net.program) inputs }
     requires one_node { IsOnOneNode (network_of net.program) }
+    ensures { IfOk result (λ report. IsReport net inputs report.0.items report.1) }
 {
     let Ok(outputs) = list_outputs(alloc, &net) else {
         return Err(Failure::NoMemory);
