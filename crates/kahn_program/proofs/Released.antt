@@ -1,6 +1,7 @@
 -- What a world's outlets took are the streams of a run.
-use Rattle.std.proofs.Common.{◌≡◌, ℕ, zero, suc, ◌+◌, ◌<◌, Bool, true, false, eqb, cond, List, ℤ, [], ◌∷◌, ◌++◌, length, map, drop, get_or, Option, Some, None, refl, sym, ap, subst, ◌∙◌, append_assoc, arith}
-use Rattle.std.specs.Prelude.{slice_get, find, IsTrue, if◌then◌else◌}
+use Rattle.std.proofs.Common.{◌≡◌, ◌≢◌, ◌⊎◌, inl, inr, Vec, Global, ℕ, zero, suc, ◌+◌, ◌<◌, Bool, true, false, eqb, cond, List, ℤ, [], ◌∷◌, ◌++◌, length, map, drop, get_or, Option, Some, None, refl, sym, ap, subst, ◌∙◌, append_assoc, arith}
+use Rattle.std.specs.Prelude.{Result, Ok, Err, IfOk, IfSome, slice_get, find, IsTrue, if◌then◌else◌}
+use Rattle.std.specs.Io.KnownBytes.{Appends}
 use Rattle.std.proofs.Math.Logic.{∥∥₁_map}
 use Rattle.std.proofs.Math.Seq.{drop-cons}
 use Rattle.std.proofs.lemmas.Bool.Decides.{nat_tests}
@@ -25,8 +26,12 @@ use Rattle.world.specs.declared.output.Output.{Output}
 use Rattle.world.specs.declared.station.Station.{Station}
 use Rattle.node.specs.declared.cell.StableCell.{Ghosts as CellWords}
 use Rattle.outlet.specs.declared.outlet.Outlet.{Ghosts as OutletWords}
-use Rattle.kahn_program.specs.Report.{one_if_output, output_count}
-use Rattle.kahn_program.specs.Runs.{released_streams, AreWithin, AreAll, IsRun}
+use Rattle.net_check.specs.declared.net.Net.{Net}
+use Rattle.kahn_program.specs.Report.{one_if_output, output_count, report_text}
+use Rattle.kahn_program.specs.Readings.{IsNetOf, AreInputsOf}
+use Rattle.kahn_program.specs.Statuses.{status_of_run}
+use Rattle.kahn_program.specs.Runs.{released_streams, AreWithin, AreAll, IsRun, IsReport, IsReported, HasWritten}
+use Rattle.kahn_program.specs.declared.failure.Failure.{Failure}
 
 -- The outlet of a channel
 
@@ -178,3 +183,40 @@ world_run {C} {O} {cell} {outlet} net inputs (s ∷ []) (t ∷ []) complete one 
 pub every_map : {A : Type 0} (P Q : A → Type 0) → ((x : A) → P x → Q x) → (xs : List A) → Every xs P → Every xs Q
 every_map P Q f [] all = tt
 every_map P Q f (x ∷ xs) all = (f x all.0, every_map P Q f xs all.1)
+
+-- The report of a run
+
+pub reported : (net : Net) (inputs : List (List ℤ)) (given : List Channel) (streams : List (List ℤ)) (stations : List StationView) (text : List ℕ) (complete : Bool) → given ≡ net.program.channels.items
+    → streams ≡ map (λ (channel : ℕ). released_of channel stations) (output_channels 0 given)
+    → text ≡ report_text net.program.channels.items net.channel_names.items streams complete
+    → IsRun (network_of net.program) inputs (released_streams (network_of net.program) stations) complete
+    → IsReport net inputs text complete
+reported net inputs given streams stations text complete channels listed printed run =
+    let all : streams ≡ released_streams (network_of net.program) stations = listed ∙ ap (λ (l : List Channel). map (λ (channel : ℕ). released_of channel stations) (output_channels 0 l)) channels in
+    ∣ (released_streams (network_of net.program) stations, printed ∙ ap (λ (l : List (List ℤ)). report_text net.program.channels.items net.channel_names.items l complete) all, run) ∣₁
+
+-- of the texts of two readers
+pub run_of_readers : (net_bytes input_bytes : Option (List ℕ)) (net : Net) (inputs : List (List ℤ)) (result : Result (Vec ℕ Global × Bool) Failure) → IfSome net_bytes (λ bytes. IsNetOf bytes net) → IfSome input_bytes (λ bytes. AreInputsOf bytes net inputs)
+    → IfOk result (λ report. IsReport net inputs report.0.items report.1) → IfOk result (λ report. IsReported net_bytes input_bytes report.0.items report.1)
+run_of_readers net_bytes input_bytes net inputs (Err e) of_net of_inputs report = tt
+run_of_readers net_bytes input_bytes net inputs (Ok r) of_net of_inputs report = ∣ (net, inputs, of_net, of_inputs, report) ∣₁
+
+-- what was written where the status is that of a run
+one_status : (a b : Bool) → status_of_run a ≡ status_of_run b → a ≡ b
+one_status true true e = refl
+one_status false false e = refl
+one_status true false e = absurd (cc)
+one_status false true e = absurd (cc)
+
+not_failed : (a : Bool) → status_of_run a ≡ 1 → ⊥
+not_failed true e = cc
+not_failed false e = cc
+
+pub written_report : (net_bytes input_bytes before after : Option (List ℕ)) (text : List ℕ) (complete : Bool) (status : ℕ) → IsReported net_bytes input_bytes text complete
+    → (status ≡ 1) ⊎ (status ≡ status_of_run complete) → (status ≢ 1 → Appends before after text)
+    → (whole : Bool) → status ≡ status_of_run whole → HasWritten net_bytes input_bytes before after whole
+written_report net_bytes input_bytes before after text complete status of (inl failed) writes whole is = absurd (not_failed whole (sym is ∙ failed))
+written_report net_bytes input_bytes before after text complete status of (inr came) writes whole is =
+    let same : complete ≡ whole = one_status complete whole (sym came ∙ is) in
+    subst (HasWritten net_bytes input_bytes before after) same
+    ∣ (text, of, writes (λ failed. not_failed complete (sym came ∙ failed))) ∣₁
