@@ -1,5 +1,5 @@
 -- Laws of networks at rest: where no process does more on what all have put, that is the least solution.
-use Rattle.std.proofs.Common.{◌≡◌, ◌⊎◌, ℕ, zero, suc, ◌+◌, ◌<◌, ◌≤◌, List, ℤ, [], ◌∷◌, ◌++◌, length, get_or, Some, None, inl, inr, refl, sym, ap, ◌∙◌, subst, arith, append-nil}
+use Rattle.std.proofs.Common.{◌≡◌, ℕ, zero, suc, ◌+◌, ◌≤◌, List, ℤ, [], ◌∷◌, ◌++◌, length, Some, refl, sym, ap, ◌∙◌, subst, arith, append-nil}
 use Rattle.std.specs.Prelude.{slice_get}
 use Rattle.std.proofs.lemmas.List.{ext_get_or, get_or_past, length-append}
 use Rattle.net_check.specs.Streams.{history_of, IsPrefix, ArePrefixes}
@@ -8,7 +8,7 @@ use Rattle.net_check.specs.Syntax.{Code, Network}
 use Rattle.net_check.specs.Valid.{IsValid}
 use Rattle.net_check.specs.Statements.{Step}
 use Rattle.net_check.specs.Processes.{process_trace, sent_on}
-use Rattle.net_check.specs.Approximations.{next_histories, approximation, IsReached, IsSolution}
+use Rattle.net_check.specs.Approximations.{approximation, IsReached, IsSolution}
 use Rattle.net_check.specs.ApproximationLaws.{length-next_from, solution_is_next, below_solutions}
 use Rattle.net_check.specs.declared.program.Channel.{Channel}
 use Rattle.net_check.specs.declared.program.Port.{Port}

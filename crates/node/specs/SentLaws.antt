@@ -1,5 +1,5 @@
 -- Laws of what an image says was put: as many items as its producer's acts put.
-use Rattle.std.proofs.Common.{◌≡◌, ℕ, Bool, true, false, ℤ, length, Option, Some, None, refl, sym, ap, ◌∙◌}
+use Rattle.std.proofs.Common.{◌≡◌, ℕ, true, ℤ, length, Some, refl, sym, ap, ◌∙◌}
 use Rattle.std.specs.Prelude.{slice_get, List}
 use Rattle.std.proofs.lemmas.Option.{slice_get_within}
 use Rattle.net_check.specs.Syntax.{Network}
