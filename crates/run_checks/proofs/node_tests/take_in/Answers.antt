@@ -1,7 +1,7 @@
 use Rattle.std.proofs.Common.{List, sym, subst, ◌∙◌}
 use Rattle.net_check.specs.declared.program.Channel.{Channel}
 use Rattle.node.specs.Installing.{ImageTakes}
-use Rattle.node.proofs.tests.take_in.Goals as goal
+use Rattle.run_checks.proofs.node_tests.take_in.Goals as goal
 
 pub install-requires : goal.install-requires
 install-requires c = λ out.

@@ -1,6 +1,6 @@
 //! What is written, and the statuses.
 
-use crate::{Failure, Source, print_failure, print_report};
+use kahn_program::{Failure, Source, print_failure, print_report};
 use std::io;
 use std::io::Write;
 use std::test::Fail;

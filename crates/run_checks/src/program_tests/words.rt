@@ -1,7 +1,7 @@
 //! Command lines.
 
-use crate::{not_text, options};
 use clap::error::ErrorKind;
+use kahn_program::{not_text, options};
 use std::test::Fail;
 
 #[test]

@@ -1,13 +1,18 @@
+//! What a node keeps over a crash, its cell in memory, and a turn of one of its processes.
+
 ghost use Rattle.std.specs.Prelude.{◌≡◌, ◌⊎◌, IfOk, IsTrue, Some};
 ghost use Rattle.outlet.specs.LogState.{Overfills};
 ghost use Rattle.sector_disk.specs.Clock.{LeavesOnly};
 ghost use Rattle.node.specs.Ends.{received_at, log_at};
-ghost use Rattle.node.specs.Installing.{LogTakes, EndTakes, ImageTakes};
+ghost use Rattle.node.specs.Granting.{is_process};
+ghost use Rattle.node.specs.Installing.{taken_from, put_on, LogTakes, EndTakes, ImageTakes};
 
-use super::*;
-use crate::installing::{count_taken, items_put};
-use net_check::{Channel, Inputs, Net, Place, ProcState, bind, check};
+use net_check::{Channel, History, Inputs, Net, Place, Port, ProcState, bind, check};
 use net_text::{parse, parse_inputs};
+use node::{
+    CellFault, Decision, End, Image, LAST_NUMBER, MemCell, NodeState, Record, SavedEnd,
+    SavedProcess, StableCell, Tentative,
+};
 use outlet::{LOG_ITEMS, Log};
 use proc_step::{Done, Job};
 use std::alloc::Global;
@@ -318,6 +323,48 @@ fn sum_node(alloc: Global, place: Place, received: u64, log: Log) -> Result<Node
         up: true,
         restart: 0,
     })
+}
+
+// Whether this process stands at an end of a channel.
+fn is_at(port: Port, process: usize) -> bool
+    ensures { result ≡ is_process process port }
+{
+    match port {
+        Port::Outside => false,
+        Port::Process(number) => process == number,
+    }
+}
+
+// How many items a process took from a channel.
+fn count_taken(channels: &[Channel], process: usize, taken: &[usize], channel: u8) -> usize
+    ensures { result ≡ taken_from channels.now process taken.now channel }
+{
+    match channels.get(usize::from(channel)) {
+        Some(ends) if is_at(ends.consumer, process) => {
+            taken.get(usize::from(channel)).copied().unwrap_or(0)
+        }
+        _ => 0,
+    }
+}
+
+// The items that a process put on a channel.
+fn items_put<'a>(
+    channels: &[Channel],
+    process: usize,
+    sent: &'a [History],
+    channel: u8,
+) -> &'a [i64]
+    ensures { result.now ≡ put_on channels.now process sent.now channel }
+{
+    match channels.get(usize::from(channel)) {
+        Some(ends) if is_at(ends.producer, process) => {
+            match sent.get(usize::from(channel)) {
+                Some(items) => items.as_slice(),
+                None => &[],
+            }
+        }
+        _ => &[],
+    }
 }
 
 fn received_at(end: &End) -> u64

@@ -5,7 +5,7 @@ mod reading;
 mod running;
 mod words;
 
-use crate::{Failure, Source, Stream, count_outputs, report};
+use kahn_program::{Failure, Source, Stream, count_outputs, report};
 use net_check::{Net, check};
 use net_text::parse;
 use std::alloc::Global;

@@ -1,6 +1,6 @@
 //! What readers' texts come to.
 
-use crate::{Failure, Source, read_inputs, read_net};
+use kahn_program::{Failure, Source, read_inputs, read_net};
 use net_check::Net;
 use std::alloc::Global;
 use std::io;

@@ -1,6 +1,6 @@
 //! The program behind its words.
 
-use crate::run;
+use kahn_program::run;
 use std::io;
 use std::io::{Read, Write};
 use std::test::Fail;
