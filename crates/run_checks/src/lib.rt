@@ -6,3 +6,5 @@
 mod node_tests;
 #[cfg(test)]
 mod program_tests;
+#[cfg(test)]
+mod world_tests;
