@@ -13,11 +13,11 @@ ghost use Rattle.world.specs.Pairs.{Every};
 
 use crate::world_tests::weak_cell::WeakCell;
 use crate::world_tests::weak_outlet::WeakOutlet;
-use net_check::{History, Inputs, Net, bind, check};
+use net_check::{Inputs, Net, bind, check};
 use net_text::{parse, parse_inputs};
 use node::{CellFault, Image, MemCell, Record, StableCell};
 use outlet::{ListOutlet, Outlet};
-use proc_step::{Done, Job};
+use proc_step::Done;
 use std::alloc::Global;
 use std::process::Abort;
 use std::sync::Arc;
@@ -187,6 +187,14 @@ impl<C: StableCell, O: Outlet> Run<C, O> {
                 self.done = Some(job.run(alloc)?);
                 Ok(Answer::Granted)
             }
+            Ok(reply) => Ok(answer_of(&reply)),
+            Err(_) => Err("no memory".into()),
+        }
+    }
+
+    // What came of a job comes back.
+    fn install(&mut self, alloc: Global, done: Done) -> Result<Answer, Fail> {
+        match self.world.apply(alloc, Event::Install(done)) {
             Ok(reply) => Ok(answer_of(&reply)),
             Err(_) => Err("no memory".into()),
         }
@@ -364,24 +372,11 @@ fn events_of_another_node(rt: HostRuntime) -> Result<(), Fail> {
     Ok(())
 }
 
-// The same job once more.
-fn copy_of(alloc: Global, job: &Job) -> Result<Job, Fail> {
-    let mut items = Vec::new(alloc);
-    for history in &job.items {
-        items.push(history.copy(alloc)?)?;
-    }
-    Ok(Job {
-        net: Arc::try_clone(&job.net)?,
-        process: job.process,
-        version: job.version,
-        state: job.state.copy(alloc)?,
-        items,
-        room: Vec::from_slice(alloc, job.room.as_slice())?,
-    })
-}
-
-fn came_back(done: Option<Done>) -> Result<Done, Fail> {
-    match done {
+// What came of the job that is granted to the running sum on these items.
+fn done_on(alloc: Global, text: &str) -> Result<Done, Fail> {
+    let mut run = sum_run(alloc, text, empty_cell(alloc))?;
+    run.apply(alloc, Happens::Grant)?;
+    match run.done.take() {
         Some(done) => Ok(done),
         None => Err("nothing came back".into()),
     }
@@ -391,21 +386,21 @@ fn came_back(done: Option<Done>) -> Result<Done, Fail> {
 fn what_came_back_is_taken_in_once(rt: HostRuntime) -> Result<(), Fail> {
     let alloc = rt.alloc();
     let mut run = sum_run(alloc, ITEMS, empty_cell(alloc))?;
-    let mut other = sum_run(alloc, "i: 1 2 4", empty_cell(alloc))?;
-    assert_eq!(rt; run.apply(alloc, Happens::Grant)?, Answer::Granted);
-    assert_eq!(rt; other.apply(alloc, Happens::Grant)?, Answer::Granted);
-    let done = came_back(run.done.take())?;
-    let stale = copy_of(alloc, &done.job)?.run(alloc)?;
-    let later = copy_of(alloc, &done.job)?.run(alloc)?;
-    let foreign = came_back(other.done.take())?;
-    for (done, answer) in [
-        (foreign, Answer::Discarded),
-        (done, Answer::Installed),
-        (stale, Answer::Discarded),
-    ] {
-        run.done = Some(done);
-        run.follow(&rt, alloc, &[(Happens::Install, answer, &[], false)])?;
-    }
+    run.apply(alloc, Happens::Grant)?;
+    // Of a job on other items.
+    let foreign = done_on(alloc, "i: 1 2 4")?;
+    assert_eq!(rt; run.install(alloc, foreign)?, Answer::Discarded);
+    run.follow(
+        &rt,
+        alloc,
+        &[
+            (Happens::Release, Answer::NotDue, &[], false),
+            (Happens::Install, Answer::Installed, &[], false),
+        ],
+    )?;
+    // The same once more.
+    let stale = done_on(alloc, ITEMS)?;
+    assert_eq!(rt; run.install(alloc, stale)?, Answer::Discarded);
     run.follow(
         &rt,
         alloc,
@@ -417,11 +412,12 @@ fn what_came_back_is_taken_in_once(rt: HostRuntime) -> Result<(), Fail> {
             (Happens::Release, leaves(3), &[1, 3, 6], true),
         ],
     )?;
-    run.done = Some(later);
+    let stale = done_on(alloc, ITEMS)?;
+    assert_eq!(rt; run.install(alloc, stale)?, Answer::Discarded);
     run.follow(
         &rt,
         alloc,
-        &[(Happens::Install, Answer::Discarded, &[1, 3, 6], true)],
+        &[(Happens::Release, Answer::NotDue, &[1, 3, 6], true)],
     )
 }
 
