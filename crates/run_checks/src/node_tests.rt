@@ -222,14 +222,18 @@ fn no_decision(alloc: Global) -> Result<Record, Fail> {
     Ok(other)
 }
 
+// Whether the sample that was put and got back is the same as this record.
+fn is_got_back(alloc: Global, other: Record) -> Result<bool, Fail> {
+    Ok(put_and_got_back(alloc)?.is_same(&other))
+}
+
 #[test]
 fn which_records_are_the_same(rt: HostRuntime) -> Result<(), Fail> {
     let alloc = rt.alloc();
-    let kept = put_and_got_back(alloc)?;
-    assert_eq!(rt; kept.is_same(&sample(alloc)?), true);
-    assert_eq!(rt; kept.is_same(&other_epoch(alloc)?), false);
-    assert_eq!(rt; kept.is_same(&other_ends(alloc)?), false);
-    assert_eq!(rt; kept.is_same(&no_decision(alloc)?), false);
+    assert_eq!(rt; is_got_back(alloc, sample(alloc)?)?, true);
+    assert_eq!(rt; is_got_back(alloc, other_epoch(alloc)?)?, false);
+    assert_eq!(rt; is_got_back(alloc, other_ends(alloc)?)?, false);
+    assert_eq!(rt; is_got_back(alloc, no_decision(alloc)?)?, false);
     Ok(())
 }
 
@@ -267,12 +271,17 @@ fn put_and_get<C: StableCell>(cell: &mut C, next: &Record) -> Result<Record, Cel
     cell.get()
 }
 
+// The epoch of a record that was put and got back.
+fn epoch_got_back(cell: &mut MemCell, next: Record) -> Result<u64, Fail> {
+    Ok(put_and_get(cell, &next)?.epoch)
+}
+
 #[test]
 fn a_cell_through_its_bound(rt: HostRuntime) -> Result<(), Fail> {
     let alloc = rt.alloc();
     let mut cell = MemCell::new(alloc, first_record(alloc));
-    assert_eq!(rt; put_and_get(&mut cell, &sample(alloc)?)?.epoch, 12);
-    assert_eq!(rt; put_and_get(&mut cell, &first_record(alloc))?.epoch, 0);
+    assert_eq!(rt; epoch_got_back(&mut cell, sample(alloc)?)?, 12);
+    assert_eq!(rt; epoch_got_back(&mut cell, first_record(alloc))?, 0);
     Ok(())
 }
 
