@@ -17,6 +17,3 @@ pub use reading::{read_inputs, read_net};
 pub use reporting::{Stream, count_outputs, report};
 pub use running::run;
 pub use words::{not_text, options};
-
-#[cfg(test)]
-mod tests;

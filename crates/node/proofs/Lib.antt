@@ -6,4 +6,3 @@ mod Keeping
 mod Sending
 mod Taking
 mod Choices
-mod Seen

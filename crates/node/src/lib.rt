@@ -29,6 +29,3 @@ pub use putting::Putting;
 pub use record::{Decision, End, Image, Record, SavedEnd, SavedProcess, Tentative};
 pub use starting::next_after;
 pub use state::{LAST_NUMBER, NodeState};
-
-#[cfg(test)]
-mod tests;
