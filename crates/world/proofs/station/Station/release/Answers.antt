@@ -105,7 +105,7 @@ pub returns-in_default-clause-step : goal.returns-in_default-clause-step
 returns-in_default-clause-step g c =
     let was = station_view c.args.self.now in
     let none : first_waiting was.node.kept c.args.round 0 was.outlets ≡ None =
-        sym (c.in_default.ensures.first ∙ ap (λ (l : List (Output g.row.O.Denot)). first_waiting was.node.kept c.args.round 0 (outlet_views g.O.Outlet.taken g.O.Outlet.failures l)) c.deref.ensures.value) in
+    sym (c.in_default.ensures.first ∙ ap (λ (l : List (Output g.row.O.Denot)). first_waiting was.node.kept c.args.round 0 (outlet_views g.O.Outlet.taken g.O.Outlet.failures l)) c.deref.ensures.value) in
     subst (λ (next : Option ℕ). IsRelease c.args.round next was reply.NotDue was) (sym (none_waits c.args.round was c.if-not-node.false none)) (refl, refl)
 
 pub returns-clause-step : goal.returns-clause-step
@@ -117,7 +117,7 @@ returns-clause-step g c =
     let j = c.in-Some.j in
     let within = subst (λ (l : List (Output g.row.O.Denot)). j < length l) c.deref.ensures.value c.in-Some.ensures.within in
     let first : first_waiting was.node.kept c.args.round 0 was.outlets ≡ Some j =
-        sym (c.in-Some.ensures.first ∙ ap (λ (l : List (Output g.row.O.Denot)). first_waiting was.node.kept c.args.round 0 (outlet_views taken failures l)) c.deref.ensures.value) in
+    sym (c.in-Some.ensures.first ∙ ap (λ (l : List (Output g.row.O.Denot)). first_waiting was.node.kept c.args.round 0 (outlet_views taken failures l)) c.deref.ensures.value) in
     let made = c.release_at.ensures in
     let now = c.release_at.new in
     release_step c.args.round j was (outlet_view taken failures x) (outlet_view taken failures now.output) (node_view now.node.state) (g.C.StableCell.failure_count now.node.cell) now.node.number _ c.release_at.result c.if-not-node.false first
