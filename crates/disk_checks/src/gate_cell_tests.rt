@@ -1,6 +1,8 @@
+use crate::asserting::{same, same_at};
 use gate_cell::{CellFault, GateCell, StableCell};
 use sector_disk::{ArmedFault, Disk, MemDisk, SECTOR_BYTES};
-use std::alloc::Global;
+use std::alloc::{AllocError, Global};
+use std::process::Abort;
 use std::test::Fail;
 
 type TestCell = GateCell<MemDisk>;
@@ -29,6 +31,15 @@ fn only_byte(cell: &mut TestCell) -> Result<u8, Fail> {
         [byte] => Ok(*byte),
         _ => Err("not one byte".into()),
     }
+}
+
+// Asserts what a put answers.
+fn puts(rt: &impl Abort, cell: &mut TestCell, value: &[u8], wanted: Result<(), CellFault>) {
+    same(rt, &cell.put(value), &wanted, "a put");
+}
+
+fn arm(cell: &mut TestCell, call: u64, fill: u8) -> Result<(), AllocError> {
+    cell.arm(ArmedFault { call, fill })
 }
 
 // What is found after a `put` that was stopped, a crash and an open.
@@ -72,7 +83,7 @@ fn a_put_stopped_at_each_device_call(rt: HostRuntime) -> Result<(), Fail> {
     ] {
         let cell = formatted(alloc, 5, b"A")?;
         let found = found_after_stop(alloc, cell, b"B", ArmedFault { call, fill })?;
-        assert_eq!(rt; found, wanted, "at call {call} with fill {fill}");
+        same_at(&rt, &found, &wanted, &(call, fill));
     }
     Ok(())
 }
@@ -99,9 +110,9 @@ fn the_put_after_it_stopped_at_each_device_call(rt: HostRuntime) -> Result<(), F
         (4, 255, b'B'),
     ] {
         let mut cell = formatted(alloc, 5, b"A")?;
-        assert_eq!(rt; cell.put(b"B"), Ok(()));
+        puts(&rt, &mut cell, b"B", Ok(()));
         let found = found_after_stop(alloc, cell, b"C", ArmedFault { call, fill })?;
-        assert_eq!(rt; found, wanted, "at call {call} with fill {fill}");
+        same_at(&rt, &found, &wanted, &(call, fill));
     }
     Ok(())
 }
@@ -131,37 +142,41 @@ fn sizes(rt: HostRuntime) -> Result<(), Fail> {
         (4101, 1_048_576, 1_048_577),
     ] {
         let mut cell = formatted(alloc, sectors, b"")?;
-        assert_eq!(rt;
-            put_of(alloc, &mut cell, more)?,
-            Err(CellFault::TooLarge),
-            "on {sectors}"
-        );
-        assert_eq!(rt; put_of(alloc, &mut cell, room)?, Ok(()), "on {sectors}");
-        assert_eq!(rt; lengths(alloc, cell)?, (room, room), "on {sectors}");
+        let refused = put_of(alloc, &mut cell, more)?;
+        same_at(&rt, &refused, &Err(CellFault::TooLarge), &sectors);
+        same_at(&rt, &put_of(alloc, &mut cell, room)?, &Ok(()), &sectors);
+        same_at(&rt, &lengths(alloc, cell)?, &(room, room), &sectors);
     }
     Ok(())
+}
+
+// The number of the refusal of a format.
+fn refusal_of_format(alloc: Global, disk: MemDisk, value: &[u8]) -> Result<u8, Fail> {
+    match GateCell::format(alloc, disk, value) {
+        Ok(_) => Err("formatted".into()),
+        Err(fault) => Ok(fault.number()),
+    }
+}
+
+// The refusal of an open, and the disk that it hands back.
+fn refusal_of_open(alloc: Global, disk: MemDisk) -> Result<(CellFault, MemDisk), Fail> {
+    match GateCell::open(alloc, disk) {
+        Ok(_) => Err("opened".into()),
+        Err(refusal) => Ok(refusal),
+    }
 }
 
 #[test]
 fn nothing_formatted_or_opened(rt: HostRuntime) -> Result<(), Fail> {
     let alloc = rt.alloc();
-    match GateCell::format(alloc, MemDisk::new(alloc, 3)?, &[7; 505]) {
-        Ok(_) => return Err("formatted".into()),
-        Err(fault) => assert_eq!(rt; fault.number(), 22),
-    }
+    let number = refusal_of_format(alloc, MemDisk::new(alloc, 3)?, &[7; 505])?;
+    same(&rt, &number, &22, "505 bytes on 3 sectors");
     for sectors in [0, 1, 2] {
-        let disk = MemDisk::new(alloc, sectors)?;
-        match GateCell::format(alloc, disk, b"") {
-            Ok(_) => return Err("formatted".into()),
-            Err(fault) => assert_eq!(rt; fault.number(), 22),
-        }
-        match GateCell::open(alloc, MemDisk::new(alloc, sectors)?) {
-            Ok(_) => return Err("opened".into()),
-            Err((fault, disk)) => {
-                assert_eq!(rt; fault.number(), 22);
-                assert_eq!(rt; disk.calls(), 0);
-            }
-        }
+        let number = refusal_of_format(alloc, MemDisk::new(alloc, sectors)?, b"")?;
+        same_at(&rt, &number, &22, &sectors);
+        let (fault, disk) = refusal_of_open(alloc, MemDisk::new(alloc, sectors)?)?;
+        same_at(&rt, &fault.number(), &22, &sectors);
+        same_at(&rt, &disk.calls(), &0, &sectors);
     }
     Ok(())
 }
@@ -182,8 +197,8 @@ fn value_under_gate(alloc: Global, gate_byte: u8) -> Result<u8, Fail> {
 #[test]
 fn the_gate_names_an_area_by_its_first_bit(rt: HostRuntime) -> Result<(), Fail> {
     let alloc = rt.alloc();
-    assert_eq!(rt; value_under_gate(alloc, 7)?, b'B');
-    assert_eq!(rt; value_under_gate(alloc, 254)?, b'A');
+    same(&rt, &value_under_gate(alloc, 7)?, &b'B', "under 7");
+    same(&rt, &value_under_gate(alloc, 254)?, &b'A', "under 254");
     Ok(())
 }
 
@@ -195,16 +210,20 @@ fn a_length_that_cannot_be(rt: HostRuntime) -> Result<(), Fail> {
     area[6] = 1;
     area[7] = 249;
     let mut disk = formatted(alloc, 3, b"A")?.close();
-    assert_eq!(rt; disk.write(1, &area), Ok(()));
-    match GateCell::open(alloc, disk) {
-        Ok(_) => Err("opened".into()),
-        Err((fault, mut disk)) => {
-            assert_eq!(rt; fault, CellFault::TooLarge);
-            area[7] = 248;
-            assert_eq!(rt; disk.write(1, &area), Ok(()));
-            assert_eq!(rt; opened(alloc, disk)?.get()?.len(), 504);
-            Ok(())
-        }
+    same(&rt, &disk.write(1, &area), &Ok(()), "505 written");
+    let (fault, mut disk) = refusal_of_open(alloc, disk)?;
+    same(&rt, &fault, &CellFault::TooLarge, "505 opened");
+    area[7] = 248;
+    same(&rt, &disk.write(1, &area), &Ok(()), "504 written");
+    same(&rt, &opened(alloc, disk)?.get()?.len(), &504, "504 opened");
+    Ok(())
+}
+
+// The number of the refusal of a get, or `None` where it gives a value.
+fn refusal_of_get(cell: &mut TestCell) -> Option<u8> {
+    match cell.get() {
+        Ok(_) => None,
+        Err(fault) => Some(fault.number()),
     }
 }
 
@@ -212,30 +231,32 @@ fn a_length_that_cannot_be(rt: HostRuntime) -> Result<(), Fail> {
 fn after_a_failure_it_has_to_be_opened(rt: HostRuntime) -> Result<(), Fail> {
     let alloc = rt.alloc();
     let mut cell = formatted(alloc, 3, b"A")?;
-    cell.arm(ArmedFault { call: 1, fill: 0 })?;
-    assert_eq!(rt; cell.get().map_err(|fault| fault.number()).err(), Some(20));
-    assert_eq!(rt; cell.get().map_err(|fault| fault.number()).err(), Some(23));
-    assert_eq!(rt; cell.put(b"B"), Err(CellFault::Reopen));
+    arm(&mut cell, 1, 0)?;
+    same(
+        &rt,
+        &refusal_of_get(&mut cell),
+        &Some(20),
+        "the failing get",
+    );
+    same(
+        &rt,
+        &refusal_of_get(&mut cell),
+        &Some(23),
+        "the get after it",
+    );
+    puts(&rt, &mut cell, b"B", Err(CellFault::Reopen));
     cell.recount();
-    cell.arm(ArmedFault { call: 3, fill: 0 })?;
-    // The open of a failing device hands it back.
-    match GateCell::open(alloc, cell.close()) {
-        Ok(_) => Err("opened".into()),
-        Err((fault, disk)) => {
-            // Two faults are armed: one at call 1, and it fails first.
-            assert_eq!(rt; fault.number(), 20);
-            assert_eq!(rt; disk.calls(), 1);
-            match GateCell::open(alloc, disk) {
-                Ok(_) => Err("opened".into()),
-                Err((fault, disk)) => {
-                    assert_eq!(rt; fault, CellFault::Device);
-                    assert_eq!(rt; disk.calls(), 3);
-                    assert_eq!(rt; only_byte(&mut opened(alloc, disk)?)?, b'A');
-                    Ok(())
-                }
-            }
-        }
-    }
+    arm(&mut cell, 3, 0)?;
+    // The open of a failing device hands it back. Two faults are armed: one at call 1, and it fails first.
+    let (fault, disk) = refusal_of_open(alloc, cell.close())?;
+    same(&rt, &fault.number(), &20, "the first open");
+    same(&rt, &disk.calls(), &1, "calls of the first open");
+    let (fault, disk) = refusal_of_open(alloc, disk)?;
+    same(&rt, &fault, &CellFault::Device, "the second open");
+    same(&rt, &disk.calls(), &3, "calls of both opens");
+    let found = only_byte(&mut opened(alloc, disk)?)?;
+    same(&rt, &found, &b'A', "the third open");
+    Ok(())
 }
 
 fn sends<T: Send>(_: &T) {}
@@ -245,12 +266,12 @@ fn device_calls(rt: HostRuntime) -> Result<(), Fail> {
     let alloc = rt.alloc();
     let mut cell = formatted(alloc, 3, b"A")?;
     sends(&cell);
-    cell.put(b"B")?;
+    puts(&rt, &mut cell, b"B", Ok(()));
     let disk = cell.close();
-    assert_eq!(rt; disk.calls(), 4);
+    same(&rt, &disk.calls(), &4, "calls of the put");
     let mut cell = opened(alloc, disk)?;
-    assert_eq!(rt; only_byte(&mut cell)?, b'B');
-    assert_eq!(rt; cell.close().calls(), 8);
-    assert_eq!(rt; CellFault::NoMemory.number(), 1);
+    same(&rt, &only_byte(&mut cell)?, &b'B', "the value");
+    same(&rt, &cell.close().calls(), &8, "calls in all");
+    same(&rt, &CellFault::NoMemory.number(), &1, "number of NoMemory");
     Ok(())
 }

@@ -3,6 +3,8 @@
 #![tactic(auto)]
 
 #[cfg(test)]
+mod asserting;
+#[cfg(test)]
 mod gate_cell_tests;
 #[cfg(test)]
 mod outlet_tests;

@@ -1,5 +1,11 @@
+use crate::asserting::{same, same_at};
 use sector_disk::{ArmedFault, Disk, DiskFault, MemDisk, SECTOR_BYTES};
+use std::alloc::AllocError;
+use std::process::Abort;
 use std::test::Fail;
+
+/// What a device call answers.
+type Answer = Result<(), DiskFault>;
 
 fn sends<T: Send>(_: &T) {}
 
@@ -20,67 +26,90 @@ fn sector_byte(disk: &mut MemDisk, sector: usize) -> Result<u8, Fail> {
 fn a_new_disk(rt: HostRuntime) -> Result<(), Fail> {
     let mut disk = MemDisk::new(rt.alloc(), 2)?;
     sends(&disk);
-    assert_eq!(rt; disk.sectors(), 2);
-    assert_eq!(rt; disk.calls(), 0);
-    assert_eq!(rt; disk.failures(), 0);
-    assert_eq!(rt; sector_byte(&mut disk, 1)?, 0);
+    same(&rt, &disk.sectors(), &2, "sectors");
+    same(&rt, &disk.calls(), &0, "calls");
+    same(&rt, &disk.failures(), &0, "failures");
+    same(&rt, &sector_byte(&mut disk, 1)?, &0, "in sector 1");
     Ok(())
+}
+
+// Asserts what a read of so many sectors answers.
+fn reads(rt: &impl Abort, disk: &mut MemDisk, first: usize, into: &mut [u8], wanted: Answer) {
+    same_at(rt, &disk.read(first, into), &wanted, &first);
+}
+
+// Asserts what a write answers.
+fn writes(rt: &impl Abort, disk: &mut MemDisk, first: usize, bytes: &[u8], wanted: Answer) {
+    same_at(rt, &disk.write(first, bytes), &wanted, &first);
+}
+
+// Asserts what a sync answers.
+fn syncs(rt: &impl Abort, disk: &mut MemDisk, wanted: Answer) {
+    same(rt, &disk.sync(), &wanted, "a sync");
+}
+
+fn arm(disk: &mut MemDisk, call: u64, fill: u8) -> Result<(), AllocError> {
+    disk.arm(ArmedFault { call, fill })
+}
+
+fn crash(disk: &mut MemDisk, fill: Option<u8>) {
+    disk.crash(fill);
 }
 
 #[test]
 fn refusals_and_their_numbers(rt: HostRuntime) -> Result<(), Fail> {
     let mut disk = MemDisk::new(rt.alloc(), 2)?;
     let mut bytes = [0; 1024];
-    assert_eq!(rt; disk.read(1, &mut bytes), Err(DiskFault::Range));
-    assert_eq!(rt; disk.write(3, &[]), Err(DiskFault::Range));
-    assert_eq!(rt; disk.write(0, &[0; 511]), Err(DiskFault::Range));
-    assert_eq!(rt; disk.calls(), 0);
-    assert_eq!(rt; disk.write(2, &[]), Ok(()));
-    assert_eq!(rt; disk.calls(), 1);
-    disk.arm(ArmedFault { call: 2, fill: 0 })?;
-    assert_eq!(rt; disk.read(3, &mut []), Err(DiskFault::Range));
-    assert_eq!(rt; disk.read(2, &mut []), Err(DiskFault::Device));
-    assert_eq!(rt; disk.read(2, &mut []), Ok(()));
-    assert_eq!(rt; disk.calls(), 3);
-    assert_eq!(rt; disk.failures(), 1);
-    assert_eq!(rt; DiskFault::Device.number(), 20);
-    assert_eq!(rt; DiskFault::Range.number(), 21);
+    reads(&rt, &mut disk, 1, &mut bytes, Err(DiskFault::Range));
+    writes(&rt, &mut disk, 3, &[], Err(DiskFault::Range));
+    writes(&rt, &mut disk, 0, &[0; 511], Err(DiskFault::Range));
+    same(&rt, &disk.calls(), &0, "calls of refusals");
+    writes(&rt, &mut disk, 2, &[], Ok(()));
+    same(&rt, &disk.calls(), &1, "calls after a write");
+    arm(&mut disk, 2, 0)?;
+    reads(&rt, &mut disk, 3, &mut [], Err(DiskFault::Range));
+    reads(&rt, &mut disk, 2, &mut [], Err(DiskFault::Device));
+    reads(&rt, &mut disk, 2, &mut [], Ok(()));
+    same(&rt, &disk.calls(), &3, "calls at last");
+    same(&rt, &disk.failures(), &1, "failures");
+    same(&rt, &DiskFault::Device.number(), &20, "number of Device");
+    same(&rt, &DiskFault::Range.number(), &21, "number of Range");
     Ok(())
 }
 
 #[test]
 fn a_crash_fills_what_is_in_doubt(rt: HostRuntime) -> Result<(), Fail> {
     let mut disk = MemDisk::new(rt.alloc(), 4)?;
-    assert_eq!(rt; disk.write(0, &[7; 2048]), Ok(()));
-    assert_eq!(rt; disk.sync(), Ok(()));
+    writes(&rt, &mut disk, 0, &[7; 2048], Ok(()));
+    syncs(&rt, &mut disk, Ok(()));
     // Sectors 0 and 3 are in doubt, and those between them aren't.
-    assert_eq!(rt; disk.write(0, &[8; 512]), Ok(()));
-    disk.arm(ArmedFault { call: 4, fill: 9 })?;
-    disk.arm(ArmedFault { call: 4, fill: 1 })?;
-    assert_eq!(rt; disk.write(3, &[8; 512]), Err(DiskFault::Device));
-    disk.crash(None);
+    writes(&rt, &mut disk, 0, &[8; 512], Ok(()));
+    arm(&mut disk, 4, 9)?;
+    arm(&mut disk, 4, 1)?;
+    writes(&rt, &mut disk, 3, &[8; 512], Err(DiskFault::Device));
+    crash(&mut disk, None);
     for (sector, byte) in [(0, 9), (1, 7), (2, 7), (3, 9)] {
-        assert_eq!(rt; sector_byte(&mut disk, sector)?, byte, "in sector {sector}");
+        same_at(&rt, &sector_byte(&mut disk, sector)?, &byte, &sector);
     }
-    assert_eq!(rt; disk.write(2, &[5; 512]), Ok(()));
-    disk.crash(None);
-    assert_eq!(rt; sector_byte(&mut disk, 2)?, 0);
-    assert_eq!(rt; disk.write(2, &[5; 512]), Ok(()));
-    disk.crash(Some(255));
-    assert_eq!(rt; sector_byte(&mut disk, 2)?, 255);
-    assert_eq!(rt; disk.failures(), 1);
+    writes(&rt, &mut disk, 2, &[5; 512], Ok(()));
+    crash(&mut disk, None);
+    same(&rt, &sector_byte(&mut disk, 2)?, &0, "no fill");
+    writes(&rt, &mut disk, 2, &[5; 512], Ok(()));
+    crash(&mut disk, Some(255));
+    same(&rt, &sector_byte(&mut disk, 2)?, &255, "a fill");
+    same(&rt, &disk.failures(), &1, "failures");
     Ok(())
 }
 
 #[test]
 fn a_recount_keeps_what_is_armed(rt: HostRuntime) -> Result<(), Fail> {
     let mut disk = MemDisk::new(rt.alloc(), 1)?;
-    disk.arm(ArmedFault { call: 2, fill: 0 })?;
-    assert_eq!(rt; disk.sync(), Ok(()));
+    arm(&mut disk, 2, 0)?;
+    syncs(&rt, &mut disk, Ok(()));
     disk.recount();
-    assert_eq!(rt; disk.calls(), 0);
-    assert_eq!(rt; disk.sync(), Ok(()));
-    assert_eq!(rt; disk.sync(), Err(DiskFault::Device));
-    assert_eq!(rt; disk.sync(), Ok(()));
+    same(&rt, &disk.calls(), &0, "calls");
+    syncs(&rt, &mut disk, Ok(()));
+    syncs(&rt, &mut disk, Err(DiskFault::Device));
+    syncs(&rt, &mut disk, Ok(()));
     Ok(())
 }

@@ -3,6 +3,8 @@
 #![tactic(auto)]
 
 #[cfg(test)]
+mod asserting;
+#[cfg(test)]
 mod net_check_tests;
 #[cfg(test)]
 mod net_text_tests;

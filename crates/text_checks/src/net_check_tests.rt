@@ -1,18 +1,20 @@
 //! Texts and lines with the answers that the rules give them: which of several faults counts, its line, and the numbers of a
 //! network. A text is a table of its parts, each with its line.
 
+use crate::asserting::{same, same_at, same_items};
 use net_check::{
-    Channel, Expr, Net, NetFault, Port, Statement, bind, check, fits, is_same_process,
+    Channel, Expr, History, Net, NetFault, Port, Statement, bind, check, fits, is_same_process,
 };
 use net_text::{
     ChannelText, Declaration, ExprText, InputLine, LinkText, LoopText, Name, NetText, NodeText,
     Operator, ProcessText, RawInputs, Role, StatementText, VariableText, parse,
 };
 use std::alloc::{AllocError, Global};
+use std::process::Abort;
 use std::test::Fail;
 
 /// A part of a text.
-#[derive(Clone, Copy, Debug)]
+#[derive(Clone, Copy)]
 enum Part {
     Input(&'static str),
     Inner(&'static str),
@@ -89,6 +91,41 @@ fn sum_at(alloc: Global, a: &str, b: &str, line: usize) -> Result<ExprText, Allo
     Ok(ExprText::Chain { first, links })
 }
 
+fn get_at(
+    alloc: Global,
+    variable: &str,
+    channel: &str,
+    line: usize,
+) -> Result<StatementText, AllocError> {
+    let variable = name_at(alloc, variable, line)?;
+    let channel = name_at(alloc, channel, line)?;
+    Ok(StatementText::Get { variable, channel })
+}
+
+fn assign_at(
+    alloc: Global,
+    variable: &str,
+    a: &str,
+    b: &str,
+    line: usize,
+) -> Result<StatementText, AllocError> {
+    let variable = name_at(alloc, variable, line)?;
+    let value = sum_at(alloc, a, b, line)?;
+    Ok(StatementText::Assign { variable, value })
+}
+
+fn put_at(
+    alloc: Global,
+    variable: &str,
+    line: usize,
+    channel: &str,
+    channel_line: usize,
+) -> Result<StatementText, AllocError> {
+    let value = ExprText::Variable(name_at(alloc, variable, line)?);
+    let channel = name_at(alloc, channel, channel_line)?;
+    Ok(StatementText::Put { value, channel })
+}
+
 impl Builder {
     fn new(alloc: Global) -> Self {
         Builder {
@@ -158,20 +195,10 @@ impl Builder {
                 self.add_loop(line);
                 Ok(())
             }
-            Get(variable, channel) => {
-                let variable = name_at(alloc, variable, line)?;
-                let channel = name_at(alloc, channel, line)?;
-                self.add_statement(StatementText::Get { variable, channel })
-            }
-            Sum(variable, a, b) => {
-                let variable = name_at(alloc, variable, line)?;
-                let value = sum_at(alloc, a, b, line)?;
-                self.add_statement(StatementText::Assign { variable, value })
-            }
+            Get(variable, channel) => self.add_statement(get_at(alloc, variable, channel, line)?),
+            Sum(variable, a, b) => self.add_statement(assign_at(alloc, variable, a, b, line)?),
             Put(variable, channel, channel_line) => {
-                let value = ExprText::Variable(name_at(alloc, variable, line)?);
-                let channel = name_at(alloc, channel, channel_line)?;
-                self.add_statement(StatementText::Put { value, channel })
+                self.add_statement(put_at(alloc, variable, line, channel, channel_line)?)
             }
         }
     }
@@ -208,40 +235,62 @@ fn outcome_of(alloc: Global, parts: &[(usize, Part)]) -> Result<(u8, Option<usiz
     Ok(outcome(alloc, builder.finish()?))
 }
 
+/// Asserts the number and line of the refusal of these parts, or that there is none.
+fn refused(
+    rt: &impl Abort,
+    alloc: Global,
+    parts: &[(usize, Part)],
+    wanted: (u8, Option<usize>),
+    what: &str,
+) {
+    same(rt, &outcome_of(alloc, parts), &Ok(wanted), what);
+}
+
 /// `input i; output o; process sum on 0 { var a; var v; loop { v = get i; a = a + v; put a to o; } }`
-const SUM: [(usize, Part); 9] = [
-    (1, Input("i")),
-    (1, Output("o")),
-    (1, Process("sum", 0)),
-    (1, Variable("a")),
-    (1, Variable("v")),
-    (1, Loop),
-    (1, Get("v", "i")),
-    (1, Sum("a", "a", "v")),
-    (1, Put("a", "o", 1)),
-];
+fn running_sum(alloc: Global) -> Result<NetText, AllocError> {
+    let mut builder = Builder::new(alloc);
+    builder.add_all(&[
+        (1, Input("i")),
+        (1, Output("o")),
+        (1, Process("sum", 0)),
+        (1, Variable("a")),
+        (1, Variable("v")),
+        (1, Loop),
+        (1, Get("v", "i")),
+        (1, Sum("a", "a", "v")),
+        (1, Put("a", "o", 1)),
+    ])?;
+    builder.finish()
+}
+
+/// The network of the running sum.
+fn sum_net(alloc: Global) -> Result<Net, Fail> {
+    Ok(check(alloc, running_sum(alloc)?)?)
+}
 
 #[test]
-fn refuses_declarations(rt: HostRuntime) -> Result<(), Fail> {
+fn refuses_declarations(rt: HostRuntime) {
     let alloc = rt.alloc();
-    // Two channels of one name, of whatever roles; two processes; two variables of one process.
+    // Of whatever roles.
     let channels = [(2, Input("a")), (3, Output("a"))];
-    assert_eq!(rt; outcome_of(alloc, &channels)?, (10, Some(3)));
+    refused(&rt, alloc, &channels, (10, Some(3)), "two channels");
     let processes = [(2, Process("p", 0)), (3, Process("p", 0))];
-    assert_eq!(rt; outcome_of(alloc, &processes)?, (10, Some(3)));
+    refused(&rt, alloc, &processes, (10, Some(3)), "two processes");
     let variables = [(2, Process("p", 0)), (3, Variable("v")), (4, Variable("v"))];
-    assert_eq!(rt; outcome_of(alloc, &variables)?, (10, Some(4)));
+    refused(&rt, alloc, &variables, (10, Some(4)), "two variables");
     // Only node 0, for now.
     for node in [1, 15, 16] {
-        assert_eq!(rt;
-            outcome_of(alloc, &[(2, Process("p", node))])?,
-            (15, Some(2)),
-            "{node}"
-        );
+        let found = outcome_of(alloc, &[(2, Process("p", node))]);
+        same_at(&rt, &found, &Ok((15, Some(2))), &node);
     }
-    // The name of a process before its node.
     let both = [(2, Process("p", 0)), (3, Process("p", 1))];
-    assert_eq!(rt; outcome_of(alloc, &both)?, (10, Some(3)));
+    refused(
+        &rt,
+        alloc,
+        &both,
+        (10, Some(3)),
+        "a process's name before its node",
+    );
     // A declaration in order of the text, and all of them before the uses.
     let order = [
         (2, Process("p", 0)),
@@ -250,25 +299,32 @@ fn refuses_declarations(rt: HostRuntime) -> Result<(), Fail> {
         (5, Output("a")),
         (6, Process("q", 16)),
     ];
-    assert_eq!(rt; outcome_of(alloc, &order)?, (10, Some(5)));
-    Ok(())
+    refused(&rt, alloc, &order, (10, Some(5)), "declarations in order");
 }
 
-#[test]
-fn refuses_uses(rt: HostRuntime) -> Result<(), Fail> {
-    let alloc = rt.alloc();
+/// Asserts the refusals of names that aren't declared.
+fn refuses_unknown_names(rt: &impl Abort, alloc: Global) {
     let variable = [(2, Input("i")), (3, Process("p", 0)), (4, Get("v", "i"))];
-    assert_eq!(rt; outcome_of(alloc, &variable)?, (11, Some(4)));
-    // A put's expression before its channel.
+    refused(rt, alloc, &variable, (11, Some(4)), "an unknown variable");
     let both = [(2, Process("p", 0)), (3, Put("u", "w", 4))];
-    assert_eq!(rt; outcome_of(alloc, &both)?, (11, Some(3)));
+    refused(
+        rt,
+        alloc,
+        &both,
+        (11, Some(3)),
+        "a put's expression before its channel",
+    );
     let channel = [
         (2, Process("p", 0)),
         (3, Variable("v")),
         (4, Put("v", "w", 5)),
     ];
-    assert_eq!(rt; outcome_of(alloc, &channel)?, (11, Some(5)));
-    // A put on an input, before an unknown name on the next line.
+    refused(rt, alloc, &channel, (11, Some(5)), "an unknown channel");
+}
+
+/// Asserts the refusals of puts.
+fn refuses_producers(rt: &impl Abort, alloc: Global) {
+    // Before an unknown name on the next line.
     let on_input = [
         (2, Input("i")),
         (3, Process("p", 0)),
@@ -276,7 +332,7 @@ fn refuses_uses(rt: HostRuntime) -> Result<(), Fail> {
         (5, Put("v", "i", 5)),
         (6, Put("u", "i", 6)),
     ];
-    assert_eq!(rt; outcome_of(alloc, &on_input)?, (12, Some(5)));
+    refused(rt, alloc, &on_input, (12, Some(5)), "a put on an input");
     let two_puts = [
         (2, Output("o")),
         (3, Process("p", 0)),
@@ -287,14 +343,24 @@ fn refuses_uses(rt: HostRuntime) -> Result<(), Fail> {
         (8, Variable("v")),
         (9, Put("v", "o", 9)),
     ];
-    assert_eq!(rt; outcome_of(alloc, &two_puts)?, (12, Some(9)));
+    refused(rt, alloc, &two_puts, (12, Some(9)), "two producers");
+}
+
+/// Asserts the refusals of gets.
+fn refuses_consumers(rt: &impl Abort, alloc: Global) {
     let from_output = [
         (2, Output("o")),
         (3, Process("p", 0)),
         (4, Variable("v")),
         (5, Get("v", "o")),
     ];
-    assert_eq!(rt; outcome_of(alloc, &from_output)?, (13, Some(5)));
+    refused(
+        rt,
+        alloc,
+        &from_output,
+        (13, Some(5)),
+        "a get from an output",
+    );
     let two_gets = [
         (2, Input("i")),
         (3, Process("p", 0)),
@@ -304,12 +370,19 @@ fn refuses_uses(rt: HostRuntime) -> Result<(), Fail> {
         (7, Variable("v")),
         (8, Get("v", "i")),
     ];
-    assert_eq!(rt; outcome_of(alloc, &two_gets)?, (13, Some(8)));
-    Ok(())
+    refused(rt, alloc, &two_gets, (13, Some(8)), "two consumers");
 }
 
 #[test]
-fn refuses_loops_and_ends(rt: HostRuntime) -> Result<(), Fail> {
+fn refuses_uses(rt: HostRuntime) {
+    let alloc = rt.alloc();
+    refuses_unknown_names(&rt, alloc);
+    refuses_producers(&rt, alloc);
+    refuses_consumers(&rt, alloc);
+}
+
+#[test]
+fn refuses_loops_and_ends(rt: HostRuntime) {
     let alloc = rt.alloc();
     // `loop { put a to o; }`, with the word `loop` on line 4, before the input that nobody gets from.
     let no_get = [
@@ -320,7 +393,7 @@ fn refuses_loops_and_ends(rt: HostRuntime) -> Result<(), Fail> {
         (4, Loop),
         (4, Put("a", "o", 4)),
     ];
-    assert_eq!(rt; outcome_of(alloc, &no_get)?, (14, Some(4)));
+    refused(&rt, alloc, &no_get, (14, Some(4)), "a loop without a get");
     // A get before the loop is none of its body.
     let before = [
         (2, Input("i")),
@@ -329,19 +402,19 @@ fn refuses_loops_and_ends(rt: HostRuntime) -> Result<(), Fail> {
         (3, Get("a", "i")),
         (5, Loop),
     ];
-    assert_eq!(rt; outcome_of(alloc, &before)?, (14, Some(5)));
+    refused(&rt, alloc, &before, (14, Some(5)), "a get before the loop");
     // Both tests for each channel, then the next channel.
     let neither = [(2, Inner("c")), (3, Input("i"))];
-    assert_eq!(rt; outcome_of(alloc, &neither)?, (16, Some(2)));
+    refused(&rt, alloc, &neither, (16, Some(2)), "no producer");
     let in_order = [(2, Input("i")), (3, Output("o"))];
-    assert_eq!(rt; outcome_of(alloc, &in_order)?, (17, Some(2)));
+    refused(&rt, alloc, &in_order, (17, Some(2)), "channels in order");
     let no_consumer = [
         (2, Inner("c")),
         (3, Process("p", 0)),
         (4, Variable("v")),
         (5, Put("v", "c", 5)),
     ];
-    assert_eq!(rt; outcome_of(alloc, &no_consumer)?, (17, Some(2)));
+    refused(&rt, alloc, &no_consumer, (17, Some(2)), "no consumer");
     // A channel may run from a process to itself, and be declared after its use.
     let own = [
         (2, Process("p", 0)),
@@ -351,16 +424,21 @@ fn refuses_loops_and_ends(rt: HostRuntime) -> Result<(), Fail> {
         (6, Get("v", "c")),
         (7, Inner("c")),
     ];
-    assert_eq!(rt; outcome_of(alloc, &own)?, (0, None));
-    assert_eq!(rt; outcome_of(alloc, &SUM)?, (0, None));
-    Ok(())
+    refused(&rt, alloc, &own, (0, None), "a process and itself");
+    let sum = running_sum(alloc).map(|text| outcome(alloc, text));
+    same(&rt, &sum, &Ok((0, None)), "the running sum");
+}
+
+/// A name of a letter and a number.
+fn numbered(alloc: Global, letter: &str, number: usize) -> Result<String, AllocError> {
+    format!(in alloc; "{letter}{number}")
 }
 
 /// So many channels of different names, and one more.
 fn with_channels(alloc: Global, count: usize, last: &str) -> Result<NetText, AllocError> {
     let mut builder = Builder::new(alloc);
     for i in 0..count {
-        let text = format!(in alloc; "c{i}")?;
+        let text = numbered(alloc, "c", i)?;
         builder.add_channel(Role::Inner, text.as_str(), 2)?;
     }
     builder.add_channel(Role::Inner, last, 3)?;
@@ -370,7 +448,7 @@ fn with_channels(alloc: Global, count: usize, last: &str) -> Result<NetText, All
 fn with_processes(alloc: Global, count: usize) -> Result<NetText, AllocError> {
     let mut builder = Builder::new(alloc);
     for i in 0..count {
-        let text = format!(in alloc; "p{i}")?;
+        let text = numbered(alloc, "p", i)?;
         builder.add_process(text.as_str(), 0, 2)?;
     }
     builder.add_process("last", 0, 3)?;
@@ -381,7 +459,7 @@ fn with_variables(alloc: Global, count: usize) -> Result<NetText, AllocError> {
     let mut builder = Builder::new(alloc);
     builder.add_process("p", 0, 1)?;
     for i in 0..count {
-        let text = format!(in alloc; "v{i}")?;
+        let text = numbered(alloc, "v", i)?;
         builder.add_variable(text.as_str(), 2)?;
     }
     builder.add_variable("last", 3)?;
@@ -402,38 +480,92 @@ fn with_units(alloc: Global, sums: usize, gets: usize) -> Result<NetText, AllocE
     builder.finish()
 }
 
+/// Asserts the number and line of the refusal of a text, or that there is none.
+fn answers(
+    rt: &impl Abort,
+    alloc: Global,
+    text: Result<NetText, AllocError>,
+    wanted: (u8, Option<usize>),
+    what: &str,
+) {
+    match text {
+        Ok(text) => same(rt, &outcome(alloc, text), &wanted, what),
+        Err(_) => assert!(rt; false, "memory for {what}"),
+    }
+}
+
 #[test]
-fn refuses_past_limits(rt: HostRuntime) -> Result<(), Fail> {
+fn refuses_past_limits(rt: HostRuntime) {
     let alloc = rt.alloc();
-    assert_eq!(rt;
-        outcome(alloc, with_channels(alloc, 255, "last")?),
-        (16, Some(2))
+    let most = with_channels(alloc, 255, "last");
+    answers(&rt, alloc, most, (16, Some(2)), "256 channels");
+    let more = with_channels(alloc, 256, "last");
+    answers(&rt, alloc, more, (15, Some(3)), "257 channels");
+    let both = with_channels(alloc, 256, "c0");
+    answers(
+        &rt,
+        alloc,
+        both,
+        (10, Some(3)),
+        "a second use and one too many",
     );
-    assert_eq!(rt;
-        outcome(alloc, with_channels(alloc, 256, "last")?),
-        (15, Some(3))
-    );
-    // Both a second use and one too many.
-    assert_eq!(rt;
-        outcome(alloc, with_channels(alloc, 256, "c0")?),
-        (10, Some(3))
-    );
-    assert_eq!(rt; outcome(alloc, with_processes(alloc, 63)?), (0, None));
-    assert_eq!(rt; outcome(alloc, with_processes(alloc, 64)?), (15, Some(3)));
-    assert_eq!(rt; outcome(alloc, with_variables(alloc, 63)?), (0, None));
-    assert_eq!(rt; outcome(alloc, with_variables(alloc, 64)?), (15, Some(3)));
+    let most = with_processes(alloc, 63);
+    answers(&rt, alloc, most, (0, None), "64 processes");
+    let more = with_processes(alloc, 64);
+    answers(&rt, alloc, more, (15, Some(3)), "65 processes");
+    let most = with_variables(alloc, 63);
+    answers(&rt, alloc, most, (0, None), "64 variables");
+    let more = with_variables(alloc, 64);
+    answers(&rt, alloc, more, (15, Some(3)), "65 variables");
     // 4,096 units are allowed, and then the loop without a get counts; with one unit more, 15 comes first.
-    assert_eq!(rt; outcome(alloc, with_units(alloc, 1023, 4)?), (14, Some(5)));
-    assert_eq!(rt; outcome(alloc, with_units(alloc, 1023, 5)?), (15, Some(2)));
+    let most = with_units(alloc, 1023, 4);
+    answers(&rt, alloc, most, (14, Some(5)), "4,096 units");
+    let more = with_units(alloc, 1023, 5);
+    answers(&rt, alloc, more, (15, Some(2)), "4,097 units");
+}
+
+/// The text of a name, empty where there is no such name.
+fn name_of(names: &[Name], place: usize) -> &str {
+    match names.get(place) {
+        Some(name) => name.as_str(),
+        None => "",
+    }
+}
+
+/// Whether these are a get from 0 into 1, an assignment of a chain to 0 and a put of 0 on 1.
+fn is_sum_body(body: &[Statement]) -> bool {
+    matches!(
+        body,
+        [
+            Statement::Get {
+                variable: 1,
+                channel: 0
+            },
+            Statement::Assign {
+                variable: 0,
+                value: Expr::Chain { .. }
+            },
+            Statement::Put {
+                value: Expr::Variable(0),
+                channel: 1
+            },
+        ]
+    )
+}
+
+/// Asserts that this is the process of the running sum.
+fn is_sum_process(rt: &impl Abort, process: &net_check::Process) -> Result<(), Fail> {
+    same(rt, &process.node, &0, "node");
+    same_items(rt, &process.variables, &[0, 0], "variables");
+    same(rt, &process.prelude.is_empty(), &true, "an empty prelude");
+    let body = process.body.as_ref().ok_or("a loop")?;
+    same(rt, &is_sum_body(body), &true, "body");
     Ok(())
 }
 
 #[test]
 fn numbers_channels_and_variables(rt: HostRuntime) -> Result<(), Fail> {
-    let alloc = rt.alloc();
-    let mut builder = Builder::new(alloc);
-    builder.add_all(&SUM)?;
-    let net = check(alloc, builder.finish()?)?;
+    let net = sum_net(rt.alloc())?;
     let i = Channel {
         producer: Port::Outside,
         consumer: Port::Process(0),
@@ -442,46 +574,26 @@ fn numbers_channels_and_variables(rt: HostRuntime) -> Result<(), Fail> {
         producer: Port::Process(0),
         consumer: Port::Outside,
     };
-    assert_eq!(rt; net.program.channels.as_slice(), [i, o].as_slice());
-    assert_eq!(rt; net.channel_names.len(), 2);
-    assert_eq!(rt; net.channel_names[1].as_str(), "o");
-    assert_eq!(rt; net.process_names.len(), 1);
-    assert_eq!(rt; net.process_names[0].as_str(), "sum");
-    assert_eq!(rt; net.program.processes.len(), 1);
-    let process = &net.program.processes[0];
-    assert_eq!(rt; process.node, 0);
-    assert_eq!(rt; process.variables.as_slice(), [0, 0].as_slice());
-    assert!(rt; process.prelude.is_empty());
-    let body = process.body.as_ref().ok_or("a loop")?;
-    assert_eq!(rt; body.len(), 3);
-    assert!(rt;
-        matches!(
-            &body[0],
-            Statement::Get {
-                variable: 1,
-                channel: 0
-            }
-        )
+    let channels = net.program.channels.as_slice();
+    same(&rt, &channels, &[i, o].as_slice(), "channels");
+    same(&rt, &net.channel_names.len(), &2, "names of channels");
+    same(
+        &rt,
+        &name_of(&net.channel_names, 1),
+        &"o",
+        "name of the output",
     );
-    assert!(rt;
-        matches!(
-            &body[1],
-            Statement::Assign {
-                variable: 0,
-                value: Expr::Chain { .. }
-            }
-        )
+    same(&rt, &net.process_names.len(), &1, "names of processes");
+    same(
+        &rt,
+        &name_of(&net.process_names, 0),
+        &"sum",
+        "name of the process",
     );
-    assert!(rt;
-        matches!(
-            &body[2],
-            Statement::Put {
-                value: Expr::Variable(0),
-                channel: 1
-            }
-        )
-    );
-    Ok(())
+    match net.program.processes.as_slice() {
+        [process] => is_sum_process(&rt, process),
+        _ => Err("one process".into()),
+    }
 }
 
 // A text whose process begins with a sum of so many ones.
@@ -506,9 +618,20 @@ fn outcome_of_sum(alloc: Global, terms: usize) -> Result<(u8, Option<usize>), Fa
 #[test]
 fn answers_long_sums(rt: HostRuntime) -> Result<(), Fail> {
     let alloc = rt.alloc();
-    assert_eq!(rt; outcome_of_sum(alloc, 2_046)?, (0, None));
-    assert_eq!(rt; outcome_of_sum(alloc, 2_047)?, (15, Some(1)));
-    assert_eq!(rt; outcome_of_sum(alloc, 200_000)?, (15, Some(1)));
+    same(
+        &rt,
+        &outcome_of_sum(alloc, 2_046)?,
+        &(0, None),
+        "2,046 terms",
+    );
+    let refusal = (15, Some(1));
+    same(&rt, &outcome_of_sum(alloc, 2_047)?, &refusal, "2,047 terms");
+    same(
+        &rt,
+        &outcome_of_sum(alloc, 200_000)?,
+        &refusal,
+        "200,000 terms",
+    );
     Ok(())
 }
 
@@ -534,7 +657,7 @@ fn compares_processes(rt: HostRuntime) -> Result<(), Fail> {
     let alloc = rt.alloc();
     let process = "var a; var v; a = 1; loop { v = get i; put v + a + 1 to o; }";
     let net = net_of(alloc, process)?;
-    for (other, same) in [
+    for (other, wanted) in [
         (process, true),
         // Other names, the same numbers.
         (
@@ -563,8 +686,8 @@ fn compares_processes(rt: HostRuntime) -> Result<(), Fail> {
             false,
         ),
     ] {
-        let other = net_of(alloc, other)?;
-        assert_eq!(rt; has_same_process(&net, &other), same);
+        let found = has_same_process(&net, &net_of(alloc, other)?);
+        same_at(&rt, &found, &wanted, &other);
     }
     Ok(())
 }
@@ -580,35 +703,22 @@ fn lines_of(alloc: Global, lines: &[(usize, &str, &[i64])]) -> Result<RawInputs,
     Ok(RawInputs { lines: all })
 }
 
-#[test]
-fn binds_lines(rt: HostRuntime) -> Result<(), Fail> {
-    let alloc = rt.alloc();
+/// The refusal of lines for a network's inputs.
+fn refusal_of_bind(
+    alloc: Global,
+    net: &Net,
+    lines: &[(usize, &str, &[i64])],
+) -> Result<NetFault, Fail> {
+    match bind(alloc, net, lines_of(alloc, lines)?) {
+        Ok(_) => Err("bound".into()),
+        Err(fault) => Ok(fault),
+    }
+}
+
+/// A network whose output comes before its input.
+fn output_first(alloc: Global) -> Result<Net, Fail> {
     let mut builder = Builder::new(alloc);
-    builder.add_all(&SUM)?;
-    let net = check(alloc, builder.finish()?)?;
-    let missing = bind(alloc, &net, lines_of(alloc, &[])?);
-    assert!(rt; matches!(missing, Err(NetFault::MissingInput)));
-    let twice = bind(
-        alloc,
-        &net,
-        lines_of(alloc, &[(1, "i", &[1]), (2, "i", &[2])])?,
-    );
-    assert!(rt; matches!(twice, Err(NetFault::TwiceNamed { line: 2 })));
-    // An output is no input, and the first line with a fault counts.
-    let unknown = bind(
-        alloc,
-        &net,
-        lines_of(alloc, &[(1, "o", &[]), (2, "i", &[]), (3, "i", &[])])?,
-    );
-    assert!(rt; matches!(unknown, Err(NetFault::UnknownName { line: 1 })));
-    let inputs = bind(alloc, &net, lines_of(alloc, &[(3, "i", &[3, 1, -2])])?)?;
-    assert_eq!(rt; inputs.as_slice().len(), 2);
-    assert_eq!(rt; inputs.as_slice()[0].as_slice(), [3, 1, -2].as_slice());
-    assert!(rt; inputs.as_slice()[1].is_empty());
-    assert!(rt; fits(&net, &inputs));
-    // Inputs of one network don't fit another.
-    let mut other = Builder::new(alloc);
-    other.add_all(&[
+    builder.add_all(&[
         (1, Output("o")),
         (1, Input("i")),
         (1, Process("p", 0)),
@@ -616,19 +726,67 @@ fn binds_lines(rt: HostRuntime) -> Result<(), Fail> {
         (1, Get("v", "i")),
         (1, Put("v", "o", 1)),
     ])?;
-    let other = check(alloc, other.finish()?)?;
-    assert!(rt; !fits(&other, &inputs));
+    Ok(check(alloc, builder.finish()?)?)
+}
+
+/// Asserts that these are the inputs 3, 1 and -2 of the running sum.
+fn are_bound(rt: &impl Abort, inputs: &[History]) {
+    match inputs {
+        [i, o] => {
+            same_items(rt, i.as_slice(), &[3, 1, -2], "items of the input");
+            same(rt, &o.is_empty(), &true, "no items of the output");
+        }
+        _ => assert!(rt; false, "two channels"),
+    }
+}
+
+/// Asserts which lines are refused for the running sum, and why.
+fn refuses_lines(rt: &impl Abort, alloc: Global, net: &Net) -> Result<(), Fail> {
+    let missing = refusal_of_bind(alloc, net, &[])?;
+    same(rt, &missing, &NetFault::MissingInput, "no line");
+    let twice = refusal_of_bind(alloc, net, &[(1, "i", &[1]), (2, "i", &[2])])?;
+    same(rt, &twice, &NetFault::TwiceNamed { line: 2 }, "two lines");
+    // An output is no input, and the first line with a fault counts.
+    let lines: [(usize, &str, &[i64]); 3] = [(1, "o", &[]), (2, "i", &[]), (3, "i", &[])];
+    let unknown = refusal_of_bind(alloc, net, &lines)?;
+    same(
+        rt,
+        &unknown,
+        &NetFault::UnknownName { line: 1 },
+        "an output",
+    );
+    Ok(())
+}
+
+#[test]
+fn binds_lines(rt: HostRuntime) -> Result<(), Fail> {
+    let alloc = rt.alloc();
+    let net = sum_net(alloc)?;
+    refuses_lines(&rt, alloc, &net)?;
+    let inputs = bind(alloc, &net, lines_of(alloc, &[(3, "i", &[3, 1, -2])])?)?;
+    are_bound(&rt, inputs.as_slice());
+    same(&rt, &fits(&net, &inputs), &true, "inputs of the network");
+    let other = output_first(alloc)?;
+    same(
+        &rt,
+        &fits(&other, &inputs),
+        &false,
+        "inputs of another network",
+    );
     Ok(())
 }
 
 #[test]
 fn refuses_many_items(rt: HostRuntime) -> Result<(), Fail> {
     let alloc = rt.alloc();
-    let mut builder = Builder::new(alloc);
-    builder.add_all(&SUM)?;
-    let net = check(alloc, builder.finish()?)?;
+    let net = sum_net(alloc)?;
     let many = vec![in alloc; 0i64; 1_048_577]?;
-    let refused = bind(alloc, &net, lines_of(alloc, &[(7, "i", many.as_slice())])?);
-    assert!(rt; matches!(refused, Err(NetFault::Limit { line: 7 })));
+    let refused = refusal_of_bind(alloc, &net, &[(7, "i", many.as_slice())])?;
+    same(
+        &rt,
+        &refused,
+        &NetFault::Limit { line: 7 },
+        "too many items",
+    );
     Ok(())
 }

@@ -1,9 +1,12 @@
 //! Texts with the values that the format gives them.
 
+use crate::asserting::{same, same_at, same_items_at};
 use net_text::{
-    Declaration, ExprText, Keyword, LONGEST_TEXT, LinkText, Operator, Role, StatementText, Symbol,
-    TextFault, TokenKind, parse, parse_inputs, tokens,
+    ChannelText, Declaration, ExprText, Keyword, LONGEST_TEXT, LinkText, NetText, Operator,
+    ProcessText, Role, StatementText, Symbol, TextFault, Token, TokenKind, VariableText, parse,
+    parse_inputs, tokens,
 };
+use std::process::Abort;
 use std::test::Fail;
 
 const SUM: &str =
@@ -17,72 +20,113 @@ fn refusal<T: Drop>(outcome: Result<T, TextFault>) -> (u8, usize) {
     }
 }
 
-#[test]
-fn the_running_sum_is_read(rt: HostRuntime) -> Result<(), Fail> {
-    let net = parse(rt.alloc(), SUM)?;
+// Whether these are the declarations of an input, an output and a process.
+fn sum_parts(net: &NetText) -> Option<(&ChannelText, &ChannelText, &ProcessText)> {
     match net.declarations.as_slice() {
         [
             Declaration::Channel(input),
             Declaration::Channel(output),
             Declaration::Process(process),
-        ] => {
-            assert_eq!(rt; input.role, Role::Input);
-            assert_eq!(rt; input.name.as_str(), "i");
-            assert_eq!(rt; (input.line, input.name.line()), (2, 2));
-            assert_eq!(rt; output.role, Role::Output);
-            assert_eq!(rt; output.name.as_str(), "o");
-            assert_eq!(rt; process.name.as_str(), "sum");
-            assert_eq!(rt;
-                (process.line, process.node.number, process.node.line),
-                (3, 0, 3)
-            );
-            match process.variables.as_slice() {
-                [a, v] => {
-                    assert_eq!(rt; a.name.as_str(), "a");
-                    assert_eq!(rt; (a.initial, v.initial, v.line), (0, -7, 4));
-                }
-                _ => assert!(rt; false, "two variables"),
-            }
-            assert!(rt; matches!(process.prelude.as_slice(), [StatementText::Assign { .. }]));
-            let Some(repeated) = &process.repeated else {
-                return Err(Fail::from("a loop"));
-            };
-            assert_eq!(rt; repeated.line, 6);
-            match repeated.body.as_slice() {
-                [
-                    StatementText::Get { variable, channel },
-                    StatementText::Assign {
-                        value: ExprText::Chain { first, links },
-                        ..
-                    },
-                    StatementText::Put { .. },
-                ] => {
-                    assert_eq!(rt; variable.as_str(), "v");
-                    assert_eq!(rt; channel.as_str(), "i");
-                    // From left to right: (a + v) + 1.
-                    assert!(rt; matches!(&**first, ExprText::Variable(_)));
-                    assert!(rt;
-                        matches!(
-                            links.as_slice(),
-                            [
-                                LinkText {
-                                    operator: Operator::Add,
-                                    value: ExprText::Variable(_)
-                                },
-                                LinkText {
-                                    operator: Operator::Add,
-                                    value: ExprText::Literal(1)
-                                },
-                            ]
-                        )
-                    );
-                }
-                _ => assert!(rt; false, "a get, an assignment and a put"),
-            }
-        }
-        _ => assert!(rt; false, "an input, an output and a process"),
+        ] => Some((input, output, process)),
+        _ => None,
     }
+}
+
+// Asserts the first two declarations of the running sum.
+fn are_sum_channels(rt: &impl Abort, input: &ChannelText, output: &ChannelText) {
+    same(rt, &input.role, &Role::Input, "role of the first channel");
+    same(rt, &input.name.as_str(), &"i", "name of the first channel");
+    same(rt, &input.line, &2, "line of the first channel");
+    same(rt, &input.name.line(), &2, "line of its name");
+    same(
+        rt,
+        &output.role,
+        &Role::Output,
+        "role of the second channel",
+    );
+    same(
+        rt,
+        &output.name.as_str(),
+        &"o",
+        "name of the second channel",
+    );
+}
+
+// Asserts the variables of the running sum.
+fn are_sum_variables(rt: &impl Abort, variables: &[VariableText]) {
+    match variables {
+        [a, v] => {
+            same(rt, &a.name.as_str(), &"a", "the first variable");
+            same(rt, &a.initial, &0, "its first value");
+            same(rt, &v.initial, &-7, "the second's first value");
+            same(rt, &v.line, &4, "the second's line");
+        }
+        _ => assert!(rt; false, "two variables"),
+    }
+}
+
+// Whether a value is (a + v) + 1, from left to right.
+fn is_sum(first: &ExprText, links: &[LinkText]) -> bool {
+    matches!(first, ExprText::Variable(_))
+        && matches!(
+            links,
+            [
+                LinkText {
+                    operator: Operator::Add,
+                    value: ExprText::Variable(_)
+                },
+                LinkText {
+                    operator: Operator::Add,
+                    value: ExprText::Literal(1)
+                },
+            ]
+        )
+}
+
+// Asserts the body of the running sum's loop.
+fn is_sum_body(rt: &impl Abort, body: &[StatementText]) {
+    match body {
+        [
+            StatementText::Get { variable, channel },
+            StatementText::Assign {
+                value: ExprText::Chain { first, links },
+                ..
+            },
+            StatementText::Put { .. },
+        ] => {
+            same(rt, &variable.as_str(), &"v", "the variable got");
+            same(rt, &channel.as_str(), &"i", "the channel");
+            same(rt, &is_sum(first, links), &true, "the sum");
+        }
+        _ => assert!(rt; false, "a get, an assignment and a put"),
+    }
+}
+
+// Asserts the process of the running sum.
+fn is_sum_process(rt: &impl Abort, process: &ProcessText) -> Result<(), Fail> {
+    same(rt, &process.name.as_str(), &"sum", "name of the process");
+    same(rt, &process.line, &3, "line of the process");
+    same(rt, &process.node.number, &0, "node");
+    same(rt, &process.node.line, &3, "line of the node");
+    are_sum_variables(rt, &process.variables);
+    let assigns = matches!(process.prelude.as_slice(), [StatementText::Assign { .. }]);
+    same(rt, &assigns, &true, "the prelude");
+    let Some(repeated) = &process.repeated else {
+        return Err(Fail::from("a loop"));
+    };
+    same(rt, &repeated.line, &6, "line of the loop");
+    is_sum_body(rt, &repeated.body);
     Ok(())
+}
+
+#[test]
+fn the_running_sum_is_read(rt: HostRuntime) -> Result<(), Fail> {
+    let net = parse(rt.alloc(), SUM)?;
+    let Some((input, output, process)) = sum_parts(&net) else {
+        return Err(Fail::from("an input, an output and a process"));
+    };
+    are_sum_channels(&rt, input, output);
+    is_sum_process(&rt, process)
 }
 
 #[test]
@@ -121,7 +165,7 @@ fn texts_are_refused(rt: HostRuntime) {
         ),
     ];
     for (text, want) in cases {
-        assert_eq!(rt; refusal(parse(rt.alloc(), text)), want, "{text}");
+        same_at(&rt, &refusal(parse(rt.alloc(), text)), &want, &text);
     }
 }
 
@@ -134,8 +178,13 @@ fn texts_are_read(rt: HostRuntime) {
         "kahn 1; input i; output o; process p on 0 { var a234567890123456789012345678901234567890123456789012345678901234; }",
     ];
     for text in cases {
-        assert_eq!(rt; refusal(parse(rt.alloc(), text)), (0, 0), "{text}");
+        same_at(&rt, &refusal(parse(rt.alloc(), text)), &(0, 0), &text);
     }
+}
+
+// Asserts the text of a token.
+fn has_text(rt: &impl Abort, token: &Token<'_>, text: &str) {
+    assert_eq!(rt; token.text, text);
 }
 
 #[test]
@@ -162,13 +211,15 @@ fn tokens_are_the_longest(rt: HostRuntime) -> Result<(), Fail> {
         (TokenKind::Symbol(Symbol::Minus), "-", 43, 3),
         (TokenKind::Symbol(Symbol::Semicolon), ";", 44, 3),
     ];
-    assert_eq!(rt; found.len(), want.len());
+    same(&rt, &found.len(), &want.len(), "number of tokens");
     for (token, (kind, slice, start, line)) in found.iter().zip(want.iter()) {
-        assert_eq!(rt; token.kind, *kind);
-        assert_eq!(rt; token.text, *slice);
-        assert_eq!(rt; (token.start, token.line), (*start, *line), "{slice}");
+        same_at(&rt, &token.kind, kind, slice);
+        has_text(&rt, token, slice);
+        same_at(&rt, &token.start, start, slice);
+        same_at(&rt, &token.line, line, slice);
     }
-    assert_eq!(rt; refusal(tokens(rt.alloc(), "a\n= !x")), (2, 2));
+    let refused = refusal(tokens(rt.alloc(), "a\n= !x"));
+    same(&rt, &refused, &(2, 2), "a lone !");
     Ok(())
 }
 
@@ -178,8 +229,13 @@ fn an_overlong_text_is_refused_first(rt: HostRuntime) -> Result<(), Fail> {
     for _ in 0..LONGEST_TEXT {
         text.push_str("\n")?;
     }
-    assert_eq!(rt; refusal(parse(rt.alloc(), &text)), (5, 1));
-    assert_eq!(rt; refusal(tokens(rt.alloc(), &text)), (5, 1));
+    same(&rt, &refusal(parse(rt.alloc(), &text)), &(5, 1), "parsed");
+    same(
+        &rt,
+        &refusal(tokens(rt.alloc(), &text)),
+        &(5, 1),
+        "cut into tokens",
+    );
     Ok(())
 }
 
@@ -194,13 +250,14 @@ fn inputs_are_read(rt: HostRuntime) -> Result<(), Fail> {
         ("y", 6, &[i64::MIN, i64::MAX]),
         ("input", 7, &[7, 0]),
     ];
-    assert_eq!(rt; inputs.lines.len(), want.len());
+    same(&rt, &inputs.lines.len(), &want.len(), "number of lines");
     for (found, (name, line, items)) in inputs.lines.iter().zip(want.iter()) {
-        assert_eq!(rt; found.name.as_str(), *name);
-        assert_eq!(rt; found.name.line(), *line);
-        assert_eq!(rt; found.items.as_slice(), *items, "{name}");
+        same_at(&rt, &found.name.as_str(), name, name);
+        same_at(&rt, &found.name.line(), line, name);
+        same_items_at(&rt, &found.items, items, name);
     }
-    assert_eq!(rt; parse_inputs(rt.alloc(), "")?.lines.len(), 0);
+    let none = parse_inputs(rt.alloc(), "")?.lines.len();
+    same(&rt, &none, &0, "lines of an empty text");
     Ok(())
 }
 
@@ -231,6 +288,6 @@ fn inputs_are_refused(rt: HostRuntime) {
         ),
     ];
     for (text, want) in cases {
-        assert_eq!(rt; refusal(parse_inputs(rt.alloc(), text)), want, "{text}");
+        same_at(&rt, &refusal(parse_inputs(rt.alloc(), text)), &want, &text);
     }
 }

@@ -1,9 +1,11 @@
 //! Turns of small processes, with states and items worked out by hand.
 
+use crate::asserting::{same, same_at, same_items, same_items_at};
 use net_check::{History, Net, check};
 use net_text::parse;
 use proc_step::{Done, Job, NextAct, Place, ProcState, next_act};
 use std::alloc::{AllocError, Global};
+use std::process::Abort;
 use std::sync::Arc;
 use std::test::Fail;
 
@@ -126,63 +128,206 @@ fn sendable<T: Send + Drop>(value: T) -> T {
     value
 }
 
+/// Where a turn begins, and what it has.
+#[derive(Clone, Copy)]
+struct Start<'a> {
+    place: Place,
+    variables: &'a [i64],
+    items: &'a [i64],
+    room: usize,
+}
+
+/// What a turn comes to.
+#[derive(Clone, Copy)]
+struct End<'a> {
+    place: Place,
+    variables: &'a [i64],
+    taken: usize,
+    sent: &'a [i64],
+}
+
+/// Asserts what a turn of a network's first process comes to.
+fn goes(
+    rt: &impl Abort,
+    alloc: Global,
+    net: &Arc<Net>,
+    start: Start<'_>,
+    end: End<'_>,
+) -> Result<(), Fail> {
+    let done = turn(
+        alloc,
+        net,
+        start.place,
+        start.variables,
+        start.items,
+        start.room,
+    )?;
+    same(rt, &done.state.place, &end.place, "place");
+    same_items(rt, &done.state.variables, end.variables, "variables");
+    same(rt, &taken(&done), &end.taken, "taken");
+    same_items(rt, sent(&done), end.sent, "sent");
+    Ok(())
+}
+
 #[test]
 fn turns_of_the_running_sum(rt: HostRuntime) -> Result<(), Fail> {
     let alloc = rt.alloc();
     let net = net_of(alloc, SUM)?;
-    let nothing = turn(alloc, &net, Place::NotBegun, &[0, 0], &[], 1)?;
-    assert_eq!(rt; nothing.state.place, Place::At(0));
-    assert_eq!(rt; (taken(&nothing), sent(&nothing).len()), (0, 0));
-    let held = turn(alloc, &net, Place::NotBegun, &[0, 0], &[5], 0)?;
-    assert_eq!(rt; held.state.place, Place::At(1));
-    assert_eq!(rt; held.state.variables.as_slice(), [5, 5].as_slice());
-    assert_eq!(rt; (taken(&held), sent(&held).len()), (1, 0));
-    let freed = turn(alloc, &net, Place::At(1), &[5, 5], &[], 1)?;
-    assert_eq!(rt; freed.state.place, Place::At(0));
-    assert_eq!(rt; sent(&freed), [5].as_slice());
-    let whole = turn(alloc, &net, Place::NotBegun, &[0, 0], &[1, 2, 3], 64)?;
-    assert_eq!(rt; whole.state.place, Place::At(0));
-    assert_eq!(rt; whole.state.variables.as_slice(), [6, 3].as_slice());
-    assert_eq!(rt; sent(&whole), [1, 3, 6].as_slice());
-    assert_eq!(rt; taken(&whole), 3);
-    let short = turn(alloc, &net, Place::NotBegun, &[0, 0], &[1, 2, 3], 2)?;
-    assert_eq!(rt; short.state.place, Place::At(1));
-    assert_eq!(rt; sent(&short), [1, 3].as_slice());
-    assert_eq!(rt; taken(&short), 3);
-    Ok(())
+    let start = Start {
+        place: Place::NotBegun,
+        variables: &[0, 0],
+        items: &[],
+        room: 1,
+    };
+    let end = End {
+        place: Place::At(0),
+        variables: &[0, 0],
+        taken: 0,
+        sent: &[],
+    };
+    goes(&rt, alloc, &net, start, end)?;
+    let start = Start {
+        place: Place::NotBegun,
+        variables: &[0, 0],
+        items: &[5],
+        room: 0,
+    };
+    let end = End {
+        place: Place::At(1),
+        variables: &[5, 5],
+        taken: 1,
+        sent: &[],
+    };
+    goes(&rt, alloc, &net, start, end)?;
+    let start = Start {
+        place: Place::At(1),
+        variables: &[5, 5],
+        items: &[],
+        room: 1,
+    };
+    let end = End {
+        place: Place::At(0),
+        variables: &[5, 5],
+        taken: 0,
+        sent: &[5],
+    };
+    goes(&rt, alloc, &net, start, end)?;
+    let start = Start {
+        place: Place::NotBegun,
+        variables: &[0, 0],
+        items: &[1, 2, 3],
+        room: 64,
+    };
+    let end = End {
+        place: Place::At(0),
+        variables: &[6, 3],
+        taken: 3,
+        sent: &[1, 3, 6],
+    };
+    goes(&rt, alloc, &net, start, end)?;
+    let start = Start {
+        place: Place::NotBegun,
+        variables: &[0, 0],
+        items: &[1, 2, 3],
+        room: 2,
+    };
+    let end = End {
+        place: Place::At(1),
+        variables: &[6, 3],
+        taken: 3,
+        sent: &[1, 3],
+    };
+    goes(&rt, alloc, &net, start, end)
 }
 
 #[test]
 fn turns_that_finish(rt: HostRuntime) -> Result<(), Fail> {
     let alloc = rt.alloc();
     let net = net_of(alloc, ONCE)?;
-    let begun = turn(alloc, &net, Place::NotBegun, &[5], &[4], 0)?;
-    assert_eq!(rt; begun.state.place, Place::At(0));
-    assert_eq!(rt; begun.state.variables.as_slice(), [6].as_slice());
-    let waits = turn(alloc, &net, Place::At(1), &[6], &[], 2)?;
-    assert_eq!(rt; waits.state.place, Place::At(1));
-    let done = turn(alloc, &net, Place::NotBegun, &[5], &[4], 2)?;
-    assert_eq!(rt; done.state.place, Place::Finished);
-    assert_eq!(rt; done.state.variables.as_slice(), [4].as_slice());
-    assert_eq!(rt; sent(&done), [6, 8].as_slice());
-    let after = turn(alloc, &net, Place::Finished, &[4], &[9], 2)?;
-    assert_eq!(rt; after.state.place, Place::Finished);
-    assert_eq!(rt; (taken(&after), sent(&after).len()), (0, 0));
-    Ok(())
+    let start = Start {
+        place: Place::NotBegun,
+        variables: &[5],
+        items: &[4],
+        room: 0,
+    };
+    let end = End {
+        place: Place::At(0),
+        variables: &[6],
+        taken: 0,
+        sent: &[],
+    };
+    goes(&rt, alloc, &net, start, end)?;
+    let start = Start {
+        place: Place::At(1),
+        variables: &[6],
+        items: &[],
+        room: 2,
+    };
+    let end = End {
+        place: Place::At(1),
+        variables: &[6],
+        taken: 0,
+        sent: &[],
+    };
+    goes(&rt, alloc, &net, start, end)?;
+    let start = Start {
+        place: Place::NotBegun,
+        variables: &[5],
+        items: &[4],
+        room: 2,
+    };
+    let end = End {
+        place: Place::Finished,
+        variables: &[4],
+        taken: 1,
+        sent: &[6, 8],
+    };
+    goes(&rt, alloc, &net, start, end)?;
+    let start = Start {
+        place: Place::Finished,
+        variables: &[4],
+        items: &[9],
+        room: 2,
+    };
+    let end = End {
+        place: Place::Finished,
+        variables: &[4],
+        taken: 0,
+        sent: &[],
+    };
+    goes(&rt, alloc, &net, start, end)
 }
 
 #[test]
 fn turns_from_prelude_to_loop(rt: HostRuntime) -> Result<(), Fail> {
     let alloc = rt.alloc();
     let net = net_of(alloc, LED)?;
-    let first = turn(alloc, &net, Place::NotBegun, &[7], &[1, 2], 4)?;
-    assert_eq!(rt; first.state.place, Place::At(3));
-    assert_eq!(rt; sent(&first), [7, 1, 1, 2].as_slice());
-    assert_eq!(rt; taken(&first), 2);
-    let second = turn(alloc, &net, Place::At(3), &[2], &[], 9)?;
-    assert_eq!(rt; second.state.place, Place::At(1));
-    assert_eq!(rt; sent(&second), [2].as_slice());
-    Ok(())
+    let start = Start {
+        place: Place::NotBegun,
+        variables: &[7],
+        items: &[1, 2],
+        room: 4,
+    };
+    let end = End {
+        place: Place::At(3),
+        variables: &[2],
+        taken: 2,
+        sent: &[7, 1, 1, 2],
+    };
+    goes(&rt, alloc, &net, start, end)?;
+    let start = Start {
+        place: Place::At(3),
+        variables: &[2],
+        items: &[],
+        room: 9,
+    };
+    let end = End {
+        place: Place::At(1),
+        variables: &[2],
+        taken: 0,
+        sent: &[2],
+    };
+    goes(&rt, alloc, &net, start, end)
 }
 
 /// Wherever a run is cut into turns, the whole is the same.
@@ -194,16 +339,13 @@ fn cut_at_every_length(rt: HostRuntime) -> Result<(), Fail> {
     let led = net_of(alloc, LED)?;
     for at_once in 1..5 {
         for room in 1..5 {
+            let row = (at_once, room);
             let sums = cut(alloc, &sum, &[0, 0], &[1, 2, 3], at_once, room)?;
-            assert_eq!(rt; sums.as_slice(), [1, 3, 6].as_slice(), "{at_once}, {room}");
+            same_items_at(&rt, &sums, &[1, 3, 6], &row);
             let two = cut(alloc, &once, &[5], &[4], at_once, room)?;
-            assert_eq!(rt; two.as_slice(), [6, 8].as_slice(), "{at_once}, {room}");
+            same_items_at(&rt, &two, &[6, 8], &row);
             let five = cut(alloc, &led, &[7], &[1, 2], at_once, room)?;
-            assert_eq!(rt;
-                five.as_slice(),
-                [7, 1, 1, 2, 2].as_slice(),
-                "{at_once}, {room}"
-            );
+            same_items_at(&rt, &five, &[7, 1, 1, 2, 2], &row);
         }
     }
     Ok(())
@@ -228,27 +370,62 @@ fn job_at(
     Ok(job)
 }
 
+/// Whether a job is the same as the one with this version, these variables, items and room.
+fn is_same_as(
+    alloc: Global,
+    one: &Job,
+    net: &Arc<Net>,
+    version: u64,
+    variables: &[i64],
+    items: &[i64],
+    room: usize,
+) -> Result<bool, Fail> {
+    let other = job_at(alloc, net, version, variables, items, room)?;
+    Ok(one.is_same(&other))
+}
+
+/// Whether a job is the same as the one at the sum's put.
+fn is_same_at_put(alloc: Global, one: &Job, net: &Arc<Net>) -> Result<bool, Fail> {
+    let elsewhere = state(alloc, Place::At(1), &[1, 2])?;
+    let other = job(alloc, net, elsewhere, &[7, 8], 5)?;
+    Ok(one.is_same(&other))
+}
+
+/// Whether a job is the same as the one of this network.
+fn is_same_in(alloc: Global, one: &Job, text: &str) -> Result<bool, Fail> {
+    let net = net_of(alloc, text)?;
+    is_same_as(alloc, one, &net, 3, &[1, 2], &[7, 8], 5)
+}
+
 #[test]
 fn jobs_are_compared_whole(rt: HostRuntime) -> Result<(), Fail> {
     let alloc = rt.alloc();
     let net = net_of(alloc, SUM)?;
     let one = job_at(alloc, &net, 3, &[1, 2], &[7, 8], 5)?;
-    assert!(rt; one.is_same(&job_at(alloc, &net, 3, &[1, 2], &[7, 8], 5)?));
-    assert!(rt; one.is_same(&job_at(alloc, &net_of(alloc, SUM)?, 3, &[1, 2], &[7, 8], 5)?));
-    for (version, variables, items, room) in [
-        (4, [1, 2], [7, 8].as_slice(), 5),
-        (3, [2, 1], [7, 8].as_slice(), 5),
-        (3, [1, 2], [7].as_slice(), 5),
-        (3, [1, 2], [7, 9].as_slice(), 5),
-        (3, [1, 2], [7, 8].as_slice(), 4),
+    for (version, variables, items, room, wanted) in [
+        (3, [1, 2], [7, 8].as_slice(), 5, true),
+        (4, [1, 2], [7, 8].as_slice(), 5, false),
+        (3, [2, 1], [7, 8].as_slice(), 5, false),
+        (3, [1, 2], [7].as_slice(), 5, false),
+        (3, [1, 2], [7, 9].as_slice(), 5, false),
+        (3, [1, 2], [7, 8].as_slice(), 4, false),
     ] {
-        let other = job_at(alloc, &net, version, &variables, items, room)?;
-        assert!(rt; !one.is_same(&other), "{version}, {items:?}, {room}");
+        let found = is_same_as(alloc, &one, &net, version, &variables, items, room)?;
+        same_at(&rt, &found, &wanted, &(version, room, items));
     }
-    let elsewhere = state(alloc, Place::At(1), &[1, 2])?;
-    assert!(rt; !one.is_same(&job(alloc, &net, elsewhere, &[7, 8], 5)?));
-    let other = net_of(alloc, OTHER)?;
-    assert!(rt; !one.is_same(&job_at(alloc, &other, 3, &[1, 2], &[7, 8], 5)?));
+    same(
+        &rt,
+        &is_same_in(alloc, &one, SUM)?,
+        &true,
+        "the net once more",
+    );
+    same(&rt, &is_same_in(alloc, &one, OTHER)?, &false, "another net");
+    same(
+        &rt,
+        &is_same_at_put(alloc, &one, &net)?,
+        &false,
+        "another place",
+    );
     Ok(())
 }
 
@@ -258,10 +435,11 @@ fn jobs_and_what_they_come_to_go_to_other_threads(rt: HostRuntime) -> Result<(),
     let net = net_of(alloc, SUM)?;
     let before = state(alloc, Place::NotBegun, &[0, 0])?;
     let job = sendable(job(alloc, &net, before, &[2], 1)?);
-    assert_eq!(rt; job.node(), 0);
+    same(&rt, &job.node(), &0, "node");
     let done = sendable(job.run(alloc)?);
-    assert_eq!(rt; (done.job.process, done.job.version), (0, 3));
-    assert_eq!(rt; sent(&done), [2].as_slice());
+    same(&rt, &done.job.process, &0, "process");
+    same(&rt, &done.job.version, &3, "version");
+    same_items(&rt, sent(&done), &[2], "sent");
     Ok(())
 }
 
@@ -269,20 +447,17 @@ fn jobs_and_what_they_come_to_go_to_other_threads(rt: HostRuntime) -> Result<(),
 fn what_comes_next(rt: HostRuntime) -> Result<(), Fail> {
     let alloc = rt.alloc();
     let led = net_of(alloc, LED)?;
-    assert_eq!(rt; next(alloc, &led, Place::NotBegun)?, NextAct::Begin);
-    assert_eq!(rt;
-        next(alloc, &led, Place::At(0))?,
-        NextAct::Put { channel: 1 }
-    );
-    assert_eq!(rt;
-        next(alloc, &led, Place::At(1))?,
-        NextAct::Get { channel: 0 }
-    );
-    assert_eq!(rt;
-        next(alloc, &led, Place::At(3))?,
-        NextAct::Put { channel: 1 }
-    );
-    assert_eq!(rt; next(alloc, &led, Place::At(4))?, NextAct::Nothing);
-    assert_eq!(rt; next(alloc, &led, Place::Finished)?, NextAct::Nothing);
+    let put = NextAct::Put { channel: 1 };
+    let get = NextAct::Get { channel: 0 };
+    for (place, wanted) in [
+        (Place::NotBegun, NextAct::Begin),
+        (Place::At(0), put),
+        (Place::At(1), get),
+        (Place::At(3), put),
+        (Place::At(4), NextAct::Nothing),
+        (Place::Finished, NextAct::Nothing),
+    ] {
+        same_at(&rt, &next(alloc, &led, place)?, &wanted, &place);
+    }
     Ok(())
 }

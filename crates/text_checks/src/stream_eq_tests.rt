@@ -7,6 +7,7 @@ ghost use Rattle.text_checks.specs.Examples.{summing_code, sum_net, sum_inputs, 
 ghost use Rattle.text_checks.specs.Examples.{at_the_end, pair_net, pair_inputs, one_two, tens};
 ghost use Rattle.text_checks.specs.Examples.{cycle_after, zeros, ones, zero_one};
 
+use crate::asserting::{same, same_at, same_items, same_items_at};
 use net_check::{History, Net, NetFault, bind, check};
 use net_text::{
     ChannelText, Declaration, ExprText, InputLine, LinkText, LoopText, Name, NetText, NodeText,
@@ -331,7 +332,7 @@ fn running_sums(rt: HostRuntime) -> Result<(), Fail> {
     let empty: [i64; 0] = [];
     for n in 0..3 {
         let histories = sum_after(alloc, &empty, n)?;
-        assert_eq!(rt; items_of(&histories, 1), empty.as_slice(), "at {n}");
+        same_items_at(&rt, items_of(&histories, 1), &empty, &n);
     }
     let sums = [1, 3, 6];
     for (n, out) in [
@@ -341,7 +342,7 @@ fn running_sums(rt: HostRuntime) -> Result<(), Fail> {
         (u64::MAX, sums.as_slice()),
     ] {
         let histories = sum_after(alloc, &[1, 2, 3], n)?;
-        assert_eq!(rt; items_of(&histories, 1), out, "at {n}");
+        same_items_at(&rt, items_of(&histories, 1), out, &n);
     }
     Ok(())
 }
@@ -350,12 +351,15 @@ fn running_sums(rt: HostRuntime) -> Result<(), Fail> {
 fn sums_at_the_ends_of_the_range(rt: HostRuntime) -> Result<(), Fail> {
     let alloc = rt.alloc();
     let most = sum_after(alloc, &[i64::MAX, 1], 1)?;
-    assert_eq!(rt; items_of(&most, 1), [i64::MAX, i64::MIN].as_slice());
-    let least = sum_after(alloc, &[i64::MIN, -1, 1], 2)?;
-    assert_eq!(rt;
-        items_of(&least, 1),
-        [i64::MIN, i64::MAX, i64::MIN].as_slice()
+    same_items(
+        &rt,
+        items_of(&most, 1),
+        &[i64::MAX, i64::MIN],
+        "past the most",
     );
+    let least = sum_after(alloc, &[i64::MIN, -1, 1], 2)?;
+    let wanted = [i64::MIN, i64::MAX, i64::MIN];
+    same_items(&rt, items_of(&least, 1), &wanted, "past the least");
     Ok(())
 }
 
@@ -371,10 +375,10 @@ fn two_processes_joined_by_a_channel(rt: HostRuntime) -> Result<(), Fail> {
         (3, sums.as_slice()),
     ] {
         let histories = pair_after(alloc, n)?;
-        assert_eq!(rt; items_of(&histories, 3), out, "at {n}");
+        same_items_at(&rt, items_of(&histories, 3), out, &n);
     }
     let first = pair_after(alloc, 1)?;
-    assert_eq!(rt; items_of(&first, 2), [11, 22].as_slice());
+    same_items(&rt, items_of(&first, 2), &[11, 22], "the pairs");
     Ok(())
 }
 
@@ -394,7 +398,7 @@ fn a_cycle_of_four_processes(rt: HostRuntime) -> Result<(), Fail> {
         (5, twice.as_slice()),
     ] {
         let histories = closed_after(alloc, &net, n)?;
-        assert_eq!(rt; items_of(&histories, 5), out, "at {n}");
+        same_items_at(&rt, items_of(&histories, 5), out, &n);
     }
     Ok(())
 }
@@ -404,12 +408,12 @@ fn histories_up_to_the_limit(rt: HostRuntime) -> Result<(), Fail> {
     let alloc = rt.alloc();
     let net = doubling(alloc)?;
     let longest = closed_after(alloc, &net, 20)?;
-    assert_eq!(rt; items_of(&longest, 0).len(), 1_048_575);
+    same(&rt, &items_of(&longest, 0).len(), &1_048_575, "the longest");
     let lines = Vec::new(alloc);
     let inputs = bind(alloc, &net, RawInputs { lines })?;
     let refused = approx(alloc, &net, &inputs, 21);
-    assert!(rt; matches!(refused, Err(Fault::Long)));
-    assert_eq!(rt; Fault::Long.number(), 19);
+    same(&rt, &matches!(refused, Err(Fault::Long)), &true, "too long");
+    same(&rt, &Fault::Long.number(), &19, "number of Long");
     Ok(())
 }
 
@@ -427,11 +431,21 @@ fn solutions_of_the_running_sum(rt: HostRuntime) -> Result<(), Fail> {
         (long.as_slice(), false),
     ] {
         let histories = two(alloc, &[1, 2, 3], second)?;
-        assert_eq!(rt; solves_sum(alloc, &histories)?, answer, "{second:?}");
+        same_at(&rt, &solves_sum(alloc, &histories)?, &answer, &second);
     }
     let other_input = two(alloc, &[1, 2], &[1, 3])?;
-    assert!(rt; !solves_sum(alloc, &other_input)?);
+    same(
+        &rt,
+        &solves_sum(alloc, &other_input)?,
+        &false,
+        "another input",
+    );
     let other_number = Histories::from_vec(Vec::new(alloc));
-    assert!(rt; !solves_sum(alloc, &other_number)?);
+    same(
+        &rt,
+        &solves_sum(alloc, &other_number)?,
+        &false,
+        "no channels",
+    );
     Ok(())
 }
