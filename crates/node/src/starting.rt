@@ -157,12 +157,12 @@ pub(crate) fn put_decision<C: StableCell>(
     if !state.up {
         return Ok(Putting::NotDue);
     }
-    let Some(next) = state.kept.with_decision(alloc, number)? else {
+    let Some(decided) = state.kept.with_decision(alloc, number)? else {
         return Ok(Putting::NotDue);
     };
-    match cell.put(&next) {
+    match cell.put(&decided) {
         Ok(()) => {
-            state.kept = next;
+            state.kept = decided;
             Ok(Putting::Stored)
         }
         Err(fault) => state.settle(fault, round),
