@@ -1,7 +1,8 @@
 //! Times turns of growing lengths, in one run: `bench_turns measure`. Without an argument it does nothing.
 #![tactic(auto)]
 
-use net_check::{History, Net, check};
+use kahn_net::History;
+use net_check::{Net, check};
 use net_text::parse;
 use proc_step::{Job, Place, ProcState};
 use std::alloc::Global;

@@ -1,7 +1,8 @@
 ghost use Rattle.std.specs.Prelude.{◌+◌, if◌then◌else◌};
 
 use crate::asserting::{same, same_at};
-use outlet::{LAST_POSITION, ListOutlet, Log, LogFault, Outlet, OutletFault, can_release, release};
+use retained::{LAST_POSITION, Log, LogFault};
+use outlet::{ListOutlet, Outlet, OutletFault, can_release, release};
 use std::alloc::Global;
 use std::ops::Range;
 use std::process::Abort;

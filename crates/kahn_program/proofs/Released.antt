@@ -5,10 +5,10 @@ use Rattle.std.specs.Io.KnownBytes.{Appends}
 use Rattle.std.proofs.Math.Logic.{∥∥₁_map}
 use Rattle.std.proofs.Math.Seq.{drop-cons}
 use Rattle.std.proofs.lemmas.Bool.Decides.{nat_tests}
-use Rattle.net_check.specs.Streams.{history_of, IsPrefix}
-use Rattle.net_check.specs.Syntax.{Network, network_of}
-use Rattle.net_check.specs.Approximations.{approximation, IsReached}
-use Rattle.net_check.specs.declared.program.Channel.{Channel}
+use Rattle.kahn_net.specs.Streams.{history_of, IsPrefix}
+use Rattle.kahn_net.specs.Syntax.{Network, network_of}
+use Rattle.kahn_net.specs.Approximations.{approximation, IsReached}
+use Rattle.kahn_net.specs.declared.program.Channel.{Channel}
 use Rattle.world.specs.Sound.{goes_outside, output_channels}
 use Rattle.world.specs.Headline as headline
 use Rattle.world.specs.Quiet as quiet
@@ -16,8 +16,8 @@ use Rattle.world.specs.OutputLaws.{map_at}
 use Rattle.world.specs.OutputView.{OutputView, output_view, outputs_view}
 use Rattle.world.specs.StationView.{OutletView, StationView, outlet_view, outlet_views}
 use Rattle.world.specs.Released.{taken_or, released_of}
-use Rattle.net_check.specs.declared.program.Port.{Port}
-use Rattle.net_check.specs.declared.program.Port.TheVariants.{Outside, Process}
+use Rattle.kahn_net.specs.declared.program.Port.{Port}
+use Rattle.kahn_net.specs.declared.program.Port.TheVariants.{Outside, Process}
 use Rattle.node.specs.NodeView.{node_view}
 use Rattle.world.specs.Pairs.{Pairs, Every}
 use Rattle.world.specs.PairLaws.{pairs_refl, pairs_then}

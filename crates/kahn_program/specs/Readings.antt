@@ -9,10 +9,10 @@ use Rattle.net_text.specs.Trees.{DeclarationTree, InputTree}
 use Rattle.net_text.specs.declared.fault.TextFault.{TextFault}
 use Rattle.net_check.specs.Binding.{Binds, HasInputFault}
 use Rattle.net_check.specs.NetFaults.{HasFault}
-use Rattle.net_check.specs.Nodes.{IsOnOneNode}
+use Rattle.kahn_net.specs.Nodes.{IsOnOneNode}
 use Rattle.net_check.specs.Resolution.{Resolves}
-use Rattle.net_check.specs.Syntax.{Network, network_of}
-use Rattle.net_check.specs.Valid.{IsValid}
+use Rattle.kahn_net.specs.Syntax.{Network, network_of}
+use Rattle.kahn_net.specs.Valid.{IsValid}
 use Rattle.net_check.specs.declared.fault.NetFault.{NetFault}
 use Rattle.net_check.specs.declared.fault.NetFault.TheVariants as fault
 use Rattle.net_check.specs.declared.net.Net.{Net}

@@ -1,9 +1,9 @@
 -- What a run of a network releases, and its report.
 use Rattle.std.specs.Prelude.{◌≡◌, ℕ, Bool, IsTrue, ℤ, List, Option, Some, IfSome, length, map, slice_get}
 use Rattle.std.specs.Io.KnownBytes.{Appends}
-use Rattle.net_check.specs.Streams.{history_of, IsPrefix}
-use Rattle.net_check.specs.Syntax.{Network, network_of}
-use Rattle.net_check.specs.Approximations.{approximation, IsReached}
+use Rattle.kahn_net.specs.Streams.{history_of, IsPrefix}
+use Rattle.kahn_net.specs.Syntax.{Network, network_of}
+use Rattle.kahn_net.specs.Approximations.{approximation, IsReached}
 use Rattle.net_check.specs.declared.net.Net.{Net}
 use Rattle.world.specs.Sound.{output_channels}
 use Rattle.world.specs.Released.{released_of}

@@ -1,9 +1,9 @@
 //! The texts that the program reads, from any reader.
 
 ghost use Rattle.std.specs.Prelude.{◌≡◌, ℕ, Err, IfErr, IfOk, IfSome, IsNone, IsOkUnless, IsUtf8, List, Some, option_and_then, string_bytes};
-ghost use Rattle.net_check.specs.Fits.{Fits};
-ghost use Rattle.net_check.specs.Nodes.{IsOnOneNode};
-ghost use Rattle.net_check.specs.Syntax.{network_of};
+ghost use Rattle.kahn_net.specs.Fits.{Fits};
+ghost use Rattle.kahn_net.specs.Nodes.{IsOnOneNode};
+ghost use Rattle.kahn_net.specs.Syntax.{network_of};
 ghost use Rattle.kahn_program.specs.Readings.{AreInputsOf, IsInputsFailure, IsInputsTextFailure, IsNetFailure, IsNetOf, IsNetTextFailure, IsOutside, IsReadFailure, IsTextOfInputs, IsTextOfNet, net_failure_of, text_failure_of};
 ghost use Rattle.kahn_program.specs.declared.failure.Failure.TheVariants.{Unreadable};
 ghost use Rattle.kahn_program.specs.declared.failure.Source.TheVariants as source;

@@ -3,7 +3,8 @@
 ghost use Rattle.std.specs.Prelude.{◌≡◌, ◌++◌, IfOk, OnOk, length, string_bytes};
 ghost use Rattle.kahn_program.specs.Report.{items_text, output_count, output_line, output_lines, report_text};
 
-use net_check::{Channel, Net, Port};
+use kahn_net::{Channel, Port};
+use net_check::Net;
 use net_text::Name;
 use std::alloc::{AllocError, Global};
 use std::marker::Model;

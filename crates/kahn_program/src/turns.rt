@@ -1,9 +1,9 @@
 //! A network's run, and its report.
 
 ghost use Rattle.std.specs.Prelude.{◌≡◌, ◌≤◌, ◌++◌, ◌∷◌, [], if◌then◌else◌, length, map, IfOk, OnOk};
-ghost use Rattle.net_check.specs.Fits.{Fits};
-ghost use Rattle.net_check.specs.Nodes.{IsOnOneNode};
-ghost use Rattle.net_check.specs.Syntax.{network_of};
+ghost use Rattle.kahn_net.specs.Fits.{Fits};
+ghost use Rattle.kahn_net.specs.Nodes.{IsOnOneNode};
+ghost use Rattle.kahn_net.specs.Syntax.{network_of};
 ghost use Rattle.world.specs.Pairs.{Pairs};
 ghost use Rattle.world.specs.Released.{released_of};
 ghost use Rattle.world.specs.Sound.{goes_outside, output_channels};
@@ -12,8 +12,10 @@ ghost use Rattle.kahn_program.specs.Runs.{IsReport};
 
 use crate::failure::Failure;
 use crate::reporting::{Stream, report};
-use net_check::{Channel, Inputs, Net, Port};
-use node::{CellFault, Image, MemCell, Record};
+use kahn_net::{Channel, Port};
+use net_check::{Inputs, Net};
+use record::{Image, Record};
+use node::{CellFault, MemCell};
 use outlet::ListOutlet;
 use std::alloc::{AllocError, Global};
 use std::sync::Arc;

@@ -9,15 +9,15 @@ use Rattle.net_text.specs.declared.tree.VariableText.{VariableText}
 use Rattle.net_text.specs.declared.tree.Role.TheVariants.{Input, Output}
 use Rattle.net_check.specs.declared.fault.NetFault.{NetFault}
 use Rattle.net_check.specs.declared.fault.NetFault.TheVariants.{NoMemory, NoProducer, NoConsumer}
-use Rattle.net_check.specs.declared.program.Channel.{Channel}
-use Rattle.net_check.specs.declared.program.Port.{Port}
-use Rattle.net_check.specs.declared.program.Port.TheVariants.{Outside, Process}
-use Rattle.net_check.specs.Syntax.{Code, Network}
-use Rattle.net_check.specs.Valid.{IsValid, IsValidCode, block_within, body_within, code_gets, code_puts}
+use Rattle.kahn_net.specs.declared.program.Channel.{Channel}
+use Rattle.kahn_net.specs.declared.program.Port.{Port}
+use Rattle.kahn_net.specs.declared.program.Port.TheVariants.{Outside, Process}
+use Rattle.kahn_net.specs.Syntax.{Code, Network}
+use Rattle.kahn_net.specs.Valid.{IsValid, IsValidCode, block_within, body_within, code_gets, code_puts}
 use Rattle.net_check.specs.Claims.{AreResolved}
 use Rattle.net_check.specs.Joints.{AreJoined, EndFaultAmong}
 use Rattle.net_check.specs.Ready.{AreDeclared, IsFit}
-use Rattle.net_check.specs.Nodes.{IsOnOneNode, nodes_above}
+use Rattle.kahn_net.specs.Nodes.{IsOnOneNode, nodes_above}
 use Rattle.net_check.specs.NetFaults.{HasFault}
 use Rattle.net_check.specs.Uses.{Use, GetFrom, PutOn, Has, process_uses}
 use Rattle.net_check.specs.Resolution.{AllDifferent, Resolves, ResolvesProcess, channel_names, channels_of, processes_of, process_names, variable_names}

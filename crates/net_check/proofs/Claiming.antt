@@ -7,8 +7,8 @@ use Rattle.std.proofs.lemmas.Bool.Decides.{nat_tests}
 use Rattle.net_text.specs.Names.{NameTree}
 use Rattle.net_text.specs.declared.tree.ChannelText.{ChannelText}
 use Rattle.net_text.specs.declared.tree.Role.{Role}
-use Rattle.net_check.specs.declared.program.Port.{Port}
-use Rattle.net_check.specs.declared.program.Port.TheVariants.{Outside, Process}
+use Rattle.kahn_net.specs.declared.program.Port.{Port}
+use Rattle.kahn_net.specs.declared.program.Port.TheVariants.{Outside, Process}
 use Rattle.net_check.specs.Claims.{AreOutside, IsTaken, Takes, Claims, IsRefused, stands_outside, is_taken, IsUnknown}
 use Rattle.net_check.specs.Uses.{Use}
 use Rattle.net_check.specs.NetFaults.{space_of, name_of}

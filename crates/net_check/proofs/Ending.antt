@@ -5,8 +5,8 @@ use Rattle.std.proofs.lemmas.List.{length_push, take_more, length-take}
 use Rattle.net_text.specs.declared.tree.ChannelText.{ChannelText}
 use Rattle.net_check.specs.declared.fault.NetFault.{NetFault}
 use Rattle.net_check.specs.declared.fault.NetFault.TheVariants.{NoMemory, NoProducer, NoConsumer}
-use Rattle.net_check.specs.declared.program.Channel.{Channel}
-use Rattle.net_check.specs.declared.program.Port.{Port}
+use Rattle.kahn_net.specs.declared.program.Channel.{Channel}
+use Rattle.kahn_net.specs.declared.program.Port.{Port}
 use Rattle.net_check.specs.Joints.{AreJoined, HasItsEnds, EndFault, EndFaultAmong}
 use Rattle.net_check.proofs.Places.{got_at, got_push_cases}
 

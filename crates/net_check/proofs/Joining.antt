@@ -10,11 +10,11 @@ use Rattle.net_text.specs.declared.tree.Role.{Role}
 use Rattle.net_text.specs.declared.tree.Role.TheVariants.{Input, Output}
 use Rattle.net_check.specs.declared.fault.NetFault.{NetFault}
 use Rattle.net_check.specs.declared.fault.NetFault.TheVariants.{NoMemory, UnknownName, TwoProducers, TwoConsumers}
-use Rattle.net_check.specs.declared.program.Port.{Port}
-use Rattle.net_check.specs.declared.program.Port.TheVariants.{Outside, Process}
-use Rattle.net_check.specs.declared.program.Process.{Process as ProcessCode}
-use Rattle.net_check.specs.Syntax.{Code, code_of}
-use Rattle.net_check.specs.Valid.{code_gets, code_puts}
+use Rattle.kahn_net.specs.declared.program.Port.{Port}
+use Rattle.kahn_net.specs.declared.program.Port.TheVariants.{Outside, Process}
+use Rattle.kahn_net.specs.declared.program.Process.{Process as ProcessCode}
+use Rattle.kahn_net.specs.Syntax.{Code, code_of}
+use Rattle.kahn_net.specs.Valid.{code_gets, code_puts}
 use Rattle.net_check.specs.Claims.{AreOutside, AreResolved, Claims, FaultOfText, IsRefused, Joined, stands_outside, is_taken, UseFault}
 use Rattle.net_check.specs.Resolution.{Reads, ResolvesProcess, channel_names, channels_of, processes_of, variable_names}
 use Rattle.net_check.specs.ResolutionLaws.{Named, put_named, get_named}

@@ -4,7 +4,6 @@ pub mod Claiming
 pub mod Using
 pub mod Resolving
 pub mod Chains
-pub mod Alike
 pub mod Joining
 pub mod Fitting
 pub mod Ending

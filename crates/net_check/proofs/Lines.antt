@@ -9,10 +9,10 @@ use Rattle.net_text.specs.Trees.{InputTree, input_tree}
 use Rattle.net_text.specs.declared.raw_inputs.InputLine.{InputLine}
 use Rattle.net_check.specs.declared.fault.NetFault.{NetFault}
 use Rattle.net_check.specs.declared.fault.NetFault.TheVariants.{NoMemory, TwiceNamed, UnknownName, Limit, MissingInput}
-use Rattle.net_check.specs.declared.program.Channel.{Channel}
-use Rattle.net_check.specs.declared.program.Port.TheVariants.{Outside, Process}
-use Rattle.net_check.specs.Syntax.{Network}
-use Rattle.net_check.specs.Fits.{Fits}
+use Rattle.kahn_net.specs.declared.program.Channel.{Channel}
+use Rattle.kahn_net.specs.declared.program.Port.TheVariants.{Outside, Process}
+use Rattle.kahn_net.specs.Syntax.{Network}
+use Rattle.kahn_net.specs.Fits.{Fits}
 use Rattle.net_check.specs.NetFaults.{SecondUse}
 use Rattle.net_check.specs.Resolution.{AllDifferent, Reads}
 use Rattle.net_check.specs.Binding.{Binds, HasInputFault, IsGiven, IsInput, line_names}

@@ -12,13 +12,13 @@ use Rattle.net_text.specs.declared.tree.Role.{Role}
 use Rattle.net_text.specs.declared.tree.Role.TheVariants.{Input, Output}
 use Rattle.net_check.specs.declared.fault.NetFault.{NetFault}
 use Rattle.net_check.specs.declared.fault.NetFault.TheVariants.{NoMemory, UnknownName, TwoProducers, TwoConsumers}
-use Rattle.net_check.specs.declared.program.Port.{Port}
-use Rattle.net_check.specs.declared.program.Port.TheVariants.{Process}
-use Rattle.net_check.specs.declared.program.Link.{Link}
-use Rattle.net_check.specs.declared.program.Statement.{Statement}
-use Rattle.net_check.specs.declared.program.Statement.TheVariants.{Get as Gets, Assign as Assigns, Put as Puts}
-use Rattle.net_check.specs.Syntax.{Nothing, block_of, links_of, then_of, tree_of}
-use Rattle.net_check.specs.Valid.{block_gets, block_puts}
+use Rattle.kahn_net.specs.declared.program.Port.{Port}
+use Rattle.kahn_net.specs.declared.program.Port.TheVariants.{Process}
+use Rattle.kahn_net.specs.declared.program.Link.{Link}
+use Rattle.kahn_net.specs.declared.program.Statement.{Statement}
+use Rattle.kahn_net.specs.declared.program.Statement.TheVariants.{Get as Gets, Assign as Assigns, Put as Puts}
+use Rattle.kahn_net.specs.Syntax.{Nothing, block_of, links_of, then_of, tree_of}
+use Rattle.kahn_net.specs.Valid.{block_gets, block_puts}
 use Rattle.net_check.specs.Claims.{IsTaken, Claims, IsRefused, stands_outside, is_taken, UseFault}
 use Rattle.net_check.specs.Resolution.{ResolvesBlock, ResolvesExpr, ResolvesLinks}
 use Rattle.net_check.specs.Uses.{Use}

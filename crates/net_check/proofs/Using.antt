@@ -9,7 +9,7 @@ use Rattle.net_text.specs.declared.tree.LinkText.{LinkText}
 use Rattle.net_text.specs.declared.tree.Role.{Role}
 use Rattle.net_check.specs.declared.fault.NetFault.{NetFault}
 use Rattle.net_check.specs.declared.fault.NetFault.TheVariants.{NoMemory, UnknownName, TwoProducers, TwoConsumers}
-use Rattle.net_check.specs.declared.program.Port.{Port}
+use Rattle.kahn_net.specs.declared.program.Port.{Port}
 use Rattle.net_check.specs.Claims.{IsUnknown, IsRefused, stands_outside, is_taken, UseFault, NameFault}
 use Rattle.net_check.specs.Resolution.{channel_names, variable_names}
 use Rattle.net_text.specs.declared.tree.VariableText.{VariableText}

@@ -4,9 +4,9 @@ use Rattle.net_text.specs.Names.{NameTree}
 use Rattle.net_text.specs.Trees.{InputTree}
 use Rattle.net_check.specs.declared.fault.NetFault.{NetFault}
 use Rattle.net_check.specs.declared.fault.NetFault.TheVariants.{NoMemory, TwiceNamed, UnknownName, TwoProducers, TwoConsumers, LoopWithoutGet, Limit, NoProducer, NoConsumer, MissingInput}
-use Rattle.net_check.specs.declared.program.Channel.{Channel}
-use Rattle.net_check.specs.declared.program.Port.TheVariants.{Outside}
-use Rattle.net_check.specs.Syntax.{Network}
+use Rattle.kahn_net.specs.declared.program.Channel.{Channel}
+use Rattle.kahn_net.specs.declared.program.Port.TheVariants.{Outside}
+use Rattle.kahn_net.specs.Syntax.{Network}
 use Rattle.net_check.specs.Resolution.{AllDifferent, Reads}
 use Rattle.net_check.specs.Binding.{IsGiven, IsInput, IsNamedIn, line_names}
 

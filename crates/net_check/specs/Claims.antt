@@ -6,13 +6,13 @@ use Rattle.net_text.specs.declared.tree.Role.{Role}
 use Rattle.net_text.specs.declared.tree.Role.TheVariants.{Input, Output}
 use Rattle.net_check.specs.declared.fault.NetFault.{NetFault}
 use Rattle.net_check.specs.declared.fault.NetFault.TheVariants.{NoMemory, TwiceNamed, UnknownName, TwoProducers, TwoConsumers, LoopWithoutGet, Limit, NoProducer, NoConsumer, MissingInput}
-use Rattle.net_check.specs.declared.program.Port.{Port}
-use Rattle.net_check.specs.declared.program.Port.TheVariants.{Outside, Process}
-use Rattle.net_check.specs.Syntax.{Code}
+use Rattle.kahn_net.specs.declared.program.Port.{Port}
+use Rattle.kahn_net.specs.declared.program.Port.TheVariants.{Outside, Process}
+use Rattle.kahn_net.specs.Syntax.{Code}
 use Rattle.net_check.specs.Uses.{Use, GetFrom, PutOn, Has}
 use Rattle.net_check.specs.NetFaults.{HasFault, name_of, space_of}
 use Rattle.net_check.specs.Resolution.{channel_names, channels_of, processes_of, Reads, ResolvesProcess}
-use Rattle.net_check.specs.Valid.{code_puts, code_gets}
+use Rattle.kahn_net.specs.Valid.{code_puts, code_gets}
 use Rattle.net_text.specs.Trees.{DeclarationTree, ProcessTree}
 
 abbrev pub AreOutside : List Port → Type 0

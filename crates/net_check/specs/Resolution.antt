@@ -5,9 +5,9 @@ use Rattle.net_text.specs.Trees.{ExprTree, LiteralTree, VariableTree, ChainTree,
 use Rattle.net_text.specs.declared.tree.ChannelText.{ChannelText}
 use Rattle.net_text.specs.declared.tree.VariableText.{VariableText}
 use Rattle.net_text.specs.declared.tree.Role.TheVariants.{Input, Output}
-use Rattle.net_check.specs.declared.program.Channel.{Channel}
-use Rattle.net_check.specs.declared.program.Port.TheVariants.{Outside}
-use Rattle.net_check.specs.Syntax.{Tree, Number, Name, Chain, Links, NoLinks, LinkThen, Block, Nothing, GetThen, AssignThen, PutThen, Code, Network}
+use Rattle.kahn_net.specs.declared.program.Channel.{Channel}
+use Rattle.kahn_net.specs.declared.program.Port.TheVariants.{Outside}
+use Rattle.kahn_net.specs.Syntax.{Tree, Number, Name, Chain, Links, NoLinks, LinkThen, Block, Nothing, GetThen, AssignThen, PutThen, Code, Network}
 
 -- the channels that a text declares, in order
 abbrev pub channels_of : List DeclarationTree → List ChannelText

@@ -6,9 +6,9 @@ use Rattle.net_text.specs.Names.{NameTree}
 use Rattle.net_text.specs.Trees.{ExprTree, LiteralTree, VariableTree, ChainTree, LinksTree, NoLinksTree, LinkThenTree, BlockTree, NothingTree, GetTree, AssignTree, PutTree, LoopTree, DeclarationTree, ProcessTree}
 use Rattle.net_text.specs.declared.tree.ChannelText.{ChannelText}
 use Rattle.std.proofs.lemmas.List.{length-map}
-use Rattle.net_check.specs.Syntax.{Tree, Number, Name, Chain, Links, NoLinks, LinkThen, Block, Nothing, GetThen, AssignThen, PutThen, Code, Network}
+use Rattle.kahn_net.specs.Syntax.{Tree, Number, Name, Chain, Links, NoLinks, LinkThen, Block, Nothing, GetThen, AssignThen, PutThen, Code, Network}
 use Rattle.net_check.specs.Resolution.{Reads, Resolves, channels_of, processes_of, ResolvesExpr, ResolvesLinks, ResolvesBlock, ResolvesLoop, ResolvesProcess}
-use Rattle.net_check.specs.Valid.{block_gets, block_puts, body_gets, body_puts, code_gets, code_puts, expr_units, links_units, block_units, body_units, is_passing, expr_within, links_within, block_within, body_within}
+use Rattle.kahn_net.specs.Valid.{block_gets, block_puts, body_gets, body_puts, code_gets, code_puts, expr_units, links_units, block_units, body_units, is_passing, expr_within, links_within, block_within, body_within}
 use Rattle.net_check.specs.Texts.{expr_units_text, links_units_text, block_units_text, loop_units_text, process_units_text, is_passing_text}
 use Rattle.net_check.specs.Uses.{Use, GetFrom, PutOn, expr_uses, block_uses, loop_uses, process_uses, Has}
 use Rattle.net_check.specs.UseLaws.{has_left, has_right, has_cases, expr_no_put, expr_no_get}

@@ -2,20 +2,20 @@
 
 ghost use Rattle.std.specs.Prelude.{◌≡◌, ℕ, ℤ, MatchOption, OnOk, IfErr, IfOk, IsOkUnless, List, length, true, false};
 ghost use Rattle.std.specs.Bool.{MatchBool};
-ghost use Rattle.net_check.specs.declared.program.Port.TheVariants.{Outside};
+ghost use Rattle.kahn_net.specs.declared.program.Port.TheVariants.{Outside};
 ghost use Rattle.net_text.specs.Trees.{input_tree, inputs_tree};
 ghost use Rattle.net_check.specs.Binding.{Binds, HasInputFault, IsInput};
 ghost use Rattle.net_check.specs.Bound.{AreBound, AreEmpty, AreFalse, BindsLine, LineFault, AreNamed, HasUnnamed, MarkedInput};
-ghost use Rattle.net_check.specs.Fits.{Fits};
+ghost use Rattle.kahn_net.specs.Fits.{Fits};
 ghost use Rattle.net_check.specs.Resolution.{Reads};
-ghost use Rattle.net_check.specs.Syntax.{network_of};
+ghost use Rattle.kahn_net.specs.Syntax.{network_of};
 
 use crate::fault::NetFault;
-use crate::history::History;
+use kahn_net::History;
 use crate::inputs::Inputs;
 use crate::lookup::find_name;
 use crate::net::Net;
-use crate::program::{Channel, Port};
+use kahn_net::{Channel, Port};
 use net_text::{InputLine, Name, RawInputs};
 use std::alloc::{AllocError, Global};
 

@@ -10,7 +10,7 @@ ghost use Rattle.net_check.specs.Claims.{AreOutside, Claims, IsTaken, NameFault,
 
 use crate::fault::NetFault;
 use crate::lookup::{find_channel, find_variable};
-use crate::program::Port;
+use kahn_net::Port;
 use net_text::{ChannelText, Name, Role, VariableText};
 use std::alloc::{AllocError, Global};
 use std::marker::Model;
@@ -23,7 +23,7 @@ pub(crate) struct Ports {
 
 impl Model for Ports {
     ghost use Rattle.std.specs.Prelude.{List};
-    ghost use Rattle.net_check.specs.declared.program.Port.{Port};
+    ghost use Rattle.kahn_net.specs.declared.program.Port.{Port};
 
     ghost Value = { List Port };
 

@@ -1,12 +1,12 @@
 //! The items for a network's inputs.
 
 ghost use Rattle.std.specs.Prelude.{◌≡◌, ◌↔◌, ◌≤◌, ℕ, ℤ, IsTrue, List, Some, length, slice_get};
-ghost use Rattle.net_check.specs.Fits.{Fits, IsEmptyInside, IsEmptyWhereMade};
-ghost use Rattle.net_check.specs.Syntax.{network_of};
+ghost use Rattle.kahn_net.specs.Fits.{Fits, IsEmptyInside, IsEmptyWhereMade};
+ghost use Rattle.kahn_net.specs.Syntax.{network_of};
 
-use crate::history::History;
+use kahn_net::History;
 use crate::net::Net;
-use crate::program::{Channel, Port};
+use kahn_net::{Channel, Port};
 use std::marker::Model;
 
 /// The items that come from outside: one list for each channel number, empty where the channel is no input.

@@ -5,7 +5,7 @@ ghost use Rattle.net_check.specs.Joints.{EndFault, EndFaultAmong, HasItsEnds, Ar
 
 use crate::ends::Ends;
 use crate::fault::NetFault;
-use crate::program::{Channel, Port};
+use kahn_net::{Channel, Port};
 use net_text::{ChannelText, Role};
 use std::alloc::Global;
 

@@ -1,4 +1,4 @@
-//! Checked networks: channels and variables by number, validity kept in the types, and what they mean.
+//! Checked networks: a text's names resolved to numbers, validity kept in the types, and the items for their inputs.
 #![tactic(auto)]
 
 mod binding;
@@ -6,24 +6,16 @@ mod checks;
 mod declared;
 mod ends;
 mod fault;
-mod history;
 mod inputs;
 mod join;
 mod limits;
 mod lookup;
 mod names;
 mod net;
-mod program;
 mod resolve;
-mod same;
-mod state;
 
 pub use binding::bind;
 pub use checks::check;
 pub use fault::NetFault;
-pub use history::History;
 pub use inputs::{Inputs, fits};
 pub use net::Net;
-pub use program::{Channel, Expr, Link, Port, Process, Program, Statement};
-pub use same::is_same_process;
-pub use state::{Place, ProcState};

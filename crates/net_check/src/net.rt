@@ -2,10 +2,10 @@
 
 ghost use Rattle.std.specs.Prelude.{◌≡◌, length};
 ghost use Rattle.net_check.specs.Resolution.{AllDifferent};
-ghost use Rattle.net_check.specs.Syntax.{network_of};
-ghost use Rattle.net_check.specs.Valid.{IsValid};
+ghost use Rattle.kahn_net.specs.Syntax.{network_of};
+ghost use Rattle.kahn_net.specs.Valid.{IsValid};
 
-use crate::program::Program;
+use kahn_net::Program;
 use net_text::Name;
 
 /// A valid network, with the names of its channels and of its processes, in order of declaration.

@@ -7,14 +7,14 @@ ghost use Rattle.net_check.specs.Claims.{AreResolved, Claims, FaultOfText, NameF
 ghost use Rattle.net_check.specs.Ready.{AreDeclared};
 ghost use Rattle.net_text.specs.Trees.{ProcessTree};
 ghost use Rattle.net_check.specs.Resolution.{ResolvesBlock, ResolvesExpr, ResolvesLoop, ResolvesProcess, channel_names, initials, variable_names};
-ghost use Rattle.net_check.specs.Syntax.{Nothing, block_of, body_of, code_of, then_of, tree_of};
+ghost use Rattle.kahn_net.specs.Syntax.{Nothing, block_of, body_of, code_of, then_of, tree_of};
 ghost use Rattle.net_check.specs.Uses.{block_uses, expr_uses, loop_uses, process_uses};
-ghost use Rattle.net_check.specs.Valid.{block_gets, block_puts, body_gets, body_puts, code_gets, code_puts};
+ghost use Rattle.kahn_net.specs.Valid.{block_gets, block_puts, body_gets, body_puts, code_gets, code_puts};
 
 use crate::declared::Declared;
 use crate::ends::{Ends, Scope};
 use crate::fault::NetFault;
-use crate::program::{Expr, Link, Process, Statement};
+use kahn_net::{Expr, Link, Process, Statement};
 use net_text::{ChannelText, ExprText, LoopText, ProcessText, StatementText, VariableText};
 use std::alloc::{AllocError, Global};
 

@@ -15,8 +15,8 @@ use Rattle.net_text.specs.declared.token.Symbol.{Symbol}
 use Rattle.net_text.specs.declared.token.Symbol.TheVariants as symbol
 use Rattle.net_text.specs.declared.token.TokenKind.{TokenKind}
 use Rattle.net_text.specs.declared.token.TokenKind.TheVariants as kind
-use Rattle.net_text.specs.declared.tree.Operator.{Operator}
-use Rattle.net_text.specs.declared.tree.Operator.TheVariants.{Add}
+use Rattle.kahn_net.specs.declared.program.Operator.{Operator}
+use Rattle.kahn_net.specs.declared.program.Operator.TheVariants.{Add}
 use Rattle.net_text.specs.declared.tree.Role.{Role}
 use Rattle.net_text.specs.declared.tree.Role.TheVariants.{Input, Output}
 use Rattle.net_text.specs.declared.tree.ChannelText.{ChannelText}

@@ -1,7 +1,7 @@
 -- The tree of a network's text without the pointers of its boxes and vectors: two texts that read alike, line by line, are equal here.
 use Rattle.std.specs.Prelude.{ℕ, ℤ, List, [], ◌∷◌, map, Option, Some, None}
 use Rattle.net_text.specs.Names.{NameTree}
-use Rattle.net_text.specs.declared.tree.Operator.{Operator}
+use Rattle.kahn_net.specs.declared.program.Operator.{Operator}
 use Rattle.net_text.specs.declared.tree.ExprText.{ExprText, Literal, Variable, Chain', Row_of-LinkText, end_of-LinkText, more_of-LinkText}
 use Rattle.net_text.specs.declared.tree.LinkText.{LinkText}
 use Rattle.net_text.specs.declared.tree.StatementText.{StatementText}

@@ -18,6 +18,6 @@ pub use raw_inputs::{InputLine, RawInputs};
 pub use text::{LONGEST_TEXT, parse, tokens};
 pub use token::{Keyword, Symbol, Token, TokenKind};
 pub use tree::{
-    ChannelText, Declaration, ExprText, LinkText, LoopText, NetText, NodeText, Operator,
-    ProcessText, Role, StatementText, VariableText,
+    ChannelText, Declaration, ExprText, LinkText, LoopText, NetText, NodeText, ProcessText, Role,
+    StatementText, VariableText,
 };

@@ -12,9 +12,10 @@ ghost use Rattle.net_text.specs.declared.parser.ParseError.TheVariants.{NoMemory
 use crate::name::Name;
 use crate::token::{Keyword, Symbol, Token, TokenKind};
 use crate::tree::{
-    ChannelText, Declaration, ExprText, LinkText, LoopText, NetText, NodeText, Operator,
+    ChannelText, Declaration, ExprText, LinkText, LoopText, NetText, NodeText,
     ProcessText, Role, StatementText, VariableText,
 };
+use kahn_net::Operator;
 use std::alloc::{AllocError, AllocFailed, Global};
 use std::marker::Model;
 

@@ -1,6 +1,7 @@
 //! The tree of a network's text, with the lines that a fault may have to name.
 
 use crate::name::Name;
+use kahn_net::Operator;
 
 /// What stands outside the network at a channel's end.
 #[derive(Clone, Copy, Debug, PartialEq, Eq)]
@@ -29,12 +30,6 @@ pub struct VariableText {
     pub initial: i64,
     /// The line of the declaration's first word.
     pub line: usize,
-}
-
-/// What joins two values in an expression.
-#[derive(Clone, Copy, Debug, PartialEq, Eq)]
-pub enum Operator {
-    Add,
 }
 
 /// An expression.

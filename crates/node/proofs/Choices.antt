@@ -3,17 +3,17 @@ use Rattle.std.proofs.Common.{◌≡◌, ℕ, ◌<◌, ◌≤◌, Bool, true, fa
 use Rattle.std.specs.Prelude.{slice_get, find, cond, IfSome, option_copied}
 use Rattle.std.proofs.lemmas.Option.{slice_get_within}
 use Rattle.std.proofs.lemmas.List.{length-map}
-use Rattle.net_check.specs.Syntax.{Code, Network, code_of, network_of}
-use Rattle.net_check.specs.Processes.{Standing}
-use Rattle.net_check.specs.ValidLaws.{code_at, code_past}
-use Rattle.net_check.specs.NextActs.{next_of}
-use Rattle.net_check.specs.declared.program.Channel.{Channel}
-use Rattle.net_check.specs.declared.program.Program.{Program}
-use Rattle.net_check.specs.declared.program.Process.{Process}
+use Rattle.kahn_net.specs.Syntax.{Code, Network, code_of, network_of}
+use Rattle.kahn_net.specs.Processes.{Standing}
+use Rattle.kahn_net.specs.Laws.Valid.{code_at, code_past}
+use Rattle.kahn_net.specs.NextActs.{next_of}
+use Rattle.kahn_net.specs.declared.program.Channel.{Channel}
+use Rattle.kahn_net.specs.declared.program.Program.{Program}
+use Rattle.kahn_net.specs.declared.program.Process.{Process}
 use Rattle.proc_step.specs.NextView.{next_view}
 use Rattle.proc_step.specs.declared.next.NextAct.{NextAct}
-use Rattle.node.specs.ProcessView.{SavedProcessView}
-use Rattle.node.specs.ImageView.{ImageView}
+use Rattle.record.specs.ProcessView.{SavedProcessView}
+use Rattle.record.specs.ImageView.{ImageView}
 use Rattle.node.specs.Choosing.{has_item, has_room, can_go, next_at, is_ready, is_after, ready_after}
 
 -- the code of a process, as it was looked up

@@ -1,7 +1,7 @@
 -- One more record joins those that a cell has held.
 use Rattle.std.proofs.Common.{◌≡◌, inl, inr, ⊎_elim, ℕ, zero, suc, ◌≤◌, List, [], ◌∷◌, ◌++◌, length, drop, Option, Some, refl, sym, subst, arith, length-append}
 use Rattle.sector_disk.specs.Clock.{Elapses}
-use Rattle.node.specs.RecordView.{RecordView}
+use Rattle.record.specs.RecordView.{RecordView}
 use Rattle.node.specs.MemCell.{IsOneOf, IsLeft}
 
 keeps : (past : List RecordView) (held : RecordView) (left : Option RecordView) → IsOneOf past left → IsOneOf (past ++ held ∷ []) left

@@ -4,15 +4,21 @@ use Rattle.std.specs.Prelude.{slice_get, slice_set, ◌==◌}
 use Rattle.std.proofs.lemmas.Option.{slice_get_read}
 use Rattle.std.proofs.lemmas.List.{get_or-set_same}
 use Rattle.std.proofs.lemmas.Bool.{eq-eqb}
-use Rattle.node.proofs.Walks.{changed_back}
-use Rattle.net_check.specs.Processes.{Standing}
-use Rattle.net_check.specs.declared.program.Channel.{Channel}
-use Rattle.node.specs.Ends.{received_at}
-use Rattle.node.specs.ProcessView.{SavedProcessView}
-use Rattle.node.specs.Installing.{moved, pushed, counted, put_on, taken_from, saved_pushed, saved_counted}
-use Rattle.node.specs.declared.record.SavedEnd.{SavedEnd}
-use Rattle.node.specs.declared.record.End.{End}
-use Rattle.node.specs.declared.record.End.TheVariants.{Receives, Sends, Both}
+use Rattle.kahn_net.specs.Processes.{Standing}
+use Rattle.kahn_net.specs.declared.program.Channel.{Channel}
+use Rattle.record.specs.Ends.{received_at}
+use Rattle.record.specs.ProcessView.{SavedProcessView}
+use Rattle.record.specs.Changes.{pushed, counted}
+use Rattle.node.specs.Installing.{moved, put_on, taken_from, saved_pushed, saved_counted}
+use Rattle.record.specs.declared.image.SavedEnd.{SavedEnd}
+use Rattle.record.specs.declared.image.End.{End}
+use Rattle.record.specs.declared.image.End.TheVariants.{Receives, Sends, Both}
+
+-- an element is changed, and then changed back
+changed_back : {A : Type 0} (xs : List A) (k : ℕ) (x y z : A) → slice_get xs k ≡ Some x → z ≡ x → slice_set (slice_set xs k y) k z ≡ xs
+changed_back [] k x y z h is = absurd (cc)
+changed_back (w ∷ xs) zero x y z h is = let same : w ≡ x = cc in ap (λ v. v ∷ xs) (is ∙ sym same)
+changed_back (w ∷ xs) (suc k) x y z h is = ap (λ rest. w ∷ rest) (changed_back xs k x y z h is)
 
 abbrev stands_at : ℕ → Standing → SavedProcessView
 stands_at number standing = record { number = number; standing = standing }

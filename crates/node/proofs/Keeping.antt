@@ -3,12 +3,12 @@ use Rattle.std.proofs.Common.{◌≡◌, ◌⊎◌, ℕ, ◌≤◌, Bool, true, 
 use Rattle.std.specs.Prelude.{Result, Ok, Err, IfOk, OnErr, IsTrue, ◌&&◌}
 use Rattle.std.specs.declared.alloc.AllocError.{AllocError}
 use Rattle.sector_disk.specs.Clock.{LeavesOnly, Only}
-use Rattle.node.specs.ImageView.{ImageView}
-use Rattle.node.specs.Ends.{sent_of}
-use Rattle.node.specs.RecordView.{RecordView}
+use Rattle.record.specs.ImageView.{ImageView}
+use Rattle.record.specs.Ends.{sent_of}
+use Rattle.record.specs.RecordView.{RecordView}
 use Rattle.node.specs.NodeView.{NodeView}
 use Rattle.node.specs.Starting.{with_own, with_kept, decided, decided_with, may_start, may_decide, is_own, stopped, IsStart, IsDecision, HasPutMore, LeavesAsMuch, AreInOrder}
-use Rattle.node.specs.declared.record.Tentative.{Tentative}
+use Rattle.record.specs.declared.record.Tentative.{Tentative}
 use Rattle.node.specs.declared.putting.Putting.{Putting}
 use Rattle.node.specs.declared.putting.Putting.TheVariants.{NotDue, Stored, Refused, Failed}
 

@@ -1,6 +1,5 @@
 mod History
 mod Slices
-mod Walks
 mod Installs
 mod Keeping
 mod Sending

@@ -3,17 +3,18 @@ use Rattle.std.proofs.Common.{◌≡◌, ◌⊎◌, ℕ, zero, suc, ◌+◌, ◌
 use Rattle.std.specs.Prelude.{◌==◌, eqb, nat_lt, if◌then◌else◌, find, option_map}
 use Rattle.std.proofs.lemmas.List.{length-drop}
 use Rattle.std.proofs.lemmas.Bool.{cases_lt, lt-ltb, le-ltb}
-use Rattle.net_check.specs.Processes.{Standing}
-use Rattle.net_check.specs.declared.program.Channel.{Channel}
-use Rattle.outlet.specs.LogState.{LogState, log_end, trimmed}
-use Rattle.node.specs.ImageView.{ImageView}
-use Rattle.node.specs.Ends.{end_of, log_at, log_of, sent_in, sent_of}
-use Rattle.node.specs.Installing.{put_on, taken_from, log_with, pushed, counted, saved_pushed, saved_counted, installed}
-use Rattle.node.specs.Trimming.{trimmed_log, trimmed_end, trimmed_saved, trimmed_image}
+use Rattle.kahn_net.specs.Processes.{Standing}
+use Rattle.kahn_net.specs.declared.program.Channel.{Channel}
+use Rattle.retained.specs.LogState.{LogState, log_end, trimmed}
+use Rattle.record.specs.ImageView.{ImageView}
+use Rattle.record.specs.Ends.{end_of, log_at, log_of, sent_in, sent_of}
+use Rattle.record.specs.Changes.{log_with, pushed, counted}
+use Rattle.node.specs.Installing.{put_on, taken_from, saved_pushed, saved_counted, installed}
+use Rattle.record.specs.Changes.{trimmed_log, trimmed_end, trimmed_saved, trimmed_image}
 use Rattle.node.specs.Starting.{HasPutMore}
-use Rattle.node.specs.declared.record.SavedEnd.{SavedEnd}
-use Rattle.node.specs.declared.record.End.{End}
-use Rattle.node.specs.declared.record.End.TheVariants.{Receives, Sends, Both}
+use Rattle.record.specs.declared.image.SavedEnd.{SavedEnd}
+use Rattle.record.specs.declared.image.End.{End}
+use Rattle.record.specs.declared.image.End.TheVariants.{Receives, Sends, Both}
 
 -- so many items were put at an end
 abbrev sent_at : Option End → ℕ

@@ -1,19 +1,19 @@
 -- What a node keeps when a turn comes back, and when an item leaves.
 use Rattle.std.proofs.Common.{◌≡◌, ℕ, Bool, true, false, List, ℤ, refl, sym, ap, subst}
 use Rattle.std.specs.Prelude.{Result, Ok, Err, IfOk, OnErr, IsErrOf, IsTrue}
-use Rattle.net_check.specs.Processes.{Standing}
-use Rattle.net_check.specs.declared.program.Channel.{Channel}
-use Rattle.outlet.specs.declared.fault.LogFault.{LogFault}
+use Rattle.kahn_net.specs.Processes.{Standing}
+use Rattle.kahn_net.specs.declared.program.Channel.{Channel}
+use Rattle.retained.specs.declared.fault.LogFault.{LogFault}
 use Rattle.outlet.specs.declared.fault.OutletFault.{OutletFault}
 use Rattle.outlet.specs.declared.fault.OutletFault.TheVariants.{NoMemory, Failed}
-use Rattle.node.specs.ImageView.{ImageView}
+use Rattle.record.specs.ImageView.{ImageView}
 use Rattle.node.specs.JobView.{JobView}
-use Rattle.node.specs.RecordView.{RecordView}
+use Rattle.record.specs.RecordView.{RecordView}
 use Rattle.node.specs.NodeView.{NodeView}
 use Rattle.node.specs.Installing.{IsInstall, with_turn}
 use Rattle.node.specs.Starting.{HasPutMore, AreInOrder}
-use Rattle.node.specs.Trimming.{trimmed_image}
-use Rattle.node.specs.declared.record.Tentative.{Tentative}
+use Rattle.record.specs.Changes.{trimmed_image}
+use Rattle.record.specs.declared.record.Tentative.{Tentative}
 use Rattle.node.proofs.Sending.{put_more_installed, put_more_trimmed}
 
 -- the record and whether the node is up stay, and the images are in order

@@ -1,15 +1,15 @@
 -- Which process of a node goes on next, and the job that it is given.
 use Rattle.std.specs.Prelude.{ℕ, ◌-◌, ◌^◌, Bool, true, false, ◌&&◌, nat_lt, if◌then◌else◌, ℤ, List, length, find, Option, Some, None, slice_get}
-use Rattle.net_check.specs.Streams.{history_of}
-use Rattle.net_check.specs.Syntax.{Code, Network}
-use Rattle.net_check.specs.Processes.{Standing}
-use Rattle.net_check.specs.NextActs.{Next, Begins, Gets, Puts, NoNext, next_of}
-use Rattle.net_check.specs.declared.program.Channel.{Channel}
-use Rattle.net_check.specs.declared.program.Port.{Port}
-use Rattle.net_check.specs.declared.program.Port.TheVariants.{Outside, Process}
-use Rattle.node.specs.ProcessView.{SavedProcessView}
-use Rattle.node.specs.ImageView.{ImageView}
-use Rattle.node.specs.Ends.{received_of, log_of}
+use Rattle.kahn_net.specs.Streams.{history_of}
+use Rattle.kahn_net.specs.Syntax.{Code, Network}
+use Rattle.kahn_net.specs.Processes.{Standing}
+use Rattle.kahn_net.specs.NextActs.{Next, Begins, Gets, Puts, NoNext, next_of}
+use Rattle.kahn_net.specs.declared.program.Channel.{Channel}
+use Rattle.kahn_net.specs.declared.program.Port.{Port}
+use Rattle.kahn_net.specs.declared.program.Port.TheVariants.{Outside, Process}
+use Rattle.record.specs.ProcessView.{SavedProcessView}
+use Rattle.record.specs.ImageView.{ImageView}
+use Rattle.record.specs.Ends.{received_of, log_of}
 use Rattle.node.specs.JobView.{JobView}
 use Rattle.node.specs.NodeView.{NodeView}
 use Rattle.node.specs.Granting.{room_in, job_for}

@@ -1,9 +1,9 @@
 -- Laws of a job that is granted: it is of where its process stands.
 use Rattle.std.proofs.Common.{◌≡◌, ◌⊎◌, inl, inr, ℕ, Bool, true, false, eqb, cond, ℤ, List, length, Option, Some, None, refl, ap, subst, ◌∙◌, arith}
 use Rattle.std.specs.Prelude.{slice_get, find, ◌&&◌}
-use Rattle.net_check.specs.Syntax.{Network}
-use Rattle.node.specs.ProcessView.{SavedProcessView}
-use Rattle.node.specs.ImageView.{ImageView}
+use Rattle.kahn_net.specs.Syntax.{Network}
+use Rattle.record.specs.ProcessView.{SavedProcessView}
+use Rattle.record.specs.ImageView.{ImageView}
 use Rattle.node.specs.JobView.{JobView}
 use Rattle.node.specs.NodeView.{NodeView}
 use Rattle.node.specs.Granting.{job_for}

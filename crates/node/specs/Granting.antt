@@ -1,14 +1,14 @@
 -- What a job has at hand, and the room that it has.
 use Rattle.std.specs.Prelude.{ℕ, suc, ◌-◌, ◌^◌, min, Bool, false, ◌==◌, if◌then◌else◌, ℤ, List, [], ◌∷◌, length, take, drop, Option, Some, None, slice_get}
-use Rattle.net_check.specs.Streams.{history_of}
-use Rattle.net_check.specs.Syntax.{Network}
-use Rattle.net_check.specs.Processes.{Standing}
-use Rattle.net_check.specs.declared.program.Channel.{Channel}
-use Rattle.net_check.specs.declared.program.Port.{Port}
-use Rattle.net_check.specs.declared.program.Port.TheVariants.{Outside, Process}
-use Rattle.outlet.specs.LogState.{LogState, log_end}
-use Rattle.node.specs.ImageView.{ImageView}
-use Rattle.node.specs.Ends.{received_of, log_of}
+use Rattle.kahn_net.specs.Streams.{history_of}
+use Rattle.kahn_net.specs.Syntax.{Network}
+use Rattle.kahn_net.specs.Processes.{Standing}
+use Rattle.kahn_net.specs.declared.program.Channel.{Channel}
+use Rattle.kahn_net.specs.declared.program.Port.{Port}
+use Rattle.kahn_net.specs.declared.program.Port.TheVariants.{Outside, Process}
+use Rattle.retained.specs.LogState.{LogState, log_end}
+use Rattle.record.specs.ImageView.{ImageView}
+use Rattle.record.specs.Ends.{received_of, log_of}
 use Rattle.node.specs.JobView.{JobView}
 
 -- this process stands at an end of a channel

@@ -2,11 +2,11 @@
 use Rattle.std.proofs.Common.{◌≡◌, ℕ, zero, suc, ◌+◌, ◌<◌, Bool, true, false, eqb, cond, List, [], ◌∷◌, length, map, Option, Some, None, option_map, refl, sym, ap, ◌∙◌, arith}
 use Rattle.std.specs.Prelude.{slice_get, find}
 use Rattle.std.proofs.lemmas.Bool.{eq-eqb, ne_eqb}
-use Rattle.net_check.specs.Syntax.{Network}
-use Rattle.node.specs.ImageView.{ImageView}
-use Rattle.node.specs.Ends.{end_of, received_of, received_at, log_of, log_at}
+use Rattle.kahn_net.specs.Syntax.{Network}
+use Rattle.record.specs.ImageView.{ImageView}
+use Rattle.record.specs.Ends.{end_of, received_of, received_at, log_of, log_at}
 use Rattle.node.specs.Reached.{numbers_from, IsLaidOut}
-use Rattle.node.specs.declared.record.SavedEnd.{SavedEnd}
+use Rattle.record.specs.declared.image.SavedEnd.{SavedEnd}
 
 -- Lists whose elements are numbered in order
 

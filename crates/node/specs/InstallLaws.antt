@@ -5,31 +5,32 @@ use Rattle.std.proofs.lemmas.Bool.{eq-eqb, ne_eqb}
 use Rattle.std.proofs.lemmas.Bool.Decides.{eqb_tells}
 use Rattle.std.proofs.lemmas.List.{take-append-drop, length-append, length-take-le, take_at, drop-append-le}
 use Rattle.std.proofs.lemmas.Option.{slice_get_cases, slice_get_within}
-use Rattle.net_check.specs.Streams.{history_of}
-use Rattle.net_check.specs.Syntax.{Code, Network}
-use Rattle.net_check.specs.Statements.{Step}
-use Rattle.net_check.specs.Processes.{Standing, StandsAt, process_trace, sent_on, got_on}
-use Rattle.net_check.specs.Approximations.{approximation}
-use Rattle.net_check.specs.GotLaws.{got_on-append}
-use Rattle.net_check.specs.PutLaws.{sent_on-append}
-use Rattle.net_check.specs.declared.program.Channel.{Channel}
-use Rattle.net_check.specs.declared.program.Port.{Port}
-use Rattle.net_check.specs.declared.program.Port.TheVariants.{Process}
-use Rattle.outlet.specs.LogState.{LogState, IsLogOf}
+use Rattle.kahn_net.specs.Streams.{history_of}
+use Rattle.kahn_net.specs.Syntax.{Code, Network}
+use Rattle.kahn_net.specs.Statements.{Step}
+use Rattle.kahn_net.specs.Processes.{Standing, StandsAt, process_trace, sent_on, got_on}
+use Rattle.kahn_net.specs.Approximations.{approximation}
+use Rattle.kahn_net.specs.Laws.Got.{got_on-append}
+use Rattle.kahn_net.specs.Laws.Puts.{sent_on-append}
+use Rattle.kahn_net.specs.declared.program.Channel.{Channel}
+use Rattle.kahn_net.specs.declared.program.Port.{Port}
+use Rattle.kahn_net.specs.declared.program.Port.TheVariants.{Process}
+use Rattle.retained.specs.LogState.{LogState, IsLogOf}
 use Rattle.proc_step.specs.Turns.{AreNext, Turn, IsTurn}
-use Rattle.node.specs.ProcessView.{SavedProcessView}
-use Rattle.node.specs.ImageView.{ImageView}
+use Rattle.record.specs.ProcessView.{SavedProcessView}
+use Rattle.record.specs.ImageView.{ImageView}
 use Rattle.node.specs.JobView.{JobView}
 use Rattle.node.specs.NodeView.{NodeView}
-use Rattle.node.specs.Ends.{received_at, log_at}
+use Rattle.record.specs.Ends.{received_at, log_at}
 use Rattle.node.specs.Granting.{is_process, items_from}
-use Rattle.node.specs.Installing.{is_consumer, is_producer, taken_from, put_on, log_with, pushed, counted, saved_pushed, saved_counted, moved, installed, with_turn}
+use Rattle.record.specs.Changes.{log_with, pushed, counted}
+use Rattle.node.specs.Installing.{is_consumer, is_producer, taken_from, put_on, saved_pushed, saved_counted, moved, installed, with_turn}
 use Rattle.node.specs.Reached.{first_acts, acts_of, EndStands, ImageStands, HasReached, numbers_from, is_counting, IsLaidOut, IsJobOf, IsTurnOf, HasComeOn}
 use Rattle.node.specs.ImageLaws.{numbered_mark, numbered_count, find_within, map_got}
 use Rattle.node.specs.ReachedLaws.{next_are_at_hand}
-use Rattle.node.specs.declared.record.SavedEnd.{SavedEnd}
-use Rattle.node.specs.declared.record.End.{End}
-use Rattle.node.specs.declared.record.End.TheVariants.{Receives, Sends, Both}
+use Rattle.record.specs.declared.image.SavedEnd.{SavedEnd}
+use Rattle.record.specs.declared.image.End.{End}
+use Rattle.record.specs.declared.image.End.TheVariants.{Receives, Sends, Both}
 
 -- Lists
 

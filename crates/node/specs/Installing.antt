@@ -1,18 +1,18 @@
 -- An image after a turn of one of its processes.
 use Rattle.std.specs.Prelude.{◌≡◌, ℕ, ◌+◌, ◌-◌, ◌≤◌, ◌^◌, Bool, true, false, ◌==◌, if◌then◌else◌, ℤ, List, [], ◌∷◌, ◌++◌, length, map, Option, Some, None, slice_get, slice_index}
-use Rattle.net_check.specs.Streams.{history_of}
-use Rattle.net_check.specs.Processes.{Standing}
-use Rattle.net_check.specs.declared.program.Channel.{Channel}
-use Rattle.outlet.specs.LogState.{LogState, Overfills}
-use Rattle.node.specs.ProcessView.{SavedProcessView}
-use Rattle.node.specs.ImageView.{ImageView}
-use Rattle.node.specs.Ends.{received_at, log_at}
+use Rattle.kahn_net.specs.Streams.{history_of}
+use Rattle.kahn_net.specs.Processes.{Standing}
+use Rattle.kahn_net.specs.declared.program.Channel.{Channel}
+use Rattle.record.specs.Changes.{pushed, counted, LogTakes}
+use Rattle.record.specs.ProcessView.{SavedProcessView}
+use Rattle.record.specs.ImageView.{ImageView}
+use Rattle.record.specs.Ends.{received_at, log_at}
 use Rattle.node.specs.JobView.{JobView}
 use Rattle.node.specs.NodeView.{NodeView}
 use Rattle.node.specs.Granting.{is_process}
-use Rattle.node.specs.declared.record.SavedEnd.{SavedEnd}
-use Rattle.node.specs.declared.record.End.{End}
-use Rattle.node.specs.declared.record.End.TheVariants.{Receives, Sends, Both}
+use Rattle.record.specs.declared.image.SavedEnd.{SavedEnd}
+use Rattle.record.specs.declared.image.End.{End}
+use Rattle.record.specs.declared.image.End.TheVariants.{Receives, Sends, Both}
 
 -- this process gets from the channel, or puts on it
 abbrev pub is_consumer : ℕ → Option Channel → Bool
@@ -29,22 +29,6 @@ taken_from channels process taken channel = if is_consumer process (slice_get ch
 
 abbrev pub put_on : List Channel → ℕ → List (List ℤ) → ℕ → List ℤ
 put_on channels process sent channel = if is_producer process (slice_get channels channel) then history_of sent channel else []
-
--- a log with these items behind its own
-abbrev pub log_with : List ℤ → LogState → LogState
-log_with items log = record { base = log.base; items = log.items ++ items }
-
--- an end of a channel after these items were put
-abbrev pub pushed : List ℤ → End → End
-pushed items (Receives received) = Receives received
-pushed items (Sends log) = Sends (log_with items log)
-pushed items (Both received log) = Both received (log_with items log)
-
--- an end of a channel after so many items were got
-abbrev pub counted : ℕ → End → End
-counted count (Receives received) = Receives (received + count)
-counted count (Sends log) = Sends log
-counted count (Both received log) = Both (received + count) log
 
 abbrev pub saved_pushed : List Channel → ℕ → List (List ℤ) → SavedEnd → SavedEnd
 saved_pushed channels process sent saved = record { channel = saved.channel; end = pushed (put_on channels process sent saved.channel) saved.end }
@@ -64,11 +48,6 @@ installed channels process standing taken sent image = record {
   processes = moved process standing image.processes;
   ends = map (saved_counted channels process taken) (map (saved_pushed channels process sent) image.ends);
 }
-
--- what is put on this end fits its log
-abbrev pub LogTakes : ℕ → Option LogState → Type 0
-LogTakes count None = Unit {0}
-LogTakes count (Some log) = ¬ (Overfills log count)
 
 -- an end takes what the turn took and put
 pub record EndTakes (channels : List Channel) (process : ℕ) (taken : List ℕ) (sent : List (List ℤ)) (saved : SavedEnd) : Type 0 where

@@ -1,8 +1,8 @@
 -- A job without pointers: two jobs are the same where these are equal.
 use Rattle.std.specs.Prelude.{ℕ, ℤ, List, Option, slice_get}
-use Rattle.net_check.specs.Syntax.{Code, network_of}
-use Rattle.net_check.specs.Processes.{Standing}
-use Rattle.net_check.specs.States.{standing_of}
+use Rattle.kahn_net.specs.Syntax.{Code, network_of}
+use Rattle.kahn_net.specs.Processes.{Standing}
+use Rattle.kahn_net.specs.States.{standing_of}
 use Rattle.proc_step.specs.declared.job.Job.{Job}
 
 pub record JobView : Type 0 where

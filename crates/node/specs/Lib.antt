@@ -1,8 +1,3 @@
-pub mod ProcessView
-pub mod ImageView
-pub mod DecisionView
-pub mod RecordView
-pub mod Ends
 pub mod Cell
 pub mod MemCell
 pub mod JobView

@@ -1,7 +1,7 @@
 -- What a cell in memory shows.
 use Rattle.std.specs.Prelude.{◌≡◌, ◌⊎◌, ℕ, Bool, true, List, [], ◌∷◌, length, drop, Option, Some}
 use mathlib.Core.Logic.{inl, inr}
-use Rattle.node.specs.RecordView.{RecordView}
+use Rattle.record.specs.RecordView.{RecordView}
 use Rattle.node.specs.declared.memory.MemCell.{MemCell}
 
 abbrev pub value_of : MemCell → RecordView

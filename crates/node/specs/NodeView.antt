@@ -1,7 +1,7 @@
 -- A node without pointers, its cell aside.
 use Rattle.std.specs.Prelude.{ℕ, Bool, Option, option_map}
-use Rattle.node.specs.ImageView.{ImageView}
-use Rattle.node.specs.RecordView.{RecordView}
+use Rattle.record.specs.ImageView.{ImageView}
+use Rattle.record.specs.RecordView.{RecordView}
 use Rattle.node.specs.JobView.{JobView, job_view}
 use Rattle.node.specs.declared.state.NodeState.{NodeState}
 

@@ -1,19 +1,19 @@
 -- Laws of a node before its first event: no process has made an act.
 use Rattle.std.proofs.Common.{◌≡◌, ℕ, zero, suc, ◌+◌, true, ℤ, List, [], ◌∷◌, length, drop, map, Option, Some, None, refl, sym, ap, subst, ◌∙◌, arith}
 use Rattle.std.specs.Prelude.{slice_get}
-use Rattle.net_check.specs.Syntax.{Code, Network}
-use Rattle.net_check.specs.Processes.{Standing, NotBegun, StandsAt, got_on, sent_on}
-use Rattle.net_check.specs.declared.program.Channel.{Channel}
-use Rattle.net_check.specs.declared.program.Port.{Port}
-use Rattle.net_check.specs.declared.program.Port.TheVariants.{Outside, Process}
-use Rattle.outlet.specs.LogState.{LogState, IsLogOf}
-use Rattle.node.specs.ProcessView.{SavedProcessView}
-use Rattle.node.specs.Ends.{received_at, log_at}
+use Rattle.kahn_net.specs.Syntax.{Code, Network}
+use Rattle.kahn_net.specs.Processes.{Standing, NotBegun, StandsAt, got_on, sent_on}
+use Rattle.kahn_net.specs.declared.program.Channel.{Channel}
+use Rattle.kahn_net.specs.declared.program.Port.{Port}
+use Rattle.kahn_net.specs.declared.program.Port.TheVariants.{Outside, Process}
+use Rattle.retained.specs.LogState.{LogState, IsLogOf}
+use Rattle.record.specs.ProcessView.{SavedProcessView}
+use Rattle.record.specs.Ends.{received_at, log_at}
 use Rattle.node.specs.Opening.{opening_processes, opening_end, opening_ends, opening_image, opening_record, opening_node}
 use Rattle.node.specs.Starting.{AreInOrder}
 use Rattle.node.specs.Reached.{first_acts, EndStands, ImageStands, HasReached, numbers_from, is_counting, is_logging, IsLaidOut, CountsAreWithin, LogsAreWithin}
-use Rattle.node.specs.declared.record.SavedEnd.{SavedEnd}
-use Rattle.node.specs.declared.record.End.{End}
+use Rattle.record.specs.declared.image.SavedEnd.{SavedEnd}
+use Rattle.record.specs.declared.image.End.{End}
 
 -- which entry stands where
 process_at : (number : ℕ) (codes : List Code) (k : ℕ) (saved : SavedProcessView) → slice_get (opening_processes number codes) k ≡ Some saved

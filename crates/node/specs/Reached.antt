@@ -1,24 +1,24 @@
 -- How far a node has come: its images stand where its processes stand after so many acts, on one approximation of the network's histories.
 use Rattle.std.specs.Prelude.{◌≡◌, ℕ, zero, suc, ◌≤◌, ◌==◌, Bool, true, false, ℤ, List, [], ◌∷◌, map, length, take, find, Option, Some, None, slice_get, slice_index}
-use Rattle.net_check.specs.Streams.{history_of}
-use Rattle.net_check.specs.Syntax.{Code, Network}
-use Rattle.net_check.specs.Statements.{Step}
-use Rattle.net_check.specs.Processes.{Standing, StandsAt, process_trace, sent_on, got_on}
-use Rattle.net_check.specs.Approximations.{approximation}
-use Rattle.net_check.specs.declared.program.Channel.{Channel}
-use Rattle.net_check.specs.declared.program.Port.TheVariants.{Process}
+use Rattle.kahn_net.specs.Streams.{history_of}
+use Rattle.kahn_net.specs.Syntax.{Code, Network}
+use Rattle.kahn_net.specs.Statements.{Step}
+use Rattle.kahn_net.specs.Processes.{Standing, StandsAt, process_trace, sent_on, got_on}
+use Rattle.kahn_net.specs.Approximations.{approximation}
+use Rattle.kahn_net.specs.declared.program.Channel.{Channel}
+use Rattle.kahn_net.specs.declared.program.Port.TheVariants.{Process}
 use Rattle.proc_step.specs.Turns.{IsTurn}
-use Rattle.outlet.specs.LogState.{LogState, IsLogOf, IsWithinLimits}
-use Rattle.node.specs.ProcessView.{SavedProcessView}
-use Rattle.node.specs.ImageView.{ImageView}
-use Rattle.node.specs.Ends.{received_at, log_at}
+use Rattle.retained.specs.LogState.{LogState, IsLogOf, IsWithinLimits}
+use Rattle.record.specs.ProcessView.{SavedProcessView}
+use Rattle.record.specs.ImageView.{ImageView}
+use Rattle.record.specs.Ends.{received_at, log_at}
 use Rattle.node.specs.JobView.{JobView}
 use Rattle.node.specs.NodeView.{NodeView}
 use Rattle.node.specs.Granting.{items_from, room_from}
-use Rattle.node.specs.declared.record.SavedEnd.{SavedEnd}
-use Rattle.node.specs.declared.record.End.{End}
-use Rattle.node.specs.declared.record.End.TheVariants.{Receives, Sends, Both}
-use Rattle.node.specs.declared.record.Tentative.{Tentative}
+use Rattle.record.specs.declared.image.SavedEnd.{SavedEnd}
+use Rattle.record.specs.declared.image.End.{End}
+use Rattle.record.specs.declared.image.End.TheVariants.{Receives, Sends, Both}
+use Rattle.record.specs.declared.record.Tentative.{Tentative}
 
 -- the first m acts of a process on these histories
 abbrev pub first_acts : Option Code → List (List ℤ) → ℕ → List Step

@@ -4,22 +4,22 @@ use Rattle.std.specs.Prelude.{slice_get}
 use Rattle.std.proofs.lemmas.Bool.Decides.{eqb_tells}
 use Rattle.std.proofs.lemmas.List.{get_or_past, take-append-drop}
 use Rattle.std.proofs.lemmas.Option.{slice_get_cases, slice_get_within}
-use Rattle.net_check.specs.Streams.{history_of, IsPrefix}
-use Rattle.net_check.specs.PrefixLaws.{prefix_nil, prefix_along}
-use Rattle.net_check.specs.Syntax.{Network}
-use Rattle.net_check.specs.Processes.{got_on}
-use Rattle.net_check.specs.Approximations.{approximation, next_history}
-use Rattle.net_check.specs.ApproximationLaws.{next_histories-at}
-use Rattle.net_check.specs.declared.program.Channel.{Channel}
-use Rattle.net_check.specs.declared.program.Port.{Port}
-use Rattle.net_check.specs.declared.program.Port.TheVariants.{Outside, Process}
+use Rattle.kahn_net.specs.Streams.{history_of, IsPrefix}
+use Rattle.kahn_net.specs.Laws.Prefixes.{prefix_nil, prefix_along}
+use Rattle.kahn_net.specs.Syntax.{Network}
+use Rattle.kahn_net.specs.Processes.{got_on}
+use Rattle.kahn_net.specs.Approximations.{approximation, next_history}
+use Rattle.kahn_net.specs.Laws.Approximations.{next_histories-at}
+use Rattle.kahn_net.specs.declared.program.Channel.{Channel}
+use Rattle.kahn_net.specs.declared.program.Port.{Port}
+use Rattle.kahn_net.specs.declared.program.Port.TheVariants.{Outside, Process}
 use Rattle.proc_step.specs.Turns.{AreNext}
-use Rattle.node.specs.ImageView.{ImageView}
-use Rattle.node.specs.Ends.{received_of}
+use Rattle.record.specs.ImageView.{ImageView}
+use Rattle.record.specs.Ends.{received_of}
 use Rattle.node.specs.Granting.{is_process, next_items, items_from}
 use Rattle.node.specs.Reached.{acts_of, ImageStands, IsLaidOut}
 use Rattle.node.specs.ImageLaws.{numbered_there, channel_at, received_is}
-use Rattle.node.specs.declared.record.SavedEnd.{SavedEnd}
+use Rattle.record.specs.declared.image.SavedEnd.{SavedEnd}
 
 -- an input is the same in each approximation
 pub input_stays : (net : Network) (inputs : List (List ℤ)) (n c : ℕ) (channel : Channel) → slice_get net.channels c ≡ Some channel → channel.producer ≡ Outside

@@ -3,25 +3,25 @@ use Rattle.std.proofs.Common.{◌≡◌, ℕ, suc, ◌≤◌, ℤ, List, [], ◌
 use Rattle.std.specs.Prelude.{slice_get}
 use Rattle.std.proofs.lemmas.List.{take-append-drop, take-take}
 use Rattle.std.proofs.lemmas.Option.{slice_get_within}
-use Rattle.net_check.specs.Streams.{history_of, IsPrefix}
-use Rattle.net_check.specs.PrefixLaws.{prefix_nil, prefix_along, prefix_trans, prefix_take, prefix_from_take}
-use Rattle.net_check.specs.Syntax.{Code, Network}
-use Rattle.net_check.specs.Statements.{Step}
-use Rattle.net_check.specs.Processes.{process_trace, sent_on}
-use Rattle.net_check.specs.PutLaws.{sent_on-append}
-use Rattle.net_check.specs.Approximations.{approximation, next_history, output_at}
-use Rattle.net_check.specs.ApproximationLaws.{next_histories-at}
-use Rattle.net_check.specs.declared.program.Channel.{Channel}
-use Rattle.net_check.specs.declared.program.Port.{Port}
-use Rattle.net_check.specs.declared.program.Port.TheVariants.{Process}
-use Rattle.outlet.specs.LogState.{LogState, IsLogOf}
+use Rattle.kahn_net.specs.Streams.{history_of, IsPrefix}
+use Rattle.kahn_net.specs.Laws.Prefixes.{prefix_nil, prefix_along, prefix_trans, prefix_take, prefix_from_take}
+use Rattle.kahn_net.specs.Syntax.{Code, Network}
+use Rattle.kahn_net.specs.Statements.{Step}
+use Rattle.kahn_net.specs.Processes.{process_trace, sent_on}
+use Rattle.kahn_net.specs.Laws.Puts.{sent_on-append}
+use Rattle.kahn_net.specs.Approximations.{approximation, next_history, output_at}
+use Rattle.kahn_net.specs.Laws.Approximations.{next_histories-at}
+use Rattle.kahn_net.specs.declared.program.Channel.{Channel}
+use Rattle.kahn_net.specs.declared.program.Port.{Port}
+use Rattle.kahn_net.specs.declared.program.Port.TheVariants.{Process}
+use Rattle.retained.specs.LogState.{LogState, IsLogOf}
 use Rattle.outlet.specs.Released.{IsBeginningOf}
-use Rattle.node.specs.ImageView.{ImageView}
+use Rattle.record.specs.ImageView.{ImageView}
 use Rattle.node.specs.NodeView.{NodeView}
-use Rattle.node.specs.Ends.{log_of}
+use Rattle.record.specs.Ends.{log_of}
 use Rattle.node.specs.Reached.{first_acts, acts_of, ImageStands, HasReached, IsLaidOut, HasComeOn}
 use Rattle.node.specs.ImageLaws.{numbered_there, channel_at, log_is}
-use Rattle.node.specs.declared.record.SavedEnd.{SavedEnd}
+use Rattle.record.specs.declared.image.SavedEnd.{SavedEnd}
 
 -- what the first acts of a process put is a front of what it puts
 pub put_is_prefix : (code : Option Code) (histories : List (List ℤ)) (m c : ℕ) → IsPrefix (sent_on c (first_acts code histories m)) (output_at code histories c)

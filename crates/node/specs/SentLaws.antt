@@ -2,19 +2,19 @@
 use Rattle.std.proofs.Common.{◌≡◌, ℕ, true, ℤ, length, Some, refl, sym, ap, ◌∙◌}
 use Rattle.std.specs.Prelude.{slice_get, List}
 use Rattle.std.proofs.lemmas.Option.{slice_get_within}
-use Rattle.net_check.specs.Syntax.{Network}
-use Rattle.net_check.specs.Processes.{sent_on}
-use Rattle.net_check.specs.declared.program.Channel.{Channel}
-use Rattle.net_check.specs.declared.program.Port.TheVariants.{Process}
-use Rattle.outlet.specs.LogState.{LogState}
-use Rattle.node.specs.ImageView.{ImageView}
-use Rattle.node.specs.Ends.{log_at, log_of, sent_in, sent_of}
+use Rattle.kahn_net.specs.Syntax.{Network}
+use Rattle.kahn_net.specs.Processes.{sent_on}
+use Rattle.kahn_net.specs.declared.program.Channel.{Channel}
+use Rattle.kahn_net.specs.declared.program.Port.TheVariants.{Process}
+use Rattle.retained.specs.LogState.{LogState}
+use Rattle.record.specs.ImageView.{ImageView}
+use Rattle.record.specs.Ends.{log_at, log_of, sent_in, sent_of}
 use Rattle.node.specs.Reached.{acts_of, ImageStands, is_logging, IsLaidOut}
 use Rattle.node.specs.ImageLaws.{numbered_there, channel_at, log_is}
 use Rattle.node.specs.ReleaseLaws.{log_stands}
-use Rattle.node.specs.declared.record.SavedEnd.{SavedEnd}
-use Rattle.node.specs.declared.record.End.{End}
-use Rattle.node.specs.declared.record.End.TheVariants.{Receives, Sends, Both}
+use Rattle.record.specs.declared.image.SavedEnd.{SavedEnd}
+use Rattle.record.specs.declared.image.End.{End}
+use Rattle.record.specs.declared.image.End.TheVariants.{Receives, Sends, Both}
 
 log_in : (end : End) → is_logging end ≡ true → (log : LogState) × (log_at (Some end) ≡ Some log)
 log_in (Receives received) has = absurd (cc)

@@ -1,11 +1,11 @@
 -- A node's record while a checkpoint of its own is taken and decided, and how a put of it comes out.
 use Rattle.std.specs.Prelude.{◌≡◌, ◌⊎◌, ◌≢◌, ℕ, ◌+◌, ◌-◌, ◌<◌, ◌≤◌, ◌^◌, ◌==◌, nat_lt, if◌then◌else◌, Bool, true, false, ◌&&◌, IsTrue, Option, Some, None, Result, Ok, Err, slice_set, slice_index}
 use Rattle.std.specs.declared.alloc.AllocError.{AllocError}
-use Rattle.node.specs.ImageView.{ImageView}
-use Rattle.node.specs.Ends.{sent_of}
-use Rattle.node.specs.RecordView.{RecordView}
+use Rattle.record.specs.ImageView.{ImageView}
+use Rattle.record.specs.Ends.{sent_of}
+use Rattle.record.specs.RecordView.{RecordView}
 use Rattle.node.specs.NodeView.{NodeView}
-use Rattle.node.specs.declared.record.Tentative.{Tentative}
+use Rattle.record.specs.declared.record.Tentative.{Tentative}
 use Rattle.gate_cell.specs.declared.fault.CellFault.{CellFault}
 use Rattle.gate_cell.specs.declared.fault.CellFault.TheVariants.{NoMemory, Device, TooLarge, Reopen}
 use Rattle.node.specs.declared.putting.Putting.{Putting}

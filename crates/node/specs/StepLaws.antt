@@ -1,14 +1,14 @@
 -- Laws of how far a node has come: what it keeps changes, and what it has now doesn't.
 use Rattle.std.proofs.Common.{◌≡◌, ℕ, ℤ, List, Option, Some, None, refl, subst, arith}
-use Rattle.net_check.specs.Syntax.{Network}
-use Rattle.net_check.specs.Approximations.{approximation}
-use Rattle.node.specs.ImageView.{ImageView}
+use Rattle.kahn_net.specs.Syntax.{Network}
+use Rattle.kahn_net.specs.Approximations.{approximation}
+use Rattle.record.specs.ImageView.{ImageView}
 use Rattle.node.specs.JobView.{JobView}
 use Rattle.node.specs.NodeView.{NodeView}
 use Rattle.node.specs.Choosing.{after_grant}
 use Rattle.node.specs.Starting.{with_own, decided, decided_with, with_kept, stopped}
 use Rattle.node.specs.Reached.{ImageStands, IsAsFar, HasReached, HasComeOn}
-use Rattle.node.specs.declared.record.Tentative.{Tentative}
+use Rattle.record.specs.declared.record.Tentative.{Tentative}
 
 -- a node that takes a tentative image of what it has now
 pub reached_start : (net : Network) (inputs : List (List ℤ)) (number : ℕ) (node : NodeView) → HasReached net inputs node → HasReached net inputs (with_kept (with_own number node.current node.kept) node)

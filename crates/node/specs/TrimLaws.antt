@@ -4,25 +4,26 @@ use Rattle.std.specs.Prelude.{slice_get, slice_index, find, min}
 use Rattle.std.proofs.Math.Nat.{min-le_left, min-le_right, le-min}
 use Rattle.std.proofs.lemmas.Bool.{ltb-false, eqb-true, ne_eqb}
 use Rattle.std.proofs.lemmas.List.{length-drop, drop-drop}
-use Rattle.net_check.specs.Streams.{history_of}
-use Rattle.net_check.specs.Syntax.{Network}
-use Rattle.net_check.specs.Processes.{sent_on}
-use Rattle.net_check.specs.Approximations.{approximation}
-use Rattle.net_check.specs.declared.program.Channel.{Channel}
-use Rattle.net_check.specs.declared.program.Port.{Port}
-use Rattle.net_check.specs.declared.program.Port.TheVariants.{Outside, Process}
-use Rattle.outlet.specs.LogState.{LogState, IsLogOf, IsWithinLimits, log_end, trimmed}
-use Rattle.node.specs.ImageView.{ImageView}
+use Rattle.kahn_net.specs.Streams.{history_of}
+use Rattle.kahn_net.specs.Syntax.{Network}
+use Rattle.kahn_net.specs.Processes.{sent_on}
+use Rattle.kahn_net.specs.Approximations.{approximation}
+use Rattle.kahn_net.specs.declared.program.Channel.{Channel}
+use Rattle.kahn_net.specs.declared.program.Port.{Port}
+use Rattle.kahn_net.specs.declared.program.Port.TheVariants.{Outside, Process}
+use Rattle.retained.specs.LogState.{LogState, IsLogOf, IsWithinLimits, log_end, trimmed}
+use Rattle.record.specs.ImageView.{ImageView}
 use Rattle.node.specs.JobView.{JobView}
 use Rattle.node.specs.NodeView.{NodeView}
-use Rattle.node.specs.Ends.{received_of, received_at, log_of, log_at, sent_in, sent_of, end_of, base_in, base_of}
+use Rattle.record.specs.Ends.{received_of, received_at, log_of, log_at, sent_in, sent_of, end_of, base_in, base_of}
 use Rattle.node.specs.Granting.{is_process, next_items, items_from, room_in, room_from}
-use Rattle.node.specs.Trimming.{trimmed_log, trimmed_end, trimmed_saved, trimmed_image, with_current}
+use Rattle.record.specs.Changes.{trimmed_log, trimmed_end, trimmed_saved, trimmed_image}
+use Rattle.node.specs.Trimming.{with_current}
 use Rattle.node.specs.Reached.{acts_of, EndStands, ImageStands, HasReached, is_counting, is_logging, IsLaidOut, CountsAreWithin, LogsAreWithin, IsJobOf, HasComeOn}
 use Rattle.node.specs.ImageLaws.{find_passes, map_got, map_keeps, end_of_changed}
-use Rattle.node.specs.declared.record.SavedEnd.{SavedEnd}
-use Rattle.node.specs.declared.record.End.{End}
-use Rattle.node.specs.declared.record.End.TheVariants.{Receives, Sends, Both}
+use Rattle.record.specs.declared.image.SavedEnd.{SavedEnd}
+use Rattle.record.specs.declared.image.End.{End}
+use Rattle.record.specs.declared.image.End.TheVariants.{Receives, Sends, Both}
 
 -- Logs
 

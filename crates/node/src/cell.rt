@@ -2,10 +2,10 @@
 ghost use Rattle.std.specs.Prelude.{◌≡◌, ◌⊎◌, ◌≤◌, ◌↔◌, Bool, false, ℕ, IfOk, OnOk, IsErrOf, IsTrue, Option, Some};
 ghost use Rattle.sector_disk.specs.Clock.{Only, LeavesOnly};
 ghost use Rattle.gate_cell.specs.CellFault.{HasCause};
-ghost use Rattle.node.specs.RecordView.{RecordView};
+ghost use Rattle.record.specs.RecordView.{RecordView};
 ghost use Rattle.node.specs.Cell.{IsUnchanged};
 
-use crate::record::Record;
+use record::Record;
 use gate_cell::CellFault;
 
 /// A cell holds one record.

@@ -1,14 +1,15 @@
 // Which process of a node goes on next, and the job that it is given.
 ghost use Rattle.std.specs.Prelude.{◌≡◌, ◌≤◌, ◌<◌, ◌&&◌, ℕ, ℤ, List, length, find, slice_get, IfOk, IfSome, OnErr, is_some, option_map, option_copied};
-ghost use Rattle.net_check.specs.Syntax.{network_of};
+ghost use Rattle.kahn_net.specs.Syntax.{network_of};
 ghost use Rattle.node.specs.JobView.{job_view};
 ghost use Rattle.node.specs.NodeView.{node_view};
 ghost use Rattle.node.specs.Choosing.{has_item, has_room, is_ready, is_after, ready_after, next_ready, may_grant, next_job, after_grant};
 
 use crate::granting::{make_job, places};
-use crate::record::{Image, SavedProcess};
+use record::{Image, SavedProcess};
 use crate::state::{LAST_NUMBER, NodeState};
-use net_check::{Channel, History, Inputs, Net, Port};
+use kahn_net::{Channel, History, Port};
+use net_check::{Inputs, Net};
 use proc_step::{Job, NextAct, next_act};
 use std::alloc::{AllocError, Global};
 use std::sync::Arc;

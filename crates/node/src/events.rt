@@ -1,27 +1,30 @@
 // The events of a node.
 ghost use Rattle.std.specs.Prelude.{◌≡◌, ◌⊎◌, ◌+◌, ◌↔◌, ℤ, List, length, IfOk, OnOk, OnErr, IsErrOf, Some, option_map};
-ghost use Rattle.net_check.specs.Syntax.{network_of};
-ghost use Rattle.net_check.specs.States.{standing_of};
-ghost use Rattle.outlet.specs.LogState.{LogState, IsLogOf};
+ghost use Rattle.kahn_net.specs.Syntax.{network_of};
+ghost use Rattle.kahn_net.specs.States.{standing_of};
+ghost use Rattle.retained.specs.LogState.{LogState, IsLogOf};
 ghost use Rattle.outlet.specs.Released.{IsBeginningOf};
 ghost use Rattle.outlet.specs.Faults.{failures_after};
 ghost use Rattle.sector_disk.specs.Clock.{LeavesOnly};
-ghost use Rattle.node.specs.Ends.{log_of};
+ghost use Rattle.record.specs.Ends.{log_of};
 ghost use Rattle.node.specs.JobView.{job_view};
 ghost use Rattle.node.specs.NodeView.{node_view};
 ghost use Rattle.node.specs.Choosing.{next_job, after_grant};
 ghost use Rattle.node.specs.Installing.{ImageTakes, IsOut, IsInstall};
 ghost use Rattle.node.specs.Cell.{IsUnchanged};
 ghost use Rattle.node.specs.Starting.{with_own, decided, IsStart, IsDecision, IsPut, LeavesCell};
-ghost use Rattle.node.specs.Trimming.{trimmed_image, with_current, HasNext};
+ghost use Rattle.record.specs.Changes.{trimmed_image};
+ghost use Rattle.node.specs.Trimming.{with_current, HasNext};
 
 use crate::cell::StableCell;
 use crate::node::Node;
 use crate::putting::Putting;
 use crate::releasing::release_next;
 use crate::starting::{put_decision, put_own};
-use net_check::{Channel, Inputs, Net};
-use outlet::{LogFault, Outlet, OutletFault};
+use kahn_net::Channel;
+use net_check::{Inputs, Net};
+use retained::LogFault;
+use outlet::{Outlet, OutletFault};
 use proc_step::{Done, Job};
 use std::alloc::{AllocError, Global};
 use std::sync::Arc;

@@ -1,15 +1,16 @@
 // The job that a process of a node is given.
 ghost use Rattle.std.specs.Prelude.{◌≡◌, ◌≤◌, ◌<◌, if◌then◌else◌, [], IfOk, length, take, drop, option_copied};
-ghost use Rattle.net_check.specs.Streams.{history_of};
-ghost use Rattle.net_check.specs.Syntax.{network_of};
-ghost use Rattle.net_check.specs.States.{standing_of};
+ghost use Rattle.kahn_net.specs.Streams.{history_of};
+ghost use Rattle.kahn_net.specs.Syntax.{network_of};
+ghost use Rattle.kahn_net.specs.States.{standing_of};
 ghost use Rattle.node.specs.JobView.{job_view};
 ghost use Rattle.node.specs.Granting.{is_process, next_items, items_from, room_in, room_from, job_for};
 
-use crate::record::Image;
+use record::Image;
 use crate::state::LAST_NUMBER;
-use net_check::{Channel, History, Inputs, Net, Port, ProcState};
-use outlet::{LOG_ITEMS, Log};
+use kahn_net::{Channel, History, Port, ProcState};
+use net_check::{Inputs, Net};
+use retained::{LOG_ITEMS, Log};
 use proc_step::Job;
 use std::alloc::{AllocError, Global};
 use std::sync::Arc;

@@ -1,18 +1,19 @@
 // An image after a turn of one of its processes.
 ghost use Rattle.std.specs.Prelude.{◌≡◌, ◌≤◌, ◌+◌, ◌^◌, ◌-◌, ◌++◌, ℕ, if◌then◌else◌, [], map, length, take, drop, slice_get, slice_index, true, ◌↔◌, IfOk, OnOk, OnErr, IsErrOf, IsTrue, Some, option_map};
-ghost use Rattle.net_check.specs.Streams.{history_of};
-ghost use Rattle.net_check.specs.States.{standing_of};
-ghost use Rattle.node.specs.Ends.{received_at, log_at};
-ghost use Rattle.node.specs.Installing.{is_consumer, is_producer, taken_from, put_on, pushed, counted, saved_pushed, saved_counted, moved, installed, LogTakes, EndTakes, ImageTakes, IsOut, IsInstall};
+ghost use Rattle.kahn_net.specs.Streams.{history_of};
+ghost use Rattle.kahn_net.specs.States.{standing_of};
+ghost use Rattle.record.specs.Ends.{received_at, log_at};
+ghost use Rattle.record.specs.Changes.{pushed, counted, LogTakes};
+ghost use Rattle.node.specs.Installing.{is_consumer, is_producer, taken_from, put_on, saved_pushed, saved_counted, moved, installed, EndTakes, ImageTakes, IsOut, IsInstall};
 ghost use Rattle.node.specs.JobView.{job_view};
 ghost use Rattle.node.specs.NodeView.{node_view};
-ghost use Rattle.node.specs.declared.record.SavedEnd.{SavedEnd};
+ghost use Rattle.record.specs.declared.image.SavedEnd.{SavedEnd};
 
 use crate::granting::is_at;
-use crate::record::{End, Image, SavedEnd, SavedProcess};
+use record::{End, Image, SavedEnd, SavedProcess};
 use crate::state::NodeState;
-use net_check::{Channel, History, ProcState};
-use outlet::LogFault;
+use kahn_net::{Channel, History, ProcState};
+use retained::LogFault;
 use proc_step::{Done, Job};
 use std::alloc::Global;
 
@@ -50,45 +51,6 @@ pub(crate) fn items_put<'a>(
             }
         }
         _ => &[],
-    }
-}
-
-impl End {
-    // Puts all items behind those of the log, or none.
-    fn push_all(&mut self, items: &[i64]) -> Result<(), LogFault>
-        requires { LogTakes (length items.now) (log_at (Some self.old)) }
-        ensures ok { OnOk result (self.new ≡ pushed items.now self.old) }
-        ensures err { OnErr result (self.new ≡ self.old) }
-        ensures full { ¬ (IsErrOf result LogFault.Full) }
-    {
-        match self {
-            End::Receives { .. } => Ok(()),
-            End::Sends { log } => log.push_all(items),
-            End::Both { log, .. } => log.push_all(items),
-        }
-    }
-
-    // Takes as many items as were just put back from the log's end.
-    fn take_back(&mut self, items: &[i64])
-        ensures { (before : End) → self.old ≡ pushed items.now before → self.new ≡ before }
-    {
-        match self {
-            End::Receives { .. } => {}
-            End::Sends { log } => log.cut(log.end().saturating_sub(items.len() as u64)),
-            End::Both { log, .. } => log.cut(log.end().saturating_sub(items.len() as u64)),
-        }
-    }
-
-    // Counts items that were got.
-    fn count(&mut self, taken: usize)
-        requires { received_at (Some self.old) + taken ≤ 2 ^ 63 - 1 }
-        ensures { self.new ≡ counted taken self.old }
-    {
-        match self {
-            End::Receives { received } => *received += taken as u64,
-            End::Sends { .. } => {}
-            End::Both { received, .. } => *received += taken as u64,
-        }
     }
 }
 
@@ -146,29 +108,27 @@ fn move_process(processes: &mut Vec<SavedProcess>, process: usize, state: ProcSt
     }
 }
 
-impl Image {
-    /// Takes a turn of a process in: where it stands now, the items that it took from each channel, and those that it
-    /// sent on each. Refuses for want of memory alone, and is then as it was.
-    pub fn install(
-        &mut self,
-        alloc: Global,
-        channels: &[Channel],
-        process: usize,
-        state: &ProcState,
-        taken: &[usize],
-        sent: &[History],
-    ) -> Result<(), LogFault>
-        requires { ImageTakes channels.now process taken.now sent.now self.old }
-        ensures ok { OnOk result (self.new ≡ installed channels.now process (standing_of state.now) taken.now sent.now self.old) }
-        ensures err { OnErr result (self.new ≡ self.old) }
-        ensures full { ¬ (IsErrOf result LogFault.Full) }
-    {
-        let state = state.copy(alloc)?;
-        push_sent(&mut self.ends, 0, channels, process, sent)?;
-        count_all(&mut self.ends, channels, process, taken);
-        move_process(&mut self.processes, process, state);
-        Ok(())
-    }
+// Takes a turn of a process into an image: where it stands now, the items that it took from each channel, and those that
+// it sent on each. Refuses for want of memory alone, and the image is then as it was.
+fn install_turn(
+    alloc: Global,
+    image: &mut Image,
+    channels: &[Channel],
+    process: usize,
+    state: &ProcState,
+    taken: &[usize],
+    sent: &[History],
+) -> Result<(), LogFault>
+    requires { ImageTakes channels.now process taken.now sent.now image.old }
+    ensures ok { OnOk result (image.new ≡ installed channels.now process (standing_of state.now) taken.now sent.now image.old) }
+    ensures err { OnErr result (image.new ≡ image.old) }
+    ensures full { ¬ (IsErrOf result LogFault.Full) }
+{
+    let state = state.copy(alloc)?;
+    push_sent(&mut image.ends, 0, channels, process, sent)?;
+    count_all(&mut image.ends, channels, process, taken);
+    move_process(&mut image.processes, process, state);
+    Ok(())
 }
 
 impl NodeState {
@@ -190,8 +150,9 @@ impl NodeState {
         if !is_out(&self.out, self.up, &done.job) {
             return Ok(false);
         }
-        self.current.install(
+        install_turn(
             alloc,
+            &mut self.current,
             channels,
             done.job.process,
             &done.state,

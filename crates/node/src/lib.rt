@@ -6,8 +6,6 @@
 
 mod cell;
 mod choosing;
-mod copies;
-mod equality;
 mod events;
 mod granting;
 mod installing;
@@ -16,7 +14,6 @@ mod node;
 mod opening;
 mod past;
 mod putting;
-mod record;
 mod releasing;
 mod starting;
 mod state;
@@ -26,6 +23,5 @@ pub use gate_cell::CellFault;
 pub use memory::MemCell;
 pub use node::Node;
 pub use putting::Putting;
-pub use record::{Decision, End, Image, Record, SavedEnd, SavedProcess, Tentative};
 pub use starting::next_after;
 pub use state::{LAST_NUMBER, NodeState};

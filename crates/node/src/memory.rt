@@ -4,13 +4,13 @@ ghost use Rattle.std.proofs.Common.{refl, inl};
 ghost use Rattle.sector_disk.specs.Clock.{LeavesOnly, TimePasses};
 ghost use Rattle.gate_cell.specs.CellFault.{HasCause};
 ghost use Rattle.gate_cell.specs.declared.fault.CellFault.TheVariants.{NoMemory};
-ghost use Rattle.node.specs.RecordView.{RecordView};
+ghost use Rattle.record.specs.RecordView.{RecordView};
 ghost use Rattle.node.specs.Cell.{IsUnchanged};
 ghost use Rattle.node.specs.MemCell.{value_of, is_ready_of, may_leave_of, moment_of, left_since_of, failures_of, fits_in, only_kept};
 
 use crate::cell::StableCell;
 use crate::past::Past;
-use crate::record::Record;
+use record::Record;
 use gate_cell::CellFault;
 use std::alloc::Global;
 

@@ -1,6 +1,6 @@
 //! A node: what it has, and the cell that keeps its record.
 ghost use Rattle.std.specs.Prelude.{◌<◌, length, Option};
-ghost use Rattle.node.specs.RecordView.{RecordView};
+ghost use Rattle.record.specs.RecordView.{RecordView};
 ghost use Rattle.node.specs.Starting.{LeavesAsMuch, AreInOrder, AgreeWhileUp};
 
 use crate::cell::StableCell;

@@ -1,17 +1,18 @@
 // A node before its first event.
 ghost use Rattle.std.specs.Prelude.{◌≡◌, ◌<◌, ◌≤◌, ℕ, map, length, replicate, false, IfOk, IsErrOf, IsTrue};
-ghost use Rattle.net_check.specs.Syntax.{Network, code_of, network_of};
+ghost use Rattle.kahn_net.specs.Syntax.{Network, code_of, network_of};
 ghost use Rattle.node.specs.NodeView.{node_view};
 ghost use Rattle.node.specs.Cell.{HasFailed};
 ghost use Rattle.node.specs.Opening.{opening_processes, opening_end, opening_ends, opening_image, opening_record, opening_node};
 
 use crate::cell::StableCell;
 use crate::node::Node;
-use crate::record::{End, Image, Record, SavedEnd, SavedProcess};
+use record::{End, Image, Record, SavedEnd, SavedProcess};
 use crate::state::NodeState;
 use gate_cell::CellFault;
-use net_check::{Channel, Net, Place, Port, ProcState, Process};
-use outlet::Log;
+use kahn_net::{Channel, Place, Port, ProcState, Process};
+use net_check::Net;
+use retained::Log;
 use std::alloc::{AllocError, Global};
 
 // No process has begun.

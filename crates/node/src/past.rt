@@ -1,9 +1,9 @@
 // What a cell has held. It exists in proofs alone: it takes no memory, and its methods do nothing at run time.
 ghost use Rattle.std.specs.Prelude.{◌≡◌, List, [], ◌∷◌, ◌++◌};
 ghost use Rattle.std.specs.Borrow.{ftrue};
-ghost use Rattle.node.specs.RecordView.{RecordView};
+ghost use Rattle.record.specs.RecordView.{RecordView};
 
-use crate::record::Record;
+use record::Record;
 use std::marker::{Model, PhantomData};
 
 /// Each record that a cell held before the one that it holds, the oldest first.

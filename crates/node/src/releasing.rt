@@ -1,45 +1,15 @@
 // One item leaves the system, and the log lets go of it.
 ghost use Rattle.std.specs.Prelude.{◌≡◌, ◌⊎◌, ◌+◌, ℤ, List, [], ◌∷◌, ◌++◌, map, length, OnOk, IsErrOf, option_copied};
-ghost use Rattle.outlet.specs.LogState.{LogState, IsLogOf, items_at};
+ghost use Rattle.retained.specs.LogState.{LogState, IsLogOf, items_at};
 ghost use Rattle.outlet.specs.Released.{CanRelease, IsBeginningOf};
 ghost use Rattle.outlet.specs.Faults.{failures_after};
-ghost use Rattle.node.specs.Ends.{log_of};
-ghost use Rattle.node.specs.Trimming.{trimmed_end, trimmed_saved, trimmed_image, HasNext};
+ghost use Rattle.record.specs.Ends.{log_of};
+ghost use Rattle.record.specs.Changes.{trimmed_end, trimmed_saved, trimmed_image};
+ghost use Rattle.node.specs.Trimming.{HasNext};
 
-use crate::record::{End, Image, SavedEnd};
-use outlet::{Log, Outlet, OutletFault, release};
-
-impl End {
-    // Drops what lies before a position from the log.
-    fn trim(&mut self, position: u64)
-        ensures { self.new ≡ trimmed_end position self.old }
-    {
-        match self {
-            End::Receives { .. } => {}
-            End::Sends { log } => log.trim(position),
-            End::Both { log, .. } => log.trim(position),
-        }
-    }
-}
-
-impl SavedEnd {
-    // The same where it is the end of this channel.
-    fn trim_of(&mut self, channel: u8, position: u64)
-        ensures { self.new ≡ trimmed_saved channel position self.old }
-    {
-        if self.channel == channel {
-            self.end.trim(position);
-        }
-    }
-}
-
-fn trim_all(ends: &mut Vec<SavedEnd>, channel: u8, position: u64)
-    ensures { ends.new.items ≡ map (trimmed_saved channel position) ends.old.items }
-{
-    for saved in ends.iter_mut() {
-        saved.trim_of(channel, position);
-    }
-}
+use record::{End, Image, SavedEnd};
+use retained::Log;
+use outlet::{Outlet, OutletFault, release};
 
 // Hands an outlet the log's item that comes next for it.
 fn hand_item<O: Outlet>(log: &Log, outlet: &mut O) -> Result<(), OutletFault>
@@ -62,31 +32,22 @@ fn hand_item<O: Outlet>(log: &Log, outlet: &mut O) -> Result<(), OutletFault>
     }
 }
 
-impl Image {
-    /// Drops what lies before a position from the log of a channel.
-    pub fn trim(&mut self, channel: u8, position: u64)
-        ensures { self.new ≡ trimmed_image channel position self.old }
-    {
-        trim_all(&mut self.ends, channel, position);
-    }
-
-    // Hands an outlet the item of this channel that comes next for it.
-    fn hand_next<O: Outlet>(&self, channel: u8, outlet: &mut O) -> Result<(), OutletFault>
-        requires { HasNext (log_of self.now channel) (length (O.taken outlet.old)) }
-        ensures ok { OnOk result (length (O.taken outlet.new) ≡ length (O.taken outlet.old) + 1) }
-        ensures no_memory { IsErrOf result OutletFault.NoMemory → O.taken outlet.new ≡ O.taken outlet.old }
-        ensures failed { IsErrOf result OutletFault.Failed
-            → (length (O.taken outlet.new) ≡ length (O.taken outlet.old))
-            ⊎ (length (O.taken outlet.new) ≡ length (O.taken outlet.old) + 1) }
-        ensures begins { IsBeginningOf (O.taken outlet.old) (O.taken outlet.new) }
-        ensures history { (log : LogState) (history : List ℤ) → log_of self.now channel ≡ Some log → IsLogOf log history
-            → IsBeginningOf (O.taken outlet.old) history → IsBeginningOf (O.taken outlet.new) history }
-        ensures count { O.failures outlet.new ≡ failures_after result (O.failures outlet.old) }
-    {
-        match self.log(channel) {
-            Some(log) => hand_item(log, outlet),
-            None => Ok(()),
-        }
+// Hands an outlet the item of this channel that comes next for it.
+fn hand_next<O: Outlet>(image: &Image, channel: u8, outlet: &mut O) -> Result<(), OutletFault>
+    requires { HasNext (log_of image.now channel) (length (O.taken outlet.old)) }
+    ensures ok { OnOk result (length (O.taken outlet.new) ≡ length (O.taken outlet.old) + 1) }
+    ensures no_memory { IsErrOf result OutletFault.NoMemory → O.taken outlet.new ≡ O.taken outlet.old }
+    ensures failed { IsErrOf result OutletFault.Failed
+        → (length (O.taken outlet.new) ≡ length (O.taken outlet.old))
+        ⊎ (length (O.taken outlet.new) ≡ length (O.taken outlet.old) + 1) }
+    ensures begins { IsBeginningOf (O.taken outlet.old) (O.taken outlet.new) }
+    ensures history { (log : LogState) (history : List ℤ) → log_of image.now channel ≡ Some log → IsLogOf log history
+        → IsBeginningOf (O.taken outlet.old) history → IsBeginningOf (O.taken outlet.new) history }
+    ensures count { O.failures outlet.new ≡ failures_after result (O.failures outlet.old) }
+{
+    match image.log(channel) {
+        Some(log) => hand_item(log, outlet),
+        None => Ok(()),
     }
 }
 
@@ -110,7 +71,7 @@ pub(crate) fn release_next<O: Outlet>(
         → IsBeginningOf (O.taken outlet.old) history → IsBeginningOf (O.taken outlet.new) history }
     ensures count { O.failures outlet.new ≡ failures_after result (O.failures outlet.old) }
 {
-    match image.hand_next(channel, outlet) {
+    match hand_next(image, channel, outlet) {
         Err(OutletFault::NoMemory) => Err(OutletFault::NoMemory),
         released => {
             image.trim(channel, outlet.len());

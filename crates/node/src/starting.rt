@@ -8,7 +8,7 @@ ghost use Rattle.node.specs.Starting.{highest_used, may_start, with_own, decided
 
 use crate::cell::StableCell;
 use crate::putting::Putting;
-use crate::record::{Image, Record, Tentative};
+use record::{Image, Record, Tentative};
 use crate::state::{LAST_NUMBER, NodeState};
 use gate_cell::CellFault;
 use std::alloc::{AllocError, Global};
@@ -57,23 +57,26 @@ impl NodeState {
     }
 }
 
-impl Record {
-    // The record with a tentative image of this node's own beside the permanent one, under its next number.
-    fn with_own(&self, alloc: Global, node: u8, image: &Image) -> Result<Record, AllocError>
-        requires listed { node < length self.now.highest }
-        requires number { highest_used node self.now < 2 ^ 63 - 1 }
-        ensures { IfOk result (λ next. next ≡ with_own node image.now self.now) }
-    {
-        let mut next = self.copy(alloc)?;
-        let number = next.highest[usize::from(node)] + 1;
-        next.highest[usize::from(node)] = number;
-        next.tentative = Some(Tentative {
-            initiator: node,
-            number,
-            image: image.copy(alloc)?,
-        });
-        Ok(next)
-    }
+// The record with a tentative image of a node's own beside the permanent one, under its next number.
+fn own_record(
+    alloc: Global,
+    kept: &Record,
+    node: u8,
+    image: &Image,
+) -> Result<Record, AllocError>
+    requires listed { node < length kept.now.highest }
+    requires number { highest_used node kept.now < 2 ^ 63 - 1 }
+    ensures { IfOk result (λ next. next ≡ with_own node image.now kept.now) }
+{
+    let mut next = kept.copy(alloc)?;
+    let number = next.highest[usize::from(node)] + 1;
+    next.highest[usize::from(node)] = number;
+    next.tentative = Some(Tentative {
+        initiator: node,
+        number,
+        image: image.copy(alloc)?,
+    });
+    Ok(next)
 }
 
 // Whether a node may take a tentative image of its own.
@@ -108,7 +111,7 @@ pub(crate) fn put_own<C: StableCell>(
     if highest >= LAST_NUMBER {
         return Ok(Putting::Refused(SPENT));
     }
-    let next = state.kept.with_own(alloc, number, &state.current)?;
+    let next = own_record(alloc, &state.kept, number, &state.current)?;
     match cell.put(&next) {
         Ok(()) => {
             state.kept = next;
@@ -118,22 +121,20 @@ pub(crate) fn put_own<C: StableCell>(
     }
 }
 
-impl Record {
-    // The record with its tentative image as the permanent one and no decision, where that image is this node's own.
-    fn with_decision(&self, alloc: Global, node: u8) -> Result<Option<Record>, AllocError>
-        ensures { IfOk result (λ next. MatchOption next (is_own node self.now.tentative ≡ false)
-            (λ kept. IsTrue (is_own node self.now.tentative) × (kept ≡ decided self.now))) }
-    {
-        match &self.tentative {
-            Some(held) if held.initiator == node => Ok(Some(Record {
-                epoch: self.epoch,
-                highest: Vec::from_slice(alloc, self.highest.as_slice())?,
-                decision: None,
-                permanent: held.image.copy(alloc)?,
-                tentative: None,
-            })),
-            _ => Ok(None),
-        }
+// The record with its tentative image as the permanent one and no decision, where that image is the node's own.
+fn decided_record(alloc: Global, kept: &Record, node: u8) -> Result<Option<Record>, AllocError>
+    ensures { IfOk result (λ next. MatchOption next (is_own node kept.now.tentative ≡ false)
+        (λ next. IsTrue (is_own node kept.now.tentative) × (next ≡ decided kept.now))) }
+{
+    match &kept.tentative {
+        Some(held) if held.initiator == node => Ok(Some(Record {
+            epoch: kept.epoch,
+            highest: Vec::from_slice(alloc, kept.highest.as_slice())?,
+            decision: None,
+            permanent: held.image.copy(alloc)?,
+            tentative: None,
+        })),
+        _ => Ok(None),
     }
 }
 
@@ -157,7 +158,7 @@ pub(crate) fn put_decision<C: StableCell>(
     if !state.up {
         return Ok(Putting::NotDue);
     }
-    let Some(decided) = state.kept.with_decision(alloc, number)? else {
+    let Some(decided) = decided_record(alloc, &state.kept, number)? else {
         return Ok(Putting::NotDue);
     };
     match cell.put(&decided) {

@@ -1,6 +1,6 @@
 //! What a node has.
 
-use crate::record::{Image, Record};
+use record::{Image, Record};
 use proc_step::Job;
 
 /// The greatest version, round, number and count: a node whose version has come so far grants no job.

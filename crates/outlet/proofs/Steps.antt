@@ -5,7 +5,7 @@ use Rattle.std.specs.Option.{option_to_list}
 use Rattle.std.proofs.Math.Seq.{take-add}
 use Rattle.std.proofs.lemmas.List.{take_more, take-take, take_min, length-take, length-take-le, length-drop, length-append, get_or-drop, drop-drop, append_assoc}
 use Rattle.std.proofs.lemmas.Option.{slice_get-get_or, get_or_from_slice_get, slice_get_within}
-use Rattle.outlet.specs.LogState.{LogState, log_end, item_at, items_at, IsLogOf}
+use Rattle.retained.specs.LogState.{LogState, log_end, item_at, items_at, IsLogOf}
 use Rattle.outlet.specs.declared.fault.OutletFault.{OutletFault}
 use Rattle.outlet.specs.declared.fault.OutletFault.TheVariants.{NoMemory, Failed}
 use Rattle.outlet.specs.Released.{released_items, CanRelease, IsBeginningOf, TookSome, TookSomeOrAll}

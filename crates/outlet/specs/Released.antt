@@ -1,6 +1,6 @@
 -- What an outlet takes when a log's items up to a position are released.
 use Rattle.std.specs.Prelude.{◌≡◌, ℕ, ◌-◌, ◌<◌, ◌≤◌, List, ◌++◌, ℤ, length, take, drop}
-use Rattle.outlet.specs.LogState.{LogState, log_end}
+use Rattle.retained.specs.LogState.{LogState, log_end}
 
 -- the log's items from the position `len` to the one before `covered`; none where `covered` is at most `len`
 abbrev pub released_items : LogState → ℕ → ℕ → List ℤ

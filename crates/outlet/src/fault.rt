@@ -1,52 +1,9 @@
-// Why a log or an outlet refuses.
+// Why an outlet refuses.
 ghost use Rattle.std.specs.Prelude.{◌≡◌};
-ghost use Rattle.outlet.specs.Faults.{log_refusal_number, outlet_refusal_number};
+ghost use Rattle.outlet.specs.Faults.{refusal_number};
 
 use std::alloc::{AllocError, AllocFailed};
 use thiserror::Error;
-
-/// Why a log took no item. It is as it was.
-#[derive(Clone, Copy, Debug, PartialEq, Eq, Error)]
-pub enum LogFault {
-    /// There is no memory. Refusal 1.
-    #[error("no memory")]
-    NoMemory,
-    /// What was to be added doesn't all fit: a log holds at most 65,536 items, and its end is at most 2^63 - 1. Refusal 50.
-    #[error("the log is full")]
-    Full,
-}
-
-impl LogFault {
-    /// The refusal's number: 1 for `NoMemory`, 50 for `Full`.
-    pub fn number(&self) -> u8
-        ensures { result ≡ log_refusal_number self.now }
-    {
-        match self {
-            LogFault::NoMemory => 1,
-            LogFault::Full => 50,
-        }
-    }
-}
-
-impl From<AllocError> for LogFault {
-    ghost use Rattle.outlet.specs.declared.fault.LogFault.TheVariants.{NoMemory};
-
-    ghost from_gives = { λ _ e. e ≡ NoMemory };
-
-    fn from(_: AllocError) -> Self {
-        LogFault::NoMemory
-    }
-}
-
-impl<T: Drop> From<AllocFailed<T>> for LogFault {
-    ghost use Rattle.outlet.specs.declared.fault.LogFault.TheVariants.{NoMemory};
-
-    ghost from_gives = { λ _ e. e ≡ NoMemory };
-
-    fn from(_: AllocFailed<T>) -> Self {
-        LogFault::NoMemory
-    }
-}
 
 /// Why an outlet refused an item.
 #[derive(Clone, Copy, Debug, PartialEq, Eq, Error)]
@@ -62,7 +19,7 @@ pub enum OutletFault {
 impl OutletFault {
     /// The refusal's number: 1 for `NoMemory`, 60 for `Failed`.
     pub fn number(&self) -> u8
-        ensures { result ≡ outlet_refusal_number self.now }
+        ensures { result ≡ refusal_number self.now }
     {
         match self {
             OutletFault::NoMemory => 1,

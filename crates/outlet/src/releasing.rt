@@ -1,11 +1,11 @@
 // An outlet goes on to where a log's items may leave.
 ghost use Rattle.std.specs.Prelude.{◌≡◌, ◌⊎◌, ◌↔◌, List, ◌++◌, ℤ, length, max, IsTrue, OnOk, IsErrOf};
-ghost use Rattle.outlet.specs.LogState.{IsLogOf, items_at};
+ghost use Rattle.retained.specs.LogState.{IsLogOf, items_at};
 ghost use Rattle.outlet.specs.Faults.{failures_after};
 ghost use Rattle.outlet.specs.Released.{CanRelease, released_items, IsBeginningOf, TookSome, TookSomeOrAll};
 
 use crate::fault::OutletFault;
-use crate::log::Log;
+use retained::Log;
 use crate::outlet::Outlet;
 
 /// Whether `release` may be called: the log holds what comes next for the outlet, and `covered` is at most the log's end.

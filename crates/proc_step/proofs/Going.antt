@@ -1,14 +1,14 @@
 -- One statement after another.
 use Rattle.std.proofs.Common.{◌≡◌, ℕ, ◌+◌, ◌<◌, ◌≤◌, List, ℤ, [], ◌∷◌, ◌++◌, length, set, drop, refl, sym, ap, ◌∙◌, subst, append_assoc}
 use Rattle.std.specs.Prelude.{slice_index, slice_get, Some}
-use Rattle.net_check.specs.Streams.{history_of}
-use Rattle.net_check.specs.Syntax.{Tree, Block, Nothing, GetThen, PutThen, AssignThen}
-use Rattle.net_check.specs.Statements.{Trace, Step, Got, Sent, trace_of, on_get, value_of}
-use Rattle.net_check.specs.Processes.{standing_at}
-use Rattle.net_check.specs.Puts.{put_by, put_after}
-use Rattle.net_check.specs.PutLaws.{put_after-append}
-use Rattle.net_check.specs.Resuming.{left_by, left_after}
-use Rattle.net_check.specs.GotLaws.{left_after-append}
+use Rattle.kahn_net.specs.Streams.{history_of}
+use Rattle.kahn_net.specs.Syntax.{Tree, Block, Nothing, GetThen, PutThen, AssignThen}
+use Rattle.kahn_net.specs.Statements.{Trace, Step, Got, Sent, trace_of, on_get, value_of}
+use Rattle.kahn_net.specs.Processes.{standing_at}
+use Rattle.kahn_net.specs.Puts.{put_by, put_after}
+use Rattle.kahn_net.specs.Laws.Puts.{put_after-append}
+use Rattle.kahn_net.specs.Resuming.{left_by, left_after}
+use Rattle.kahn_net.specs.Laws.Got.{left_after-append}
 use Rattle.proc_step.specs.declared.statements.Flow.TheVariants.{RanOut, Stands}
 use Rattle.proc_step.specs.Turns.{CanBeMade, CanAllBeMade}
 use Rattle.proc_step.specs.Parts.{Part}

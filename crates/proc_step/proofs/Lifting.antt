@@ -4,14 +4,14 @@ use Rattle.std.proofs.Math.Nat.{zero-add}
 use Rattle.std.specs.Prelude.{slice_index}
 use Rattle.std.proofs.lemmas.List.{length-append}
 use Rattle.std.proofs.Math.Seq.{drop-append_seam}
-use Rattle.net_check.specs.Streams.{history_of, IsPrefix, ArePrefixes}
-use Rattle.net_check.specs.Syntax.{Code}
-use Rattle.net_check.specs.Statements.{Act, Got, Sent, Step, Trace, End, Ended, Waits}
-use Rattle.net_check.specs.Processes.{Standing, NotBegun, At, Done, standing_at, IsHere, HasPassingLoop, process_trace, sent_on, got_on}
-use Rattle.net_check.specs.Resuming.{trace_from, left_after}
-use Rattle.net_check.specs.StreamLaws.{still_stands}
-use Rattle.net_check.specs.GotLaws.{longer_from, next_from, reads, reads_from, reading_first, got_and_left, waits_empty, IsReading, IsGetFrom, GetsNext, NoPutNext, function_of_got}
-use Rattle.net_check.specs.ResumeLaws.{resumes}
+use Rattle.kahn_net.specs.Streams.{history_of, IsPrefix, ArePrefixes}
+use Rattle.kahn_net.specs.Syntax.{Code}
+use Rattle.kahn_net.specs.Statements.{Act, Got, Sent, Step, Trace, End, Ended, Waits}
+use Rattle.kahn_net.specs.Processes.{Standing, NotBegun, At, Done, standing_at, IsHere, HasPassingLoop, process_trace, sent_on, got_on}
+use Rattle.kahn_net.specs.Resuming.{trace_from, left_after}
+use Rattle.kahn_net.specs.Laws.Streams.{still_stands}
+use Rattle.kahn_net.specs.Laws.Got.{longer_from, next_from, reads, reads_from, reading_first, got_and_left, waits_empty, IsReading, IsGetFrom, GetsNext, NoPutNext, function_of_got}
+use Rattle.kahn_net.specs.Laws.Resuming.{resumes}
 use Rattle.proc_step.specs.Turns.{IsHeldBack, IsNextHeldBack, HasBegun, AreNext, IsTurn, nothing_sent}
 use Rattle.proc_step.specs.Parts.{Played, taken_of}
 use Rattle.proc_step.proofs.Counts.{taken_is, sent_is}

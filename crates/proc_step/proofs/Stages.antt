@@ -1,21 +1,21 @@
 -- Parts of traces, one after another: the rest of a pass, and then the loop.
 use Rattle.std.proofs.Common.{◌≡◌, ℕ, suc, ◌<◌, List, ℤ, [], ◌∷◌, ◌++◌, refl, sym, ap, ◌∙◌, subst, append_assoc, append-nil, arith, Option, Some, None}
 use Rattle.std.specs.Prelude.{IsTrue}
-use Rattle.net_check.specs.Streams.{total}
-use Rattle.net_check.specs.Syntax.{Block}
-use Rattle.net_check.specs.Valid.{is_passing}
-use Rattle.net_check.specs.Statements.{Trace, Step, End, Ended, Waits, trace_of, from_end, then_do}
-use Rattle.net_check.specs.Processes.{At, Done, standing_at, passes, loop_trace}
-use Rattle.net_check.specs.PassLaws.{one_pass, fewer_left}
-use Rattle.net_check.specs.Puts.{put_after}
-use Rattle.net_check.specs.PutLaws.{put_after-append}
-use Rattle.net_check.specs.Resuming.{left_after}
-use Rattle.net_check.specs.StreamLaws.{not_done}
+use Rattle.kahn_net.specs.Streams.{total}
+use Rattle.kahn_net.specs.Syntax.{Block}
+use Rattle.kahn_net.specs.Valid.{is_passing}
+use Rattle.kahn_net.specs.Statements.{Trace, Step, End, Ended, Waits, trace_of, from_end, then_do}
+use Rattle.kahn_net.specs.Processes.{At, Done, standing_at, passes, loop_trace}
+use Rattle.kahn_net.specs.Laws.Passes.{one_pass, fewer_left}
+use Rattle.kahn_net.specs.Puts.{put_after}
+use Rattle.kahn_net.specs.Laws.Puts.{put_after-append}
+use Rattle.kahn_net.specs.Resuming.{left_after}
+use Rattle.kahn_net.specs.Laws.Streams.{not_done}
 use Rattle.proc_step.specs.declared.statements.Flow.{Flow}
 use Rattle.proc_step.specs.declared.statements.Flow.TheVariants.{RanOut, Stands}
 use Rattle.proc_step.specs.Turns.{CanAllBeMade}
 use Rattle.proc_step.specs.Parts.{Part, Played, StopsAs}
-use Rattle.net_check.specs.GotLaws.{left_after-append}
+use Rattle.kahn_net.specs.Laws.Got.{left_after-append}
 use Rattle.proc_step.proofs.Going.{made-append}
 
 -- a whole trace, and then a part of what follows: its steps are these

@@ -1,8 +1,8 @@
 -- A process of few units has few sites.
 use Rattle.std.proofs.Common.{◌≡◌, ℕ, ◌+◌, ◌<◌, ◌≤◌, ◌^◌, ap, arith, Option, Some}
-use Rattle.net_check.specs.Syntax.{Block, Nothing, GetThen, PutThen, AssignThen}
-use Rattle.net_check.specs.Statements.{sites_of}
-use Rattle.net_check.specs.Valid.{block_units, body_units}
+use Rattle.kahn_net.specs.Syntax.{Block, Nothing, GetThen, PutThen, AssignThen}
+use Rattle.kahn_net.specs.Statements.{sites_of}
+use Rattle.kahn_net.specs.Valid.{block_units, body_units}
 
 -- each site is a unit
 pub sites_within : (b : Block) → sites_of b ≤ block_units b

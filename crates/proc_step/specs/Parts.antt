@@ -1,9 +1,9 @@
 -- Parts of traces: what the walk over a process's statements has made so far, and how it stopped.
 use Rattle.std.specs.Prelude.{◌≡◌, ◌-◌, ℕ, ℤ, List, [], ◌∷◌, ◌++◌, length}
-use Rattle.net_check.specs.Statements.{Step, Trace, End, Ended}
-use Rattle.net_check.specs.Processes.{Standing, At, standing_at}
-use Rattle.net_check.specs.Puts.{put_after}
-use Rattle.net_check.specs.Resuming.{left_after}
+use Rattle.kahn_net.specs.Statements.{Step, Trace, End, Ended}
+use Rattle.kahn_net.specs.Processes.{Standing, At, standing_at}
+use Rattle.kahn_net.specs.Puts.{put_after}
+use Rattle.kahn_net.specs.Resuming.{left_after}
 use Rattle.proc_step.specs.declared.statements.Flow.{Flow}
 use Rattle.proc_step.specs.declared.statements.Flow.TheVariants.{RanOut, Stands}
 use Rattle.proc_step.specs.Turns.{CanAllBeMade, IsNextHeldBack}

@@ -4,13 +4,13 @@ use Rattle.std.specs.Prelude.{slice_get, slice_index, Some}
 use Rattle.std.proofs.lemmas.List.{length-append, length-set, length-replicate, get_or-set_same, get_or-set_other, get_or_past, get_or-replicate}
 use Rattle.std.proofs.lemmas.Bool.{cases_lt}
 use Rattle.std.proofs.lemmas.Bool.Decides.{eqb_tells}
-use Rattle.net_check.specs.Streams.{history_of}
-use Rattle.net_check.specs.Syntax.{Code}
-use Rattle.net_check.specs.Statements.{Act, Got, Sent, Step}
-use Rattle.net_check.specs.Processes.{Standing, sent_on, sent_by, got_on}
-use Rattle.net_check.specs.Puts.{put_by}
-use Rattle.net_check.specs.Resuming.{left_by, left_after}
-use Rattle.net_check.specs.GotLaws.{IsNextItem, IsReading, got_and_left}
+use Rattle.kahn_net.specs.Streams.{history_of}
+use Rattle.kahn_net.specs.Syntax.{Code}
+use Rattle.kahn_net.specs.Statements.{Act, Got, Sent, Step}
+use Rattle.kahn_net.specs.Processes.{Standing, sent_on, sent_by, got_on}
+use Rattle.kahn_net.specs.Puts.{put_by}
+use Rattle.kahn_net.specs.Resuming.{left_by, left_after}
+use Rattle.kahn_net.specs.Laws.Got.{IsNextItem, IsReading, got_and_left}
 use Rattle.proc_step.specs.Turns.{CanBeMade, CanAllBeMade, nothing_sent, Turn}
 
 -- what is sent, beside what was sent before, is within the room

@@ -1,15 +1,15 @@
 -- A process's turn: as many of its acts as the items at hand and the room allow.
 use Rattle.std.specs.Prelude.{◌≡◌, ◌≤◌, ◌<◌, ◌+◌, ℕ, ℤ, List, [], ◌∷◌, ◌++◌, length, take, drop, replicate, slice_get, slice_index, Some}
-use Rattle.net_check.specs.Streams.{history_of, IsPrefix}
-use Rattle.net_check.specs.Syntax.{Code, network_of}
-use Rattle.net_check.specs.Statements.{Act, Got, Sent, Step}
-use Rattle.net_check.specs.Processes.{Standing, NotBegun, At, Done, StandsAt, process_trace, sent_on, got_on, output_of}
-use Rattle.net_check.specs.GotLaws.{NoPutNext}
-use Rattle.net_check.specs.Puts.{put_by}
-use Rattle.net_check.specs.Resuming.{left_by, left_after}
-use Rattle.net_check.specs.States.{standing_of}
-use Rattle.net_check.specs.declared.program.Program.{Program}
-use Rattle.net_check.specs.declared.state.ProcState.{ProcState}
+use Rattle.kahn_net.specs.Streams.{history_of, IsPrefix}
+use Rattle.kahn_net.specs.Syntax.{Code, network_of}
+use Rattle.kahn_net.specs.Statements.{Act, Got, Sent, Step}
+use Rattle.kahn_net.specs.Processes.{Standing, NotBegun, At, Done, StandsAt, process_trace, sent_on, got_on, output_of}
+use Rattle.kahn_net.specs.Laws.Got.{NoPutNext}
+use Rattle.kahn_net.specs.Puts.{put_by}
+use Rattle.kahn_net.specs.Resuming.{left_by, left_after}
+use Rattle.kahn_net.specs.States.{standing_of}
+use Rattle.kahn_net.specs.declared.program.Program.{Program}
+use Rattle.kahn_net.specs.declared.state.ProcState.{ProcState}
 
 -- an act can be made: a get takes the next item left on its channel, and a put finds room beside what was sent before
 abbrev pub CanBeMade : Act → List ℕ → List (List ℤ) → List (List ℤ) → Type 0

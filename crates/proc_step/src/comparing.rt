@@ -1,11 +1,11 @@
 //! Whether two jobs are the same.
 
 ghost use Rattle.std.specs.Prelude.{◌≡◌, ◌↔◌, IsTrue, Some, slice_get};
-ghost use Rattle.net_check.specs.Syntax.{code_of, network_of};
+ghost use Rattle.kahn_net.specs.Syntax.{code_of, network_of};
 ghost use Rattle.proc_step.specs.Jobs.{IsSameJob};
 
 use crate::job::Job;
-use net_check::{Process, is_same_process};
+use kahn_net::{Process, is_same_process};
 use stream_eq::are_same;
 
 /// Whether the places of room are the same.

@@ -1,11 +1,12 @@
 //! Jobs, and what they came to.
 
 ghost use Rattle.std.specs.Prelude.{◌≡◌, ◌<◌, length, slice_get, Some, MatchResult};
-ghost use Rattle.net_check.specs.Syntax.{Code, network_of};
+ghost use Rattle.kahn_net.specs.Syntax.{Code, network_of};
 ghost use Rattle.proc_step.specs.Turns.{IsOwnTurn};
 
 use crate::outcome::take_turn;
-use net_check::{History, Net, ProcState};
+use kahn_net::{History, ProcState};
+use net_check::Net;
 use std::alloc::Global;
 use std::sync::Arc;
 use thiserror::Error;

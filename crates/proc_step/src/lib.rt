@@ -12,5 +12,5 @@ mod statements;
 mod turn;
 
 pub use job::{Done, Job, JobFault};
-pub use net_check::{Place, ProcState};
+pub use kahn_net::{Place, ProcState};
 pub use next::{NextAct, next_act};

@@ -1,15 +1,15 @@
 //! What a process does next.
 
 ghost use Rattle.std.specs.Prelude.{◌≡◌, ◌+◌, ◌≤◌};
-ghost use Rattle.net_check.specs.Syntax.{block_of, code_of};
-ghost use Rattle.net_check.specs.NextActs.{first_of, next_of};
-ghost use Rattle.net_check.specs.States.{standing_of};
-ghost use Rattle.net_check.specs.Valid.{block_units, body_units};
+ghost use Rattle.kahn_net.specs.Syntax.{block_of, code_of};
+ghost use Rattle.kahn_net.specs.NextActs.{first_of, next_of};
+ghost use Rattle.kahn_net.specs.States.{standing_of};
+ghost use Rattle.kahn_net.specs.Valid.{block_units, body_units};
 ghost use Rattle.proc_step.specs.NextView.{next_view};
 
 use crate::sites::count_sites;
 use crate::turn::statements_at;
-use net_check::{Place, ProcState, Process, Statement};
+use kahn_net::{Place, ProcState, Process, Statement};
 
 /// What a process does next from where it stands.
 #[derive(Clone, Copy, Debug, PartialEq, Eq)]

@@ -1,17 +1,17 @@
 //! What a turn comes to.
 
 ghost use Rattle.std.specs.Prelude.{◌≡◌, ◌≤◌, ◌+◌, ℕ, length, IfOk};
-ghost use Rattle.net_check.specs.Streams.{history_of};
-ghost use Rattle.net_check.specs.Syntax.{code_of};
-ghost use Rattle.net_check.specs.Processes.{HasPassingLoop};
-ghost use Rattle.net_check.specs.States.{standing_in, standing_of};
-ghost use Rattle.net_check.specs.Valid.{block_units, body_units};
+ghost use Rattle.kahn_net.specs.Streams.{history_of};
+ghost use Rattle.kahn_net.specs.Syntax.{code_of};
+ghost use Rattle.kahn_net.specs.Processes.{HasPassingLoop};
+ghost use Rattle.kahn_net.specs.States.{standing_in, standing_of};
+ghost use Rattle.kahn_net.specs.Valid.{block_units, body_units};
 ghost use Rattle.proc_step.specs.Turns.{IsTurn, nothing_sent};
 ghost use Rattle.proc_step.specs.Parts.{taken_of};
 
 use crate::room::empty_histories;
 use crate::turn::play;
-use net_check::{History, Place, ProcState, Process};
+use kahn_net::{History, Place, ProcState, Process};
 use std::alloc::{AllocError, Global};
 use stream_eq::{Unread, all_unread};
 

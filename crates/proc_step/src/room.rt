@@ -1,10 +1,10 @@
 //! What is sent in a turn, and the room for it.
 
 ghost use Rattle.std.specs.Prelude.{◌≡◌, ◌↔◌, ◌<◌, IsTrue, IfOk, OnOk, length, slice_index, slice_set, replicate, [], ◌∷◌, ◌++◌};
-ghost use Rattle.net_check.specs.Streams.{history_of};
+ghost use Rattle.kahn_net.specs.Streams.{history_of};
 ghost use Rattle.proc_step.specs.Turns.{nothing_sent};
 
-use net_check::History;
+use kahn_net::History;
 use std::alloc::{AllocError, Global};
 
 /// Nothing sent yet on any channel.

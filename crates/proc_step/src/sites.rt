@@ -1,11 +1,11 @@
 //! Sites: the gets and puts of a process, numbered from 0 in order of the text.
 
 ghost use Rattle.std.specs.Prelude.{◌≡◌, ◌+◌, ◌<◌, ◌≤◌, ◌^◌, length, drop};
-ghost use Rattle.net_check.specs.Syntax.{block_of};
-ghost use Rattle.net_check.specs.Statements.{sites_of};
-ghost use Rattle.net_check.specs.Resuming.{from_site};
+ghost use Rattle.kahn_net.specs.Syntax.{block_of};
+ghost use Rattle.kahn_net.specs.Statements.{sites_of};
+ghost use Rattle.kahn_net.specs.Resuming.{from_site};
 
-use net_check::Statement;
+use kahn_net::Statement;
 
 /// How many sites these statements have.
 pub fn count_sites(statements: &[Statement]) -> usize

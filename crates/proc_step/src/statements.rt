@@ -1,12 +1,12 @@
 //! Statements, one after another.
 
 ghost use Rattle.std.specs.Prelude.{◌≡◌, ◌+◌, ◌<◌, ◌^◌, IfOk, length};
-ghost use Rattle.net_check.specs.Syntax.{block_of};
-ghost use Rattle.net_check.specs.Statements.{trace_of, sites_of};
+ghost use Rattle.kahn_net.specs.Syntax.{block_of};
+ghost use Rattle.kahn_net.specs.Statements.{trace_of, sites_of};
 ghost use Rattle.proc_step.specs.Parts.{Part};
 
 use crate::room::{has_room, send};
-use net_check::{History, Statement};
+use kahn_net::{History, Statement};
 use std::alloc::AllocError;
 use stream_eq::{Unread, set_variable, take_item, value};
 

@@ -1,19 +1,19 @@
 //! A process's turn from where it stands.
 
 ghost use Rattle.std.specs.Prelude.{◌≡◌, ◌+◌, ◌<◌, ◌≤◌, ◌^◌, suc, IsTrue, IfOk, length, Some};
-ghost use Rattle.net_check.specs.Streams.{total};
-ghost use Rattle.net_check.specs.Syntax.{block_of, code_of};
-ghost use Rattle.net_check.specs.Statements.{sites_of, then_do, trace_of};
-ghost use Rattle.net_check.specs.Processes.{HasPassingLoop, loop_trace, passes};
-ghost use Rattle.net_check.specs.Resuming.{statements_from as from, trace_from};
-ghost use Rattle.net_check.specs.States.{standing_in};
-ghost use Rattle.net_check.specs.Valid.{block_units, body_units, is_passing};
+ghost use Rattle.kahn_net.specs.Streams.{total};
+ghost use Rattle.kahn_net.specs.Syntax.{block_of, code_of};
+ghost use Rattle.kahn_net.specs.Statements.{sites_of, then_do, trace_of};
+ghost use Rattle.kahn_net.specs.Processes.{HasPassingLoop, loop_trace, passes};
+ghost use Rattle.kahn_net.specs.Resuming.{statements_from as from, trace_from};
+ghost use Rattle.kahn_net.specs.States.{standing_in};
+ghost use Rattle.kahn_net.specs.Valid.{block_units, body_units, is_passing};
 ghost use Rattle.proc_step.specs.Parts.{Part, Played};
 ghost use Rattle.proc_step.specs.declared.statements.Flow.TheVariants.{Stands};
 
 use crate::sites::{count_sites, statements_from};
 use crate::statements::{Flow, play_statements};
-use net_check::{History, Place, Process, Statement};
+use kahn_net::{History, Place, Process, Statement};
 use std::alloc::AllocError;
 use stream_eq::Unread;
 

@@ -1,19 +1,19 @@
 //! What a node keeps over a crash, its cell in memory, and a turn of one of its processes.
 
 ghost use Rattle.std.specs.Prelude.{◌≡◌, ◌⊎◌, IfOk, IsTrue, Some};
-ghost use Rattle.outlet.specs.LogState.{Overfills};
+ghost use Rattle.retained.specs.LogState.{Overfills};
 ghost use Rattle.sector_disk.specs.Clock.{LeavesOnly};
-ghost use Rattle.node.specs.Ends.{received_at, log_at};
+ghost use Rattle.record.specs.Ends.{received_at, log_at};
 ghost use Rattle.node.specs.Granting.{is_process};
-ghost use Rattle.node.specs.Installing.{taken_from, put_on, LogTakes, EndTakes, ImageTakes};
+ghost use Rattle.record.specs.Changes.{LogTakes};
+ghost use Rattle.node.specs.Installing.{taken_from, put_on, EndTakes, ImageTakes};
 
-use net_check::{Channel, History, Inputs, Net, Place, Port, ProcState, bind, check};
+use kahn_net::{Channel, History, Place, Port, ProcState};
+use net_check::{Inputs, Net, bind, check};
 use net_text::{parse, parse_inputs};
-use node::{
-    CellFault, Decision, End, Image, LAST_NUMBER, MemCell, NodeState, Record, SavedEnd,
-    SavedProcess, StableCell, Tentative,
-};
-use outlet::{LOG_ITEMS, Log};
+use record::{Decision, End, Image, Record, SavedEnd, SavedProcess, Tentative};
+use node::{CellFault, LAST_NUMBER, MemCell, NodeState, StableCell};
+use retained::{LOG_ITEMS, Log};
 use proc_step::{Done, Job};
 use std::alloc::Global;
 use std::sync::Arc;

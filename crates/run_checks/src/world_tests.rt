@@ -5,9 +5,9 @@ mod weak_cell;
 mod weak_outlet;
 
 ghost use Rattle.std.specs.Prelude.{◌≡◌, IfOk, IsTrue, [], map};
-ghost use Rattle.net_check.specs.Fits.{Fits};
-ghost use Rattle.net_check.specs.Nodes.{IsOnOneNode};
-ghost use Rattle.net_check.specs.Syntax.{network_of};
+ghost use Rattle.kahn_net.specs.Fits.{Fits};
+ghost use Rattle.kahn_net.specs.Nodes.{IsOnOneNode};
+ghost use Rattle.kahn_net.specs.Syntax.{network_of};
 ghost use Rattle.world.specs.Sound.{output_channels};
 ghost use Rattle.world.specs.Pairs.{Every};
 
@@ -15,7 +15,8 @@ use crate::world_tests::weak_cell::WeakCell;
 use crate::world_tests::weak_outlet::WeakOutlet;
 use net_check::{Inputs, Net, bind, check};
 use net_text::{parse, parse_inputs};
-use node::{CellFault, Image, MemCell, Record, StableCell};
+use record::{Image, Record};
+use node::{CellFault, MemCell, StableCell};
 use outlet::{ListOutlet, Outlet};
 use proc_step::Done;
 use std::alloc::Global;

@@ -1,11 +1,11 @@
 -- The value of a chain, before its links are reached.
 use Rattle.std.proofs.Common.{◌≡◌, ◌∙◌, ℤ, List, drop, sym, ap, Vec, Box, Global}
-use Rattle.net_check.specs.Statements.{value_of, value_along}
-use Rattle.net_check.specs.Syntax.{Tree, links_of, tree_of}
-use Rattle.net_check.specs.SyntaxLaws.{chain_of}
-use Rattle.net_check.specs.declared.program.Link.{Link}
-use Rattle.net_check.specs.declared.program.Expr.{Expr}
-use Rattle.net_check.specs.declared.program.Expr.TheViews.{Chain}
+use Rattle.kahn_net.specs.Statements.{value_of, value_along}
+use Rattle.kahn_net.specs.Syntax.{Tree, links_of, tree_of}
+use Rattle.kahn_net.specs.Laws.Syntax.{chain_of}
+use Rattle.kahn_net.specs.declared.program.Link.{Link}
+use Rattle.kahn_net.specs.declared.program.Expr.{Expr}
+use Rattle.kahn_net.specs.declared.program.Expr.TheViews.{Chain}
 
 pub value_starts : (e : Expr) (first : Box Expr Global) (links : Vec Link Global) (items : List Link) (vars : List ℤ) (total : ℤ) → e ≡ Chain first links → items ≡ links.items → total ≡ value_of (tree_of first.value) vars
     → value_along (links_of (drop 0 items)) vars total ≡ value_of (tree_of e) vars

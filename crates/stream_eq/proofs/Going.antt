@@ -2,11 +2,11 @@
 use Rattle.std.proofs.Common.{◌≡◌, ℕ, ◌+◌, ◌<◌, ◌≤◌, true, false, List, ℤ, [], ◌∷◌, ◌++◌, length, get_or, set, drop, refl, sym, ap, ◌∙◌, subst}
 use Rattle.std.specs.Prelude.{slice_index}
 use Rattle.std.proofs.lemmas.List.{at_drop_more}
-use Rattle.net_check.specs.Streams.{history_of}
-use Rattle.net_check.specs.Syntax.{Tree, Block, Nothing, GetThen, AssignThen, PutThen, block_of, then_of}
-use Rattle.net_check.specs.Statements.{Trace, End, trace_of, on_get, value_of}
-use Rattle.net_check.specs.Puts.{put_after}
-use Rattle.net_check.specs.declared.program.Statement.{Statement}
+use Rattle.kahn_net.specs.Streams.{history_of}
+use Rattle.kahn_net.specs.Syntax.{Tree, Block, Nothing, GetThen, AssignThen, PutThen, block_of, then_of}
+use Rattle.kahn_net.specs.Statements.{Trace, End, trace_of, on_get, value_of}
+use Rattle.kahn_net.specs.Puts.{put_after}
+use Rattle.kahn_net.specs.declared.program.Statement.{Statement}
 use Rattle.stream_eq.specs.Limits.{GoesPast}
 use Rattle.stream_eq.specs.Play.{EndsAs, IsPlayed}
 use Rattle.stream_eq.proofs.Puts.{past_more, past_put}

@@ -1,14 +1,14 @@
 -- The prelude, and then one pass of the body after another.
 use Rattle.std.proofs.Common.{◌≡◌, ℕ, suc, ◌<◌, Bool, true, false, List, ℤ, [], ◌++◌, Option, Some, refl, sym, ap, subst, ◌∙◌, append-nil, arith}
 use Rattle.std.specs.Prelude.{IsTrue}
-use Rattle.net_check.specs.Streams.{total}
-use Rattle.net_check.specs.Syntax.{Block}
-use Rattle.net_check.specs.Valid.{is_passing}
-use Rattle.net_check.specs.Statements.{Trace, Step, End, Ended, Waits, trace_of, from_end, then_do}
-use Rattle.net_check.specs.Processes.{passes, loop_trace}
-use Rattle.net_check.specs.PassLaws.{fewer_left, one_pass}
-use Rattle.net_check.specs.Puts.{put_after}
-use Rattle.net_check.specs.PutLaws.{put_after-append}
+use Rattle.kahn_net.specs.Streams.{total}
+use Rattle.kahn_net.specs.Syntax.{Block}
+use Rattle.kahn_net.specs.Valid.{is_passing}
+use Rattle.kahn_net.specs.Statements.{Trace, Step, End, Ended, Waits, trace_of, from_end, then_do}
+use Rattle.kahn_net.specs.Processes.{passes, loop_trace}
+use Rattle.kahn_net.specs.Laws.Passes.{fewer_left, one_pass}
+use Rattle.kahn_net.specs.Puts.{put_after}
+use Rattle.kahn_net.specs.Laws.Puts.{put_after-append}
 use Rattle.stream_eq.specs.Limits.{GoesPast}
 use Rattle.stream_eq.specs.Play.{EndsAs, IsPlayed}
 use Rattle.stream_eq.proofs.Puts.{past_more}

@@ -4,11 +4,11 @@ use Rattle.std.specs.Prelude.{slice_index}
 use Rattle.std.proofs.lemmas.Bool.{cases_lt}
 use Rattle.std.proofs.lemmas.Bool.Decides.{eqb_tells}
 use Rattle.std.proofs.lemmas.List.{get_or-set_same, get_or-set_other, get_or_past, set_past, length_push}
-use Rattle.net_check.specs.Streams.{history_of}
-use Rattle.net_check.specs.Statements.{Step}
-use Rattle.net_check.specs.Processes.{sent_on}
-use Rattle.net_check.specs.Puts.{put_after}
-use Rattle.net_check.specs.PutLaws.{put_after-at}
+use Rattle.kahn_net.specs.Streams.{history_of}
+use Rattle.kahn_net.specs.Statements.{Step}
+use Rattle.kahn_net.specs.Processes.{sent_on}
+use Rattle.kahn_net.specs.Puts.{put_after}
+use Rattle.kahn_net.specs.Laws.Puts.{put_after-at}
 use Rattle.stream_eq.specs.Limits.{IsWithin, GoesPast}
 
 -- what is past stays past, whatever is put later

@@ -4,19 +4,19 @@ use Rattle.std.specs.Prelude.{slice_get}
 use Rattle.std.proofs.lemmas.Bool.{cases_Bool}
 use Rattle.std.proofs.lemmas.List.{ext_get_or, at_drop_more}
 use Rattle.std.proofs.lemmas.Option.{slice_get_cases}
-use Rattle.net_check.specs.Streams.{history_of}
-use Rattle.net_check.specs.Fits.{Fits}
-use Rattle.net_check.specs.Syntax.{Code, Network, code_of}
-use Rattle.net_check.specs.Valid.{IsValid, code_puts}
-use Rattle.net_check.specs.Processes.{process_trace, output_of}
-use Rattle.net_check.specs.Approximations.{output_at, next_history, next_histories}
-use Rattle.net_check.specs.ApproximationLaws.{length-next_from, next_histories-at, inner_empty}
-use Rattle.net_check.specs.Puts.{put_after}
-use Rattle.net_check.specs.PutLaws.{silent, length-put_after, put_after-at}
-use Rattle.net_check.specs.declared.program.Channel.{Channel}
-use Rattle.net_check.specs.declared.program.Port.{Port}
-use Rattle.net_check.specs.declared.program.Port.TheVariants.{Outside, Process}
-use Rattle.net_check.specs.declared.program.Process.{Process as Text}
+use Rattle.kahn_net.specs.Streams.{history_of}
+use Rattle.kahn_net.specs.Fits.{Fits}
+use Rattle.kahn_net.specs.Syntax.{Code, Network, code_of}
+use Rattle.kahn_net.specs.Valid.{IsValid, code_puts}
+use Rattle.kahn_net.specs.Processes.{process_trace, output_of}
+use Rattle.kahn_net.specs.Approximations.{output_at, next_history, next_histories}
+use Rattle.kahn_net.specs.Laws.Approximations.{length-next_from, next_histories-at, inner_empty}
+use Rattle.kahn_net.specs.Puts.{put_after}
+use Rattle.kahn_net.specs.Laws.Puts.{silent, length-put_after, put_after-at}
+use Rattle.kahn_net.specs.declared.program.Channel.{Channel}
+use Rattle.kahn_net.specs.declared.program.Port.{Port}
+use Rattle.kahn_net.specs.declared.program.Port.TheVariants.{Outside, Process}
+use Rattle.kahn_net.specs.declared.program.Process.{Process as Text}
 use Rattle.stream_eq.specs.Limits.{GoesPast}
 use Rattle.stream_eq.specs.Play.{put_by_all}
 use Rattle.stream_eq.proofs.Puts.{past_more}

@@ -1,11 +1,11 @@
 -- Laws of networks, over the same definitions by which the solver answers.
 use Rattle.std.specs.Prelude.{◌≡◌, ℕ, suc, ◌≤◌, ℤ, List, IsTrue}
-use Rattle.net_check.specs.Streams.{IsPrefix, ArePrefixes, total}
-use Rattle.net_check.specs.Fits.{Fits}
-use Rattle.net_check.specs.Syntax.{Block, Code, Network}
-use Rattle.net_check.specs.Valid.{IsValid, is_passing}
-use Rattle.net_check.specs.Processes.{HasPassingLoop, passes, output_of, Standing, StandsAt}
-use Rattle.net_check.specs.Approximations.{approximation, Belongs, IsReached, IsSolution}
+use Rattle.kahn_net.specs.Streams.{IsPrefix, ArePrefixes, total}
+use Rattle.kahn_net.specs.Fits.{Fits}
+use Rattle.kahn_net.specs.Syntax.{Block, Code, Network}
+use Rattle.kahn_net.specs.Valid.{IsValid, is_passing}
+use Rattle.kahn_net.specs.Processes.{HasPassingLoop, passes, output_of, Standing, StandsAt}
+use Rattle.kahn_net.specs.Approximations.{approximation, Belongs, IsReached, IsSolution}
 
 -- a body that passes is at rest after as many passes as there are items unread, and one: more passes make no more acts
 abbrev pub WellFounded : Type 0

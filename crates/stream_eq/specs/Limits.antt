@@ -1,8 +1,8 @@
 -- Histories that are longer than they may be.
 use Rattle.std.specs.Prelude.{ℕ, ℤ, List, ◌≤◌, ◌<◌, length, slice_index}
-use Rattle.net_check.specs.Streams.{history_of}
-use Rattle.net_check.specs.Syntax.{Network}
-use Rattle.net_check.specs.Approximations.{approximation}
+use Rattle.kahn_net.specs.Streams.{history_of}
+use Rattle.kahn_net.specs.Syntax.{Network}
+use Rattle.kahn_net.specs.Approximations.{approximation}
 
 -- an approximation up to the n-th has a history of more than 1,048,576 items
 pub record HasLongHistory (net : Network) (inputs : List (List ℤ)) (n : ℕ) : Type 0 where

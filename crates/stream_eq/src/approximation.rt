@@ -1,15 +1,16 @@
 //! The approximations of a network's histories.
 
 ghost use Rattle.std.specs.Prelude.{◌≡◌, length, replicate, IfOk, OnOk, IsErrOf};
-ghost use Rattle.net_check.specs.Syntax.{network_of};
-ghost use Rattle.net_check.specs.Fits.{Fits};
-ghost use Rattle.net_check.specs.Approximations.{approximation};
+ghost use Rattle.kahn_net.specs.Syntax.{network_of};
+ghost use Rattle.kahn_net.specs.Fits.{Fits};
+ghost use Rattle.kahn_net.specs.Approximations.{approximation};
 ghost use Rattle.stream_eq.specs.Limits.{HasLongHistory};
 
 use crate::fault::Fault;
 use crate::histories::{Histories, are_same, copies};
 use crate::round::next;
-use net_check::{History, Inputs, Net};
+use kahn_net::History;
+use net_check::{Inputs, Net};
 use std::alloc::{AllocError, Global};
 
 /// The most items that a history may have.

@@ -1,11 +1,11 @@
 //! Expressions and variables.
 
 ghost use Rattle.std.specs.Prelude.{◌≡◌, slice_set};
-ghost use Rattle.net_check.specs.Syntax.{tree_of};
-ghost use Rattle.net_check.specs.Statements.{apply, value_of};
+ghost use Rattle.kahn_net.specs.Syntax.{tree_of};
+ghost use Rattle.kahn_net.specs.Statements.{apply, value_of};
 
-use net_check::Expr;
-use net_text::Operator;
+use kahn_net::Expr;
+use kahn_net::Operator;
 
 /// The value of an operator on two values.
 fn operate(operator: Operator, left: i64, right: i64) -> i64

@@ -2,7 +2,7 @@
 
 ghost use Rattle.std.specs.Prelude.{◌≡◌, ◌↔◌, length, take, IsTrue, IfOk, OnOk};
 
-use net_check::History;
+use kahn_net::History;
 use std::alloc::{AllocError, Global};
 use std::marker::Model;
 

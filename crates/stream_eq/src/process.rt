@@ -2,19 +2,19 @@
 
 ghost use Rattle.std.specs.Prelude.{◌≡◌, ℕ, ◌<◌, ◌≤◌, [], ◌∷◌, ◌++◌, length, slice_index, slice_set};
 ghost use Rattle.std.specs.Prelude.{IsTrue, IfOk, OnOk, IsErrOf};
-ghost use Rattle.net_check.specs.Streams.{history_of};
-ghost use Rattle.net_check.specs.Syntax.{block_of, code_of};
-ghost use Rattle.net_check.specs.Valid.{is_passing};
-ghost use Rattle.net_check.specs.Statements.{trace_of};
-ghost use Rattle.net_check.specs.Processes.{HasPassingLoop};
-ghost use Rattle.net_check.specs.Puts.{put_after};
+ghost use Rattle.kahn_net.specs.Streams.{history_of};
+ghost use Rattle.kahn_net.specs.Syntax.{block_of, code_of};
+ghost use Rattle.kahn_net.specs.Valid.{is_passing};
+ghost use Rattle.kahn_net.specs.Statements.{trace_of};
+ghost use Rattle.kahn_net.specs.Processes.{HasPassingLoop};
+ghost use Rattle.kahn_net.specs.Puts.{put_after};
 ghost use Rattle.stream_eq.specs.Limits.{IsWithin, GoesPast};
 ghost use Rattle.stream_eq.specs.Play.{IsPlayed, put_by_passes, put_by_process};
 
 use crate::evaluate::{set_variable, value};
 use crate::fault::Fault;
 use crate::unread::{Unread, all_unread, take_item};
-use net_check::{History, Process, Statement};
+use kahn_net::{History, Process, Statement};
 use std::alloc::Global;
 
 /// Puts an item on a channel, unless that goes past the channel's limit.

@@ -1,16 +1,17 @@
 //! One round: what all producers make of histories.
 
 ghost use Rattle.std.specs.Prelude.{◌≡◌, length, map, IfOk, OnOk, IsErrOf};
-ghost use Rattle.net_check.specs.Syntax.{code_of, network_of};
-ghost use Rattle.net_check.specs.Fits.{Fits};
-ghost use Rattle.net_check.specs.Approximations.{next_histories};
+ghost use Rattle.kahn_net.specs.Syntax.{code_of, network_of};
+ghost use Rattle.kahn_net.specs.Fits.{Fits};
+ghost use Rattle.kahn_net.specs.Approximations.{next_histories};
 ghost use Rattle.stream_eq.specs.Limits.{IsWithin, GoesPast};
 ghost use Rattle.stream_eq.specs.Play.{AllHavePassingLoops, put_by_all};
 
 use crate::fault::Fault;
 use crate::histories::copies;
 use crate::process::put_outputs;
-use net_check::{History, Net, Process};
+use kahn_net::{History, Process};
+use net_check::Net;
 use std::alloc::Global;
 
 /// Puts what each of these processes puts by its function of the histories, unless that goes past a

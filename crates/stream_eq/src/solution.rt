@@ -1,14 +1,15 @@
 //! Whether histories solve a network's equations.
 
 ghost use Rattle.std.specs.Prelude.{◌≡◌, ◌↔◌, length, map, IsTrue, IfOk, IfErr};
-ghost use Rattle.net_check.specs.Syntax.{network_of};
-ghost use Rattle.net_check.specs.Fits.{Fits};
-ghost use Rattle.net_check.specs.Approximations.{IsSolution};
+ghost use Rattle.kahn_net.specs.Syntax.{network_of};
+ghost use Rattle.kahn_net.specs.Fits.{Fits};
+ghost use Rattle.kahn_net.specs.Approximations.{IsSolution};
 
 use crate::fault::Fault;
 use crate::histories::{Histories, are_same};
 use crate::round::next;
-use net_check::{History, Inputs, Net};
+use kahn_net::History;
+use net_check::{Inputs, Net};
 use std::alloc::{AllocError, Global};
 
 /// How long each history is.

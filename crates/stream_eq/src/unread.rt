@@ -1,9 +1,9 @@
 //! What is unread of a history.
 
 ghost use Rattle.std.specs.Prelude.{◌≡◌, ◌==◌, [], ◌∷◌, List, ℤ, IfOk, IfSome, IfNone, length, slice_set};
-ghost use Rattle.net_check.specs.Streams.{history_of};
+ghost use Rattle.kahn_net.specs.Streams.{history_of};
 
-use net_check::History;
+use kahn_net::History;
 use std::alloc::{AllocError, Global};
 use std::marker::Model;
 

@@ -1,11 +1,11 @@
 -- Small networks, on which the tests compute the definitions.
 use Rattle.std.specs.Prelude.{ℕ, ℤ, pos, List, [], ◌∷◌, replicate, Some}
-use Rattle.net_text.specs.declared.tree.Operator.TheVariants.{Add}
-use Rattle.net_check.specs.Syntax.{Number, Name, Chain, NoLinks, LinkThen, Nothing, GetThen, AssignThen, PutThen, Code, Network}
-use Rattle.net_check.specs.Approximations.{approximation}
-use Rattle.net_check.specs.declared.program.Channel.{Channel}
-use Rattle.net_check.specs.declared.program.Port.{Port}
-use Rattle.net_check.specs.declared.program.Port.TheVariants.{Outside, Process}
+use Rattle.kahn_net.specs.declared.program.Operator.TheVariants.{Add}
+use Rattle.kahn_net.specs.Syntax.{Number, Name, Chain, NoLinks, LinkThen, Nothing, GetThen, AssignThen, PutThen, Code, Network}
+use Rattle.kahn_net.specs.Approximations.{approximation}
+use Rattle.kahn_net.specs.declared.program.Channel.{Channel}
+use Rattle.kahn_net.specs.declared.program.Port.{Port}
+use Rattle.kahn_net.specs.declared.program.Port.TheVariants.{Outside, Process}
 
 abbrev pub channel_from : Port → Port → Channel
 channel_from producer consumer = record { producer = producer; consumer = consumer }

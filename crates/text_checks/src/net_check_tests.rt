@@ -2,13 +2,10 @@
 //! network. A text is a table of its parts, each with its line.
 
 use crate::asserting::{same, same_at, same_items};
-use net_check::{
-    Channel, Expr, History, Net, NetFault, Port, Statement, bind, check, fits, is_same_process,
-};
-use net_text::{
-    ChannelText, Declaration, ExprText, InputLine, LinkText, LoopText, Name, NetText, NodeText,
-    Operator, ProcessText, RawInputs, Role, StatementText, VariableText, parse,
-};
+use kahn_net::{Channel, Expr, History, Port, Statement, is_same_process};
+use net_check::{Net, NetFault, bind, check, fits};
+use kahn_net::Operator;
+use net_text::{ChannelText, Declaration, ExprText, InputLine, LinkText, LoopText, Name, NetText, NodeText, ProcessText, RawInputs, Role, StatementText, VariableText, parse};
 use std::alloc::{AllocError, Global};
 use std::process::Abort;
 use std::test::Fail;
@@ -554,7 +551,7 @@ fn is_sum_body(body: &[Statement]) -> bool {
 }
 
 /// Asserts that this is the process of the running sum.
-fn is_sum_process(rt: &impl Abort, process: &net_check::Process) -> Result<(), Fail> {
+fn is_sum_process(rt: &impl Abort, process: &kahn_net::Process) -> Result<(), Fail> {
     same(rt, &process.node, &0, "node");
     same_items(rt, &process.variables, &[0, 0], "variables");
     same(rt, &process.prelude.is_empty(), &true, "an empty prelude");

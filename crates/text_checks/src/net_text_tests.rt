@@ -1,11 +1,8 @@
 //! Texts with the values that the format gives them.
 
 use crate::asserting::{same, same_at, same_items_at};
-use net_text::{
-    ChannelText, Declaration, ExprText, Keyword, LONGEST_TEXT, LinkText, NetText, Operator,
-    ProcessText, Role, StatementText, Symbol, TextFault, Token, TokenKind, VariableText, parse,
-    parse_inputs, tokens,
-};
+use kahn_net::Operator;
+use net_text::{ChannelText, Declaration, ExprText, Keyword, LONGEST_TEXT, LinkText, NetText, ProcessText, Role, StatementText, Symbol, TextFault, Token, TokenKind, VariableText, parse, parse_inputs, tokens};
 use std::process::Abort;
 use std::test::Fail;
 

@@ -1,7 +1,8 @@
 //! Turns of small processes, with states and items worked out by hand.
 
 use crate::asserting::{same, same_at, same_items, same_items_at};
-use net_check::{History, Net, check};
+use kahn_net::History;
+use net_check::{Net, check};
 use net_text::parse;
 use proc_step::{Done, Job, NextAct, Place, ProcState, next_act};
 use std::alloc::{AllocError, Global};

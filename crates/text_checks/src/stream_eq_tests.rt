@@ -1,18 +1,17 @@
 //! The definitions and the solver on small networks, with values worked out by hand.
 
 ghost use Rattle.std.specs.Prelude.{◌≡◌, pos, negsuc, [], ◌∷◌, ◌++◌};
-ghost use Rattle.net_check.specs.Approximations.{approximation, Belongs, IsReached};
-ghost use Rattle.net_check.specs.Processes.{At, StandsAt};
+ghost use Rattle.kahn_net.specs.Approximations.{approximation, Belongs, IsReached};
+ghost use Rattle.kahn_net.specs.Processes.{At, StandsAt};
 ghost use Rattle.text_checks.specs.Examples.{summing_code, sum_net, sum_inputs, sum_solution};
 ghost use Rattle.text_checks.specs.Examples.{at_the_end, pair_net, pair_inputs, one_two, tens};
 ghost use Rattle.text_checks.specs.Examples.{cycle_after, zeros, ones, zero_one};
 
 use crate::asserting::{same, same_at, same_items, same_items_at};
-use net_check::{History, Net, NetFault, bind, check};
-use net_text::{
-    ChannelText, Declaration, ExprText, InputLine, LinkText, LoopText, Name, NetText, NodeText,
-    Operator, ProcessText, RawInputs, Role, StatementText, VariableText,
-};
+use kahn_net::History;
+use net_check::{Net, NetFault, bind, check};
+use kahn_net::Operator;
+use net_text::{ChannelText, Declaration, ExprText, InputLine, LinkText, LoopText, Name, NetText, NodeText, ProcessText, RawInputs, Role, StatementText, VariableText};
 use std::alloc::{AllocError, Global};
 use std::test::Fail;
 use stream_eq::{Fault, Histories, approx, is_solution};

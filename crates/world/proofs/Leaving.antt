@@ -5,13 +5,14 @@ use Rattle.std.proofs.lemmas.List.{map-set}
 use Rattle.std.proofs.lemmas.Option.{slice_get_read}
 use Rattle.std.proofs.Math.Seq.{take-length}
 use Rattle.std.specs.declared.alloc.AllocError.{AllocError}
-use Rattle.net_check.specs.Syntax.{Network}
-use Rattle.outlet.specs.LogState.{LogState, IsLogOf}
+use Rattle.kahn_net.specs.Syntax.{Network}
+use Rattle.retained.specs.LogState.{LogState, IsLogOf}
 use Rattle.outlet.specs.Released.{IsBeginningOf}
-use Rattle.node.specs.Ends.{log_of, sent_of}
+use Rattle.record.specs.Ends.{log_of, sent_of}
 use Rattle.node.specs.NodeView.{NodeView}
 use Rattle.node.specs.Starting.{AreInOrder}
-use Rattle.node.specs.Trimming.{trimmed_image, with_current, HasNext}
+use Rattle.record.specs.Changes.{trimmed_image}
+use Rattle.node.specs.Trimming.{with_current, HasNext}
 use Rattle.world.specs.OutputView.{OutputView, output_view, outputs_view}
 use Rattle.world.specs.OutputLaws.{set_cases, map_at}
 use Rattle.world.specs.Sound.{IsSound}

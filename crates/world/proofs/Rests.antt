@@ -1,17 +1,17 @@
 -- Which processes are at rest.
 use Rattle.std.proofs.Common.{◌≡◌, ℕ, ◌<◌, ◌≤◌, Bool, true, List, ℤ, map, length, get_or, Option, Some, sym, ap, ◌∙◌}
 use Rattle.std.specs.Prelude.{slice_get}
-use Rattle.net_check.specs.Syntax.{Code, Network, code_of, network_of}
-use Rattle.net_check.specs.Processes.{Standing}
-use Rattle.net_check.specs.ValidLaws.{code_at, code_past}
-use Rattle.net_check.specs.NextActs.{next_of}
-use Rattle.net_check.specs.declared.program.Channel.{Channel}
-use Rattle.net_check.specs.declared.program.Program.{Program}
-use Rattle.net_check.specs.declared.program.Process.{Process}
+use Rattle.kahn_net.specs.Syntax.{Code, Network, code_of, network_of}
+use Rattle.kahn_net.specs.Processes.{Standing}
+use Rattle.kahn_net.specs.Laws.Valid.{code_at, code_past}
+use Rattle.kahn_net.specs.NextActs.{next_of}
+use Rattle.kahn_net.specs.declared.program.Channel.{Channel}
+use Rattle.kahn_net.specs.declared.program.Program.{Program}
+use Rattle.kahn_net.specs.declared.program.Process.{Process}
 use Rattle.proc_step.specs.NextView.{next_view}
 use Rattle.proc_step.specs.declared.next.NextAct.{NextAct}
-use Rattle.node.specs.ProcessView.{SavedProcessView}
-use Rattle.node.specs.ImageView.{ImageView}
+use Rattle.record.specs.ProcessView.{SavedProcessView}
+use Rattle.record.specs.ImageView.{ImageView}
 use Rattle.node.specs.Choosing.{next_at}
 use Rattle.world.specs.Quiet.{has_got_all, can_rest, is_at_rest}
 

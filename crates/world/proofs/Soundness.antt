@@ -4,28 +4,28 @@ use Rattle.std.specs.Prelude.{Result, Ok, Err, IfOk, OnErr, slice_get}
 use Rattle.std.proofs.Math.Logic.{∥∥₁_map}
 use Rattle.std.specs.declared.alloc.AllocError.{AllocError}
 use Rattle.sector_disk.specs.Clock.{LeavesOnly}
-use Rattle.net_check.specs.Syntax.{Network}
-use Rattle.node.specs.ImageView.{ImageView}
-use Rattle.node.specs.Ends.{sent_of}
+use Rattle.kahn_net.specs.Syntax.{Network}
+use Rattle.record.specs.ImageView.{ImageView}
+use Rattle.record.specs.Ends.{sent_of}
 use Rattle.node.specs.JobView.{JobView}
-use Rattle.node.specs.RecordView.{RecordView}
+use Rattle.record.specs.RecordView.{RecordView}
 use Rattle.node.specs.NodeView.{NodeView}
 use Rattle.node.specs.Reached.{HasReached, IsJobOf}
 use Rattle.proc_step.specs.declared.job.Job.{Job}
 use Rattle.node.specs.Starting.{with_own, with_kept, decided, decided_with, stopped, IsStart, IsDecision, HasPutMore, LeavesAsMuch, AreInOrder}
 use Rattle.node.specs.StepLaws.{reached_start, reached_decide, reached_stopped, reached_grant, on_start, on_decide, on_stopped, on_grant}
-use Rattle.node.specs.declared.record.Tentative.{Tentative}
+use Rattle.record.specs.declared.record.Tentative.{Tentative}
 use Rattle.node.specs.declared.putting.Putting.{Putting}
 use Rattle.node.specs.declared.putting.Putting.TheVariants.{NotDue, Stored, Refused, Failed}
 use Rattle.node.specs.Choosing.{next_job, after_grant}
 use Rattle.node.specs.GrantLaws.{job_granted}
 use Rattle.node.specs.ReleaseLaws.{beginning_stays}
 use Rattle.node.specs.Installing.{ImageTakes, IsOut, IsInstall}
-use Rattle.net_check.specs.declared.program.Channel.{Channel}
-use Rattle.net_check.specs.Fits.{Fits}
-use Rattle.net_check.specs.Valid.{IsValid}
-use Rattle.net_check.specs.Processes.{Standing}
-use Rattle.outlet.specs.declared.fault.LogFault.{LogFault}
+use Rattle.kahn_net.specs.declared.program.Channel.{Channel}
+use Rattle.kahn_net.specs.Fits.{Fits}
+use Rattle.kahn_net.specs.Valid.{IsValid}
+use Rattle.kahn_net.specs.Processes.{Standing}
+use Rattle.retained.specs.declared.fault.LogFault.{LogFault}
 use Rattle.world.specs.TurnLaws.{IsTurnOfJob, takes_done, sound_done}
 use Rattle.world.specs.OutputView.{OutputView}
 use Rattle.world.specs.Sound.{HasCome, NodeIsSound, OutputsAreSound, IsSound}

@@ -4,9 +4,10 @@ use Rattle.std.specs.Prelude.{Result, Ok, Err, IfOk, slice_get, slice_set}
 use Rattle.std.proofs.lemmas.List.{map-set}
 use Rattle.std.proofs.lemmas.Option.{slice_get_read}
 use Rattle.std.specs.declared.alloc.AllocError.{AllocError}
-use Rattle.node.specs.Ends.{log_of}
+use Rattle.record.specs.Ends.{log_of}
 use Rattle.node.specs.NodeView.{NodeView}
-use Rattle.node.specs.Trimming.{trimmed_image, with_current}
+use Rattle.record.specs.Changes.{trimmed_image}
+use Rattle.node.specs.Trimming.{with_current}
 use Rattle.world.specs.OutputLaws.{map_at}
 use Rattle.world.specs.StationView.{OutletView, StationView, outlet_view, outlet_views}
 use Rattle.world.specs.Steps.{first_waiting, next_release, IsHanded, IsReleaseAt, IsRelease, released_to, IsStationStep, IsActOf, IsAct}
@@ -15,7 +16,7 @@ use Rattle.world.specs.declared.event.Event.{Event}
 use Rattle.world.specs.declared.station.Station.{Station}
 use Rattle.node.specs.declared.cell.StableCell.{Ghosts as CellWords}
 use Rattle.outlet.specs.declared.outlet.Outlet.{Ghosts as OutletWords}
-use Rattle.node.specs.RecordView.{RecordView}
+use Rattle.record.specs.RecordView.{RecordView}
 use Rattle.world.specs.declared.output.Output.{Output}
 use Rattle.world.specs.declared.event.Reply.{Reply}
 

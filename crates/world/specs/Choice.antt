@@ -1,10 +1,10 @@
 -- Which event is next for a node: the first one of a list that is due.
 use Rattle.std.specs.Prelude.{◌==◌, ℕ, ◌%◌, nat_lt, Bool, true, false, ◌&&◌, ◌||◌, not, if◌then◌else◌, List, [], ◌∷◌, length, Option, Some, None, is_some, slice_get}
-use Rattle.node.specs.ImageView.{ImageView}
-use Rattle.node.specs.Ends.{received_of, sent_of}
+use Rattle.record.specs.ImageView.{ImageView}
+use Rattle.record.specs.Ends.{received_of, sent_of}
 use Rattle.node.specs.Choosing.{next_job}
 use Rattle.node.specs.Starting.{is_none, may_start, may_decide}
-use Rattle.node.specs.declared.record.SavedEnd.{SavedEnd}
+use Rattle.record.specs.declared.image.SavedEnd.{SavedEnd}
 use Rattle.world.specs.Turns.{turns_of}
 use Rattle.world.specs.StationView.{StationView}
 use Rattle.world.specs.Steps.{WorldView, next_release}

@@ -1,7 +1,7 @@
 -- What a crash may leave covers what has left the system.
 use Rattle.std.specs.Prelude.{◌≡◌, ◌≢◌, ℕ, ◌≤◌, List, length, Option, Some, None, slice_get}
-use Rattle.node.specs.RecordView.{RecordView}
-use Rattle.node.specs.Ends.{sent_of}
+use Rattle.record.specs.RecordView.{RecordView}
+use Rattle.record.specs.Ends.{sent_of}
 use Rattle.world.specs.OutputView.{OutputView}
 
 -- a crash leaves a record, and its permanent image has put each item that left by this output

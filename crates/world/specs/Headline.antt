@@ -2,16 +2,16 @@
 use Rattle.std.proofs.Common.{◌≡◌, ℕ, suc, ℤ, List, Some, refl}
 use Rattle.std.specs.Prelude.{slice_get}
 use Rattle.std.proofs.Math.Logic.{∥∥₁_map}
-use Rattle.net_check.specs.Streams.{history_of, IsPrefix}
-use Rattle.net_check.specs.Fits.{Fits}
-use Rattle.net_check.specs.Valid.{IsValid}
-use Rattle.net_check.specs.Syntax.{Network}
-use Rattle.net_check.specs.Processes.{sent_on}
-use Rattle.net_check.specs.Approximations.{approximation}
-use Rattle.net_check.specs.PrefixLaws.{prefix_trans, prefix_from_take}
-use Rattle.net_check.specs.declared.program.Channel.{Channel}
-use Rattle.net_check.specs.declared.program.Port.{Port}
-use Rattle.net_check.specs.declared.program.Port.TheVariants.{Outside, Process}
+use Rattle.kahn_net.specs.Streams.{history_of, IsPrefix}
+use Rattle.kahn_net.specs.Fits.{Fits}
+use Rattle.kahn_net.specs.Valid.{IsValid}
+use Rattle.kahn_net.specs.Syntax.{Network}
+use Rattle.kahn_net.specs.Processes.{sent_on}
+use Rattle.kahn_net.specs.Approximations.{approximation}
+use Rattle.kahn_net.specs.Laws.Prefixes.{prefix_trans, prefix_from_take}
+use Rattle.kahn_net.specs.declared.program.Channel.{Channel}
+use Rattle.kahn_net.specs.declared.program.Port.{Port}
+use Rattle.kahn_net.specs.declared.program.Port.TheVariants.{Outside, Process}
 use Rattle.node.specs.NodeView.{NodeView}
 use Rattle.node.specs.Reached.{acts_of}
 use Rattle.node.specs.ReleaseLaws.{acts_put_prefix}

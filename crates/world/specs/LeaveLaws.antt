@@ -6,25 +6,26 @@ use Rattle.std.proofs.Math.Nat.{min-le_right}
 use Rattle.std.proofs.lemmas.Bool.{ne_eqb}
 use Rattle.std.proofs.lemmas.Bool.Decides.{eqb_tells}
 use Rattle.std.proofs.lemmas.List.{length-take}
-use Rattle.net_check.specs.Syntax.{Network}
-use Rattle.net_check.specs.Processes.{sent_on}
-use Rattle.net_check.specs.Approximations.{approximation}
-use Rattle.net_check.specs.declared.program.Channel.{Channel}
-use Rattle.net_check.specs.declared.program.Port.TheVariants.{Process}
-use Rattle.outlet.specs.LogState.{LogState, IsLogOf, log_end, trimmed}
+use Rattle.kahn_net.specs.Syntax.{Network}
+use Rattle.kahn_net.specs.Processes.{sent_on}
+use Rattle.kahn_net.specs.Approximations.{approximation}
+use Rattle.kahn_net.specs.declared.program.Channel.{Channel}
+use Rattle.kahn_net.specs.declared.program.Port.TheVariants.{Process}
+use Rattle.retained.specs.LogState.{LogState, IsLogOf, log_end, trimmed}
 use Rattle.outlet.specs.Released.{IsBeginningOf}
-use Rattle.node.specs.ImageView.{ImageView}
+use Rattle.record.specs.ImageView.{ImageView}
 use Rattle.node.specs.NodeView.{NodeView}
-use Rattle.node.specs.Ends.{log_of, log_at, base_in, base_of, sent_in, sent_of}
+use Rattle.record.specs.Ends.{log_of, log_at, base_in, base_of, sent_in, sent_of}
 use Rattle.node.specs.Starting.{AreInOrder}
-use Rattle.node.specs.Trimming.{trimmed_log, trimmed_end, trimmed_saved, trimmed_image, with_current, HasNext}
+use Rattle.record.specs.Changes.{trimmed_log, trimmed_end, trimmed_saved, trimmed_image}
+use Rattle.node.specs.Trimming.{with_current, HasNext}
 use Rattle.node.specs.Reached.{acts_of}
 use Rattle.node.specs.ImageLaws.{end_of_changed}
 use Rattle.node.specs.TrimLaws.{laid_out_trimmed, counts_trimmed, logs_trimmed, job_trimmed, image_trimmed}
 use Rattle.node.specs.ReleaseLaws.{log_stands}
-use Rattle.node.specs.declared.record.SavedEnd.{SavedEnd}
-use Rattle.node.specs.declared.record.End.{End}
-use Rattle.node.specs.declared.record.End.TheVariants.{Receives, Sends, Both}
+use Rattle.record.specs.declared.image.SavedEnd.{SavedEnd}
+use Rattle.record.specs.declared.image.End.{End}
+use Rattle.record.specs.declared.image.End.TheVariants.{Receives, Sends, Both}
 use Rattle.world.specs.OutputView.{OutputView}
 use Rattle.world.specs.Sound.{OutputIsSound, OutputsAreSound, HasCome, IsSound}
 use Rattle.world.specs.OutputLaws.{set_cases, set_keeps, same_output}

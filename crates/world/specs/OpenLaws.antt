@@ -1,16 +1,16 @@
 -- A station before its first event: nothing was done, and nothing has left.
 use Rattle.std.proofs.Common.{◌≡◌, ℕ, suc, Bool, true, false, eqb, cond, ℤ, List, [], ◌∷◌, length, take, map, Some, option_map, refl, sym, ap, ◌∙◌, arith}
 use Rattle.std.specs.Prelude.{slice_get, find}
-use Rattle.net_check.specs.Valid.{IsValid}
-use Rattle.net_check.specs.Syntax.{Network}
-use Rattle.net_check.specs.declared.program.Channel.{Channel}
-use Rattle.net_check.specs.declared.program.Port.{Port}
-use Rattle.net_check.specs.declared.program.Port.TheVariants.{Outside, Process}
+use Rattle.kahn_net.specs.Valid.{IsValid}
+use Rattle.kahn_net.specs.Syntax.{Network}
+use Rattle.kahn_net.specs.declared.program.Channel.{Channel}
+use Rattle.kahn_net.specs.declared.program.Port.{Port}
+use Rattle.kahn_net.specs.declared.program.Port.TheVariants.{Outside, Process}
 use Rattle.outlet.specs.Released.{IsBeginningOf}
-use Rattle.node.specs.Ends.{log_at, base_in, base_of}
+use Rattle.record.specs.Ends.{log_at, base_in, base_of}
 use Rattle.node.specs.Opening.{opening_end, opening_ends, opening_image, opening_node}
 use Rattle.node.specs.OpeningLaws.{reached_opening, laid_out_opening, counts_opening, logs_opening}
-use Rattle.node.specs.declared.record.SavedEnd.{SavedEnd}
+use Rattle.record.specs.declared.image.SavedEnd.{SavedEnd}
 use Rattle.world.specs.OutputView.{OutputView}
 use Rattle.world.specs.Sound.{output_channels, HasCome, IsSound}
 

@@ -1,10 +1,10 @@
 -- Laws of a station's outputs: each is of a channel of its own, which goes outside.
 use Rattle.std.proofs.Common.{◌≡◌, ◌≢◌, ◌⊎◌, inl, inr, ℕ, zero, suc, ◌+◌, ◌≤◌, Bool, true, false, cond, ℤ, List, [], ◌∷◌, map, Some, refl, sym, ap, subst, ◌∙◌, arith}
 use Rattle.std.specs.Prelude.{slice_get, slice_set}
-use Rattle.net_check.specs.Syntax.{Network}
-use Rattle.net_check.specs.declared.program.Channel.{Channel}
-use Rattle.net_check.specs.declared.program.Port.{Port}
-use Rattle.net_check.specs.declared.program.Port.TheVariants.{Outside, Process}
+use Rattle.kahn_net.specs.Syntax.{Network}
+use Rattle.kahn_net.specs.declared.program.Channel.{Channel}
+use Rattle.kahn_net.specs.declared.program.Port.{Port}
+use Rattle.kahn_net.specs.declared.program.Port.TheVariants.{Outside, Process}
 use Rattle.node.specs.NodeView.{NodeView}
 use Rattle.world.specs.OutputView.{OutputView}
 use Rattle.world.specs.Sound.{goes_outside, output_channels, IsSound}

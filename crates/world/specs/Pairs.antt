@@ -1,6 +1,6 @@
 -- What holds of each station before and after an event.
 use Rattle.std.specs.Prelude.{◌≡◌, ◌⊎◌, ℕ, List, [], ◌∷◌, Option}
-use Rattle.node.specs.RecordView.{RecordView}
+use Rattle.record.specs.RecordView.{RecordView}
 use Rattle.world.specs.OutputView.{OutputView}
 use Rattle.world.specs.Growing.{EachBegins}
 use Rattle.world.specs.Covered.{AreCoveredSince}

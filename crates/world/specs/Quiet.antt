@@ -1,16 +1,16 @@
 -- A world in which nothing is left to do.
 use Rattle.std.specs.Prelude.{◌≡◌, ◌==◌, ℕ, Bool, true, false, ◌&&◌, ℤ, List, [], ◌∷◌, length, Option, Some, None, slice_get}
-use Rattle.net_check.specs.Streams.{history_of}
-use Rattle.net_check.specs.Syntax.{Network}
-use Rattle.net_check.specs.NextActs.{Next, Begins, Gets, Puts, NoNext}
-use Rattle.net_check.specs.Approximations.{approximation, IsReached}
-use Rattle.net_check.specs.declared.program.Channel.{Channel}
-use Rattle.net_check.specs.declared.program.Port.{Port}
-use Rattle.net_check.specs.declared.program.Port.TheVariants.{Outside, Process}
-use Rattle.node.specs.ProcessView.{SavedProcessView}
-use Rattle.node.specs.ImageView.{ImageView}
+use Rattle.kahn_net.specs.Streams.{history_of}
+use Rattle.kahn_net.specs.Syntax.{Network}
+use Rattle.kahn_net.specs.NextActs.{Next, Begins, Gets, Puts, NoNext}
+use Rattle.kahn_net.specs.Approximations.{approximation, IsReached}
+use Rattle.kahn_net.specs.declared.program.Channel.{Channel}
+use Rattle.kahn_net.specs.declared.program.Port.{Port}
+use Rattle.kahn_net.specs.declared.program.Port.TheVariants.{Outside, Process}
+use Rattle.record.specs.ProcessView.{SavedProcessView}
+use Rattle.record.specs.ImageView.{ImageView}
 use Rattle.node.specs.NodeView.{NodeView}
-use Rattle.node.specs.Ends.{received_of, sent_of}
+use Rattle.record.specs.Ends.{received_of, sent_of}
 use Rattle.node.specs.Choosing.{next_at}
 use Rattle.node.specs.Starting.{is_none}
 use Rattle.world.specs.OutputView.{OutputView}

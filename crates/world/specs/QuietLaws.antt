@@ -5,28 +5,28 @@ use Rattle.std.proofs.Math.Logic.{∥∥₁_map}
 use Rattle.std.proofs.lemmas.Bool.{and_parts, eqb-true}
 use Rattle.std.proofs.lemmas.List.{take-append-le, length-append}
 use Rattle.std.proofs.lemmas.Option.{slice_get_cases, slice_get_within}
-use Rattle.net_check.specs.Streams.{history_of, IsPrefix, ArePrefixes}
-use Rattle.net_check.specs.Fits.{Fits}
-use Rattle.net_check.specs.Syntax.{Code, Network}
-use Rattle.net_check.specs.Valid.{IsValid, code_gets}
-use Rattle.net_check.specs.Statements.{Step}
-use Rattle.net_check.specs.Processes.{Standing, StandsAt, HasPassingLoop, process_trace, sent_on, got_on}
-use Rattle.net_check.specs.Resuming.{left_after}
-use Rattle.net_check.specs.Approximations.{approximation, IsReached}
-use Rattle.net_check.specs.ApproximationLaws.{next_histories_past, inner_empty, approximation_grows}
-use Rattle.net_check.specs.PrefixLaws.{prefix_refl, prefix_nil, prefix_along, prefix_from_take}
-use Rattle.net_check.specs.StreamLaws.{longer_process, stands_on}
-use Rattle.net_check.specs.GotLaws.{reads}
-use Rattle.net_check.specs.NextActs.{Next, Begins, Gets, Puts, NoNext, next_of}
-use Rattle.net_check.specs.RestLaws.{IsStuck, acts_at_rest}
-use Rattle.net_check.specs.SettledLaws.{put_so_far, put_by_now, put_by_now-at, put_by_now_past, prefix_whole, settled_is_reached, settled_rests}
-use Rattle.net_check.specs.declared.program.Channel.{Channel}
-use Rattle.net_check.specs.declared.program.Port.{Port}
-use Rattle.net_check.specs.declared.program.Port.TheVariants.{Outside, Process}
-use Rattle.node.specs.ProcessView.{SavedProcessView}
-use Rattle.node.specs.ImageView.{ImageView}
+use Rattle.kahn_net.specs.Streams.{history_of, IsPrefix, ArePrefixes}
+use Rattle.kahn_net.specs.Fits.{Fits}
+use Rattle.kahn_net.specs.Syntax.{Code, Network}
+use Rattle.kahn_net.specs.Valid.{IsValid, code_gets}
+use Rattle.kahn_net.specs.Statements.{Step}
+use Rattle.kahn_net.specs.Processes.{Standing, StandsAt, HasPassingLoop, process_trace, sent_on, got_on}
+use Rattle.kahn_net.specs.Resuming.{left_after}
+use Rattle.kahn_net.specs.Approximations.{approximation, IsReached}
+use Rattle.kahn_net.specs.Laws.Approximations.{next_histories_past, inner_empty, approximation_grows}
+use Rattle.kahn_net.specs.Laws.Prefixes.{prefix_refl, prefix_nil, prefix_along, prefix_from_take}
+use Rattle.kahn_net.specs.Laws.Streams.{longer_process, stands_on}
+use Rattle.kahn_net.specs.Laws.Got.{reads}
+use Rattle.kahn_net.specs.NextActs.{Next, Begins, Gets, Puts, NoNext, next_of}
+use Rattle.kahn_net.specs.Laws.Rests.{IsStuck, acts_at_rest}
+use Rattle.kahn_net.specs.Laws.Fixpoints.{put_so_far, put_by_now, put_by_now-at, put_by_now_past, prefix_whole, settled_is_reached, settled_rests}
+use Rattle.kahn_net.specs.declared.program.Channel.{Channel}
+use Rattle.kahn_net.specs.declared.program.Port.{Port}
+use Rattle.kahn_net.specs.declared.program.Port.TheVariants.{Outside, Process}
+use Rattle.record.specs.ProcessView.{SavedProcessView}
+use Rattle.record.specs.ImageView.{ImageView}
 use Rattle.node.specs.NodeView.{NodeView}
-use Rattle.node.specs.Ends.{received_at, received_of, sent_of}
+use Rattle.record.specs.Ends.{received_at, received_of, sent_of}
 use Rattle.node.specs.Choosing.{next_at}
 use Rattle.node.specs.Starting.{is_none}
 use Rattle.node.specs.Reached.{first_acts, acts_of, IsLaidOut, CountsAreWithin}
@@ -34,7 +34,7 @@ use Rattle.node.specs.ImageLaws.{numbered_mark, numbered_there, channel_at, rece
 use Rattle.node.specs.ReachedLaws.{input_stays, received_stands}
 use Rattle.node.specs.ReleaseLaws.{acts_put_prefix}
 use Rattle.node.specs.SentLaws.{sent_stands}
-use Rattle.node.specs.declared.record.SavedEnd.{SavedEnd}
+use Rattle.record.specs.declared.image.SavedEnd.{SavedEnd}
 use Rattle.world.specs.OutputView.{OutputView}
 use Rattle.world.specs.Sound.{HasCome, IsSound}
 use Rattle.world.specs.OutputLaws.{output_channel}

@@ -1,15 +1,15 @@
 -- What is true of a node with its outputs, whatever events came before.
 use Rattle.std.specs.Prelude.{◌≡◌, ℕ, suc, ◌≤◌, Bool, true, false, if◌then◌else◌, ℤ, List, [], ◌∷◌, map, length, Some, slice_get}
-use Rattle.net_check.specs.Syntax.{Network}
-use Rattle.net_check.specs.Processes.{sent_on}
-use Rattle.net_check.specs.Approximations.{approximation}
-use Rattle.net_check.specs.declared.program.Channel.{Channel}
-use Rattle.net_check.specs.declared.program.Port.{Port}
-use Rattle.net_check.specs.declared.program.Port.TheVariants.{Outside, Process}
+use Rattle.kahn_net.specs.Syntax.{Network}
+use Rattle.kahn_net.specs.Processes.{sent_on}
+use Rattle.kahn_net.specs.Approximations.{approximation}
+use Rattle.kahn_net.specs.declared.program.Channel.{Channel}
+use Rattle.kahn_net.specs.declared.program.Port.{Port}
+use Rattle.kahn_net.specs.declared.program.Port.TheVariants.{Outside, Process}
 use Rattle.outlet.specs.Released.{IsBeginningOf}
 use Rattle.node.specs.JobView.{JobView}
 use Rattle.node.specs.NodeView.{NodeView}
-use Rattle.node.specs.Ends.{base_of, sent_of}
+use Rattle.record.specs.Ends.{base_of, sent_of}
 use Rattle.node.specs.Reached.{HasReached, IsLaidOut, CountsAreWithin, LogsAreWithin, IsJobOf, acts_of}
 use Rattle.world.specs.OutputView.{OutputView}
 

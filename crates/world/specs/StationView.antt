@@ -1,6 +1,6 @@
 -- A station without pointers, its cell's contents aside.
 use Rattle.std.specs.Prelude.{ℕ, ℤ, List, map, Option}
-use Rattle.net_check.specs.Syntax.{Network}
+use Rattle.kahn_net.specs.Syntax.{Network}
 use Rattle.node.specs.NodeView.{NodeView}
 use Rattle.world.specs.declared.output.Output.{Output}
 use Rattle.world.specs.declared.turns.RoundTurns.{RoundTurns}

@@ -4,20 +4,21 @@
 -- `NotDue` and changes nothing, and only such an event is. What the network and the nodes' own state don't settle is whether a device or an
 -- outlet fails, and whether an outlet that fails took the item.
 use Rattle.std.specs.Prelude.{◌≡◌, ◌⊎◌, ◌==◌, ℕ, ◌+◌, nat_lt, Bool, true, false, ◌&&◌, ◌||◌, not, if◌then◌else◌, ℤ, List, [], ◌∷◌, length, Option, Some, None, slice_get, slice_set, option_map}
-use Rattle.net_check.specs.Syntax.{Code, network_of}
-use Rattle.net_check.specs.States.{standing_of}
-use Rattle.outlet.specs.LogState.{LogState, IsLogOf}
+use Rattle.kahn_net.specs.Syntax.{Code, network_of}
+use Rattle.kahn_net.specs.States.{standing_of}
+use Rattle.retained.specs.LogState.{LogState, IsLogOf}
 use Rattle.outlet.specs.Released.{IsBeginningOf}
 use Rattle.proc_step.specs.declared.job.Job.{Job}
 use Rattle.proc_step.specs.declared.job.Done.{Done}
-use Rattle.node.specs.Ends.{log_of, sent_of}
+use Rattle.record.specs.Ends.{log_of, sent_of}
 use Rattle.node.specs.JobView.{JobView, job_view}
-use Rattle.node.specs.RecordView.{RecordView}
+use Rattle.record.specs.RecordView.{RecordView}
 use Rattle.node.specs.NodeView.{NodeView}
 use Rattle.node.specs.Choosing.{next_job, after_grant}
 use Rattle.node.specs.Installing.{IsInstall}
 use Rattle.node.specs.Starting.{is_none, next_number, with_own, decided, IsStart, IsDecision, IsPut}
-use Rattle.node.specs.Trimming.{trimmed_image, with_current}
+use Rattle.record.specs.Changes.{trimmed_image}
+use Rattle.node.specs.Trimming.{with_current}
 use Rattle.node.specs.declared.putting.Putting.{Putting}
 use Rattle.world.specs.Replies.{start_reply, decision_reply}
 use Rattle.world.specs.Turns.{turns_of, turns_granted, turns_started, count_send, count_idle}

@@ -4,16 +4,17 @@ use Rattle.std.specs.Prelude.{slice_get}
 use Rattle.std.proofs.Math.Logic.{∥∥₁_elim, ∥∥₁_map, ∥∥₁_map₂}
 use Rattle.std.proofs.Math.Bridge.{le_prop}
 use mathlib.Core.HLevel.{⊥_prop}
-use Rattle.net_check.specs.Fits.{Fits}
-use Rattle.net_check.specs.Valid.{IsValid}
-use Rattle.net_check.specs.Syntax.{Code, Network}
-use Rattle.net_check.specs.Processes.{Standing}
-use Rattle.outlet.specs.LogState.{LogState}
+use Rattle.kahn_net.specs.Fits.{Fits}
+use Rattle.kahn_net.specs.Valid.{IsValid}
+use Rattle.kahn_net.specs.Syntax.{Code, Network}
+use Rattle.kahn_net.specs.Processes.{Standing}
+use Rattle.retained.specs.LogState.{LogState}
 use Rattle.proc_step.specs.Turns.{IsTurn}
 use Rattle.node.specs.JobView.{JobView}
 use Rattle.node.specs.NodeView.{NodeView}
-use Rattle.node.specs.Ends.{log_at, base_of}
-use Rattle.node.specs.Installing.{put_on, installed, with_turn, LogTakes, ImageTakes, IsOut}
+use Rattle.record.specs.Ends.{log_at, base_of}
+use Rattle.record.specs.Changes.{LogTakes}
+use Rattle.node.specs.Installing.{put_on, installed, with_turn, ImageTakes, IsOut}
 use Rattle.node.specs.Reached.{IsJobOf, IsTurnOf, CountsAreWithin}
 use Rattle.node.specs.InstallLaws.{reached_install, on_install}
 use Rattle.node.specs.FitLaws.{turn_fits, counts_installed, laid_out_installed, logs_installed, base_installed}

@@ -1,7 +1,7 @@
 -- A world without pointers.
 use Rattle.std.specs.Prelude.{ℕ, ◌≡◌, List, map, Bool}
-use Rattle.net_check.specs.Syntax.{network_of}
-use Rattle.node.specs.RecordView.{RecordView}
+use Rattle.kahn_net.specs.Syntax.{network_of}
+use Rattle.record.specs.RecordView.{RecordView}
 use Rattle.node.specs.NodeView.{node_view}
 use Rattle.node.specs.Cell.{IsUnchanged}
 use Rattle.node.specs.declared.cell.StableCell.{Ghosts as CellWords}

@@ -1,8 +1,8 @@
 // A world before its first event.
 ghost use Rattle.std.specs.Prelude.{◌≡◌, ◌++◌, ℕ, ◌≤◌, List, [], ◌∷◌, if◌then◌else◌, length, map, false, IfOk, OnOk, IsErrOf, IsTrue};
-ghost use Rattle.net_check.specs.Fits.{Fits};
-ghost use Rattle.net_check.specs.Nodes.{IsOnOneNode};
-ghost use Rattle.net_check.specs.Syntax.{network_of};
+ghost use Rattle.kahn_net.specs.Fits.{Fits};
+ghost use Rattle.kahn_net.specs.Nodes.{IsOnOneNode};
+ghost use Rattle.kahn_net.specs.Syntax.{network_of};
 ghost use Rattle.node.specs.NodeView.{node_view};
 ghost use Rattle.node.specs.Cell.{HasFailed};
 ghost use Rattle.node.specs.Opening.{opening_record, opening_node};
@@ -15,7 +15,8 @@ use crate::output::Output;
 use crate::station::Station;
 use crate::turns::RoundTurns;
 use crate::world::World;
-use net_check::{Channel, Inputs, Net, Port};
+use kahn_net::{Channel, Port};
+use net_check::{Inputs, Net};
 use node::{CellFault, Node, StableCell};
 use outlet::{ListOutlet, Outlet};
 use std::alloc::{AllocError, Global};

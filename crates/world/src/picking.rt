@@ -1,7 +1,7 @@
 // Which event is next for a node.
 ghost use Rattle.std.specs.Prelude.{◌≡◌, ◌||◌, ◌&&◌, nat_lt, is_some};
-ghost use Rattle.net_check.specs.Syntax.{network_of};
-ghost use Rattle.node.specs.Ends.{received_of, sent_of};
+ghost use Rattle.kahn_net.specs.Syntax.{network_of};
+ghost use Rattle.record.specs.Ends.{received_of, sent_of};
 ghost use Rattle.node.specs.Choosing.{next_job};
 ghost use Rattle.node.specs.NodeView.{node_view};
 ghost use Rattle.node.specs.Starting.{is_own, may_decide, may_start};
@@ -15,7 +15,8 @@ use crate::releasing::next_output;
 use crate::station::Station;
 use crate::turning::GRANTS;
 use crate::world::World;
-use node::{Image, NodeState, Record, StableCell};
+use record::{Image, Record};
+use node::{NodeState, StableCell};
 use outlet::Outlet;
 
 // Whether a node holds its own tentative image.

@@ -1,7 +1,7 @@
 // When nothing is left to do.
 ghost use Rattle.std.specs.Prelude.{◌≡◌, ◌↔◌, ◌≤◌, length, slice_get, IsTrue};
-ghost use Rattle.net_check.specs.Streams.{history_of};
-ghost use Rattle.net_check.specs.Syntax.{network_of};
+ghost use Rattle.kahn_net.specs.Streams.{history_of};
+ghost use Rattle.kahn_net.specs.Syntax.{network_of};
 ghost use Rattle.node.specs.NodeView.{node_view};
 ghost use Rattle.world.specs.OutputView.{outputs_view};
 ghost use Rattle.world.specs.Pairs.{Every};
@@ -10,8 +10,10 @@ ghost use Rattle.world.specs.Quiet.{has_got_all, is_at_rest, are_at_rest, have_a
 use crate::output::Output;
 use crate::station::Station;
 use crate::world::World;
-use net_check::{Channel, History, Net, Port};
-use node::{Image, SavedProcess, StableCell};
+use kahn_net::{Channel, History, Port};
+use net_check::Net;
+use record::{Image, SavedProcess};
+use node::StableCell;
 use outlet::Outlet;
 use proc_step::{NextAct, next_act};
 

@@ -1,9 +1,10 @@
 // A station's outputs: one item leaves the system.
 ghost use Rattle.std.specs.Prelude.{◌≡◌, ◌⊎◌, ◌<◌, ◌+◌, ℕ, ℤ, List, length, IfSome, IfOk, OnErr, Some, slice_get};
-ghost use Rattle.outlet.specs.LogState.{LogState, IsLogOf};
+ghost use Rattle.retained.specs.LogState.{LogState, IsLogOf};
 ghost use Rattle.outlet.specs.Released.{IsBeginningOf};
-ghost use Rattle.node.specs.Ends.{log_of, sent_of};
-ghost use Rattle.node.specs.Trimming.{trimmed_image, with_current, HasNext};
+ghost use Rattle.record.specs.Ends.{log_of, sent_of};
+ghost use Rattle.record.specs.Changes.{trimmed_image};
+ghost use Rattle.node.specs.Trimming.{with_current, HasNext};
 ghost use Rattle.node.specs.NodeView.{node_view};
 ghost use Rattle.world.specs.OutputView.{OutputView, output_view, outputs_view};
 ghost use Rattle.world.specs.Covered.{AreCoveredSince};
@@ -15,7 +16,8 @@ ghost use Rattle.world.specs.WorldView.{station_view};
 use crate::event::{Freed, Reply};
 use crate::output::Output;
 use crate::station::Station;
-use node::{Node, Record, StableCell};
+use record::Record;
+use node::{Node, StableCell};
 use outlet::{Outlet, OutletFault};
 use std::alloc::AllocError;
 

@@ -1,6 +1,6 @@
 //! A node with its outputs, and what turn-taking remembers of it.
-ghost use Rattle.net_check.specs.Fits.{Fits};
-ghost use Rattle.net_check.specs.Syntax.{network_of};
+ghost use Rattle.kahn_net.specs.Fits.{Fits};
+ghost use Rattle.kahn_net.specs.Syntax.{network_of};
 ghost use Rattle.node.specs.NodeView.{node_view};
 ghost use Rattle.world.specs.OutputView.{outputs_view};
 ghost use Rattle.world.specs.Sound.{IsSound};

@@ -1,7 +1,7 @@
 // A station's jobs: they are granted, and what came of them comes back.
 ghost use Rattle.std.specs.Prelude.{◌≡◌, ◌⊎◌, true, IfOk, OnErr, Some, slice_get, option_map};
-ghost use Rattle.net_check.specs.Syntax.{network_of};
-ghost use Rattle.net_check.specs.States.{standing_of};
+ghost use Rattle.kahn_net.specs.Syntax.{network_of};
+ghost use Rattle.kahn_net.specs.States.{standing_of};
 ghost use Rattle.node.specs.NodeView.{node_view};
 ghost use Rattle.node.specs.JobView.{job_view};
 ghost use Rattle.node.specs.Choosing.{next_job, after_grant};

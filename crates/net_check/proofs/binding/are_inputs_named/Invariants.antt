@@ -1,6 +1,6 @@
 use Rattle.std.proofs.Common.{◌≡◌, ◌<◌, ℕ, slice_get, Some, true}
-use Rattle.net_check.specs.declared.program.Channel.{Channel}
-use Rattle.net_check.specs.declared.program.Port.TheVariants.{Outside}
+use Rattle.kahn_net.specs.declared.program.Channel.{Channel}
+use Rattle.kahn_net.specs.declared.program.Port.TheVariants.{Outside}
 use Rattle.net_check.proofs.binding.are_inputs_named.Given as goal
 
 abbrev pub invariant-loop-c : goal.invariant-loop-c

@@ -6,8 +6,8 @@ use Rattle.std.proofs.lemmas.Iterator.Adapters.{YieldsList-from_vec}
 use Rattle.net_text.specs.Trees.{InputTree, input_tree, inputs_tree}
 use Rattle.net_text.specs.declared.raw_inputs.InputLine.{InputLine}
 use Rattle.net_check.specs.Bound.{AreBound, AreNamed}
-use Rattle.net_check.specs.declared.program.Channel.{Channel}
-use Rattle.net_check.specs.Syntax.{network_of}
+use Rattle.kahn_net.specs.declared.program.Channel.{Channel}
+use Rattle.kahn_net.specs.Syntax.{network_of}
 use Rattle.net_check.proofs.Lines.{all_bound, bound_fits, bound_push, line_at, line_fault_in, lines_next, map_same}
 use Rattle.net_check.proofs.binding.bind_in_order.Goals as goal
 

@@ -7,7 +7,7 @@ use Rattle.net_text.specs.declared.tree.ProcessText.{ProcessText}
 use Rattle.net_check.specs.Joints.{AreJoined, EndFaultAmong}
 use Rattle.net_check.specs.Ready.{IsFit}
 use Rattle.net_check.specs.Resolution.{AllDifferent}
-use Rattle.net_check.specs.Syntax.{code_of}
+use Rattle.kahn_net.specs.Syntax.{code_of}
 use Rattle.net_check.proofs.Checked.{end_fault_in, node_zero, one_node, resolves, valid}
 use Rattle.net_check.proofs.checks.check_in_order.Goals as goal
 

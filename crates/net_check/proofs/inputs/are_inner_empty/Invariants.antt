@@ -1,5 +1,5 @@
 use Rattle.std.proofs.Common.{ℕ, ◌<◌}
-use Rattle.net_check.specs.Fits.{IsEmptyAt}
+use Rattle.kahn_net.specs.Fits.{IsEmptyAt}
 use Rattle.net_check.proofs.inputs.are_inner_empty.Given as goal
 
 abbrev pub invariant-loop-c : goal.invariant-loop-c

@@ -1,8 +1,8 @@
 use Rattle.std.proofs.Common.{◌∙◌, ap, arith, List}
 use Rattle.std.proofs.lemmas.Result.{err_from_is_err_and}
-use Rattle.net_check.specs.declared.program.Statement.{Statement}
-use Rattle.net_check.specs.Syntax.{block_of}
-use Rattle.net_check.specs.Valid.{block_gets, block_puts}
+use Rattle.kahn_net.specs.declared.program.Statement.{Statement}
+use Rattle.kahn_net.specs.Syntax.{block_of}
+use Rattle.kahn_net.specs.Valid.{block_gets, block_puts}
 use Rattle.net_check.proofs.Using.{use_more, within_statement}
 use Rattle.net_check.proofs.Resolving.{resolves_more, puts_push, gets_push, claims_then, use_earlier}
 use Rattle.net_check.proofs.resolve.resolve_statements.Goals as goal

@@ -1,5 +1,5 @@
 use Rattle.std.proofs.Common.{◌≡◌, drop}
-use Rattle.net_check.specs.Syntax.{network_of}
+use Rattle.kahn_net.specs.Syntax.{network_of}
 use Rattle.node.specs.Choosing.{ready_after}
 use Rattle.node.proofs.choosing.first_ready.Given as goal
 

@@ -1,7 +1,7 @@
 use Rattle.std.proofs.Common.{◌∙◌}
-use Rattle.net_check.specs.Syntax.{code_of, network_of}
-use Rattle.net_check.specs.States.{standing_of}
-use Rattle.net_check.specs.ValidLaws.{units_few}
+use Rattle.kahn_net.specs.Syntax.{code_of, network_of}
+use Rattle.kahn_net.specs.States.{standing_of}
+use Rattle.kahn_net.specs.Laws.Valid.{units_few}
 use Rattle.node.proofs.Choices.{code_found, code_not_found, ready_at, not_ready, item_on, room_on}
 use Rattle.node.proofs.choosing.is_ready.Goals as goal
 

@@ -1,6 +1,6 @@
 use Rattle.std.proofs.Common.{◌<◌, length, Option, None, subst, Bor}
 use Rattle.std.specs.Prelude.{IfSome}
-use Rattle.node.specs.ProcessView.{SavedProcessView}
+use Rattle.record.specs.ProcessView.{SavedProcessView}
 use Rattle.node.proofs.Choices.{chosen_there}
 use Rattle.node.proofs.choosing.next_ready.Goals as goal
 

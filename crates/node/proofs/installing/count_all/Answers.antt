@@ -1,6 +1,6 @@
 use Rattle.std.proofs.Common.{rules}
 use Rattle.node.specs.Installing.{saved_counted}
-use Rattle.node.proofs.Walks.{changed_next}
+use Rattle.record.specs.Laws.Walks.{changed_next}
 use Rattle.node.proofs.Installs.{counted_is}
 use Rattle.node.proofs.installing.count_all.Goals as goal
 

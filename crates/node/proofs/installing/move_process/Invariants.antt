@@ -1,5 +1,5 @@
 use Rattle.std.proofs.Common.{◌≡◌, ◌++◌, take, drop}
-use Rattle.net_check.specs.States.{standing_of}
+use Rattle.kahn_net.specs.States.{standing_of}
 use Rattle.node.specs.Installing.{moved}
 use Rattle.node.proofs.installing.move_process.Given as goal
 

@@ -1,5 +1,5 @@
 use Rattle.std.proofs.Common.{◌≡◌, ◌++◌, map, drop}
-use Rattle.net_check.specs.Syntax.{code_of}
+use Rattle.kahn_net.specs.Syntax.{code_of}
 use Rattle.node.specs.Opening.{opening_processes}
 use Rattle.node.proofs.opening.open_processes.Given as goal
 

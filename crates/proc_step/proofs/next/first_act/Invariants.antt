@@ -1,6 +1,6 @@
 use Rattle.std.proofs.Common.{◌≡◌, drop}
-use Rattle.net_check.specs.Syntax.{block_of}
-use Rattle.net_check.specs.NextActs.{first_of}
+use Rattle.kahn_net.specs.Syntax.{block_of}
+use Rattle.kahn_net.specs.NextActs.{first_of}
 use Rattle.proc_step.proofs.next.first_act.Given as goal
 
 abbrev pub invariant-loop-statement : goal.invariant-loop-statement

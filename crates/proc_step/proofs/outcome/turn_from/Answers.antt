@@ -1,5 +1,5 @@
-use Rattle.net_check.specs.Syntax.{code_of}
-use Rattle.net_check.specs.States.{standing_in}
+use Rattle.kahn_net.specs.Syntax.{code_of}
+use Rattle.kahn_net.specs.States.{standing_in}
 use Rattle.proc_step.proofs.Lifting.{fewer_left, lifted_at}
 use Rattle.proc_step.proofs.outcome.turn_from.Goals as goal
 

@@ -1,6 +1,6 @@
 use Rattle.std.proofs.Common.{◌≡◌, ◌+◌, ◌≤◌, drop}
-use Rattle.net_check.specs.Syntax.{block_of}
-use Rattle.net_check.specs.Statements.{sites_of}
+use Rattle.kahn_net.specs.Syntax.{block_of}
+use Rattle.kahn_net.specs.Statements.{sites_of}
 use Rattle.proc_step.proofs.sites.count_sites.Given as goal
 
 abbrev pub invariant-loop-statement : goal.invariant-loop-statement

@@ -1,7 +1,7 @@
 use Rattle.std.proofs.Common.{◌≡◌, ◌+◌, drop}
-use Rattle.net_check.specs.Syntax.{block_of}
-use Rattle.net_check.specs.Statements.{sites_of}
-use Rattle.net_check.specs.Resuming.{from_site}
+use Rattle.kahn_net.specs.Syntax.{block_of}
+use Rattle.kahn_net.specs.Statements.{sites_of}
+use Rattle.kahn_net.specs.Resuming.{from_site}
 use Rattle.proc_step.proofs.sites.find_site.Given as goal
 
 abbrev pub invariant-loop-index : goal.invariant-loop-index

@@ -1,9 +1,9 @@
 use Rattle.std.proofs.Common.{rules, ◌-◌, ◌^◌, ◌≡◌, ℕ, ◌+◌, ◌<◌, ◌==◌, Bool, true, false, cond, arith, ap, length, drop, take, refl}
 use Rattle.std.proofs.lemmas.Bool.Decides.{nat_tests}
 use Rattle.std.proofs.lemmas.Grind.{common_steps}
-use Rattle.net_check.specs.Syntax.{Block, Nothing, GetThen, PutThen, AssignThen, block_of}
-use Rattle.net_check.specs.Statements.{sites_of}
-use Rattle.net_check.specs.Resuming.{from_site}
+use Rattle.kahn_net.specs.Syntax.{Block, Nothing, GetThen, PutThen, AssignThen, block_of}
+use Rattle.kahn_net.specs.Statements.{sites_of}
+use Rattle.kahn_net.specs.Resuming.{from_site}
 use Rattle.proc_step.proofs.sites.statements_from.Goals as goal
 
 few_from : (n k site : ℕ) (b : Block) → k + sites_of b < n → site < n → site + sites_of (from_site k site b) < n

@@ -2,11 +2,11 @@ use Rattle.std.proofs.Common.{◌≡◌, ◌+◌, ◌∷◌, [], ◌++◌, List,
 use Rattle.std.specs.Int.{w64}
 use Rattle.std.proofs.lemmas.Int.{to_z-of_z}
 use Rattle.std.proofs.lemmas.Grind.{common_steps}
-use Rattle.net_check.specs.Streams.{history_of}
-use Rattle.net_check.specs.Statements.{sites_of}
-use Rattle.net_check.specs.Syntax.{block_of, then_of}
-use Rattle.net_check.specs.declared.program.Statement.{Statement}
-use Rattle.net_check.specs.SyntaxLaws.{block_at}
+use Rattle.kahn_net.specs.Streams.{history_of}
+use Rattle.kahn_net.specs.Statements.{sites_of}
+use Rattle.kahn_net.specs.Syntax.{block_of, then_of}
+use Rattle.kahn_net.specs.declared.program.Statement.{Statement}
+use Rattle.kahn_net.specs.Laws.Syntax.{block_at}
 use Rattle.proc_step.proofs.Going.{going_at, going_assign, going_put, going_get}
 use Rattle.proc_step.proofs.statements.play_statements.Goals as goal
 use Rattle.proc_step.proofs.statements.play_statements.Goals.{in-Get+in-Some, in-Assign, in-Put+else-not-has_room+in_ok-send-in-Put}

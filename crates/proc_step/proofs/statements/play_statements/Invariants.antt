@@ -1,6 +1,6 @@
 use Rattle.std.proofs.Common.{◌≡◌, ◌+◌, drop, length}
-use Rattle.net_check.specs.Syntax.{block_of}
-use Rattle.net_check.specs.Statements.{trace_of, sites_of}
+use Rattle.kahn_net.specs.Syntax.{block_of}
+use Rattle.kahn_net.specs.Statements.{trace_of, sites_of}
 use Rattle.proc_step.proofs.Going.{Going}
 use Rattle.proc_step.proofs.statements.play_statements.Given as goal
 

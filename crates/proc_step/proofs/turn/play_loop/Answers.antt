@@ -1,8 +1,8 @@
 use Rattle.std.proofs.Common.{◌∙◌, sym, subst}
-use Rattle.net_check.specs.Streams.{total}
-use Rattle.net_check.specs.Syntax.{block_of}
-use Rattle.net_check.specs.Statements.{trace_of}
-use Rattle.net_check.specs.Processes.{passes}
+use Rattle.kahn_net.specs.Streams.{total}
+use Rattle.kahn_net.specs.Syntax.{block_of}
+use Rattle.kahn_net.specs.Statements.{trace_of}
+use Rattle.kahn_net.specs.Processes.{passes}
 use Rattle.proc_step.specs.declared.statements.Flow.{Flow}
 use Rattle.proc_step.specs.declared.statements.Flow.TheVariants.{Stands}
 use Rattle.proc_step.specs.Parts.{Part}

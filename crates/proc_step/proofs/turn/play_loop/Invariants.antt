@@ -1,7 +1,7 @@
 use Rattle.std.proofs.Common.{◌≡◌, suc, length, List, ℤ}
-use Rattle.net_check.specs.Streams.{total}
-use Rattle.net_check.specs.Syntax.{block_of}
-use Rattle.net_check.specs.Processes.{passes}
+use Rattle.kahn_net.specs.Streams.{total}
+use Rattle.kahn_net.specs.Syntax.{block_of}
+use Rattle.kahn_net.specs.Processes.{passes}
 use Rattle.proc_step.specs.declared.statements.Flow.{Flow}
 use Rattle.proc_step.specs.Parts.{Part}
 use Rattle.proc_step.proofs.turn.play_loop.Given as goal

@@ -1,6 +1,6 @@
 use Rattle.std.proofs.Common.{ap}
-use Rattle.net_check.specs.Syntax.{block_of, body_of, code_of}
-use Rattle.net_check.specs.Statements.{trace_of, sites_of}
+use Rattle.kahn_net.specs.Syntax.{block_of, body_of, code_of}
+use Rattle.kahn_net.specs.Statements.{trace_of, sites_of}
 use Rattle.proc_step.proofs.Units.{few_in_body}
 use Rattle.proc_step.proofs.Stages.{played_loop}
 use Rattle.proc_step.proofs.turn.play_on.Goals as goal

@@ -1,5 +1,5 @@
 use Rattle.std.proofs.Common.{ap}
-use Rattle.net_check.specs.Syntax.{block_of, body_of, code_of}
+use Rattle.kahn_net.specs.Syntax.{block_of, body_of, code_of}
 use Rattle.proc_step.proofs.Units.{few_in_body}
 use Rattle.proc_step.proofs.turn.statements_at.Goals as goal
 

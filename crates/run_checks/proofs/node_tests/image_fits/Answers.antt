@@ -1,8 +1,8 @@
 use Rattle.std.proofs.Common.{◌≡◌, List, Some, rules, subst, sym}
 use Rattle.std.specs.Prelude.{slice_get}
-use Rattle.node.specs.ImageView.{ImageView}
+use Rattle.record.specs.ImageView.{ImageView}
 use Rattle.node.specs.Installing.{EndTakes}
-use Rattle.node.specs.declared.record.SavedEnd.{SavedEnd}
+use Rattle.record.specs.declared.image.SavedEnd.{SavedEnd}
 use Rattle.run_checks.proofs.Seen.{holds_next, gone_through}
 use Rattle.run_checks.proofs.node_tests.image_fits.Goals as goal
 

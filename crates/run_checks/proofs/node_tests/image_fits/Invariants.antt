@@ -1,7 +1,7 @@
 use Rattle.std.proofs.Common.{◌≡◌, ℕ, Some, take}
 use Rattle.std.specs.Prelude.{slice_get}
 use Rattle.node.specs.Installing.{EndTakes}
-use Rattle.node.specs.declared.record.SavedEnd.{SavedEnd}
+use Rattle.record.specs.declared.image.SavedEnd.{SavedEnd}
 use Rattle.run_checks.proofs.node_tests.image_fits.Given as goal
 
 abbrev pub invariant-loop-saved : goal.invariant-loop-saved

@@ -1,5 +1,5 @@
 use Rattle.std.proofs.Common.{List, sym, subst, ◌∙◌}
-use Rattle.net_check.specs.declared.program.Channel.{Channel}
+use Rattle.kahn_net.specs.declared.program.Channel.{Channel}
 use Rattle.node.specs.Installing.{ImageTakes}
 use Rattle.run_checks.proofs.node_tests.take_in.Goals as goal
 

@@ -1,6 +1,6 @@
 use Rattle.std.proofs.Common.{◌≡◌}
-use Rattle.net_check.specs.Syntax.{network_of}
-use Rattle.net_check.specs.Approximations.{approximation}
+use Rattle.kahn_net.specs.Syntax.{network_of}
+use Rattle.kahn_net.specs.Approximations.{approximation}
 use Rattle.stream_eq.specs.Limits.{IsWithin}
 use Rattle.stream_eq.proofs.approximation.approximate.Given as goal
 

@@ -1,4 +1,4 @@
-use Rattle.net_check.specs.ApproximationLaws.{agreement}
+use Rattle.kahn_net.specs.Laws.Approximations.{agreement}
 use Rattle.stream_eq.proofs.laws.agreement_law.Goals as goal
 
 pub returns : goal.returns

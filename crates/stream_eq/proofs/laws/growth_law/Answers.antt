@@ -1,4 +1,4 @@
-use Rattle.net_check.specs.ApproximationLaws.{approximations_grow}
+use Rattle.kahn_net.specs.Laws.Approximations.{approximations_grow}
 use Rattle.stream_eq.proofs.laws.growth_law.Goals as goal
 
 pub returns : goal.returns

@@ -1,4 +1,4 @@
-use Rattle.net_check.specs.ApproximationLaws.{reached_is_solution, below_solutions}
+use Rattle.kahn_net.specs.Laws.Approximations.{reached_is_solution, below_solutions}
 use Rattle.stream_eq.proofs.laws.least_solution_law.Goals as goal
 
 pub returns : goal.returns

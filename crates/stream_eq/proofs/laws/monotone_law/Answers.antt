@@ -1,4 +1,4 @@
-use Rattle.net_check.specs.StreamLaws.{monotone}
+use Rattle.kahn_net.specs.Laws.Streams.{monotone}
 use Rattle.stream_eq.proofs.laws.monotone_law.Goals as goal
 
 pub returns : goal.returns

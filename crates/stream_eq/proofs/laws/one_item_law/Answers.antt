@@ -1,4 +1,4 @@
-use Rattle.net_check.specs.ApproximationLaws.{one_item}
+use Rattle.kahn_net.specs.Laws.Approximations.{one_item}
 use Rattle.stream_eq.proofs.laws.one_item_law.Goals as goal
 
 pub returns : goal.returns

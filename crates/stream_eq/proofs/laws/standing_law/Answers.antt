@@ -1,4 +1,4 @@
-use Rattle.net_check.specs.StreamLaws.{stands_on}
+use Rattle.kahn_net.specs.Laws.Streams.{stands_on}
 use Rattle.stream_eq.proofs.laws.standing_law.Goals as goal
 
 pub returns : goal.returns

@@ -1,4 +1,4 @@
-use Rattle.net_check.specs.PassLaws.{enough_passes}
+use Rattle.kahn_net.specs.Laws.Passes.{enough_passes}
 use Rattle.stream_eq.proofs.laws.well_founded_law.Goals as goal
 
 pub returns : goal.returns

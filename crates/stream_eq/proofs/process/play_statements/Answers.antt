@@ -3,13 +3,13 @@ use Rattle.std.specs.Int.{w64}
 use Rattle.std.proofs.lemmas.Int.{to_z-of_z}
 use Rattle.std.proofs.lemmas.List.{length-set}
 use Rattle.std.proofs.lemmas.Result.{err_from_is_err_and}
-use Rattle.net_check.specs.Streams.{history_of}
-use Rattle.net_check.specs.Syntax.{block_of, then_of}
-use Rattle.net_check.specs.declared.program.Statement.{Statement}
+use Rattle.kahn_net.specs.Streams.{history_of}
+use Rattle.kahn_net.specs.Syntax.{block_of, then_of}
+use Rattle.kahn_net.specs.declared.program.Statement.{Statement}
 use Rattle.stream_eq.specs.Limits.{IsWithin}
 use Rattle.stream_eq.proofs.Errors.{other_err}
 use Rattle.stream_eq.proofs.Puts.{within_put}
-use Rattle.net_check.specs.SyntaxLaws.{block_at}
+use Rattle.kahn_net.specs.Laws.Syntax.{block_at}
 use Rattle.stream_eq.proofs.Going.{going_at, going_assign, going_put, going_get, going_past}
 use Rattle.stream_eq.proofs.process.play_statements.Goals as goal
 use Rattle.stream_eq.proofs.process.play_statements.Goals.{in-Get+in-Some, in-Assign, in-Put+in_ok-put_item-in-Put}

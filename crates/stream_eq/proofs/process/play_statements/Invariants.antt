@@ -1,6 +1,6 @@
 use Rattle.std.proofs.Common.{◌≡◌, ℕ, drop, length}
-use Rattle.net_check.specs.Syntax.{block_of}
-use Rattle.net_check.specs.Statements.{trace_of}
+use Rattle.kahn_net.specs.Syntax.{block_of}
+use Rattle.kahn_net.specs.Statements.{trace_of}
 use Rattle.stream_eq.specs.Limits.{IsWithin}
 use Rattle.stream_eq.proofs.Going.{Going}
 use Rattle.stream_eq.proofs.process.play_statements.Given as goal

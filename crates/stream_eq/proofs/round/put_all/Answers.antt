@@ -1,9 +1,9 @@
 use Rattle.std.proofs.Common.{◌+◌, drop, map, subst, ◌∙◌}
 use Rattle.std.proofs.lemmas.Result.{err_from_is_err_and}
-use Rattle.net_check.specs.Syntax.{code_of}
-use Rattle.net_check.specs.Processes.{process_trace}
-use Rattle.net_check.specs.Puts.{put_after}
-use Rattle.net_check.specs.ValidLaws.{code_at}
+use Rattle.kahn_net.specs.Syntax.{code_of}
+use Rattle.kahn_net.specs.Processes.{process_trace}
+use Rattle.kahn_net.specs.Puts.{put_after}
+use Rattle.kahn_net.specs.Laws.Valid.{code_at}
 use Rattle.stream_eq.specs.Limits.{GoesPast}
 use Rattle.stream_eq.proofs.Errors.{other_err}
 use Rattle.stream_eq.proofs.Rounds.{all_more, past_all}

@@ -1,6 +1,6 @@
 use Rattle.std.proofs.Common.{sym, ap, ◌∙◌, Err}
-use Rattle.net_check.specs.Syntax.{network_of}
-use Rattle.net_check.specs.ApproximationLaws.{solution_is_next, next_is_solution}
+use Rattle.kahn_net.specs.Syntax.{network_of}
+use Rattle.kahn_net.specs.Laws.Approximations.{solution_is_next, next_is_solution}
 use Rattle.stream_eq.proofs.Lengths.{solution_within}
 use Rattle.stream_eq.proofs.solution.solves.Goals as goal
 

@@ -1,6 +1,6 @@
 use Rattle.std.proofs.Common.{◌<◌, length, arith}
 use Rattle.std.proofs.lemmas.Grind.{common_steps}
-use Rattle.net_check.specs.ValidLaws.{valid_at}
+use Rattle.kahn_net.specs.Laws.Valid.{valid_at}
 use Rattle.text_checks.proofs.proc_step_tests.next.Goals as goal
 
 pub next_act-requires : goal.next_act-requires

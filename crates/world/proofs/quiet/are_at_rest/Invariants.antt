@@ -1,5 +1,5 @@
 use Rattle.std.proofs.Common.{◌≡◌, drop}
-use Rattle.net_check.specs.Syntax.{network_of}
+use Rattle.kahn_net.specs.Syntax.{network_of}
 use Rattle.world.specs.Quiet.{are_at_rest}
 use Rattle.world.proofs.quiet.are_at_rest.Given as goal
 

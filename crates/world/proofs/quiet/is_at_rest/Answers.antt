@@ -1,7 +1,7 @@
 use Rattle.std.proofs.Common.{◌∙◌}
-use Rattle.net_check.specs.Syntax.{code_of, network_of}
-use Rattle.net_check.specs.States.{standing_of}
-use Rattle.net_check.specs.ValidLaws.{units_few}
+use Rattle.kahn_net.specs.Syntax.{code_of, network_of}
+use Rattle.kahn_net.specs.States.{standing_of}
+use Rattle.kahn_net.specs.Laws.Valid.{units_few}
 use Rattle.world.proofs.Rests.{code_found, rest_at, rest_past, got_of}
 use Rattle.world.proofs.quiet.is_at_rest.Goals as goal
 

@@ -1,6 +1,6 @@
 use Rattle.std.proofs.Common.{◌≡◌, Some, inl, inr, subst}
 use Rattle.sector_disk.proofs.Moments.{started, goes_on}
-use Rattle.node.specs.RecordView.{RecordView}
+use Rattle.record.specs.RecordView.{RecordView}
 use Rattle.node.specs.MemCell.{moment_of, left_since_of, only_kept}
 use Rattle.node.proofs.History.{elapses_to}
 use Rattle.node.proofs.memory.MemCellStableCell.put.Goals as goal

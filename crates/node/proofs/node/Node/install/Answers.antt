@@ -1,8 +1,8 @@
 use Rattle.std.proofs.Common.{◌≡◌, ℕ, Bool, List, Option, ◌<◌, length, sym, ap, subst, ◌∙◌}
 use Rattle.std.specs.Prelude.{IsTrue}
-use Rattle.net_check.specs.States.{standing_of}
+use Rattle.kahn_net.specs.States.{standing_of}
 use Rattle.node.specs.JobView.{job_view}
-use Rattle.node.specs.RecordView.{RecordView}
+use Rattle.record.specs.RecordView.{RecordView}
 use Rattle.node.specs.NodeView.{node_view}
 use Rattle.node.specs.Starting.{LeavesAsMuch}
 use Rattle.node.proofs.Taking.{install_keeps}

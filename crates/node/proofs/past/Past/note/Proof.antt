@@ -33,8 +33,8 @@ use Rattle.node.proofs.past.Past.note.Statement as stated
 use Rattle.node.proofs.past.Past.note.Code as code
 use denote.Ref.{Bor}
 use denote.Exit.{yes}
-use Rattle.node.specs.RecordView.{RecordView}
-use Rattle.node.specs.contracts.record.Record as R
+use Rattle.record.specs.RecordView.{RecordView}
+use Rattle.record.specs.contracts.record.Record as R
 
 abbrev Arg : Type 0
 Arg = MutBor Past × (Bor RecordView × Unit {0})

@@ -2,8 +2,8 @@ use Rattle.std.proofs.Common.{List, ℕ, ℤ, sym, subst}
 use Rattle.node.specs.Installing.{ImageTakes}
 use Rattle.node.proofs.state.NodeState.install.Goals as goal
 
-pub install-requires : goal.install-requires
-install-requires c =
+pub install_turn-requires : goal.install_turn-requires
+install_turn-requires c =
     let done = c.args.done.now in
     let takes : ImageTakes c.args.channels.now done.job.process done.taken.items done.sent.items c.args.self.now.current =
     c.requires (c.is_out.ensures.0 c.if-not-is_out.false) in

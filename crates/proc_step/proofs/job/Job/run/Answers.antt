@@ -1,7 +1,7 @@
 use Rattle.std.proofs.Common.{◌≡◌, ap, sym, subst, ◌∙◌, length, get_or, ◌<◌, Some}
-use Rattle.net_check.specs.Syntax.{Code, code_of}
-use Rattle.net_check.specs.States.{standing_of}
-use Rattle.net_check.specs.ValidLaws.{valid_at, code_at}
+use Rattle.kahn_net.specs.Syntax.{Code, code_of}
+use Rattle.kahn_net.specs.States.{standing_of}
+use Rattle.kahn_net.specs.Laws.Valid.{valid_at, code_at}
 use Rattle.net_check.specs.declared.net.Net.{Net}
 use Rattle.proc_step.specs.Turns.{IsTurn}
 use Rattle.proc_step.proofs.job.Job.run.Goals as goal

@@ -1,7 +1,7 @@
 use Rattle.std.proofs.Common.{ap, ◌∙◌}
-use Rattle.net_check.specs.Syntax.{network_of}
+use Rattle.kahn_net.specs.Syntax.{network_of}
 use Rattle.net_check.specs.declared.net.Net.{Net}
-use Rattle.net_check.specs.States.{standing_of}
+use Rattle.kahn_net.specs.States.{standing_of}
 use Rattle.node.specs.JobView.{job_view}
 use Rattle.node.specs.NodeView.{node_view}
 use Rattle.world.proofs.Soundness.{takes_given, sound_taken, covered_same}

@@ -1,10 +1,10 @@
 use Rattle.std.proofs.Common.{◌≡◌, ◌<◌, List, ℤ, length, ℕ, Option, Some, None, refl, sym, ap, subst, ◌∙◌}
 use Rattle.std.specs.Prelude.{OnErr, slice_get}
-use Rattle.node.specs.RecordView.{RecordView}
+use Rattle.record.specs.RecordView.{RecordView}
 use Rattle.world.specs.Sound.{IsSound}
 use Rattle.world.specs.Covered.{AreCovered}
 use Rattle.world.specs.declared.output.Output.{Output}
-use Rattle.net_check.specs.Syntax.{network_of}
+use Rattle.kahn_net.specs.Syntax.{network_of}
 use Rattle.node.specs.NodeView.{node_view}
 use Rattle.world.specs.OutputView.{OutputView, output_view, outputs_view}
 use Rattle.world.specs.Growing.{EachBegins}

@@ -1,4 +1,4 @@
-use Rattle.net_check.specs.Syntax.{network_of}
+use Rattle.kahn_net.specs.Syntax.{network_of}
 use Rattle.node.specs.NodeView.{node_view}
 use Rattle.world.specs.Headline.{released_prefix}
 use Rattle.world.specs.PairLaws.{every_one}

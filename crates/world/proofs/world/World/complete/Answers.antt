@@ -1,5 +1,5 @@
 use Rattle.std.proofs.Common.{rules}
-use Rattle.net_check.specs.Syntax.{network_of}
+use Rattle.kahn_net.specs.Syntax.{network_of}
 use Rattle.node.specs.NodeView.{node_view}
 use Rattle.world.specs.OutputView.{outputs_view}
 use Rattle.world.specs.QuietLaws.{quiet_is_whole}

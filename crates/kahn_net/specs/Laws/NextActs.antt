@@ -1,0 +1,239 @@
+-- Laws of what comes next: each act that a process makes is the first of the statements from its site on, and so is the get at which it waits.
+use Rattle.std.proofs.Common.{◌≡◌, ◌==◌, ℕ, zero, suc, ◌+◌, ◌<◌, ◌≤◌, Bool, true, false, cond, List, ℤ, [], ◌∷◌, ◌++◌, length, Option, Some, None, refl, sym, ap, ◌∙◌, subst, arith, drop, set}
+use Rattle.std.proofs.lemmas.List.{drop_all}
+use Rattle.std.proofs.lemmas.Bool.{lt-ltb, le-ltb}
+use Rattle.std.proofs.lemmas.Bool.Decides.{nat_tests}
+use Rattle.std.specs.Prelude.{slice_get}
+use Rattle.kahn_net.specs.Streams.{history_of, total}
+use Rattle.kahn_net.specs.Syntax.{Block, Nothing, GetThen, AssignThen, PutThen, Code}
+use Rattle.kahn_net.specs.Statements.{Act, Got, Sent, Step, Trace, End, Ended, Waits, trace_of, on_get, from_end, then_do, value_of, sites_of}
+use Rattle.kahn_net.specs.Processes.{Standing, NotBegun, At, Done, standing_at, StandsAt, HasPassingLoop, passes, loop_trace, process_trace}
+use Rattle.kahn_net.specs.Resuming.{from_site, body_from, statements_from}
+use Rattle.kahn_net.specs.Laws.Streams.{not_done}
+use Rattle.kahn_net.specs.NextActs.{Next, Begins, Gets, Puts, NoNext, first_of, next_of, IsNextAct}
+
+-- what foretells this act
+abbrev pub foretold_by : Act → Next
+foretold_by (Got c item) = Gets c
+foretold_by (Sent c item) = Puts c
+
+-- each of these steps
+abbrev pub AreAll : (Step → Type 0) → List Step → Type 0
+AreAll P [] = Unit {0}
+AreAll P (step ∷ steps) = P step × AreAll P steps
+
+all_for : (P Q : Step → Type 0) (steps : List Step) → ((step : Step) → P step → Q step) → AreAll P steps → AreAll Q steps
+all_for P Q [] h all = tt
+all_for P Q (step ∷ steps) h all = (h step all.0, all_for P Q steps h all.1)
+
+all-append : (P : Step → Type 0) (xs ys : List Step) → AreAll P xs → AreAll P ys → AreAll P (xs ++ ys)
+all-append P [] ys h k = k
+all-append P (x ∷ xs) ys h k = (h.0, all-append P xs ys h.1 k)
+
+all_at : (P : Step → Type 0) (steps : List Step) (m : ℕ) (step : Step) → AreAll P steps → slice_get steps m ≡ Some step → P step
+all_at P [] m step all e = absurd (cc)
+all_at P (x ∷ xs) zero step all e = let same : x ≡ step = cc in subst P same all.0
+all_at P (x ∷ xs) (suc m) step all e = all_at P xs m step all.1 e
+
+-- at the site of each act, and of the get at which it waits, this is true of what comes next there
+pub record Foretells (place : ℕ → Next → Type 0) (t : Trace) : Type 0 where
+  pub acts : AreAll (λ step. place step.site (foretold_by step.act)) t.steps
+  pub waits : (site : ℕ) (vars : List ℤ) (c : ℕ) → t.end ≡ Waits site vars c → place site (Gets c)
+
+foretells_for : (P Q : ℕ → Next → Type 0) (t : Trace) → ((site : ℕ) (next : Next) → P site next → Q site next) → Foretells P t → Foretells Q t
+foretells_for P Q t h f = record {
+  acts = all_for (λ step. P step.site (foretold_by step.act)) (λ step. Q step.site (foretold_by step.act)) t.steps (λ step p. h step.site (foretold_by step.act) p) f.acts;
+  waits = λ site vars c e. h site (Gets c) (f.waits site vars c e);
+}
+
+foretells_none : (P : ℕ → Next → Type 0) (v : List ℤ) (u : List (List ℤ)) → Foretells P (record { steps = []; end = Ended v u })
+foretells_none P v u = record { acts = tt; waits = λ site vars c e. absurd (cc) }
+
+-- what one does after the other
+foretells_then : (P : ℕ → Next → Type 0) (t : Trace) (go : List ℤ → List (List ℤ) → Trace) → Foretells P t → ((v : List ℤ) (u : List (List ℤ)) → Foretells P (go v u)) → Foretells P (then_do t go)
+foretells_then P t go f next = at_end t.end refl
+  where
+    at_end : (e : End) → t.end ≡ e → Foretells P (record { steps = t.steps ++ (from_end e go).steps; end = (from_end e go).end })
+    at_end (Waits s y c) is = record {
+      acts = all-append (λ step. P step.site (foretold_by step.act)) t.steps [] f.acts tt;
+      waits = λ site vars d e. f.waits site vars d (is ∙ e);
+    }
+    at_end (Ended v u) is = record {
+      acts = all-append (λ step. P step.site (foretold_by step.act)) t.steps (go v u).steps f.acts (next v u).acts;
+      waits = (next v u).waits;
+    }
+
+-- a site of this block, whose first get or put has this number, and what comes next there
+pub record IsPlaced (number : ℕ) (b : Block) (site : ℕ) (next : Next) : Type 0 where
+  pub above : number ≤ site
+  pub below : site < number + sites_of b
+  pub is : first_of (from_site number site b) ≡ next
+
+same_number : (number : ℕ) → (number == number) ≡ true
+same_number number = grind (arith, nat_tests)
+
+other_number : (number site : ℕ) → suc number ≤ site → (number == site) ≡ false
+other_number number site h = grind (arith, nat_tests)
+
+-- what statements do
+foretells_block : (number : ℕ) (b : Block) (v : List ℤ) (u : List (List ℤ)) → Foretells (IsPlaced number b) (trace_of number b v u)
+foretells_block number Nothing v u = foretells_none (IsPlaced number Nothing) v u
+foretells_block number (AssignThen x e b) v u =
+    foretells_for (IsPlaced number b) (IsPlaced number (AssignThen x e b)) (trace_of number b (set v x (value_of e v)) u)
+    (λ site next p. record { above = p.above; below = p.below; is = p.is })
+    (foretells_block number b (set v x (value_of e v)) u)
+foretells_block number (PutThen e c b) v u =
+    let r = foretells_for (IsPlaced (number + 1) b) (IsPlaced number (PutThen e c b)) (trace_of (number + 1) b v u) later (foretells_block (number + 1) b v u) in
+    record { acts = (first, r.acts); waits = r.waits }
+  where
+    first : IsPlaced number (PutThen e c b) number (Puts c)
+    first = record {
+      above = omega arith;
+      below = (let more : number < number + (sites_of b + 1) = omega arith in more);
+      is = ap (λ (t : Bool). first_of (cond t (PutThen e c b) (from_site (number + 1) number b))) (same_number number);
+    }
+
+    later : (site : ℕ) (next : Next) → IsPlaced (number + 1) b site next → IsPlaced number (PutThen e c b) site next
+    later site next p = record {
+      above = omega (arith, p.above);
+      below = (let more : site < number + (sites_of b + 1) = omega (arith, p.below) in more);
+      is = ap (λ (t : Bool). first_of (cond t (PutThen e c b) (from_site (number + 1) site b))) (other_number number site (omega (arith, p.above))) ∙ p.is;
+    }
+foretells_block number (GetThen x c b) v u = at_get (history_of u c) (λ item left. foretells_block (number + 1) b (set v x item) (set u c left))
+  where
+    first : IsPlaced number (GetThen x c b) number (Gets c)
+    first = record {
+      above = omega arith;
+      below = (let more : number < number + (sites_of b + 1) = omega arith in more);
+      is = ap (λ (t : Bool). first_of (cond t (GetThen x c b) (from_site (number + 1) number b))) (same_number number);
+    }
+
+    later : (site : ℕ) (next : Next) → IsPlaced (number + 1) b site next → IsPlaced number (GetThen x c b) site next
+    later site next p = record {
+      above = omega (arith, p.above);
+      below = (let more : site < number + (sites_of b + 1) = omega (arith, p.below) in more);
+      is = ap (λ (t : Bool). first_of (cond t (GetThen x c b) (from_site (number + 1) site b))) (other_number number site (omega (arith, p.above))) ∙ p.is;
+    }
+
+    here : (site : ℕ) (vars : List ℤ) (d : ℕ) → Waits number v c ≡ Waits site vars d → IsPlaced number (GetThen x c b) site (Gets d)
+    here site vars d e =
+        let same : number ≡ site = cc in
+        let channel : c ≡ d = cc in
+        subst (λ (n : ℕ). IsPlaced number (GetThen x c b) n (Gets d)) same (subst (λ (n : ℕ). IsPlaced number (GetThen x c b) number (Gets n)) channel first)
+
+    at_get : (h : List ℤ) → ((item : ℤ) (left : List ℤ) → Foretells (IsPlaced (number + 1) b) (trace_of (number + 1) b (set v x item) (set u c left)))
+        → Foretells (IsPlaced number (GetThen x c b)) (on_get h number c v (λ item left. trace_of (number + 1) b (set v x item) (set u c left)))
+    at_get [] ih = record { acts = tt; waits = here }
+    at_get (item ∷ left) ih =
+        let r = foretells_for (IsPlaced (number + 1) b) (IsPlaced number (GetThen x c b)) (trace_of (number + 1) b (set v x item) (set u c left)) later (ih item left) in
+        record { acts = (first, r.acts); waits = r.waits }
+
+-- whole passes
+foretells_passes : (P : ℕ → Next → Type 0) (n site : ℕ) (b : Block) → ((v : List ℤ) (u : List (List ℤ)) → Foretells P (trace_of site b v u)) → (v : List ℤ) (u : List (List ℤ)) → Foretells P (passes n site b v u)
+foretells_passes P zero site b h v u = foretells_none P v u
+foretells_passes P (suc n) site b h v u = foretells_then P (trace_of site b v u) (passes n site b) (h v u) (λ v' u'. foretells_passes P n site b h v' u')
+
+-- what comes next at a site of a process
+abbrev pub ComesNext : Code → ℕ → Next → Type 0
+ComesNext code site next = first_of (statements_from code site) ≡ next
+
+in_prelude : (code : Code) (site : ℕ) (next : Next) → IsPlaced 0 code.prelude site next → ComesNext code site next
+in_prelude code site next p =
+    let below : site < sites_of code.prelude = omega (arith, p.below) in
+    ap (λ (t : Bool). first_of (cond t (from_site 0 site code.prelude) (body_from (sites_of code.prelude) site code.body))) (lt-ltb site (sites_of code.prelude) below) ∙ p.is
+
+in_body : (code : Code) (b : Block) → code.body ≡ Some b → (site : ℕ) (next : Next) → IsPlaced (sites_of code.prelude) b site next → ComesNext code site next
+in_body code b is site next p =
+    ap (λ (t : Bool). first_of (cond t (from_site 0 site code.prelude) (body_from (sites_of code.prelude) site code.body))) (le-ltb site (sites_of code.prelude) p.above)
+    ∙ (ap (λ (body : Option Block). first_of (body_from (sites_of code.prelude) site body)) is ∙ p.is)
+
+-- the loop
+foretells_loop : (code : Code) (body : Option Block) → code.body ≡ body → (v : List ℤ) (u : List (List ℤ)) → Foretells (ComesNext code) (loop_trace (sites_of code.prelude) body v u)
+foretells_loop code None is v u = foretells_none (ComesNext code) v u
+foretells_loop code (Some b) is v u =
+    foretells_passes (ComesNext code) (suc (total u)) (sites_of code.prelude) b
+    (λ v' u'. foretells_for (IsPlaced (sites_of code.prelude) b) (ComesNext code) (trace_of (sites_of code.prelude) b v' u') (in_body code b is) (foretells_block (sites_of code.prelude) b v' u')) v u
+
+-- a process: each of its acts is the first of the statements from its site on, and so is the get at which it waits
+pub foretells_process : (code : Code) (inputs : List (List ℤ)) → Foretells (ComesNext code) (process_trace code inputs)
+foretells_process code inputs =
+    foretells_then (ComesNext code) (trace_of 0 code.prelude code.vars inputs) (loop_trace (sites_of code.prelude) code.body)
+    (foretells_for (IsPlaced 0 code.prelude) (ComesNext code) (trace_of 0 code.prelude code.vars inputs) (in_prelude code) (foretells_block 0 code.prelude code.vars inputs))
+    (λ v u. foretells_loop code code.body refl v u)
+
+-- before an act it stands at the act's site
+stands_before : (steps : List Step) (m : ℕ) (step : Step) (e : End) → slice_get steps m ≡ Some step → standing_at (drop m steps) e ≡ At step.site step.vars
+stands_before [] m step e h = absurd (cc)
+stands_before (x ∷ xs) zero step e h = let same : x ≡ step = cc in ap (λ (s : Step). At s.site s.vars) same
+stands_before (x ∷ xs) (suc m) step e h = stands_before xs m step e h
+
+foretold : (next : Next) (act : Act) → next ≡ foretold_by act → IsNextAct next act
+foretold Begins act e = tt
+foretold NoNext (Got c item) e = absurd (cc)
+foretold NoNext (Sent c item) e = absurd (cc)
+foretold (Gets channel) (Got c item) e = cc
+foretold (Gets channel) (Sent c item) e = absurd (cc)
+foretold (Puts channel) (Got c item) e = absurd (cc)
+foretold (Puts channel) (Sent c item) e = cc
+
+-- the next act is the one foretold by where the process stands
+pub next_acts : (code : Code) (inputs : List (List ℤ)) (m : ℕ) (standing : Standing) → StandsAt code inputs m standing → HasPassingLoop code
+    → (step : Step) → slice_get (process_trace code inputs).steps m ≡ Some step → IsNextAct (next_of code standing) step.act
+next_acts code inputs m (NotBegun vars) s passing step h = tt
+next_acts code inputs m (Done vars) s passing step h =
+    let t = process_trace code inputs in
+    absurd (not_done vars step.vars step.site (s.here ∙ stands_before t.steps m step t.end h))
+next_acts code inputs m (At site vars) s passing step h =
+    let t = process_trace code inputs in
+    let at : At site vars ≡ At step.site step.vars = s.here ∙ stands_before t.steps m step t.end h in
+    let same : site ≡ step.site = cc in
+    let here : ComesNext code step.site (foretold_by step.act) = all_at (λ step. ComesNext code step.site (foretold_by step.act)) t.steps m step (foretells_process code inputs).acts h in
+    foretold (first_of (statements_from code site)) step.act (ap (λ (n : ℕ). first_of (statements_from code n)) same ∙ here)
+
+-- past the last act it stands where the trace ends
+stands_at_end : (steps : List Step) (m : ℕ) (e : End) → m ≡ length steps → standing_at (drop m steps) e ≡ standing_at [] e
+stands_at_end steps m e h = ap (λ (l : List Step). standing_at l e) (drop_all m steps (omega (arith, h)))
+
+-- how it ends where it stands at a site past its last act
+ends_waiting : (code : Code) (inputs : List (List ℤ)) (site : ℕ) (vars : List ℤ) (e : End) → (process_trace code inputs).end ≡ e → At site vars ≡ standing_at [] e
+    → (c : ℕ) × ((process_trace code inputs).end ≡ Waits site vars c) × (first_of (statements_from code site) ≡ Gets c)
+ends_waiting code inputs site vars (Ended v u) is h = absurd (not_done v vars site (sym h))
+ends_waiting code inputs site vars (Waits s v c) is h =
+    let same : Waits s v c ≡ Waits site vars c = (let a : s ≡ site = cc in let b : v ≡ vars = cc in cc) in
+    (c, is ∙ same, (foretells_process code inputs).waits site vars c (is ∙ same))
+
+-- where its acts are all made and a get comes next, it waits at this get
+pub next_waits : (code : Code) (inputs : List (List ℤ)) (m : ℕ) (standing : Standing) → StandsAt code inputs m standing → m ≡ length (process_trace code inputs).steps
+    → (c : ℕ) → next_of code standing ≡ Gets c → (site : ℕ) × (vars : List ℤ) × ((process_trace code inputs).end ≡ Waits site vars c)
+next_waits code inputs m (NotBegun vars) s all c e = absurd (cc)
+next_waits code inputs m (Done vars) s all c e = absurd (cc)
+next_waits code inputs m (At site vars) s all c e =
+    let t = process_trace code inputs in
+    let w = ends_waiting code inputs site vars t.end refl (s.here ∙ stands_at_end t.steps m t.end all) in
+    let here : Gets w.0 ≡ Gets c = sym w.2 ∙ e in
+    let same : w.0 ≡ c = cc in
+    (site, vars, w.1 ∙ ap (λ (d : ℕ). Waits site vars d) same)
+
+-- there no put comes next
+pub no_put_at_end : (code : Code) (inputs : List (List ℤ)) (m : ℕ) (standing : Standing) → StandsAt code inputs m standing → m ≡ length (process_trace code inputs).steps
+    → (c : ℕ) → next_of code standing ≡ Puts c → ⊥
+no_put_at_end code inputs m (NotBegun vars) s all c e = cc
+no_put_at_end code inputs m (Done vars) s all c e = cc
+no_put_at_end code inputs m (At site vars) s all c e =
+    let t = process_trace code inputs in
+    let w = ends_waiting code inputs site vars t.end refl (s.here ∙ stands_at_end t.steps m t.end all) in
+    let here : Gets w.0 ≡ Puts c = sym w.2 ∙ e in
+    cc
+
+-- and where it waits there, having begun, the get at which it waits comes next
+pub waits_next : (code : Code) (inputs : List (List ℤ)) (m : ℕ) (standing : Standing) → StandsAt code inputs m standing → m ≡ length (process_trace code inputs).steps
+    → (site : ℕ) (vars : List ℤ) (c : ℕ) → (process_trace code inputs).end ≡ Waits site vars c → ((first : List ℤ) → standing ≡ NotBegun first → ⊥) → next_of code standing ≡ Gets c
+waits_next code inputs m (NotBegun first) s all site vars c e begun = absurd (begun first refl)
+waits_next code inputs m (Done last) s all site vars c e begun =
+    let t = process_trace code inputs in
+    absurd (not_done last vars site (s.here ∙ (stands_at_end t.steps m t.end all ∙ ap (standing_at []) e)))
+waits_next code inputs m (At place values) s all site vars c e begun =
+    let t = process_trace code inputs in
+    let at : At place values ≡ At site vars = s.here ∙ (stands_at_end t.steps m t.end all ∙ ap (standing_at []) e) in
+    let same : place ≡ site = cc in
+    ap (λ (n : ℕ). first_of (statements_from code n)) same ∙ (foretells_process code inputs).waits site vars c e

@@ -1,0 +1,13 @@
+pub mod Streams
+pub mod Syntax
+pub mod Valid
+pub mod Fits
+pub mod Nodes
+pub mod Statements
+pub mod Processes
+pub mod Approximations
+pub mod Puts
+pub mod Resuming
+pub mod States
+pub mod NextActs
+pub mod Laws

@@ -1,0 +1,15 @@
+//! Networks of deterministic processes, by number, and what they mean.
+//!
+//! After Kahn, "The semantics of a simple language for parallel programming" (1974): a network means the histories of
+//! its channels. `specs/` has the meaning and the rules of a valid network, `specs/Laws/` what follows from them.
+#![tactic(auto)]
+
+mod history;
+mod program;
+mod same;
+mod state;
+
+pub use history::History;
+pub use program::{Channel, Expr, Link, Operator, Port, Process, Program, Statement};
+pub use same::is_same_process;
+pub use state::{Place, ProcState};

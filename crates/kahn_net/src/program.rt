@@ -1,0 +1,65 @@
+//! A network with its channels and variables by number, in order of declaration, from 0.
+
+/// What joins two values in an expression.
+#[derive(Clone, Copy, Debug, PartialEq, Eq)]
+pub enum Operator {
+    Add,
+}
+
+/// An expression over the variables of a process.
+#[derive(Debug, Drop)]
+#[cycle(expression)]
+pub enum Expr {
+    Literal(i64),
+    Variable(usize),
+    /// A value, and operators with the value to the right of each, which group from the left.
+    Chain { first: Box<Expr>, links: Vec<Link> },
+}
+
+/// An operator with the value to its right.
+#[derive(Debug, Drop)]
+#[cycle(expression)]
+pub struct Link {
+    pub operator: Operator,
+    pub value: Expr,
+}
+
+/// A statement of a process.
+#[derive(Debug, Drop)]
+pub enum Statement {
+    Get { variable: usize, channel: usize },
+    Assign { variable: usize, value: Expr },
+    Put { value: Expr, channel: usize },
+}
+
+/// A process: its node, its variables' first values, what it does first, and what it does again and again.
+#[derive(Debug, Drop)]
+pub struct Process {
+    pub node: u8,
+    pub variables: Vec<i64>,
+    pub prelude: Vec<Statement>,
+    /// The body of the loop, unless the process finishes after its prelude.
+    pub body: Option<Vec<Statement>>,
+}
+
+/// What stands at an end of a channel.
+#[derive(Clone, Copy, Debug, PartialEq, Eq)]
+pub enum Port {
+    Outside,
+    /// The process of this number.
+    Process(usize),
+}
+
+/// A channel, by what puts on it and what gets from it. An input comes from outside, an output goes outside.
+#[derive(Clone, Copy, Debug, PartialEq, Eq)]
+pub struct Channel {
+    pub producer: Port,
+    pub consumer: Port,
+}
+
+/// A network's channels and processes, by number.
+#[derive(Debug, Drop)]
+pub struct Program {
+    pub channels: Vec<Channel>,
+    pub processes: Vec<Process>,
+}

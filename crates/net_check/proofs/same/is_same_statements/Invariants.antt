@@ -1,5 +1,0 @@
-use Rattle.net_check.proofs.Alike.{Decide}
-use Rattle.net_check.proofs.same.is_same_statements.Given as goal
-
-abbrev pub invariant-loop-i : goal.invariant-loop-i
-invariant-loop-i l = Decide l.a l.b l.i

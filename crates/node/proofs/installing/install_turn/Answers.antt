@@ -1,0 +1,16 @@
+use Rattle.std.proofs.Common.{◌≡◌, List, Some, subst}
+use Rattle.std.specs.Prelude.{slice_get}
+use Rattle.record.specs.ImageView.{ImageView}
+use Rattle.record.specs.declared.image.SavedEnd.{SavedEnd}
+use Rattle.node.proofs.Installs.{counts_kept}
+use Rattle.node.proofs.installing.install_turn.Goals as goal
+
+pub push_sent-requires-clause-takes : goal.push_sent-requires-clause-takes
+push_sent-requires-clause-takes c = λ k saved from h.
+    (c.requires k saved (subst (λ (image : ImageView). slice_get image.ends k ≡ Some saved) c.image.view_is h)).put
+
+pub count_all-requires : goal.count_all-requires
+count_all-requires c = λ k saved h.
+    counts_kept _ _ _ _ c.image.inside.ends.items _
+    (λ j one g. (c.requires j one (subst (λ (image : ImageView). slice_get image.ends j ≡ Some one) c.image.view_is g)).received)
+    k saved (subst (λ (ends : List SavedEnd). slice_get ends k ≡ Some saved) c.in_ok-push_sent.ensures.ok h)

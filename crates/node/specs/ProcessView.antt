@@ -1,8 +1,0 @@
--- A process's part of an image, without pointers.
-use Rattle.std.specs.Prelude.{ℕ}
-use Rattle.net_check.specs.Processes.{Standing}
-
--- a process's number, and where it stands with its variables
-pub record SavedProcessView : Type 0 where
-  pub number : ℕ
-  pub standing : Standing

@@ -1,0 +1,2 @@
+-- What follows of lists that are changed element by element.
+pub mod Walks

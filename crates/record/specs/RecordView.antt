@@ -1,0 +1,12 @@
+-- What a node keeps, without pointers, so that two records are compared by ≡.
+use Rattle.std.specs.Prelude.{ℕ, List, Option}
+use Rattle.record.specs.DecisionView.{DecisionView}
+use Rattle.record.specs.ImageView.{ImageView}
+use Rattle.record.specs.declared.record.Tentative.{Tentative}
+
+pub record RecordView : Type 0 where
+  pub epoch : ℕ
+  pub highest : List ℕ
+  pub decision : Option DecisionView
+  pub permanent : ImageView
+  pub tentative : Option Tentative
