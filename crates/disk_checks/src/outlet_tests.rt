@@ -1,7 +1,8 @@
 ghost use Rattle.std.specs.Prelude.{◌+◌, if◌then◌else◌};
 
 use crate::asserting::{same, same_at};
-use retained::{LAST_POSITION, Log, LogFault};
+use retained::{Log, LogFault};
+use kahn_net::MAX_COUNT;
 use outlet::{ListOutlet, Outlet, OutletFault, can_release, release};
 use std::alloc::Global;
 use std::ops::Range;
@@ -303,7 +304,7 @@ fn a_log_rebuilt_at_a_position_and_cut(rt: HostRuntime) -> Result<(), Fail> {
     log.cut(7);
     same(&rt, &log.base(), &7, "base, cut at 7");
     same(&rt, &log.len(), &0, "length, cut at 7");
-    let mut last = Log::starting_at(rt.alloc(), LAST_POSITION - 2);
+    let mut last = Log::starting_at(rt.alloc(), MAX_COUNT - 2);
     let full = Err(LogFault::Full);
     same(
         &rt,
@@ -311,9 +312,9 @@ fn a_log_rebuilt_at_a_position_and_cut(rt: HostRuntime) -> Result<(), Fail> {
         &full,
         "past the last position",
     );
-    same(&rt, &last.end(), &(LAST_POSITION - 2), "end after it");
+    same(&rt, &last.end(), &(MAX_COUNT - 2), "end after it");
     last.push_all(&[1, 2])?;
-    same(&rt, &last.end(), &LAST_POSITION, "end at last");
+    same(&rt, &last.end(), &MAX_COUNT, "end at last");
     pushes_all_at_the_limit(&rt, rt.alloc())
 }
 

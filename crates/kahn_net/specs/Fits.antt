@@ -3,6 +3,7 @@ use Rattle.std.specs.Prelude.{◌≡◌, ℕ, ℤ, ◌≤◌, List, [], length, 
 use Rattle.kahn_net.specs.Syntax.{Network}
 use Rattle.kahn_net.specs.declared.program.Channel.{Channel}
 use Rattle.kahn_net.specs.declared.program.Port.TheVariants.{Process}
+use Rattle.kahn_net.specs.declared.limits.TheConstants.{MAX_HISTORY_ITEMS}
 
 -- where a process puts on a channel, no items come from outside
 abbrev pub IsEmptyWhereMade : Channel → List ℤ → Type 0
@@ -14,8 +15,12 @@ IsEmptyAt channels inputs c = (channel : Channel) (items : List ℤ) → slice_g
 abbrev pub IsEmptyInside : List Channel → List (List ℤ) → Type 0
 IsEmptyInside channels inputs = (c : ℕ) → IsEmptyAt channels inputs c
 
--- as many lists as channels, each of at most 1,048,576 items, and none inside
+-- each list is within the limit of a history
+abbrev pub AreShort : List (List ℤ) → Type 0
+AreShort lists = (c : ℕ) (items : List ℤ) → slice_get lists c ≡ Some items → length items ≤ MAX_HISTORY_ITEMS
+
+-- as many lists as channels, each within the limit, and none inside
 pub record Fits (net : Network) (inputs : List (List ℤ)) : Type 0 where
   pub count : length inputs ≡ length net.channels
-  pub few : (c : ℕ) (items : List ℤ) → slice_get inputs c ≡ Some items → length items ≤ 1048576
+  pub few : AreShort inputs
   pub inside : IsEmptyInside net.channels inputs

@@ -3,6 +3,7 @@ use Rattle.std.specs.Prelude.{◌≡◌, ◌≢◌, ◌↔◌, ℕ, suc, ◌+◌
 use Rattle.kahn_net.specs.Syntax.{Tree, Number, Name, Chain, Links, NoLinks, LinkThen, Block, Nothing, GetThen, AssignThen, PutThen, Code, Network}
 use Rattle.kahn_net.specs.declared.program.Channel.{Channel}
 use Rattle.kahn_net.specs.declared.program.Port.TheVariants.{Outside, Process}
+use Rattle.kahn_net.specs.declared.limits.TheConstants.{MAX_CHANNELS, MAX_NODES, MAX_PROCESSES, MAX_UNITS, MAX_VARIABLES}
 
 -- Statements pass where one of them gets an item: the loop whose body passes can't go round without end on what is at hand.
 abbrev pub is_passing : Block → Bool
@@ -85,16 +86,16 @@ code_puts channel code = block_puts channel code.prelude || body_puts channel co
 
 -- a process of a network with so many channels
 pub record IsValidCode (channels : ℕ) (code : Code) : Type 0 where
-  pub node : code.node < 16
-  pub variables : length code.vars ≤ 64
+  pub node : code.node < MAX_NODES
+  pub variables : length code.vars ≤ MAX_VARIABLES
   pub prelude_within : IsTrue (block_within (length code.vars) channels code.prelude)
   pub body_within : IsTrue (body_within (length code.vars) channels code.body)
-  pub units : block_units code.prelude + body_units code.body ≤ 4096
+  pub units : block_units code.prelude + body_units code.body ≤ MAX_UNITS
   pub passes : (body : Block) → code.body ≡ Some body → IsTrue (is_passing body)
 
 pub record IsValid (net : Network) : Type 0 where
-  pub channel_count : length net.channels ≤ 256
-  pub process_count : length net.codes ≤ 64
+  pub channel_count : length net.channels ≤ MAX_CHANNELS
+  pub process_count : length net.codes ≤ MAX_PROCESSES
   pub codes : (p : ℕ) (code : Code) → slice_get net.codes p ≡ Some code → IsValidCode (length net.channels) code
   -- the one process that puts on a channel is its producer, and nobody puts on an input
   pub producer : (c p : ℕ) (channel : Channel) (code : Code) → slice_get net.channels c ≡ Some channel → slice_get net.codes p ≡ Some code → IsTrue (code_puts c code) ↔ (channel.producer ≡ Process p)

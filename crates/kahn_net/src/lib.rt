@@ -5,11 +5,15 @@
 #![tactic(auto)]
 
 mod history;
+mod limits;
 mod program;
 mod same;
 mod state;
 
 pub use history::History;
+pub use limits::{
+    MAX_CHANNELS, MAX_COUNT, MAX_HISTORY_ITEMS, MAX_NODES, MAX_PROCESSES, MAX_UNITS, MAX_VARIABLES,
+};
 pub use program::{Channel, Expr, Link, Operator, Port, Process, Program, Statement};
 pub use same::is_same_process;
 pub use state::{Place, ProcState};

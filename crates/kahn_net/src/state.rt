@@ -29,7 +29,9 @@ impl ProcState {
     /// Whether two states are the same: the place, and the variables there.
     pub fn is_same(&self, other: &ProcState) -> bool
         ensures standing { IsTrue result ↔ (standing_of self.now ≡ standing_of other.now) }
-        ensures parts { IsTrue result ↔ ((self.now.place ≡ other.now.place) × (self.now.variables.items ≡ other.now.variables.items)) }
+        ensures parts { IsTrue result
+            ↔ ((self.now.place ≡ other.now.place)
+            × (self.now.variables.items ≡ other.now.variables.items)) }
     {
         self.place == other.place && is_same_values(&self.variables, &other.variables)
     }

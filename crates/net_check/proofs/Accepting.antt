@@ -24,6 +24,7 @@ use Rattle.net_check.specs.ResolutionLaws.{put_named, get_named, put_numbered, g
 use Rattle.net_check.specs.Binding.{Binds, HasInputFault, line_names}
 use Rattle.net_check.proofs.Places.{name_reads_from, read_of, reads_from}
 use Rattle.net_check.proofs.Claiming.{reads_same}
+use Rattle.kahn_net.specs.declared.limits.TheConstants.{MAX_CHANNELS, MAX_PROCESSES, MAX_VARIABLES}
 
 -- among names that differ none is a second use
 no_second : (names : List NameTree) (line : ℕ) → AllDifferent names → SecondUse names line → ⊥
@@ -193,10 +194,10 @@ module _ (text : List DeclarationTree) (cs ps : List NameTree) (net : Network) (
       false≢true (sym h.idle ∙ sym k.2 ∙ (v.codes h.p x.0 x.1).passes k.0 k.1)
 
   no_limit : (line : ℕ) → HasPastLimit text line → ⊥
-  no_limit line (many_channels channel h at) = let lt = slice_get_within (channels_of text) 256 channel h in let n = channels_counted in let few = v.channel_count in absurd (omega arith)
-  no_limit line (many_processes process h at) = let lt = slice_get_within (processes_of text) 64 process h in let n = processes_counted in let few = v.process_count in absurd (omega arith)
+  no_limit line (many_channels channel h at) = let lt = slice_get_within (channels_of text) MAX_CHANNELS channel h in let n = channels_counted in let few = v.channel_count in absurd (omega arith)
+  no_limit line (many_processes process h at) = let lt = slice_get_within (processes_of text) MAX_PROCESSES process h in let n = processes_counted in let few = v.process_count in absurd (omega arith)
   no_limit line (many_variables p process variable hp h at) =
-      let lt = slice_get_within process.variables 64 variable h in
+      let lt = slice_get_within process.variables MAX_VARIABLES variable h in
       let x = code_of_process p process hp in
       let n = ap length x.2.vars ∙ length-map process.variables (λ (y : VariableText). y.initial) in
       let few = (v.codes p x.0 x.1).variables in

@@ -1,5 +1,5 @@
 -- Ends of channels that processes take, one after another.
-use Rattle.std.proofs.Common.{◌≡◌, ◌≢◌, ℕ, zero, suc, ◌<◌, List, [], ◌∷◌, ◌++◌, length, get_or, set, Some, refl, sym, ap, ◌∙◌, subst, arith, slice_get, inl, inr, eqb, IsTrue}
+use Rattle.std.proofs.Common.{◌≡◌, ◌≢◌, ℕ, zero, suc, ◌<◌, List, [], ◌∷◌, length, get_or, set, Some, refl, sym, ap, ◌∙◌, subst, arith, slice_get, inl, eqb, IsTrue}
 use Rattle.std.proofs.lemmas.Bool.{false≢true}
 use Rattle.std.proofs.lemmas.Option.{slice_get-get_or}
 use Rattle.std.proofs.lemmas.Bool.{eq-eqb}
@@ -8,18 +8,12 @@ use Rattle.net_text.specs.Names.{NameTree}
 use Rattle.net_text.specs.declared.tree.ChannelText.{ChannelText}
 use Rattle.net_text.specs.declared.tree.Role.{Role}
 use Rattle.kahn_net.specs.declared.program.Port.{Port}
-use Rattle.kahn_net.specs.declared.program.Port.TheVariants.{Outside, Process}
-use Rattle.net_check.specs.Claims.{AreOutside, IsTaken, Takes, Claims, IsRefused, stands_outside, is_taken, IsUnknown}
+use Rattle.kahn_net.specs.declared.program.Port.TheVariants.{Process}
+use Rattle.net_check.specs.Claims.{IsTaken, Takes, Claims, IsRefused, stands_outside, is_taken, IsUnknown}
 use Rattle.net_check.specs.Uses.{Use}
 use Rattle.net_check.specs.NetFaults.{space_of, name_of}
 use Rattle.net_check.specs.Resolution.{Reads, channel_names}
-use Rattle.net_check.proofs.Places.{got_push_cases, same_got, reads_from}
-
-pub outside_none : AreOutside []
-outside_none c port h = absurd (cc)
-
-pub outside_push : (ports : List Port) → AreOutside ports → AreOutside (ports ++ Outside ∷ [])
-outside_push ports all c port h = elim (got_push_cases ports Outside c port h) [ inl g ↦ all c port g | inr g ↦ sym g.1 ]
+use Rattle.net_check.proofs.Places.{same_got, reads_from}
 
 length-set_port : (ports : List Port) (c : ℕ) (port : Port) → length (set ports c port) ≡ length ports
 length-set_port [] c port = refl

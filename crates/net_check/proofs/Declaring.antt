@@ -10,6 +10,7 @@ use Rattle.net_check.specs.NetFaults.{SecondUse, HasTwiceNamed, two_channels, tw
 use Rattle.net_check.specs.Ready.{AreDeclared, IsReady, FaultOfProcess, FaultAtProcess}
 use Rattle.net_check.specs.declared.fault.NetFault.{NetFault}
 use Rattle.net_check.proofs.Places.{got_at, got_map, got_push_cases, got_append_left, got_seam, read_of, reads_from, reads_within}
+use Rattle.kahn_net.specs.declared.limits.TheConstants.{MAX_CHANNELS, MAX_PROCESSES, MAX_VARIABLES}
 
 reads_left : {A : Type 0} (f : A → NameTree) (xs ys : List A) (i : ℕ) (t : List ℕ) → Reads (map f xs) i t → Reads (map f (xs ++ ys)) i t
 reads_left f xs ys i t h = let r = read_of f xs i t h in reads_from f (xs ++ ys) i r.0 (got_append_left xs ys i r.0 r.1) ∙ ap Some r.2
@@ -18,9 +19,6 @@ reads_push_cases : {A : Type 0} (f : A → NameTree) (xs : List A) (x : A) (i : 
 reads_push_cases f xs x i t h =
     let r = read_of f (xs ++ x ∷ []) i t h in
     elim (got_push_cases xs x i r.0 r.1) [ inl g ↦ inl (reads_from f xs i r.0 g ∙ ap Some r.2) | inr g ↦ inr (g.0, ap (λ (z : _). (f z).text) g.1 ∙ r.2) ]
-
-pub different_none : AllDifferent []
-different_none i j t h k = absurd (cc)
 
 pub different_push : {A : Type 0} (f : A → NameTree) (xs : List A) (x : A) → AllDifferent (map f xs) → ((i : ℕ) → Reads (map f xs) i (f x).text → ⊥) → AllDifferent (map f (xs ++ x ∷ []))
 different_push f xs x apart fresh i j t hi hj =
@@ -50,15 +48,6 @@ pub whole_at : {A : Type 0} (xs : List A) (i : ℕ) (x : A) → i < length xs �
 whole_at [] i x lt e = absurd (omega arith)
 whole_at (y ∷ ys) zero x lt e = ap (λ (z : _). z ∷ ys) (sym e)
 whole_at (y ∷ ys) (suc i) x lt e = let k : suc i + 1 ≡ suc (i + 1) = omega arith in rw k (ap (λ (z : List _). y ∷ z) (whole_at ys i x (omega arith) e))
-
-pub declared_none : AreDeclared [] []
-declared_none = record {
-  few_channels = omega arith;
-  few_processes = omega arith;
-  channels_differ = different_none;
-  processes_differ = different_none;
-  ready = λ p process h. absurd (cc);
-}
 
 pub declared_channel : (cs : List ChannelText) (ps : List ProcessTree) (c : ChannelText) → AreDeclared cs ps → ((i : ℕ) → Reads (channel_names cs) i c.name.text → ⊥) → length cs < 256 → AreDeclared (cs ++ c ∷ []) ps
 declared_channel cs ps c d fresh few = record {
@@ -91,9 +80,9 @@ pub twice_variable_of : (process : ProcessTree) (vs : List VariableText) (k : �
     → (text : List DeclarationTree) (p : ℕ) → slice_get (processes_of text) p ≡ Some process → HasTwiceNamed text v.name.line
 twice_variable_of process vs k v i same lt e h text p here = two_variables p process here (subst (λ (xs : List VariableText). SecondUse (variable_names xs) v.name.line) (sym same) (twice_variable vs k v i lt e h))
 
-pub many_variables_of : (process : ProcessTree) (vs : List VariableText) (k : ℕ) (v : VariableText) → process.variables ≡ vs → k < length vs → v ≡ get_or vs k v → k ≡ 64
+pub many_variables_of : (process : ProcessTree) (vs : List VariableText) (k : ℕ) (v : VariableText) → process.variables ≡ vs → k < length vs → v ≡ get_or vs k v → k ≡ MAX_VARIABLES
     → (text : List DeclarationTree) (p : ℕ) → slice_get (processes_of text) p ≡ Some process → HasPastLimit text v.line
-many_variables_of process vs k v same lt e n text p here = many_variables p process v here (subst (λ (xs : List VariableText). slice_get xs 64 ≡ Some v) (sym same) (subst (λ (m : ℕ). slice_get vs m ≡ Some v) n (got_at vs k v lt e))) refl
+many_variables_of process vs k v same lt e n text p here = many_variables p process v here (subst (λ (xs : List VariableText). slice_get xs MAX_VARIABLES ≡ Some v) (sym same) (subst (λ (m : ℕ). slice_get vs m ≡ Some v) n (got_at vs k v lt e))) refl
 
 pub different_more : (vs : List VariableText) (k : ℕ) (v : VariableText) → k < length vs → v ≡ get_or vs k v → AllDifferent (variable_names (take k vs)) → ((i : ℕ) → Reads (variable_names (take k vs)) i v.name.text → ⊥) → AllDifferent (variable_names (take (k + 1) vs))
 different_more vs k v lt e apart fresh =
@@ -103,8 +92,8 @@ different_more vs k v lt e apart fresh =
 pub fault_here : (ps : List ProcessTree) (p : ProcessTree) (f : NetFault) → FaultOfProcess p f → FaultAtProcess ps p f
 fault_here ps p f h text more e = h text (length ps) (ap (λ (xs : List ProcessTree). slice_get xs (length ps)) e ∙ got_seam ps p more)
 
-pub many_channels_at : (cs : List ChannelText) (c : ChannelText) → length cs ≡ 256 → (text : List DeclarationTree) (more : List ChannelText) → channels_of text ≡ cs ++ c ∷ more → HasPastLimit text c.line
-many_channels_at cs c n text more e = many_channels c (ap (λ (xs : List ChannelText). slice_get xs 256) e ∙ subst (λ (k : ℕ). slice_get (cs ++ c ∷ more) k ≡ Some c) n (got_seam cs c more)) refl
+pub many_channels_at : (cs : List ChannelText) (c : ChannelText) → length cs ≡ MAX_CHANNELS → (text : List DeclarationTree) (more : List ChannelText) → channels_of text ≡ cs ++ c ∷ more → HasPastLimit text c.line
+many_channels_at cs c n text more e = many_channels c (ap (λ (xs : List ChannelText). slice_get xs MAX_CHANNELS) e ∙ subst (λ (k : ℕ). slice_get (cs ++ c ∷ more) k ≡ Some c) n (got_seam cs c more)) refl
 
-pub many_processes_at : (ps : List ProcessTree) (p : ProcessTree) → length ps ≡ 64 → (text : List DeclarationTree) (more : List ProcessTree) → processes_of text ≡ ps ++ p ∷ more → HasPastLimit text p.line
-many_processes_at ps p n text more e = many_processes p (ap (λ (xs : List ProcessTree). slice_get xs 64) e ∙ subst (λ (k : ℕ). slice_get (ps ++ p ∷ more) k ≡ Some p) n (got_seam ps p more)) refl
+pub many_processes_at : (ps : List ProcessTree) (p : ProcessTree) → length ps ≡ MAX_PROCESSES → (text : List DeclarationTree) (more : List ProcessTree) → processes_of text ≡ ps ++ p ∷ more → HasPastLimit text p.line
+many_processes_at ps p n text more e = many_processes p (ap (λ (xs : List ProcessTree). slice_get xs MAX_PROCESSES) e ∙ subst (λ (k : ℕ). slice_get (ps ++ p ∷ more) k ≡ Some p) n (got_seam ps p more)) refl

@@ -1,5 +1,5 @@
 -- A channel more, and the fault of one among the channels.
-use Rattle.std.proofs.Common.{◌≡◌, ◌∙◌, sym, ap, subst, refl, ℕ, ◌+◌, ◌<◌, List, [], ◌∷◌, ◌++◌, length, get_or, take, slice_get, Some, arith, inl, inr}
+use Rattle.std.proofs.Common.{◌≡◌, ◌∙◌, sym, ap, subst, ℕ, ◌+◌, ◌<◌, List, [], ◌∷◌, ◌++◌, length, get_or, take, slice_get, Some, arith, inl, inr}
 use Rattle.std.proofs.lemmas.Option.{slice_get_within}
 use Rattle.std.proofs.lemmas.List.{length_push, take_more, length-take}
 use Rattle.net_text.specs.declared.tree.ChannelText.{ChannelText}
@@ -9,14 +9,6 @@ use Rattle.kahn_net.specs.declared.program.Channel.{Channel}
 use Rattle.kahn_net.specs.declared.program.Port.{Port}
 use Rattle.net_check.specs.Joints.{AreJoined, HasItsEnds, EndFault, EndFaultAmong}
 use Rattle.net_check.proofs.Places.{got_at, got_push_cases}
-
-pub joined_start : (producers consumers : List Port) → AreJoined [] producers consumers []
-joined_start producers consumers = record {
-  count = refl;
-  producer = λ c channel h. absurd (cc);
-  consumer = λ c channel h. absurd (cc);
-  ends = λ c declared channel h k. absurd (cc);
-}
 
 pub joined_next : (channels : List ChannelText) (producers consumers : List Port) (joined : List Channel) (i : ℕ) (declared : ChannelText) (channel : Channel) → i < length channels → declared ≡ get_or channels i declared → slice_get producers i ≡ Some channel.producer → slice_get consumers i ≡ Some channel.consumer
     → HasItsEnds declared channel.producer channel.consumer → AreJoined (take i channels) producers consumers joined → AreJoined (take (i + 1) channels) producers consumers (joined ++ channel ∷ [])

@@ -11,11 +11,11 @@ use Rattle.net_text.specs.declared.tree.Role.TheVariants.{Input, Output}
 use Rattle.net_check.specs.declared.fault.NetFault.{NetFault}
 use Rattle.net_check.specs.declared.fault.NetFault.TheVariants.{NoMemory, UnknownName, TwoProducers, TwoConsumers}
 use Rattle.kahn_net.specs.declared.program.Port.{Port}
-use Rattle.kahn_net.specs.declared.program.Port.TheVariants.{Outside, Process}
+use Rattle.kahn_net.specs.declared.program.Port.TheVariants.{Process}
 use Rattle.kahn_net.specs.declared.program.Process.{Process as ProcessCode}
 use Rattle.kahn_net.specs.Syntax.{Code, code_of}
 use Rattle.kahn_net.specs.Valid.{code_gets, code_puts}
-use Rattle.net_check.specs.Claims.{AreOutside, AreResolved, Claims, FaultOfText, IsRefused, Joined, stands_outside, is_taken, UseFault}
+use Rattle.net_check.specs.Claims.{AreResolved, Claims, FaultOfText, IsRefused, Joined, stands_outside, is_taken, UseFault}
 use Rattle.net_check.specs.Resolution.{Reads, ResolvesProcess, channel_names, channels_of, processes_of, variable_names}
 use Rattle.net_check.specs.ResolutionLaws.{Named, put_named, get_named}
 use Rattle.net_check.specs.NetFaults.{HasFault, HasTwoUsers, outside_too, another_too, space_of, name_of}
@@ -23,14 +23,6 @@ use Rattle.net_check.specs.Uses.{Use, GetFrom, PutOn, process_uses}
 use Rattle.net_check.proofs.Places.{got_at, got_map, got_push_cases, got_append_left, got_seam}
 use Rattle.net_check.proofs.Claiming.{reads_same}
 use Rattle.net_check.proofs.Resolving.{bool_cases}
-
-pub joined_none : (channels : List ChannelText) (role : Role) (uses : ℕ → Code → Bool) (ports : List Port) → length ports ≡ length channels → AreOutside ports → Joined channels role uses [] ports
-joined_none channels role uses ports n out = record {
-  count = n;
-  there = λ c q code h u. absurd (cc);
-  back = λ c q h. absurd (let e : Process q ≡ Outside = out c (Process q) h in cc);
-  allowed = λ c q channel h here. absurd (let e : Process q ≡ Outside = out c (Process q) h in cc);
-}
 
 number_of_port : (p q : ℕ) → Some (Process p) ≡ Some (Process q) → p ≡ q
 number_of_port p q e = cc
@@ -53,14 +45,6 @@ joined_push channels role uses codes code ports ports' j a = record {
     | inl k ↦ a.allowed c channel k here
     | inr k ↦ j.allowed c q channel (sym (a.kept c k) ∙ h) here
   ];
-}
-
-pub resolved_none : (channels : List ChannelText) (producers consumers : List Port) → length producers ≡ length channels → length consumers ≡ length channels → AreOutside producers → AreOutside consumers → AreResolved channels [] [] producers consumers
-resolved_none channels producers consumers n m a b = record {
-  count = refl;
-  codes_of = λ p process code h k. absurd (cc);
-  producers_of = joined_none channels Input code_puts producers n a;
-  consumers_of = joined_none channels Output code_gets consumers m b;
 }
 
 pub resolved_push : (channels : List ChannelText) (ps : List ProcessTree) (codes : List Code) (p : ProcessTree) (code : Code) (number : ℕ) (producers consumers producers' consumers' : List Port) → AreResolved channels ps codes producers consumers → number ≡ length codes → ResolvesProcess (channel_names channels) p code

@@ -8,7 +8,7 @@ use Rattle.std.proofs.Common.{append_assoc}
 use Rattle.net_text.specs.Trees.{InputTree, input_tree}
 use Rattle.net_text.specs.declared.raw_inputs.InputLine.{InputLine}
 use Rattle.net_check.specs.declared.fault.NetFault.{NetFault}
-use Rattle.net_check.specs.declared.fault.NetFault.TheVariants.{NoMemory, TwiceNamed, UnknownName, Limit, MissingInput}
+use Rattle.net_check.specs.declared.fault.NetFault.TheVariants.{NoMemory, TwiceNamed, UnknownName, Limit}
 use Rattle.kahn_net.specs.declared.program.Channel.{Channel}
 use Rattle.kahn_net.specs.declared.program.Port.TheVariants.{Outside, Process}
 use Rattle.kahn_net.specs.Syntax.{Network}
@@ -16,33 +16,14 @@ use Rattle.kahn_net.specs.Fits.{Fits}
 use Rattle.net_check.specs.NetFaults.{SecondUse}
 use Rattle.net_check.specs.Resolution.{AllDifferent, Reads}
 use Rattle.net_check.specs.Binding.{Binds, HasInputFault, IsGiven, IsInput, line_names}
-use Rattle.net_check.specs.Bound.{AreBound, AreEmpty, AreFalse, AreNamed, BindsLine, HasUnnamed, LineFault}
+use Rattle.net_check.specs.Bound.{AreBound, AreNamed, BindsLine, LineFault}
 use Rattle.net_check.proofs.Places.{got_append_left, got_push_cases, got_seam, got_set_here, got_set_there, length-set_at, read_of, reads_from, same_got, same_or_not}
 use Rattle.net_check.proofs.Claiming.{reads_same}
-use Rattle.net_check.proofs.Declaring.{different_none, different_push, second_use}
+use Rattle.net_check.proofs.Declaring.{different_push, second_use}
+use Rattle.kahn_net.specs.declared.limits.TheConstants.{MAX_HISTORY_ITEMS}
 
 true_is_no_false : Some true ≡ Some false → ⊥
 true_is_no_false e = false≢true (let k : true ≡ false = cc in sym k)
-
-pub bound_none : (names : List NameTree) (net : Network) (lists : List (List ℤ)) (named : List Bool) → length lists ≡ length net.channels → length named ≡ length net.channels → AreEmpty lists → AreFalse named → AreBound names net [] lists named
-bound_none names net lists named n m empty none = record {
-  count = n;
-  marks = m;
-  given = λ i line h. absurd (cc);
-  marked = λ i line c h k. absurd (cc);
-  once = different_none;
-  by = λ c h. absurd (false≢true (sym (none c true h)));
-  input = λ c h. absurd (false≢true (sym (none c true h)));
-  empty = λ c h. empty_at lists named c (n ∙ sym m) empty h;
-  few = λ c items h. subst (λ (xs : List ℤ). length xs ≤ 1048576) (sym (empty c items h)) (omega arith);
-}
-  where
-    empty_at : (lists : List (List ℤ)) (named : List Bool) (c : ℕ) → length lists ≡ length named → AreEmpty lists → slice_get named c ≡ Some false → slice_get lists c ≡ Some []
-    empty_at [] [] c n e h = absurd (cc)
-    empty_at [] (x ∷ xs) c n e h = absurd (omega arith)
-    empty_at (l ∷ ls) [] c n e h = absurd (omega arith)
-    empty_at (l ∷ ls) (x ∷ xs) zero n e h = ap Some (e zero l refl)
-    empty_at (l ∷ ls) (x ∷ xs) (suc c) n e h = empty_at ls xs c (omega arith) (λ k items g. e (suc k) items g) h
 
 module _ (names : List NameTree) (net : Network) (lines : List InputTree) (line : InputTree) (lists : List (List ℤ)) (named : List Bool) (lists' : List (List ℤ)) (named' : List Bool) (differ : AllDifferent names)
     (b : AreBound names net lines lists named) (s : BindsLine names net line lists named lists' named') where
@@ -96,7 +77,7 @@ module _ (names : List NameTree) (net : Network) (lines : List InputTree) (line 
       | inr e ↦ list_there d e ∙ b.empty d (sym (mark_there d e) ∙ h)
     ];
     few = λ d items h. elim (same_or_not s.c d) [
-      | inl e ↦ subst (λ (xs : List ℤ). length xs ≤ 1048576) (same_got lists' s.c line.items items list_here (subst (λ (k : ℕ). slice_get lists' k ≡ Some items) (sym e) h)) s.few
+      | inl e ↦ subst (λ (xs : List ℤ). length xs ≤ MAX_HISTORY_ITEMS) (same_got lists' s.c line.items items list_here (subst (λ (k : ℕ). slice_get lists' k ≡ Some items) (sym e) h)) s.few
       | inr e ↦ b.few d items (sym (list_there d e) ∙ h)
     ];
   }
@@ -111,14 +92,6 @@ line_fault_in names net lines line more all lists named (TwiceNamed at) e b h =
     subst (λ (xs : List InputTree). SecondUse (line_names xs) at) e (subst (λ (n : ℕ). SecondUse (line_names (lines ++ line ∷ more)) n) h.1 (second_use (λ (x : InputTree). x.name) lines more line k.i r))
 line_fault_in names net lines line more all lists named (Limit at) e b h = record { i = length lines; line = line; here = ap (λ (xs : List InputTree). slice_get xs (length lines)) (sym e) ∙ got_seam lines line more; many = h.0; there = h.1 }
 line_fault_in names net lines line more all lists named _ e b h = absurd h
-
--- an input that no line has named
-pub missing_in : (names : List NameTree) (net : Network) (lines : List InputTree) (lists : List (List ℤ)) (named : List Bool) → AreBound names net lines lists named → HasUnnamed net.channels named → HasInputFault names net lines MissingInput
-missing_in names net lines lists named b h = record {
-  c = h.0;
-  input = record { channel = h.1; here = h.2; outside = h.3 };
-  unnamed = λ k. true_is_no_false (sym (b.marked k.i k.line h.0 k.here k.reads) ∙ h.4);
-}
 
 mark_at : (named : List Bool) (c : ℕ) → c < length named → (slice_get named c ≡ Some true) ⊎ (slice_get named c ≡ Some false)
 mark_at [] c lt = absurd (omega arith)
@@ -138,7 +111,7 @@ all_bound names net lines lists named b all = record {
   ];
 }
 
-pub bound_fits : (names : List NameTree) (net : Network) (lines : List InputTree) (lists : List (List ℤ)) → Binds names net lines lists → ((c : ℕ) (items : List ℤ) → slice_get lists c ≡ Some items → length items ≤ 1048576) → Fits net lists
+pub bound_fits : (names : List NameTree) (net : Network) (lines : List InputTree) (lists : List (List ℤ)) → Binds names net lines lists → ((c : ℕ) (items : List ℤ) → slice_get lists c ≡ Some items → length items ≤ MAX_HISTORY_ITEMS) → Fits net lists
 bound_fits names net lines lists b few = record {
   count = b.count;
   few = few;

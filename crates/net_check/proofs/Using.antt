@@ -29,9 +29,6 @@ within_right xs ys = record { all = has_right xs ys }
 pub within_same : (xs : List Use) → Within xs xs
 within_same xs = record { all = λ u h. h }
 
-pub within_first : (x : Use) (xs : List Use) → Within (x ∷ []) (x ∷ xs)
-within_first x xs = record { all = λ u h. elim h [ inl e ↦ inl e | inr k ↦ absurd k ] }
-
 pub within_next : (x : Use) (few many : List Use) → Within few many → Within few (x ∷ many)
 within_next x few many w = record { all = λ u h. inr (w.all u h) }
 
@@ -65,9 +62,6 @@ use_from_name channels variables p producers consumers few many _ w h = absurd h
 
 pub within_left_at : (xs xs' ys : List Use) → xs' ≡ xs → Within xs' (xs ++ ys)
 within_left_at xs xs' ys e = record { all = λ u h. has_left xs ys u (subst (λ (zs : List Use). Has zs u) e h) }
-
-pub within_right_at : (xs ys ys' : List Use) → ys' ≡ ys → Within ys' (xs ++ ys)
-within_right_at xs ys ys' e = record { all = λ u h. has_right xs ys u (subst (λ (zs : List Use). Has zs u) e h) }
 
 has_front : (xs ys : List Use) (u : Use) → Has (xs ++ []) u → Has (xs ++ ys) u
 has_front xs ys u h = elim (has_cases xs [] u h) [ inl k ↦ has_left xs ys u k | inr k ↦ absurd k ]

@@ -9,6 +9,7 @@ use Rattle.kahn_net.specs.declared.program.Port.TheVariants.{Outside}
 use Rattle.kahn_net.specs.Syntax.{Network}
 use Rattle.net_check.specs.Resolution.{AllDifferent, Reads}
 use Rattle.net_check.specs.NetFaults.{SecondUse}
+use Rattle.kahn_net.specs.declared.limits.TheConstants.{MAX_HISTORY_ITEMS}
 
 -- the channel of this number is an input
 pub record IsInput (net : Network) (c : ℕ) : Type 0 where
@@ -25,7 +26,7 @@ pub record IsGiven (names : List NameTree) (net : Network) (inputs : List (List 
   pub reads : Reads names c line.name.text
   pub input : IsInput net c
   pub items : slice_get inputs c ≡ Some line.items
-  pub few : length line.items ≤ 1048576
+  pub few : length line.items ≤ MAX_HISTORY_ITEMS
 
 -- a line that names this channel
 pub record IsNamedIn (names : List NameTree) (lines : List InputTree) (c : ℕ) : Type 0 where
@@ -58,7 +59,7 @@ pub record HasManyItems (lines : List InputTree) (at : ℕ) : Type 0 where
   pub i : ℕ
   pub line : InputTree
   pub here : slice_get lines i ≡ Some line
-  pub many : 1048576 < length line.items
+  pub many : MAX_HISTORY_ITEMS < length line.items
   pub there : line.name.line ≡ at
 
 -- 18: an input that no line names

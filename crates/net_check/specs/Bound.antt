@@ -9,6 +9,7 @@ use Rattle.kahn_net.specs.declared.program.Port.TheVariants.{Outside}
 use Rattle.kahn_net.specs.Syntax.{Network}
 use Rattle.net_check.specs.Resolution.{AllDifferent, Reads}
 use Rattle.net_check.specs.Binding.{IsGiven, IsInput, IsNamedIn, line_names}
+use Rattle.kahn_net.specs.declared.limits.TheConstants.{MAX_HISTORY_ITEMS}
 
 -- an input that reads like this name
 pub record MarkedInput (names : List NameTree) (net : Network) (name : NameTree) (c : ℕ) : Type 0 where
@@ -40,7 +41,7 @@ pub record AreBound (names : List NameTree) (net : Network) (lines : List InputT
   pub by : (c : ℕ) → slice_get named c ≡ Some true → IsNamedIn names lines c
   pub input : (c : ℕ) → slice_get named c ≡ Some true → IsInput net c
   pub empty : (c : ℕ) → slice_get named c ≡ Some false → slice_get lists c ≡ Some []
-  pub few : (c : ℕ) (items : List ℤ) → slice_get lists c ≡ Some items → length items ≤ 1048576
+  pub few : (c : ℕ) (items : List ℤ) → slice_get lists c ≡ Some items → length items ≤ MAX_HISTORY_ITEMS
 
 -- a line that names an input which none has named
 pub record BindsLine (names : List NameTree) (net : Network) (line : InputTree) (lists : List (List ℤ)) (named : List Bool) (lists' : List (List ℤ)) (named' : List Bool) : Type 0 where
@@ -48,7 +49,7 @@ pub record BindsLine (names : List NameTree) (net : Network) (line : InputTree) 
   pub reads : Reads names c line.name.text
   pub input : IsInput net c
   pub fresh : slice_get named c ≡ Some false
-  pub few : length line.items ≤ 1048576
+  pub few : length line.items ≤ MAX_HISTORY_ITEMS
   pub list : lists' ≡ slice_set lists c line.items
   pub mark : named' ≡ slice_set named c true
 
@@ -57,7 +58,7 @@ abbrev pub LineFault : List NameTree → Network → InputTree → List Bool →
 LineFault names net line named NoMemory = Unit {0}
 LineFault names net line named (UnknownName at) = ((c : ℕ) → Reads names c line.name.text → IsInput net c → ⊥) × (line.name.line ≡ at)
 LineFault names net line named (TwiceNamed at) = ((c : ℕ) × Reads names c line.name.text × (slice_get named c ≡ Some true)) × (line.name.line ≡ at)
-LineFault names net line named (Limit at) = (1048576 < length line.items) × (line.name.line ≡ at)
+LineFault names net line named (Limit at) = (MAX_HISTORY_ITEMS < length line.items) × (line.name.line ≡ at)
 LineFault names net line named (TwoProducers at) = ⊥
 LineFault names net line named (TwoConsumers at) = ⊥
 LineFault names net line named (LoopWithoutGet at) = ⊥

@@ -11,6 +11,7 @@ use Rattle.net_check.specs.declared.fault.NetFault.TheVariants.{NoMemory, TwiceN
 use Rattle.net_check.specs.Uses.{Use, OfVariable, GetFrom, PutOn, process_uses, Has}
 use Rattle.net_check.specs.Resolution.{channels_of, processes_of, channel_names, process_names, variable_names, Reads}
 use Rattle.net_check.specs.Texts.{is_passing_text, process_units_text}
+use Rattle.kahn_net.specs.declared.limits.TheConstants.{MAX_CHANNELS, MAX_PROCESSES, MAX_UNITS, MAX_VARIABLES}
 
 -- among these names one stands on this line that reads like one before it
 pub record SecondUse (names : List NameTree) (line : ℕ) : Type 0 where
@@ -64,13 +65,13 @@ pub record HasLoopWithoutGet (text : List DeclarationTree) (line : ℕ) : Type 0
   pub idle : is_passing_text repeated.body ≡ false
   pub at : repeated.line ≡ line
 
--- 15: the 257th channel, the 65th process, the 65th variable of a process, a node other than 0, more than 4,096 units of a process
+-- 15: a channel, a process or a variable of a process past their limits, a node other than 0, a process of too many units
 pub data HasPastLimit : List DeclarationTree → ℕ → Type 0 where
-  many_channels : {text : List DeclarationTree} {line : ℕ} (channel : ChannelText) → slice_get (channels_of text) 256 ≡ Some channel → channel.line ≡ line → HasPastLimit text line
-  many_processes : {text : List DeclarationTree} {line : ℕ} (process : ProcessTree) → slice_get (processes_of text) 64 ≡ Some process → process.line ≡ line → HasPastLimit text line
-  many_variables : {text : List DeclarationTree} {line : ℕ} (p : ℕ) (process : ProcessTree) (variable : VariableText) → slice_get (processes_of text) p ≡ Some process → slice_get process.variables 64 ≡ Some variable → variable.line ≡ line → HasPastLimit text line
+  many_channels : {text : List DeclarationTree} {line : ℕ} (channel : ChannelText) → slice_get (channels_of text) MAX_CHANNELS ≡ Some channel → channel.line ≡ line → HasPastLimit text line
+  many_processes : {text : List DeclarationTree} {line : ℕ} (process : ProcessTree) → slice_get (processes_of text) MAX_PROCESSES ≡ Some process → process.line ≡ line → HasPastLimit text line
+  many_variables : {text : List DeclarationTree} {line : ℕ} (p : ℕ) (process : ProcessTree) (variable : VariableText) → slice_get (processes_of text) p ≡ Some process → slice_get process.variables MAX_VARIABLES ≡ Some variable → variable.line ≡ line → HasPastLimit text line
   other_node : {text : List DeclarationTree} {line : ℕ} (p : ℕ) (process : ProcessTree) → slice_get (processes_of text) p ≡ Some process → 0 < process.node.number → process.node.line ≡ line → HasPastLimit text line
-  many_units : {text : List DeclarationTree} {line : ℕ} (p : ℕ) (process : ProcessTree) → slice_get (processes_of text) p ≡ Some process → 4096 < process_units_text process → process.line ≡ line → HasPastLimit text line
+  many_units : {text : List DeclarationTree} {line : ℕ} (p : ℕ) (process : ProcessTree) → slice_get (processes_of text) p ≡ Some process → MAX_UNITS < process_units_text process → process.line ≡ line → HasPastLimit text line
 
 -- 16, with puts and inputs, and 17, with gets and outputs: a channel whose end stands inside, and that no process uses so
 pub record HasNoUser (role : Role) (use' : NameTree → Use) (text : List DeclarationTree) (line : ℕ) : Type 0 where

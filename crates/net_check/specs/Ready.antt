@@ -6,22 +6,23 @@ use Rattle.net_text.specs.declared.tree.ChannelText.{ChannelText}
 use Rattle.net_check.specs.declared.fault.NetFault.{NetFault}
 use Rattle.net_check.specs.Resolution.{AllDifferent, channels_of, processes_of, channel_names, process_names, variable_names}
 use Rattle.net_check.specs.NetFaults.{HasFault}
+use Rattle.kahn_net.specs.declared.limits.TheConstants.{MAX_CHANNELS, MAX_PROCESSES, MAX_UNITS, MAX_VARIABLES}
 
 -- a process on node 0 with at most 64 variables, all different
 pub record IsReady (process : ProcessTree) : Type 0 where
   pub node : process.node.number ≡ 0
-  pub few : length process.variables ≤ 64
+  pub few : length process.variables ≤ MAX_VARIABLES
   pub different : AllDifferent (variable_names process.variables)
 
 -- a process of at most 4,096 units whose loop gets an item in each pass
 pub record IsFit (process : ProcessTree) : Type 0 where
-  pub units : process_units_text process ≤ 4096
+  pub units : process_units_text process ≤ MAX_UNITS
   pub passes : (repeated : LoopTree) → process.repeated ≡ Some repeated → is_passing_text repeated.body ≡ true
 
 -- the channels and processes of a text, as far as it has been read
 pub record AreDeclared (channels : List ChannelText) (processes : List ProcessTree) : Type 0 where
-  pub few_channels : length channels ≤ 256
-  pub few_processes : length processes ≤ 64
+  pub few_channels : length channels ≤ MAX_CHANNELS
+  pub few_processes : length processes ≤ MAX_PROCESSES
   pub channels_differ : AllDifferent (channel_names channels)
   pub processes_differ : AllDifferent (process_names processes)
   pub ready : (p : ℕ) (process : ProcessTree) → slice_get processes p ≡ Some process → IsReady process

@@ -5,25 +5,25 @@ ghost use Rattle.std.specs.Bool.{MatchBool};
 ghost use Rattle.kahn_net.specs.declared.program.Port.TheVariants.{Outside};
 ghost use Rattle.net_text.specs.Trees.{input_tree, inputs_tree};
 ghost use Rattle.net_check.specs.Binding.{Binds, HasInputFault, IsInput};
-ghost use Rattle.net_check.specs.Bound.{AreBound, AreEmpty, AreFalse, BindsLine, LineFault, AreNamed, HasUnnamed, MarkedInput};
+ghost use Rattle.net_check.specs.Bound.{AreEmpty, AreFalse, BindsLine, LineFault, AreNamed, HasUnnamed, MarkedInput};
 ghost use Rattle.kahn_net.specs.Fits.{Fits};
 ghost use Rattle.net_check.specs.Resolution.{Reads};
 ghost use Rattle.kahn_net.specs.Syntax.{network_of};
 
 use crate::fault::NetFault;
-use kahn_net::History;
 use crate::inputs::Inputs;
 use crate::lookup::find_name;
 use crate::net::Net;
-use kahn_net::{Channel, Port};
+use kahn_net::{Channel, History, MAX_HISTORY_ITEMS, Port};
 use net_text::{InputLine, Name, RawInputs};
 use std::alloc::{AllocError, Global};
 
-const ITEMS: usize = 1_048_576;
-
 /// The number of the input that reads like this name.
 fn find_input(net: &Net, name: &Name) -> Option<usize>
-    ensures { MatchOption result ((c : ℕ) → Reads net.now.channel_names.items c name.now.text → IsInput (network_of net.now.program) c → ⊥) (MarkedInput net.now.channel_names.items (network_of net.now.program) name.now) }
+    ensures { MatchOption result
+        ((c : ℕ) → Reads net.now.channel_names.items c name.now.text
+        → IsInput (network_of net.now.program) c → ⊥)
+        (MarkedInput net.now.channel_names.items (network_of net.now.program) name.now) }
 {
     let channel = find_name(&net.channel_names, name)?;
     match net.program.channels[channel].producer {
@@ -58,8 +58,12 @@ impl Binding {
     fn bind_line(&mut self, net: &Net, line: InputLine) -> Result<(), NetFault>
         requires lists { length self.old.lists.items ≡ length net.now.program.channels.items }
         requires named { length self.old.named.items ≡ length net.now.program.channels.items }
-        ensures ok { OnOk result (BindsLine net.now.channel_names.items (network_of net.now.program) (input_tree line) self.old.lists.items self.old.named.items self.new.lists.items self.new.named.items) }
-        ensures err { IfErr result (LineFault net.now.channel_names.items (network_of net.now.program) (input_tree line) self.old.named.items) }
+        ensures ok { OnOk result (BindsLine net.now.channel_names.items (network_of net.now.program)
+            (input_tree line) self.old.lists.items self.old.named.items self.new.lists.items
+            self.new.named.items) }
+        ensures err { IfErr result
+            (LineFault net.now.channel_names.items (network_of net.now.program)
+            (input_tree line) self.old.named.items) }
     {
         let Some(channel) = find_input(net, &line.name) else {
             return Err(NetFault::UnknownName {
@@ -71,7 +75,7 @@ impl Binding {
                 line: line.name.line(),
             });
         }
-        if line.items.len() > ITEMS {
+        if line.items.len() > MAX_HISTORY_ITEMS {
             return Err(NetFault::Limit {
                 line: line.name.line(),
             });
@@ -84,7 +88,8 @@ impl Binding {
 
 /// Whether the channel is no input or has been named.
 fn is_named_if_input(channel: &Channel, named: bool) -> bool
-    ensures { MatchBool result (channel.now.producer ≡ Outside → named ≡ true) ((channel.now.producer ≡ Outside) × (named ≡ false)) }
+    ensures { MatchBool result (channel.now.producer ≡ Outside → named ≡ true)
+        ((channel.now.producer ≡ Outside) × (named ≡ false)) }
 {
     match channel.producer {
         Port::Outside => named,
@@ -95,7 +100,8 @@ fn is_named_if_input(channel: &Channel, named: bool) -> bool
 /// Whether each input has been named.
 fn are_inputs_named(channels: &[Channel], named: &[bool]) -> bool
     requires { length named.now ≡ length channels.now }
-    ensures { MatchBool result (AreNamed channels.now named.now) (HasUnnamed channels.now named.now) }
+    ensures { MatchBool result (AreNamed channels.now named.now)
+        (HasUnnamed channels.now named.now) }
 {
     for (c, channel) in channels.iter().enumerate() {
         if !is_named_if_input(channel, named[c]) {
@@ -117,7 +123,8 @@ pub fn bind(alloc: Global, net: &Net, inputs: RawInputs) -> Result<Inputs, NetFa
     ensures fitting { IfOk result (Fits (network_of net.now.program)) }
     // What is refused has the fault, on its line.
     ensures fault { IfErr result
-        (HasInputFault net.now.channel_names.items (network_of net.now.program) (inputs_tree inputs)) }
+        (HasInputFault net.now.channel_names.items (network_of net.now.program)
+        (inputs_tree inputs)) }
     // Lines that give lists to the network are accepted.
     ensures accepted { (lists : List (List ℤ))
         → Binds net.now.channel_names.items (network_of net.now.program) (inputs_tree inputs) lists
@@ -127,9 +134,12 @@ pub fn bind(alloc: Global, net: &Net, inputs: RawInputs) -> Result<Inputs, NetFa
 }
 
 fn bind_in_order(alloc: Global, net: &Net, inputs: RawInputs) -> Result<Inputs, NetFault>
-    ensures bound { IfOk result (Binds net.now.channel_names.items (network_of net.now.program) (inputs_tree inputs)) }
+    ensures bound { IfOk result
+        (Binds net.now.channel_names.items (network_of net.now.program) (inputs_tree inputs)) }
     ensures fitting { IfOk result (Fits (network_of net.now.program)) }
-    ensures fault { IfErr result (HasInputFault net.now.channel_names.items (network_of net.now.program) (inputs_tree inputs)) }
+    ensures fault { IfErr result
+        (HasInputFault net.now.channel_names.items (network_of net.now.program)
+        (inputs_tree inputs)) }
 {
     let mut binding = Binding::new(alloc, net.program.channels.len())?;
     for line in inputs.lines {

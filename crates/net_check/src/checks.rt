@@ -15,8 +15,8 @@ use crate::join::join;
 use crate::limits::check_all_limits;
 use crate::names::{names_of_channels, names_of_processes};
 use crate::net::Net;
-use kahn_net::Program;
 use crate::resolve::resolve;
+use kahn_net::Program;
 use net_text::NetText;
 use std::alloc::Global;
 
@@ -34,15 +34,17 @@ pub fn check(alloc: Global, text: NetText) -> Result<Net, NetFault>
     // What is refused has the fault, on its line.
     ensures fault { IfErr result (HasFault (net_tree text)) }
     // A text that has a valid resolution on one node is accepted.
-    ensures accepted { (channels processes : List NameTree) (net : Network)
-        → Resolves (net_tree text) channels processes net → IsValid net → IsOnOneNode net
+    ensures accepted { (channels processes : List NameTree) (net : Network) → Resolves
+        (net_tree text) channels processes net → IsValid net → IsOnOneNode net
         → IsOkUnless result NetFault.NoMemory }
 {
     check_in_order(alloc, text)
 }
 
 fn check_in_order(alloc: Global, text: NetText) -> Result<Net, NetFault>
-    ensures resolved { IfOk result (λ net. Resolves (net_tree text) net.channel_names.items net.process_names.items (network_of net.program)) }
+    ensures resolved { IfOk result
+        (λ net. Resolves (net_tree text) net.channel_names.items net.process_names.items
+        (network_of net.program)) }
     ensures one_node { IfOk result (λ net. IsOnOneNode (network_of net.program)) }
     ensures fault { IfErr result (HasFault (net_tree text)) }
 {

@@ -1,21 +1,16 @@
 //! What a text declares: channels and processes, each numbered in order, apart by name and within the limits.
 
-ghost use Rattle.std.specs.Prelude.{◌≡◌, ◌++◌, ◌∷◌, [], ◌<◌, ◌≤◌, ℕ, List, length, map, slice_get, Some, IfOk, OnOk, IfErr};
-ghost use Rattle.net_text.specs.Trees.{DeclarationTree, ProcessTree, process_tree, net_tree};
-ghost use Rattle.net_check.specs.Resolution.{AllDifferent, channels_of, processes_of, channel_names, process_names, variable_names};
+ghost use Rattle.std.specs.Prelude.{◌≡◌, ◌++◌, ◌∷◌, [], ◌<◌, ◌≤◌, length, map, IfOk, OnOk, IfErr};
+ghost use Rattle.net_text.specs.Trees.{ProcessTree, process_tree, net_tree};
+ghost use Rattle.net_check.specs.Resolution.{AllDifferent, channels_of, processes_of, variable_names};
 ghost use Rattle.net_check.specs.NetFaults.{HasFault};
 ghost use Rattle.net_check.specs.Ready.{AreDeclared, IsReady, FaultAtChannel, FaultAtProcess, FaultOfProcess};
 
 use crate::fault::NetFault;
 use crate::lookup::{find_channel, find_process, find_variable};
+use kahn_net::{MAX_CHANNELS, MAX_PROCESSES, MAX_VARIABLES};
 use net_text::{ChannelText, Declaration, NetText, ProcessText, VariableText};
 use std::alloc::Global;
-
-const CHANNELS: usize = 256;
-
-const PROCESSES: usize = 64;
-
-const VARIABLES: usize = 64;
 
 /// The channels and processes of a text.
 #[derive(Debug, Drop)]
@@ -26,8 +21,11 @@ pub(crate) struct Declared {
 
 /// Whether the variables are few and all different: 10 and 15 in order of the text.
 fn check_variables(variables: &[VariableText]) -> Result<(), NetFault>
-    ensures ok { OnOk result ((length variables.now ≤ 64) × AllDifferent (variable_names variables.now)) }
-    ensures err { IfErr result (λ f. (process : ProcessTree) → process.variables ≡ variables.now → FaultOfProcess process f) }
+    ensures ok { OnOk result ((length variables.now ≤ MAX_VARIABLES)
+        × AllDifferent (variable_names variables.now)) }
+    ensures err { IfErr result
+        (λ f. (process : ProcessTree) → process.variables ≡ variables.now
+        → FaultOfProcess process f) }
 {
     for (i, variable) in variables.iter().enumerate() {
         let before = &variables[..i];
@@ -36,7 +34,7 @@ fn check_variables(variables: &[VariableText]) -> Result<(), NetFault>
                 line: variable.name.line(),
             });
         }
-        if i >= VARIABLES {
+        if i >= MAX_VARIABLES {
             return Err(NetFault::Limit {
                 line: variable.line,
             });
@@ -71,8 +69,10 @@ impl Declared {
 
     fn declare_channel(&mut self, channel: ChannelText) -> Result<(), NetFault>
         requires { AreDeclared self.old.channels.items (map process_tree self.old.processes.items) }
-        ensures declared { OnOk result (AreDeclared self.new.channels.items (map process_tree self.new.processes.items)) }
-        ensures channels { OnOk result (self.new.channels.items ≡ self.old.channels.items ++ channel ∷ []) }
+        ensures declared { OnOk result
+            (AreDeclared self.new.channels.items (map process_tree self.new.processes.items)) }
+        ensures channels { OnOk result
+            (self.new.channels.items ≡ self.old.channels.items ++ channel ∷ []) }
         ensures processes { OnOk result (self.new.processes.items ≡ self.old.processes.items) }
         ensures err { IfErr result (FaultAtChannel self.old.channels.items channel) }
     {
@@ -81,7 +81,7 @@ impl Declared {
                 line: channel.name.line(),
             });
         }
-        if self.channels.len() >= CHANNELS {
+        if self.channels.len() >= MAX_CHANNELS {
             return Err(NetFault::Limit { line: channel.line });
         }
         self.channels.push(channel)?;
@@ -90,17 +90,21 @@ impl Declared {
 
     fn declare_process(&mut self, process: ProcessText) -> Result<(), NetFault>
         requires { AreDeclared self.old.channels.items (map process_tree self.old.processes.items) }
-        ensures declared { OnOk result (AreDeclared self.new.channels.items (map process_tree self.new.processes.items)) }
+        ensures declared { OnOk result
+            (AreDeclared self.new.channels.items (map process_tree self.new.processes.items)) }
         ensures channels { OnOk result (self.new.channels.items ≡ self.old.channels.items) }
-        ensures processes { OnOk result (map process_tree self.new.processes.items ≡ map process_tree self.old.processes.items ++ process_tree process ∷ []) }
-        ensures err { IfErr result (FaultAtProcess (map process_tree self.old.processes.items) (process_tree process)) }
+        ensures processes { OnOk result
+            (map process_tree self.new.processes.items ≡ map process_tree self.old.processes.items
+            ++ process_tree process ∷ []) }
+        ensures err { IfErr result
+            (FaultAtProcess (map process_tree self.old.processes.items) (process_tree process)) }
     {
         if find_process(&self.processes, &process.name).is_some() {
             return Err(NetFault::TwiceNamed {
                 line: process.name.line(),
             });
         }
-        if self.processes.len() >= PROCESSES {
+        if self.processes.len() >= MAX_PROCESSES {
             return Err(NetFault::Limit { line: process.line });
         }
         check_process(&process)?;
@@ -110,9 +114,13 @@ impl Declared {
 
     /// What the text declares: 10 and 15 in order of the text.
     pub(crate) fn of(alloc: Global, text: NetText) -> Result<Self, NetFault>
-        ensures declared { IfOk result (λ declared. AreDeclared declared.channels.items (map process_tree declared.processes.items)) }
-        ensures channels { IfOk result (λ declared. declared.channels.items ≡ channels_of (net_tree text)) }
-        ensures processes { IfOk result (λ declared. map process_tree declared.processes.items ≡ processes_of (net_tree text)) }
+        ensures declared { IfOk result
+            (λ declared. AreDeclared declared.channels.items
+            (map process_tree declared.processes.items)) }
+        ensures channels { IfOk result
+            (λ declared. declared.channels.items ≡ channels_of (net_tree text)) }
+        ensures processes { IfOk result
+            (λ declared. map process_tree declared.processes.items ≡ processes_of (net_tree text)) }
         ensures err { IfErr result (HasFault (net_tree text)) }
     {
         let mut declared = Declared::new(alloc);

@@ -1,6 +1,6 @@
 //! Which process stands at which end of a channel, as far as the uses of a text have been read.
 
-ghost use Rattle.std.specs.Prelude.{◌≡◌, ◌<◌, ◌==◌, ℕ, length, slice_get, Some, IfErr, IfOk, MatchResult};
+ghost use Rattle.std.specs.Prelude.{◌≡◌, ◌<◌, ◌==◌, length, Some, IfErr, IfOk, MatchResult};
 ghost use Rattle.std.specs.Bool.{MatchBool};
 ghost use Rattle.std.specs.Prelude.{◌∷◌, []};
 ghost use Rattle.net_check.specs.Resolution.{Reads, channel_names, variable_names};
@@ -52,7 +52,8 @@ impl Ports {
     /// Puts the process at the channel's end, unless another stands there.
     pub(crate) fn take(&mut self, process: usize, channel: usize) -> bool
         requires { channel < length self.old }
-        ensures { MatchBool result (Takes process channel self.old self.new) (IsTaken process channel self.old) }
+        ensures { MatchBool result (Takes process channel self.old self.new)
+            (IsTaken process channel self.old) }
     {
         if let Port::Process(other) = self.ports[channel]
             && other != process
@@ -75,7 +76,10 @@ pub(crate) struct Scope<'a> {
 impl Scope<'_> {
     /// The number of the variable.
     pub(crate) fn variable(&self, name: &Name) -> Result<usize, NetFault>
-        ensures { MatchResult result (λ x. Reads (variable_names self.now.variables.now) x name.now.text) (NameFault (channel_names self.now.channels.now) (variable_names self.now.variables.now) (OfVariable name.now ∷ [])) }
+        ensures { MatchResult result
+            (λ x. Reads (variable_names self.now.variables.now) x name.now.text)
+            (NameFault (channel_names self.now.channels.now) (variable_names self.now.variables.now)
+            (OfVariable name.now ∷ [])) }
     {
         match find_variable(self.variables, name) {
             Some(variable) => Ok(variable),
@@ -110,10 +114,16 @@ impl Ends {
     /// The number of the channel on which the process puts.
     pub(crate) fn put_on(&mut self, scope: &Scope, name: &Name) -> Result<usize, NetFault>
         requires { length self.old.producers ≡ length scope.now.channels.now }
-        ensures names { IfOk result (λ c. Reads (channel_names scope.now.channels.now) c name.now.text) }
-        ensures takes { IfOk result (λ c. Claims scope.now.channels.now Input scope.now.process (λ d. c == d) self.old.producers self.new.producers) }
+        ensures names { IfOk result
+            (λ c. Reads (channel_names scope.now.channels.now) c name.now.text) }
+        ensures takes { IfOk result
+            (λ c. Claims scope.now.channels.now Input scope.now.process
+            (λ d. c == d) self.old.producers self.new.producers) }
         ensures keeps { self.new.consumers ≡ self.old.consumers }
-        ensures err { IfErr result (UseFault scope.now.channels.now (variable_names scope.now.variables.now) scope.now.process self.old.producers self.old.consumers (PutOn name.now ∷ [])) }
+        ensures err { IfErr result
+            (UseFault scope.now.channels.now
+            (variable_names scope.now.variables.now) scope.now.process self.old.producers
+            self.old.consumers (PutOn name.now ∷ [])) }
     {
         let Some(channel) = find_channel(scope.channels, name) else {
             return Err(NetFault::UnknownName { line: name.line() });
@@ -130,10 +140,16 @@ impl Ends {
     /// The number of the channel from which the process gets.
     pub(crate) fn get_from(&mut self, scope: &Scope, name: &Name) -> Result<usize, NetFault>
         requires { length self.old.consumers ≡ length scope.now.channels.now }
-        ensures names { IfOk result (λ c. Reads (channel_names scope.now.channels.now) c name.now.text) }
-        ensures takes { IfOk result (λ c. Claims scope.now.channels.now Output scope.now.process (λ d. c == d) self.old.consumers self.new.consumers) }
+        ensures names { IfOk result
+            (λ c. Reads (channel_names scope.now.channels.now) c name.now.text) }
+        ensures takes { IfOk result
+            (λ c. Claims scope.now.channels.now Output scope.now.process
+            (λ d. c == d) self.old.consumers self.new.consumers) }
         ensures keeps { self.new.producers ≡ self.old.producers }
-        ensures err { IfErr result (UseFault scope.now.channels.now (variable_names scope.now.variables.now) scope.now.process self.old.producers self.old.consumers (GetFrom name.now ∷ [])) }
+        ensures err { IfErr result
+            (UseFault scope.now.channels.now
+            (variable_names scope.now.variables.now) scope.now.process self.old.producers
+            self.old.consumers (GetFrom name.now ∷ [])) }
     {
         let Some(channel) = find_channel(scope.channels, name) else {
             return Err(NetFault::UnknownName { line: name.line() });

@@ -1,12 +1,11 @@
 //! The items for a network's inputs.
 
-ghost use Rattle.std.specs.Prelude.{◌≡◌, ◌↔◌, ◌≤◌, ℕ, ℤ, IsTrue, List, Some, length, slice_get};
-ghost use Rattle.kahn_net.specs.Fits.{Fits, IsEmptyInside, IsEmptyWhereMade};
+ghost use Rattle.std.specs.Prelude.{◌≡◌, ◌↔◌, ℤ, IsTrue, List, length};
+ghost use Rattle.kahn_net.specs.Fits.{AreShort, Fits, IsEmptyInside, IsEmptyWhereMade};
 ghost use Rattle.kahn_net.specs.Syntax.{network_of};
 
-use kahn_net::History;
 use crate::net::Net;
-use kahn_net::{Channel, Port};
+use kahn_net::{Channel, History, Port};
 use std::marker::Model;
 
 /// The items that come from outside: one list for each channel number, empty where the channel is no input.
@@ -16,18 +15,19 @@ pub struct Inputs {
 }
 
 impl Model for Inputs {
-    ghost use Rattle.std.specs.Prelude.{List, ℤ, ℕ, ◌≡◌, ◌≤◌, Some, length, slice_get};
+    ghost use Rattle.std.specs.Prelude.{List, ℤ};
+    ghost use Rattle.kahn_net.specs.Fits.{AreShort};
 
     ghost Value = { List (List ℤ) };
 
     ghost view = { λ i. i.lists.items };
 
-    ghost invariant = { λ i. (c : ℕ) (items : List ℤ) → slice_get i.lists.items c ≡ Some items → length items ≤ 1048576 };
+    ghost invariant = { λ i. AreShort i.lists.items };
 }
 
 impl Inputs {
     pub(crate) fn from_lists(lists: Vec<History>) -> Self
-        requires { (c : ℕ) (items : List ℤ) → slice_get lists.items c ≡ Some items → length items ≤ 1048576 }
+        requires { AreShort lists.items }
         ensures { result ≡ lists.items }
     {
         Inputs { lists }

@@ -42,7 +42,8 @@ fn join_all(
 ) -> Result<Vec<Channel>, NetFault>
     requires producers { length producers.now ≡ length channels.now }
     requires consumers { length consumers.now ≡ length channels.now }
-    ensures ok { IfOk result (λ joined. AreJoined channels.now producers.now consumers.now joined.items) }
+    ensures ok { IfOk result (λ joined. AreJoined channels.now producers.now consumers.now
+        joined.items) }
     ensures err { IfErr result (EndFaultAmong channels.now producers.now consumers.now) }
 {
     let mut joined = Vec::new(alloc);
@@ -63,7 +64,8 @@ pub(crate) fn join(
 ) -> Result<Vec<Channel>, NetFault>
     requires producers { length ends.now.producers ≡ length channels.now }
     requires consumers { length ends.now.consumers ≡ length channels.now }
-    ensures ok { IfOk result (λ joined. AreJoined channels.now ends.now.producers ends.now.consumers joined.items) }
+    ensures ok { IfOk result (λ joined. AreJoined channels.now ends.now.producers ends.now.consumers
+        joined.items) }
     ensures err { IfErr result (EndFaultAmong channels.now ends.now.producers ends.now.consumers) }
 {
     join_all(

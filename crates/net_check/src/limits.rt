@@ -7,13 +7,13 @@ ghost use Rattle.net_check.specs.Ready.{FaultOfProcess, FaultOfProcesses, IsFit}
 ghost use Rattle.net_check.specs.Texts.{block_units_text, expr_units_text, is_passing_text, loop_units_text, process_units_text};
 
 use crate::fault::NetFault;
+use kahn_net::MAX_UNITS;
 use net_text::{ExprText, LoopText, ProcessText, StatementText};
-
-const UNITS: usize = 4096;
 
 /// What is left of so many units after an expression.
 fn units_after_expr(expr: &ExprText, left: usize) -> Option<usize>
-    ensures { MatchOption result (left < expr_units_text (expr_tree expr.now)) (λ r. r + expr_units_text (expr_tree expr.now) ≡ left) }
+    ensures { MatchOption result (left < expr_units_text (expr_tree expr.now))
+        (λ r. r + expr_units_text (expr_tree expr.now) ≡ left) }
 {
     match expr {
         ExprText::Literal(_) => left.checked_sub(1),
@@ -33,7 +33,8 @@ fn units_after_expr(expr: &ExprText, left: usize) -> Option<usize>
 
 /// What is left of so many units after a statement.
 fn units_after_statement(statement: &StatementText, left: usize) -> Option<usize>
-    ensures { MatchOption result (left < block_units_text (then_tree statement.now NothingTree)) (λ r. r + block_units_text (then_tree statement.now NothingTree) ≡ left) }
+    ensures { MatchOption result (left < block_units_text (then_tree statement.now NothingTree))
+        (λ r. r + block_units_text (then_tree statement.now NothingTree) ≡ left) }
 {
     if left == 0 {
         return None;
@@ -47,7 +48,8 @@ fn units_after_statement(statement: &StatementText, left: usize) -> Option<usize
 
 /// What is left of so many units after these statements.
 fn units_after(statements: &[StatementText], left: usize) -> Option<usize>
-    ensures { MatchOption result (left < block_units_text (block_tree statements.now)) (λ r. r + block_units_text (block_tree statements.now) ≡ left) }
+    ensures { MatchOption result (left < block_units_text (block_tree statements.now))
+        (λ r. r + block_units_text (block_tree statements.now) ≡ left) }
 {
     let mut rest = left;
     for statement in statements {
@@ -71,9 +73,9 @@ fn has_loop_within(repeated: &Option<LoopText>, left: usize) -> bool
 
 /// Whether a process has at most 4,096 units.
 fn has_few_units(process: &ProcessText) -> bool
-    ensures { IsTrue result ↔ (process_units_text (process_tree process.now) ≤ 4096) }
+    ensures { IsTrue result ↔ (process_units_text (process_tree process.now) ≤ MAX_UNITS) }
 {
-    match units_after(&process.prelude, UNITS) {
+    match units_after(&process.prelude, MAX_UNITS) {
         Some(left) => has_loop_within(&process.repeated, left),
         None => false,
     }
@@ -112,7 +114,8 @@ fn check_limits(process: &ProcessText) -> Result<(), NetFault>
 
 /// 15 and 14, process by process.
 pub(crate) fn check_all_limits(processes: &[ProcessText]) -> Result<(), NetFault>
-    ensures ok { OnOk result ((p : ℕ) (process : ProcessTree) → slice_get (map process_tree processes.now) p ≡ Some process → IsFit process) }
+    ensures ok { OnOk result ((p : ℕ) (process : ProcessTree) → slice_get
+        (map process_tree processes.now) p ≡ Some process → IsFit process) }
     ensures err { IfErr result (FaultOfProcesses (map process_tree processes.now)) }
 {
     for process in processes {

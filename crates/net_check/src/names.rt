@@ -24,7 +24,8 @@ pub(crate) fn names_of_processes(
     alloc: Global,
     processes: Vec<ProcessText>,
 ) -> Result<Vec<Name>, AllocError>
-    ensures { IfOk result (λ names. names.items ≡ process_names (map process_tree processes.items)) }
+    ensures { IfOk result (λ names. names.items
+        ≡ process_names (map process_tree processes.items)) }
 {
     let mut names = Vec::new(alloc);
     for process in processes {

@@ -1,6 +1,6 @@
 //! Names replaced by numbers, use by use in order of the text: 11, 12 and 13.
 
-ghost use Rattle.std.specs.Prelude.{◌≡◌, ◌<◌, ◌≤◌, ◌||◌, ℕ, map, length, slice_get, Some, IfErr, IfOk, MatchResult, false, true};
+ghost use Rattle.std.specs.Prelude.{◌≡◌, ◌<◌, ℕ, map, length, slice_get, Some, IfErr, IfOk};
 ghost use Rattle.net_text.specs.Trees.{NothingTree, block_tree, expr_tree, process_tree, then_tree, repeated_tree};
 ghost use Rattle.net_text.specs.declared.tree.Role.TheVariants.{Input, Output};
 ghost use Rattle.net_check.specs.Claims.{AreResolved, Claims, FaultOfText, NameFault, UseFault};
@@ -19,8 +19,11 @@ use net_text::{ChannelText, ExprText, LoopText, ProcessText, StatementText, Vari
 use std::alloc::{AllocError, Global};
 
 fn resolve_expr(alloc: Global, scope: &Scope, expr: &ExprText) -> Result<Expr, NetFault>
-    ensures ok { IfOk result (λ e. ResolvesExpr (variable_names scope.now.variables.now) (expr_tree expr.now) (tree_of e)) }
-    ensures err { IfErr result (NameFault (channel_names scope.now.channels.now) (variable_names scope.now.variables.now) (expr_uses (expr_tree expr.now))) }
+    ensures ok { IfOk result (λ e. ResolvesExpr (variable_names scope.now.variables.now)
+        (expr_tree expr.now) (tree_of e)) }
+    ensures err { IfErr result
+        (NameFault (channel_names scope.now.channels.now) (variable_names scope.now.variables.now)
+        (expr_uses (expr_tree expr.now))) }
 {
     match expr {
         ExprText::Literal(n) => Ok(Expr::Literal(*n)),
@@ -55,10 +58,19 @@ fn resolve_statement(
 ) -> Result<Statement, NetFault>
     requires producers { length ends.old.producers ≡ length scope.now.channels.now }
     requires consumers { length ends.old.consumers ≡ length scope.now.channels.now }
-    ensures ok { IfOk result (λ s. ResolvesBlock (channel_names scope.now.channels.now) (variable_names scope.now.variables.now) (then_tree statement.now NothingTree) (then_of s Nothing)) }
-    ensures puts { IfOk result (λ s. Claims scope.now.channels.now Input scope.now.process (λ c. block_puts c (then_of s Nothing)) ends.old.producers ends.new.producers) }
-    ensures gets { IfOk result (λ s. Claims scope.now.channels.now Output scope.now.process (λ c. block_gets c (then_of s Nothing)) ends.old.consumers ends.new.consumers) }
-    ensures err { IfErr result (UseFault scope.now.channels.now (variable_names scope.now.variables.now) scope.now.process ends.old.producers ends.old.consumers (block_uses (then_tree statement.now NothingTree))) }
+    ensures ok { IfOk result (λ s. ResolvesBlock (channel_names scope.now.channels.now)
+        (variable_names scope.now.variables.now) (then_tree statement.now NothingTree)
+        (then_of s Nothing)) }
+    ensures puts { IfOk result
+        (λ s. Claims scope.now.channels.now Input scope.now.process
+        (λ c. block_puts c (then_of s Nothing)) ends.old.producers ends.new.producers) }
+    ensures gets { IfOk result
+        (λ s. Claims scope.now.channels.now Output scope.now.process
+        (λ c. block_gets c (then_of s Nothing)) ends.old.consumers ends.new.consumers) }
+    ensures err { IfErr result
+        (UseFault scope.now.channels.now
+        (variable_names scope.now.variables.now) scope.now.process ends.old.producers
+        ends.old.consumers (block_uses (then_tree statement.now NothingTree))) }
 {
     match statement {
         StatementText::Get { variable, channel } => {
@@ -87,10 +99,18 @@ fn resolve_statements(
 ) -> Result<Vec<Statement>, NetFault>
     requires producers { length ends.old.producers ≡ length scope.now.channels.now }
     requires consumers { length ends.old.consumers ≡ length scope.now.channels.now }
-    ensures ok { IfOk result (λ ss. ResolvesBlock (channel_names scope.now.channels.now) (variable_names scope.now.variables.now) (block_tree statements.now) (block_of ss.items)) }
-    ensures puts { IfOk result (λ ss. Claims scope.now.channels.now Input scope.now.process (λ c. block_puts c (block_of ss.items)) ends.old.producers ends.new.producers) }
-    ensures gets { IfOk result (λ ss. Claims scope.now.channels.now Output scope.now.process (λ c. block_gets c (block_of ss.items)) ends.old.consumers ends.new.consumers) }
-    ensures err { IfErr result (UseFault scope.now.channels.now (variable_names scope.now.variables.now) scope.now.process ends.old.producers ends.old.consumers (block_uses (block_tree statements.now))) }
+    ensures ok { IfOk result (λ ss. ResolvesBlock (channel_names scope.now.channels.now)
+        (variable_names scope.now.variables.now) (block_tree statements.now) (block_of ss.items)) }
+    ensures puts { IfOk result
+        (λ ss. Claims scope.now.channels.now Input scope.now.process
+        (λ c. block_puts c (block_of ss.items)) ends.old.producers ends.new.producers) }
+    ensures gets { IfOk result
+        (λ ss. Claims scope.now.channels.now Output scope.now.process
+        (λ c. block_gets c (block_of ss.items)) ends.old.consumers ends.new.consumers) }
+    ensures err { IfErr result
+        (UseFault scope.now.channels.now
+        (variable_names scope.now.variables.now) scope.now.process ends.old.producers
+        ends.old.consumers (block_uses (block_tree statements.now))) }
 {
     let mut resolved = Vec::new(alloc);
     for statement in statements {
@@ -108,10 +128,18 @@ fn resolve_loop(
 ) -> Result<Option<Vec<Statement>>, NetFault>
     requires producers { length ends.old.producers ≡ length scope.now.channels.now }
     requires consumers { length ends.old.consumers ≡ length scope.now.channels.now }
-    ensures ok { IfOk result (λ body. ResolvesLoop (channel_names scope.now.channels.now) (variable_names scope.now.variables.now) (repeated_tree repeated.now) (body_of body)) }
-    ensures puts { IfOk result (λ body. Claims scope.now.channels.now Input scope.now.process (λ c. body_puts c (body_of body)) ends.old.producers ends.new.producers) }
-    ensures gets { IfOk result (λ body. Claims scope.now.channels.now Output scope.now.process (λ c. body_gets c (body_of body)) ends.old.consumers ends.new.consumers) }
-    ensures err { IfErr result (UseFault scope.now.channels.now (variable_names scope.now.variables.now) scope.now.process ends.old.producers ends.old.consumers (loop_uses (repeated_tree repeated.now))) }
+    ensures ok { IfOk result (λ body. ResolvesLoop (channel_names scope.now.channels.now)
+        (variable_names scope.now.variables.now) (repeated_tree repeated.now) (body_of body)) }
+    ensures puts { IfOk result
+        (λ body. Claims scope.now.channels.now Input scope.now.process
+        (λ c. body_puts c (body_of body)) ends.old.producers ends.new.producers) }
+    ensures gets { IfOk result
+        (λ body. Claims scope.now.channels.now Output scope.now.process
+        (λ c. body_gets c (body_of body)) ends.old.consumers ends.new.consumers) }
+    ensures err { IfErr result
+        (UseFault scope.now.channels.now
+        (variable_names scope.now.variables.now) scope.now.process ends.old.producers
+        ends.old.consumers (loop_uses (repeated_tree repeated.now))) }
 {
     match repeated {
         None => Ok(None),
@@ -138,10 +166,17 @@ fn resolve_process(
     requires producers { length ends.old.producers ≡ length channels.now }
     requires consumers { length ends.old.consumers ≡ length channels.now }
     requires node { process.now.node.number < 256 }
-    ensures ok { IfOk result (λ p. ResolvesProcess (channel_names channels.now) (process_tree process.now) (code_of p)) }
-    ensures puts { IfOk result (λ p. Claims channels.now Input number (λ c. code_puts c (code_of p)) ends.old.producers ends.new.producers) }
-    ensures gets { IfOk result (λ p. Claims channels.now Output number (λ c. code_gets c (code_of p)) ends.old.consumers ends.new.consumers) }
-    ensures err { IfErr result (UseFault channels.now (variable_names process.now.variables.items) number ends.old.producers ends.old.consumers (process_uses (process_tree process.now))) }
+    ensures ok { IfOk result (λ p. ResolvesProcess (channel_names channels.now)
+        (process_tree process.now) (code_of p)) }
+    ensures puts { IfOk result
+        (λ p. Claims channels.now Input number
+        (λ c. code_puts c (code_of p)) ends.old.producers ends.new.producers) }
+    ensures gets { IfOk result
+        (λ p. Claims channels.now Output number
+        (λ c. code_gets c (code_of p)) ends.old.consumers ends.new.consumers) }
+    ensures err { IfErr result
+        (UseFault channels.now (variable_names process.now.variables.items) number
+        ends.old.producers ends.old.consumers (process_uses (process_tree process.now))) }
 {
     let scope = Scope {
         channels,
@@ -168,9 +203,13 @@ pub(crate) struct Resolved {
 
 /// Resolves each process, in order of the text: 11, 12 and 13 in order of the uses.
 pub(crate) fn resolve(alloc: Global, declared: &Declared) -> Result<Resolved, NetFault>
-    requires { AreDeclared declared.now.channels.items (map process_tree declared.now.processes.items) }
-    ensures ok { IfOk result (λ r. AreResolved declared.now.channels.items (map process_tree declared.now.processes.items) (map code_of r.processes.items) r.ends.producers r.ends.consumers) }
-    ensures err { IfErr result (FaultOfText declared.now.channels.items (map process_tree declared.now.processes.items)) }
+    requires { AreDeclared declared.now.channels.items
+        (map process_tree declared.now.processes.items) }
+    ensures ok { IfOk result (λ r. AreResolved declared.now.channels.items
+        (map process_tree declared.now.processes.items)
+        (map code_of r.processes.items) r.ends.producers r.ends.consumers) }
+    ensures err { IfErr result
+        (FaultOfText declared.now.channels.items (map process_tree declared.now.processes.items)) }
 {
     resolve_all(alloc, &declared.channels, &declared.processes)
 }
@@ -180,8 +219,10 @@ fn resolve_all(
     channels: &[ChannelText],
     processes: &[ProcessText],
 ) -> Result<Resolved, NetFault>
-    requires { (p : ℕ) (process : ProcessTree) → slice_get (map process_tree processes.now) p ≡ Some process → process.node.number < 256 }
-    ensures ok { IfOk result (λ r. AreResolved channels.now (map process_tree processes.now) (map code_of r.processes.items) r.ends.producers r.ends.consumers) }
+    requires { (p : ℕ) (process : ProcessTree) → slice_get (map process_tree processes.now) p
+        ≡ Some process → process.node.number < 256 }
+    ensures ok { IfOk result (λ r. AreResolved channels.now (map process_tree processes.now)
+        (map code_of r.processes.items) r.ends.producers r.ends.consumers) }
     ensures err { IfErr result (FaultOfText channels.now (map process_tree processes.now)) }
 {
     let mut ends = Ends::outside(alloc, channels.len())?;

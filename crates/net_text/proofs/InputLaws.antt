@@ -9,13 +9,16 @@ use Rattle.std.proofs.lemmas.List.{take_at, drop_at, get_or-take}
 use Rattle.net_text.specs.Numbers.{numeral_value}
 use Rattle.net_text.specs.Spellings.{starts_word, continues_word, is_word}
 use Rattle.net_text.specs.Trees.{InputTree}
-use Rattle.net_text.specs.InputLines.{is_space, is_comment, IsBlank, IsItem, IsItems, IsEntry, AreEntries, lines_of, IsBadLine, IsInputsFault, IsInputsText, inputs_limit}
-use Rattle.net_text.specs.InputReading.{◌>>=◌, Fails, run, signed, sign_len, item_in, item_at, items_from, items_at, after_name, entry_at, with_entry, line_at, lines_at}
+use Rattle.net_text.specs.InputLines.{is_space, is_comment, IsBlank, IsItem, IsItems, IsEntry, AreEntries, lines_of, IsBadLine, IsInputsFault, IsInputsText}
+use Rattle.net_text.specs.InputReading.{Fails, run, signed, sign_len, item_in, item_at, items_from, items_at, after_name, entry_at, with_entry, line_at, lines_at}
 use Rattle.net_text.proofs.Runs.{run_le, run_all, run_stops, run_whole, whole_run}
 use Rattle.net_text.proofs.Lexemes.{numeral_digits, numeral_from_run, numeral_some, word_continues, word_from_run, first_of_word, digit_bounds, starts_bounds, starts_continues}
-use Rattle.net_text.proofs.Items.{bind_ok, ok_is, item_shortens}
+use Rattle.net_text.proofs.Items.{item_shortens}
 use Rattle.net_text.specs.declared.fault.TextFault.{TextFault}
 use Rattle.net_text.specs.declared.fault.TextFault.TheVariants.{NoMemory, BadToken, Unexpected, NumberRange, TooLong}
+use Rattle.net_text.specs.declared.limits.TheConstants.{MAX_INPUTS_BYTES, MAX_NAME_BYTES}
+use Rattle.net_text.proofs.Sequences.{same_value, went_on}
+use Rattle.net_text.specs.Results.{◌>>=◌}
 
 -- which way a choice went
 chosen : {A : Type 0} (b : Bool) (x y z : A) → cond b x y ≡ z → ((b ≡ true) × (x ≡ z)) ⊎ ((b ≡ false) × (y ≡ z))
@@ -27,12 +30,12 @@ chosen false x y z e = inr (refl, e)
 -- a number with its sign
 signed_ok : (minus : Bool) (n line : ℕ) (v : ℤ) → signed minus n line ≡ Ok v → (minus ≡ true → (n ≤ 2 ^ 63) × (v ≡ neg_ℤ (pos n))) × (minus ≡ false → (n < 2 ^ 63) × (v ≡ pos n))
 signed_ok true n line v e =
-    (λ _. elim (chosen (leb n (2 ^ 63)) (Ok (neg_ℤ (pos n))) (Err (NumberRange line)) (Ok v) e) as (λ _. (n ≤ 2 ^ 63) × (v ≡ neg_ℤ (pos n))) [ inl h ↦ (leb-true _ _ h.0, sym (ok_is (neg_ℤ (pos n)) v h.1)) | inr h ↦ absurd (no_ok _ v h.1) ], λ h. absurd cc)
+    (λ _. elim (chosen (leb n (2 ^ 63)) (Ok (neg_ℤ (pos n))) (Err (NumberRange line)) (Ok v) e) as (λ _. (n ≤ 2 ^ 63) × (v ≡ neg_ℤ (pos n))) [ inl h ↦ (leb-true _ _ h.0, sym (same_value (neg_ℤ (pos n)) v h.1)) | inr h ↦ absurd (no_ok _ v h.1) ], λ h. absurd cc)
   where
     no_ok : (f : TextFault) (x : ℤ) → (let left : Result ℤ TextFault = Err f in left ≡ Ok x) → ⊥
     no_ok f x h = cc
 signed_ok false n line v e =
-    (λ h. absurd cc, λ _. elim (chosen (ltb n (2 ^ 63)) (Ok (pos n)) (Err (NumberRange line)) (Ok v) e) as (λ _. (n < 2 ^ 63) × (v ≡ pos n)) [ inl h ↦ (ltb-true _ _ h.0, sym (ok_is (pos n) v h.1)) | inr h ↦ absurd (no_ok _ v h.1) ])
+    (λ h. absurd cc, λ _. elim (chosen (ltb n (2 ^ 63)) (Ok (pos n)) (Err (NumberRange line)) (Ok v) e) as (λ _. (n < 2 ^ 63) × (v ≡ pos n)) [ inl h ↦ (ltb-true _ _ h.0, sym (same_value (pos n) v h.1)) | inr h ↦ absurd (no_ok _ v h.1) ])
   where
     no_ok : (f : TextFault) (x : ℤ) → (let left : Result ℤ TextFault = Err f in left ≡ Ok x) → ⊥
     no_ok f x h = cc
@@ -53,7 +56,7 @@ item_in_took line true (b ∷ bytes) x h e =
     elim (chosen (n == 0) (Err (BadToken line)) (signed true (numeral_value (take n bytes)) line >>= λ v. Ok (v, drop (1 + n) (b ∷ bytes))) (Ok x) e) as (λ _. Item (b ∷ bytes) x.0 x.1) [
       | inl none ↦ absurd (no_ok _ x none.1)
       | inr some ↦
-          let a = bind_ok (signed true (numeral_value (take n bytes)) line) (λ v. Ok (v, drop (1 + n) (b ∷ bytes))) x some.1 in
+          let a = went_on (signed true (numeral_value (take n bytes)) line) (λ v. Ok (v, drop (1 + n) (b ∷ bytes))) x some.1 in
           let made : ℤ × List ℕ = (a.0, drop (1 + n) (b ∷ bytes)) in
           let s = (signed_ok true (numeral_value (take n bytes)) line a.0 a.1).0 refl in
           let le = run_le is_ascii_digit bytes in
@@ -61,7 +64,7 @@ item_in_took line true (b ∷ bytes) x h e =
           let positive : 0 < n = let k = eqb-false n 0 some.0 in omega arith in
           let front : b ∷ bytes ≡ 45 ∷ (take n bytes ++ drop n bytes) = λ i. (eqb-true _ _ h) i ∷ (sym (take-append-drop n bytes)) i in
           let rest : drop (1 + n) (b ∷ bytes) ≡ drop n bytes = let k : 1 + n ≡ suc n = omega arith in ap (λ (m : ℕ). drop m (b ∷ bytes)) k in
-          subst (λ (p : ℤ × List ℕ). Item (b ∷ bytes) p.0 p.1) (ok_is made x a.2)
+          subst (λ (p : ℤ × List ℕ). Item (b ∷ bytes) p.0 p.1) (same_value made x a.2)
           (record {
             item = 45 ∷ take n bytes;
             parts = front ∙ ap (λ (r : List ℕ). 45 ∷ (take n bytes ++ r)) (sym rest);
@@ -76,14 +79,14 @@ item_in_took line false bytes x h e =
     elim (chosen (n == 0) (Err (BadToken line)) (signed false (numeral_value (take n bytes)) line >>= λ v. Ok (v, drop (0 + n) bytes)) (Ok x) e) as (λ _. Item bytes x.0 x.1) [
       | inl none ↦ absurd (no_ok _ x none.1)
       | inr some ↦
-          let a = bind_ok (signed false (numeral_value (take n bytes)) line) (λ v. Ok (v, drop (0 + n) bytes)) x some.1 in
+          let a = went_on (signed false (numeral_value (take n bytes)) line) (λ v. Ok (v, drop (0 + n) bytes)) x some.1 in
           let made : ℤ × List ℕ = (a.0, drop (0 + n) bytes) in
           let s = (signed_ok false (numeral_value (take n bytes)) line a.0 a.1).1 refl in
           let le = run_le is_ascii_digit bytes in
           let len = length-take n bytes in
           let positive : 0 < n = let k = eqb-false n 0 some.0 in omega arith in
           let rest : drop (0 + n) bytes ≡ drop n bytes = let k : 0 + n ≡ n = omega arith in ap (λ (m : ℕ). drop m bytes) k in
-          subst (λ (p : ℤ × List ℕ). Item bytes p.0 p.1) (ok_is made x a.2)
+          subst (λ (p : ℤ × List ℕ). Item bytes p.0 p.1) (same_value made x a.2)
           (record {
             item = take n bytes;
             parts = sym (take-append-drop n bytes) ∙ ap (λ (r : List ℕ). take n bytes ++ r) (sym rest);
@@ -103,13 +106,13 @@ items_from_took line zero bytes vs lt e = absurd (omega arith)
 items_from_took line (suc n) bytes vs lt e =
     let gap = run is_space bytes in
     elim (chosen (gap == length bytes) (Ok []) (cond (gap == 0) (Err (BadToken line)) (item_at line (drop gap bytes) >>= λ first. items_from line n first.1 >>= λ others. Ok (first.0 ∷ others))) (Ok vs) e) as (λ _. IsItems vs bytes) [
-      | inl all ↦ subst (λ (xs : List ℤ). IsItems xs bytes) (ok_is [] vs all.1) (whole_run is_space bytes (eqb-true _ _ all.0))
+      | inl all ↦ subst (λ (xs : List ℤ). IsItems xs bytes) (same_value [] vs all.1) (whole_run is_space bytes (eqb-true _ _ all.0))
       | inr some ↦
           elim (chosen (gap == 0) (Err (BadToken line)) (item_at line (drop gap bytes) >>= λ first. items_from line n first.1 >>= λ others. Ok (first.0 ∷ others)) (Ok vs) some.1) as (λ _. IsItems vs bytes) [
             | inl none ↦ absurd (no_ok _ vs none.1)
             | inr gone ↦
-                let a = bind_ok (item_at line (drop gap bytes)) (λ first. items_from line n first.1 >>= λ others. Ok (first.0 ∷ others)) vs gone.1 in
-                let b = bind_ok (items_from line n a.0.1) (λ others. Ok (a.0.0 ∷ others)) vs a.2 in
+                let a = went_on (item_at line (drop gap bytes)) (λ first. items_from line n first.1 >>= λ others. Ok (first.0 ∷ others)) vs gone.1 in
+                let b = went_on (items_from line n a.0.1) (λ others. Ok (a.0.0 ∷ others)) vs a.2 in
                 let less = item_shortens line (drop gap bytes) a.0 a.1 in
                 let l = length-drop gap bytes in
                 let le = run_le is_space bytes in
@@ -117,7 +120,7 @@ items_from_took line (suc n) bytes vs lt e =
                 let positive : 0 < gap = let k = eqb-false gap 0 gone.0 in omega arith in
                 let others = items_from_took line n a.0.1 b.0 (omega arith) b.1 in
                 let item = item_took line (drop gap bytes) a.0 a.1 in
-                subst (λ (xs : List ℤ). IsItems xs bytes) (ok_is (a.0.0 ∷ b.0) vs b.2)
+                subst (λ (xs : List ℤ). IsItems xs bytes) (same_value (a.0.0 ∷ b.0) vs b.2)
                 (take gap bytes, item.item, a.0.1, sym (take-append-drop gap bytes) ∙ ap (λ (r : List ℕ). take gap bytes ++ r) item.parts, omega arith, run_all is_space bytes, item.is, others)
           ]
     ]
@@ -135,7 +138,7 @@ unfolding after_name
 after_name_took line bytes e start h =
     let n = run continues_word bytes in
     let made = λ (items : List ℤ). let t : InputTree = record { name = record { text = take n bytes; line = line }; items = items } in t in
-    elim (chosen (ltb 64 n) (Err (TooLong line)) (cond (n == length bytes) (Err (Unexpected line)) (cond (slice_index bytes n == 58) (items_at line (drop (suc n) bytes) >>= λ items. Ok (made items)) (Err (BadToken line)))) (Ok e) h) as (λ _. IsEntry line bytes e) [
+    elim (chosen (ltb MAX_NAME_BYTES n) (Err (TooLong line)) (cond (n == length bytes) (Err (Unexpected line)) (cond (slice_index bytes n == 58) (items_at line (drop (suc n) bytes) >>= λ items. Ok (made items)) (Err (BadToken line)))) (Ok e) h) as (λ _. IsEntry line bytes e) [
       | inl long ↦ absurd (no_ok _ e long.1)
       | inr short ↦
           elim (chosen (n == length bytes) (Err (Unexpected line)) (cond (slice_index bytes n == 58) (items_at line (drop (suc n) bytes) >>= λ items. Ok (made items)) (Err (BadToken line))) (Ok e) short.1) as (λ _. IsEntry line bytes e) [
@@ -143,7 +146,7 @@ after_name_took line bytes e start h =
             | inr some ↦
                 elim (chosen (slice_index bytes n == 58) (items_at line (drop (suc n) bytes) >>= λ items. Ok (made items)) (Err (BadToken line)) (Ok e) some.1) as (λ _. IsEntry line bytes e) [
                   | inl colon ↦
-                      let a = bind_ok (items_at line (drop (suc n) bytes)) (λ items. Ok (made items)) e colon.1 in
+                      let a = went_on (items_at line (drop (suc n) bytes)) (λ items. Ok (made items)) e colon.1 in
                       let le = run_le continues_word bytes in
                       let ne = eqb-false n (length bytes) some.0 in
                       let lt : n < length bytes = omega arith in
@@ -152,8 +155,8 @@ after_name_took line bytes e start h =
                       let parts : bytes ≡ take n bytes ++ 58 ∷ drop (suc n) bytes =
                       sym (take-append-drop n bytes) ∙ ap (λ (r : List ℕ). take n bytes ++ r) (drop-cons bytes n 0 lt ∙ ap (λ (b : ℕ). b ∷ drop (suc n) bytes) (eqb-true _ _ colon.0)) in
                       let word = word_from_run (take n bytes) (omega arith) (ap starts_word (get_or-take n bytes 0 0 positive) ∙ start) (run_all continues_word bytes) in
-                      subst (IsEntry line bytes) (ok_is (made a.0) e a.2)
-                      (record { rest = drop (suc n) bytes; parts = parts; word = word; short = let s = ltb-false 64 n short.0 in omega arith; line_is = refl; items = items_took line (drop (suc n) bytes) a.0 a.1 })
+                      subst (IsEntry line bytes) (same_value (made a.0) e a.2)
+                      (record { rest = drop (suc n) bytes; parts = parts; word = word; short = let s = ltb-false MAX_NAME_BYTES n short.0 in omega arith; line_is = refl; items = items_took line (drop (suc n) bytes) a.0 a.1 })
                   | inr other ↦ absurd (no_ok _ e other.1)
                 ]
           ]
@@ -191,19 +194,19 @@ line_took : (number : ℕ) (line : List ℕ) (e : Option InputTree) → line_at 
 unfolding line_at IsLine
 line_took number line e h =
     elim (chosen ((run is_space line == length line) || is_comment line) (Ok None) (entry_at number line >>= λ x. Ok (Some x)) (Ok e) h) as (λ _. IsLine number line e) [
-      | inl blank ↦ subst (IsLine number line) (ok_is None e blank.1) (elim (or_cases (run is_space line == length line) (is_comment line) blank.0) as (λ _. IsBlank line) [ inl spaces ↦ inl (whole_run is_space line (eqb-true _ _ spaces)) | inr comment ↦ inr comment ])
+      | inl blank ↦ subst (IsLine number line) (same_value None e blank.1) (elim (or_cases (run is_space line == length line) (is_comment line) blank.0) as (λ _. IsBlank line) [ inl spaces ↦ inl (whole_run is_space line (eqb-true _ _ spaces)) | inr comment ↦ inr comment ])
       | inr other ↦
-          let a = bind_ok (entry_at number line) (λ x. Ok (Some x)) e other.1 in
-          subst (IsLine number line) (ok_is (Some a.0) e a.2) (entry_took number line a.0 a.1)
+          let a = went_on (entry_at number line) (λ x. Ok (Some x)) e other.1 in
+          subst (IsLine number line) (same_value (Some a.0) e a.2) (entry_took number line a.0 a.1)
     ]
 
 pub lines_took : (number : ℕ) (lines : List (List ℕ)) (es : List InputTree) → lines_at number lines ≡ Ok es → AreEntries number lines es
 unfolding lines_at IsLine
-lines_took number [] es h = sym (ok_is [] es h)
+lines_took number [] es h = sym (same_value [] es h)
 lines_took number (line ∷ lines) es h =
-    let a = bind_ok (line_at number line) (λ e. lines_at (suc number) lines >>= λ others. Ok (with_entry e others)) es h in
-    let b = bind_ok (lines_at (suc number) lines) (λ others. Ok (with_entry a.0 others)) es a.2 in
-    with_line number line lines es a.0 b.0 (line_took number line a.0 a.1) (lines_took (suc number) lines b.0 b.1) (ok_is (with_entry a.0 b.0) es b.2)
+    let a = went_on (line_at number line) (λ e. lines_at (suc number) lines >>= λ others. Ok (with_entry e others)) es h in
+    let b = went_on (lines_at (suc number) lines) (λ others. Ok (with_entry a.0 others)) es a.2 in
+    with_line number line lines es a.0 b.0 (line_took number line a.0 a.1) (lines_took (suc number) lines b.0 b.1) (same_value (with_entry a.0 b.0) es b.2)
   where
     with_line : (number : ℕ) (line : List ℕ) (lines : List (List ℕ)) (es : List InputTree) (e : Option InputTree) (others : List InputTree) → IsLine number line e → AreEntries (suc number) lines others → with_entry e others ≡ es → AreEntries number (line ∷ lines) es
     with_line number line lines es None others is are same = inl (is, subst (AreEntries (suc number) lines) same are)
@@ -303,7 +306,7 @@ entry_again line bytes e is =
     let len : run continues_word bytes ≡ length name = ap (run continues_word) is.parts ∙ run_append continues_word name tail (word_continues name is.word) refl in
     let whole : length bytes ≡ length name + suc (length is.rest) = ap length is.parts ∙ length-append name tail in
     let short = is.short in
-    let is_short : ltb 64 (length name) ≡ false = le-ltb 64 (length name) short in
+    let is_short : ltb MAX_NAME_BYTES (length name) ≡ false = le-ltb MAX_NAME_BYTES (length name) short in
     let goes_on : (length name == length bytes) ≡ false = ne_eqb _ _ (λ h. omega arith) in
     let first : get_or bytes 0 0 ≡ get_or name 0 0 = ap (λ (bs : List ℕ). get_or bs 0 0) is.parts ∙ first_of name tail is.word in
     let start : starts_word (get_or bytes 0 0) ≡ true = ap starts_word first ∙ first_of_word name is.word in
@@ -435,8 +438,8 @@ entry_fault line bytes f e =
     let made = λ (items : List ℤ). let t : InputTree = record { name = record { text = take n bytes; line = line }; items = items } in let r : Result InputTree TextFault = Ok t in r in
     let colon = cond (slice_index bytes n == 58) (items_at line (drop (suc n) bytes) >>= made) (Err (BadToken line)) in
     let goes_on = cond (n == length bytes) (Err (Unexpected line)) colon in
-    pick_fault line (starts_word (slice_index bytes 0)) (cond (ltb 64 n) (Err (TooLong line)) goes_on) (Err (BadToken line)) f
-    (λ g h. pick_fault line (ltb 64 n) (Err (TooLong line)) goes_on g (long_on line)
+    pick_fault line (starts_word (slice_index bytes 0)) (cond (ltb MAX_NAME_BYTES n) (Err (TooLong line)) goes_on) (Err (BadToken line)) f
+    (λ g h. pick_fault line (ltb MAX_NAME_BYTES n) (Err (TooLong line)) goes_on g (long_on line)
     (λ k i. pick_fault line (n == length bytes) (Err (Unexpected line)) colon k (ended_on line)
     (λ j l. pick_fault line (slice_index bytes n == 58) (items_at line (drop (suc n) bytes) >>= made) (Err (BadToken line)) j
     (λ o p. bind_fault line (items_at line (drop (suc n) bytes)) made o (items_fault line (drop (suc n) bytes)) (λ x q r. absurd (no_err _ q r)) p)
@@ -506,11 +509,11 @@ map_after f g (x ∷ xs) = ap (λ (ys : List _). f (g x) ∷ ys) (map_after f g 
 pub lines_are : {B : Type 0} → (now : B → List ℕ) (parts : List B) (text : List ℕ) → map now parts ≡ slice_split (λ b. b == 10) text → map (λ part. strip_carriage_return (now part)) parts ≡ lines_of text
 lines_are now parts text e = map_after strip_carriage_return now parts ∙ ap (map strip_carriage_return) e
 
-pub inputs_took : (text : List ℕ) (lines : List (List ℕ)) (es : List InputTree) → lines ≡ lines_of text → length text ≤ inputs_limit → lines_at 1 lines ≡ Ok es → IsInputsText text es
+pub inputs_took : (text : List ℕ) (lines : List (List ℕ)) (es : List InputTree) → lines ≡ lines_of text → length text ≤ MAX_INPUTS_BYTES → lines_at 1 lines ≡ Ok es → IsInputsText text es
 inputs_took text lines es same small read = record { small = small; entries = lines_took 1 (lines_of text) es (ap (lines_at 1) (sym same) ∙ read) }
 
 pub one_inputs : (text : List ℕ) (lines : List (List ℕ)) (found es : List InputTree) → lines ≡ lines_of text → lines_at 1 lines ≡ Ok found → IsInputsText text es → found ≡ es
-one_inputs text lines found es same read is = ok_is found es (sym read ∙ ap (lines_at 1) same ∙ lines_again 1 (lines_of text) es is.entries)
+one_inputs text lines found es same read is = same_value found es (sym read ∙ ap (lines_at 1) same ∙ lines_again 1 (lines_of text) es is.entries)
 
 pub failed_inputs : (text : List ℕ) (lines : List (List ℕ)) (f : TextFault) → lines ≡ lines_of text → Fails f (lines_at 1 lines) → IsInputsFault text f
 failed_inputs text lines NoMemory same h = tt

@@ -6,13 +6,16 @@ use Rattle.std.proofs.lemmas.Bool.{eq-eqb, ne_eqb, le-ltb}
 use Rattle.std.proofs.lemmas.List.{append-nil, drop_all}
 use Rattle.net_text.specs.InputLines.{is_space}
 use Rattle.net_text.specs.Numbers.{numeral_value}
-use Rattle.net_text.specs.InputReading.{◌>>=◌, Fails, Gives, run, signed, sign_len, item_in, item_at, items_from, items_at, after_name, entry_at, with_entry, line_at, lines_at}
+use Rattle.net_text.specs.InputReading.{Fails, Gives, run, signed, sign_len, item_in, item_at, items_from, items_at, after_name, entry_at, with_entry, line_at, lines_at}
 use Rattle.net_text.specs.Names.{NameTree}
 use Rattle.net_text.specs.Spellings.{starts_word, continues_word}
 use Rattle.net_text.specs.Trees.{InputTree}
 use Rattle.net_text.proofs.Runs.{run_le}
 use Rattle.net_text.specs.declared.fault.TextFault.{TextFault}
 use Rattle.net_text.specs.declared.fault.TextFault.TheVariants.{NoMemory, BadToken, Unexpected, NumberRange, TooLong}
+use Rattle.net_text.specs.declared.limits.TheConstants.{MAX_NAME_BYTES}
+use Rattle.net_text.proofs.Sequences.{same_on, same_value, went_on}
+use Rattle.net_text.specs.Results.{◌>>=◌}
 
 -- what was found before, and what is found now
 abbrev pub after_found : List ℤ → Result (List ℤ) TextFault → Result (List ℤ) TextFault
@@ -21,20 +24,9 @@ after_found front read = read >>= λ xs. Ok (front ++ xs)
 abbrev pub with_item : ℤ → Result (List ℤ) TextFault → Result (List ℤ) TextFault
 with_item first read = read >>= λ others. Ok (first ∷ others)
 
-pub bind_ok : {A B : Type 0} (r : Result A TextFault) (f : A → Result B TextFault) (y : B) → (r >>= f) ≡ Ok y → (x : A) × (r ≡ Ok x) × (f x ≡ Ok y)
-bind_ok (Ok x) f y e = (x, refl, e)
-bind_ok (Err d) f y e = absurd cc
-
-pub bind_same : {A B : Type 0} (r : Result A TextFault) (f g : A → Result B TextFault) → ((x : A) → r ≡ Ok x → f x ≡ g x) → (r >>= f) ≡ (r >>= g)
-bind_same (Ok x) f g h = h x refl
-bind_same (Err e) f g h = refl
-
 cond_same : {A : Type 0} (b : Bool) (w x y : A) → x ≡ y → cond b w x ≡ cond b w y
 cond_same true w x y e = refl
 cond_same false w x y e = e
-
-pub ok_is : {A : Type 0} (x y : A) → (let left : Result A TextFault = Ok x in left ≡ Ok y) → x ≡ y
-ok_is x y e = cc
 
 -- an item takes a byte at least
 pub item_shortens : (line : ℕ) (bytes : List ℕ) (x : ℤ × List ℕ) → item_at line bytes ≡ Ok x → length x.1 < length bytes
@@ -47,9 +39,9 @@ item_shortens line bytes x e = by_digits (run is_ascii_digit (drop (sign_len byt
         let some : (suc n == 0) ≡ false = ne_eqb (suc n) 0 (λ e. omega arith) in
         let h' = rw some at h in
         let s = signed (slice_index bytes 0 == 45) (numeral_value (take (suc n) (drop (sign_len bytes) bytes))) line in
-        let a = bind_ok s (λ v. Ok (v, drop (sign_len bytes + suc n) bytes)) x h' in
+        let a = went_on s (λ v. Ok (v, drop (sign_len bytes + suc n) bytes)) x h' in
         let made : ℤ × List ℕ = (a.0, drop (sign_len bytes + suc n) bytes) in
-        let rest = ap (λ (p : ℤ × List ℕ). length p.1) (ok_is made x a.2) in
+        let rest = ap (λ (p : ℤ × List ℕ). length p.1) (same_value made x a.2) in
         let l = length-drop (sign_len bytes + suc n) bytes in
         let k = length-drop (sign_len bytes) bytes in
         omega arith
@@ -63,7 +55,7 @@ items_same line (suc n) (suc m) bytes h k =
     let le = run_le is_space bytes in
     let l = length-drop gap bytes in
     cond_same (gap == length bytes) _ _ _ (cond_same (gap == 0) _ _ _
-    (bind_same (item_at line (drop gap bytes)) (λ first. with_item first.0 (items_from line n first.1)) (λ first. with_item first.0 (items_from line m first.1)) (λ x e.
+    (same_on (item_at line (drop gap bytes)) (λ first. with_item first.0 (items_from line n first.1)) (λ first. with_item first.0 (items_from line m first.1)) (λ x e.
     let less = item_shortens line (drop gap bytes) x e in
     ap (with_item x.0) (items_same line n m x.1 (omega arith) (omega arith)))))
 
@@ -76,13 +68,6 @@ items_step line bytes x some gap e =
     let less = item_shortens line (drop (run is_space bytes) bytes) x e in
     let l = length-drop (run is_space bytes) bytes in
     rw (not_all, not_none, e) (ap (with_item x.0) (items_same line (length bytes) (suc (length x.1)) x.1 (omega arith) (omega arith)))
-
-pub items_fail : (line : ℕ) (bytes : List ℕ) (e : TextFault) → (run is_space bytes ≡ length bytes → ⊥) → (run is_space bytes ≡ 0 → ⊥) → item_at line (drop (run is_space bytes) bytes) ≡ Err e → items_at line bytes ≡ Err e
-unfolding items_at
-items_fail line bytes e some gap h =
-    let not_all : (run is_space bytes == length bytes) ≡ false = ne_eqb _ _ some in
-    let not_none : (run is_space bytes == 0) ≡ false = ne_eqb _ _ gap in
-    rw (not_all, not_none, h) refl
 
 regroup : (front : List ℤ) (x : ℤ) (read : Result (List ℤ) TextFault) → after_found front (with_item x read) ≡ after_found (front ++ x ∷ []) read
 regroup front x (Ok xs) = ap (λ (ys : List ℤ). let r : Result (List ℤ) TextFault = Ok ys in r) (simp append_assoc)
@@ -113,20 +98,20 @@ fails_along (TooLong line) r s k h = sym k ∙ h
 abbrev entry_with : List ℕ → ℕ → List ℤ → InputTree
 entry_with name line items = record { name = record { text = name; line = line }; items = items }
 
-pub after_name_is : (line len : ℕ) (text : List ℕ) → len ≤ 64 → (len ≡ length text → ⊥) → get_or text len 0 ≡ 58 → after_name line len text ≡ (items_at line (drop (suc len) text) >>= λ items. Ok (entry_with (take len text) line items))
+pub after_name_is : (line len : ℕ) (text : List ℕ) → len ≤ MAX_NAME_BYTES → (len ≡ length text → ⊥) → get_or text len 0 ≡ 58 → after_name line len text ≡ (items_at line (drop (suc len) text) >>= λ items. Ok (entry_with (take len text) line items))
 unfolding after_name
 after_name_is line len text short some colon =
-    let is_short : ltb 64 len ≡ false = le-ltb 64 len short in
+    let is_short : ltb MAX_NAME_BYTES len ≡ false = le-ltb MAX_NAME_BYTES len short in
     let goes_on : (len == length text) ≡ false = ne_eqb len (length text) some in
     let is_colon : (slice_index text len == 58) ≡ true = eq-eqb _ _ colon in
     rw (is_short, goes_on, is_colon) refl
 
-pub after_name_done : (line len : ℕ) (text rest : List ℕ) (name : NameTree) (items : List ℤ) → len ≤ 64 → (len ≡ length text → ⊥) → get_or text len 0 ≡ 58 → rest ≡ drop (suc len) text → items_at line rest ≡ Ok items
+pub after_name_done : (line len : ℕ) (text rest : List ℕ) (name : NameTree) (items : List ℤ) → len ≤ MAX_NAME_BYTES → (len ≡ length text → ⊥) → get_or text len 0 ≡ 58 → rest ≡ drop (suc len) text → items_at line rest ≡ Ok items
     → name ≡ record { text = take len text; line = line } → after_name line len text ≡ Ok (record { name = name; items = items })
 after_name_done line len text rest name items short some colon rest_is read name_is =
     after_name_is line len text short some colon ∙ rw (← rest_is, read, name_is) refl
 
-pub after_name_fails : (e : TextFault) (line len : ℕ) (text rest : List ℕ) → len ≤ 64 → (len ≡ length text → ⊥) → get_or text len 0 ≡ 58 → rest ≡ drop (suc len) text → Fails e (items_at line rest) → Fails e (after_name line len text)
+pub after_name_fails : (e : TextFault) (line len : ℕ) (text rest : List ℕ) → len ≤ MAX_NAME_BYTES → (len ≡ length text → ⊥) → get_or text len 0 ≡ 58 → rest ≡ drop (suc len) text → Fails e (items_at line rest) → Fails e (after_name line len text)
 after_name_fails e line len text rest short some colon rest_is h =
     fails_along e _ (after_name line len text) (sym (after_name_is line len text short some colon))
     (fails_then e (items_at line (drop (suc len) text)) (λ items. Ok (entry_with (take len text) line items)) (subst (λ (t : List ℕ). Fails e (items_at line t)) rest_is h))

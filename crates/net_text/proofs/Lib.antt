@@ -1,3 +1,4 @@
+pub mod Sequences
 pub mod Symbols
 pub mod Lexemes
 pub mod Numerals

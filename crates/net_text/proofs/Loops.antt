@@ -4,7 +4,7 @@ use Rattle.std.proofs.lemmas.List.{map-append}
 use Rattle.net_text.specs.Trees.{ExprTree, ChainTree, LinkTree, links_tree, BlockTree, NothingTree, GetTree, AssignTree, PutTree, link_tree, then_tree, block_tree, expr_tree}
 use Rattle.net_text.specs.Tokens.{Lexeme}
 use Rattle.net_text.specs.Grammar.{chain_of}
-use Rattle.net_text.specs.Reading.{◌>>=◌, Read, begins, has_word, has_symbol, many, link_at, links_at, statement_at, starts_statement, append_block, joined, statements_at, variable_at, variables_at}
+use Rattle.net_text.specs.Reading.{Read, begins, has_word, has_symbol, many, link_at, links_at, statement_at, starts_statement, append_block, joined, statements_at, variable_at, variables_at}
 use Rattle.net_text.proofs.Many.{with_first, after_items, after_block, many_step, many_stop}
 use Rattle.net_text.proofs.Sound.{link_shortens, statement_shortens, variable_shortens}
 use Rattle.net_text.specs.declared.token.Keyword.TheVariants as keyword
@@ -13,6 +13,7 @@ use Rattle.net_text.specs.declared.tree.StatementText.{StatementText}
 use Rattle.net_text.specs.declared.tree.StatementText.TheVariants.{Get, Assign, Put}
 use Rattle.net_text.specs.declared.tree.VariableText.{VariableText}
 use Rattle.net_text.specs.declared.tree.LinkText.{LinkText}
+use Rattle.net_text.specs.Results.{◌>>=◌}
 
 -- ---- chains
 

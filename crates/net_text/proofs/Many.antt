@@ -1,10 +1,11 @@
 -- Reading one thing after another, as a loop does.
-use Rattle.std.proofs.Common.{◌≡◌, ℕ, zero, suc, ◌<◌, ◌≤◌, Bool, true, false, cond, List, [], ◌∷◌, ◌++◌, length, Result, Ok, Err, refl, ap, arith}
+use Rattle.std.proofs.Common.{◌≡◌, ℕ, zero, suc, ◌<◌, ◌≤◌, Bool, true, false, cond, List, [], ◌∷◌, ◌++◌, length, Ok, refl, ap, arith}
 use Rattle.net_text.specs.Trees.{BlockTree}
 use Rattle.net_text.specs.Tokens.{Lexeme}
-use Rattle.net_text.specs.Reading.{◌>>=◌, Read, begins, many, append_block}
-use Rattle.net_text.specs.declared.parser.Stuck.{Stuck}
+use Rattle.net_text.specs.Reading.{Read, begins, many, append_block}
 use Rattle.net_text.specs.declared.token.TokenKind.{TokenKind}
+use Rattle.net_text.proofs.Sequences.{same_on}
+use Rattle.net_text.specs.Results.{◌>>=◌}
 
 -- what was read before, and what is read now
 abbrev pub after_items : {A : Type 0} → List A → Read (List A) → Read (List A)
@@ -16,10 +17,6 @@ after_block front read = read >>= λ x. Ok (append_block front x.0, x.1)
 -- a reader that takes a token at least
 abbrev pub IsShortening : {A : Type 0} → (List Lexeme → Read A) → Type 0
 IsShortening {A} item = (ts : List Lexeme) (x : A × List Lexeme) → item ts ≡ Ok x → length x.1 < length ts
-
-pub bind_same : {A B : Type 0} (r : Result A Stuck) (f g : A → Result B Stuck) → ((x : A) → r ≡ Ok x → f x ≡ g x) → (r >>= f) ≡ (r >>= g)
-bind_same (Ok x) f g h = h x refl
-bind_same (Err e) f g h = refl
 
 cond_same : {A : Type 0} (b : Bool) (x y z : A) → x ≡ y → cond b x z ≡ cond b y z
 cond_same true x y z e = e
@@ -41,7 +38,7 @@ many_same starts item shorter (suc n) zero [] h k = refl
 many_same starts item shorter (suc n) zero (t ∷ ts) h k = absurd (omega arith)
 many_same starts item shorter (suc n) (suc m) ts h k =
     cond_same (begins starts ts) (item ts >>= turn starts item n) (item ts >>= turn starts item m) (Ok ([], ts))
-    (bind_same (item ts) (turn starts item n) (turn starts item m) (λ x e.
+    (same_on (item ts) (turn starts item n) (turn starts item m) (λ x e.
     let less = shorter ts x e in
     ap (with_first x.0) (many_same starts item shorter n m x.1 (omega arith) (omega arith))))
 

@@ -17,6 +17,7 @@ use Rattle.net_text.specs.declared.token.Symbol.{Symbol}
 use Rattle.net_text.specs.declared.token.Symbol.TheVariants as symbol
 use Rattle.net_text.specs.declared.token.TokenKind.{TokenKind}
 use Rattle.net_text.specs.declared.token.TokenKind.TheVariants as kind
+use Rattle.net_text.specs.declared.limits.TheConstants.{MAX_NAME_BYTES}
 
 -- one more token
 pub tokens_push : (text : List ℕ) (place : ℕ) (ts : List Lexeme) (last : ℕ) (t : Lexeme) → AreTokensTo text place ts last → IsTokenFrom text last t → AreTokensTo text place (ts ++ t ∷ []) (t.start + length t.text)
@@ -84,7 +85,7 @@ pub one_symbol : (s t : Symbol) → symbol_spelling s ≡ symbol_spelling t → 
 one_symbol s t e = let both : Some s ≡ Some t = sym (symbol_back s) ∙ ap (symbol_among symbols) e ∙ symbol_back t in cc
 
 -- a keyword is a word of at most 64 bytes
-keyword_is_word : (w : Keyword) → (is_word (keyword_spelling w) ≡ true) × (length (keyword_spelling w) ≤ 64)
+keyword_is_word : (w : Keyword) → (is_word (keyword_spelling w) ≡ true) × (length (keyword_spelling w) ≤ MAX_NAME_BYTES)
 keyword_is_word keyword.Kahn = (refl, omega arith)
 keyword_is_word keyword.Input = (refl, omega arith)
 keyword_is_word keyword.Chan = (refl, omega arith)
@@ -184,7 +185,7 @@ spelled_no_numeral (kind.Number n) bs h numeral large = let e = h.1 in let lt = 
 spelled_no_numeral (kind.Word w) bs h numeral large = word_no_numeral bs (keyword_word w bs h) numeral
 spelled_no_numeral (kind.Symbol s) bs h numeral large = numeral_no_symbol bs s numeral h
 
-spelled_no_word : (k : TokenKind) (bs : List ℕ) → Spells k bs → is_word bs ≡ true → 64 < length bs → ⊥
+spelled_no_word : (k : TokenKind) (bs : List ℕ) → Spells k bs → is_word bs ≡ true → MAX_NAME_BYTES < length bs → ⊥
 spelled_no_word kind.Name bs h word long = let le = h.2 in omega arith
 spelled_no_word (kind.Number n) bs h word long = word_no_numeral bs word h.0
 spelled_no_word (kind.Word w) bs h word long = let e = ap length h in let le = (keyword_is_word w).1 in omega arith

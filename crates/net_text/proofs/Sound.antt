@@ -9,7 +9,7 @@ use Rattle.net_text.specs.Spellings.{keyword_spelling, symbol_spelling}
 use Rattle.net_text.specs.Trees.{ExprTree, LiteralTree, VariableTree, LinkTree, BlockTree, NothingTree, GetTree, AssignTree, PutTree, LoopTree, ProcessTree, DeclarationTree, ChannelTree, ProcessDeclared}
 use Rattle.net_text.specs.Tokens.{Lexeme}
 use Rattle.net_text.specs.Grammar.{◌>>◌, IsWordOn, IsWord, IsSymbol, IsName, IsNumberOn, IsNumber, IsEach, IsFactor, operator_symbol, chain_of, IsLink, IsExpr, IsGet, IsAssign, IsPut, IsStatements, IsBlock, IsInitial, IsVariable, IsLoop, IsProcess, first_word, IsChannel, IsText}
-use Rattle.net_text.specs.Reading.{◌>>=◌, Read, has_word, has_symbol, is_name, begins, word_at, symbol_at, name_at, number_in, number_at, factor_in, factor_at, many, link_at, links_at, expr_at, get_at, assign_at, named_at, put_at, statement_at, starts_statement, append_block, joined, statements_at, block_at, value_at, initial_at, variable_at, variables_at, loop_at, HeadTree, head_at, process_at, channel_at, edition_at, text_at, no_more, whole_text}
+use Rattle.net_text.specs.Reading.{Read, has_word, has_symbol, is_name, begins, word_at, symbol_at, name_at, number_in, number_at, factor_in, factor_at, many, link_at, links_at, expr_at, get_at, assign_at, named_at, put_at, statement_at, starts_statement, append_block, joined, statements_at, block_at, value_at, initial_at, variable_at, variables_at, loop_at, HeadTree, head_at, process_at, channel_at, edition_at, text_at, no_more, whole_text}
 use Rattle.net_text.proofs.Readings.{one_keyword, one_symbol}
 use Rattle.net_text.proofs.Many.{IsShortening}
 use Rattle.net_text.specs.declared.parser.Stuck.{Stuck}
@@ -26,6 +26,8 @@ use Rattle.net_text.specs.declared.tree.Role.TheVariants.{Input, Output}
 use Rattle.net_text.specs.declared.tree.ChannelText.{ChannelText}
 use Rattle.net_text.specs.declared.tree.VariableText.{VariableText}
 use Rattle.net_text.specs.declared.tree.NodeText.{NodeText}
+use Rattle.net_text.proofs.Sequences.{same_value, went_on}
+use Rattle.net_text.specs.Results.{◌>>=◌}
 
 -- the front of these tokens is such a part, and this is the rest
 pub record Took (ts : List Lexeme) (P : List Lexeme → Type 0) (rest : List Lexeme) : Type 0 where
@@ -44,11 +46,6 @@ then_took {ts} {mid} {rest} a b = record {
 took_as : {ts rest : List Lexeme} {P Q : List Lexeme → Type 0} → ((front : List Lexeme) → P front → Q front) → Took ts P rest → Took ts Q rest
 took_as h t = record { front = t.front; parts = t.parts; is = h t.front t.is }
 
--- the value of a step that didn't fail
-pub bind_ok : {A B : Type 0} (r : Result A Stuck) (f : A → Result B Stuck) (y : B) → (r >>= f) ≡ Ok y → (x : A) × (r ≡ Ok x) × (f x ≡ Ok y)
-bind_ok (Ok x) f y e = (x, refl, e)
-bind_ok (Err d) f y e = absurd cc
-
 -- a test that didn't fail
 guard_ok : {A : Type 0} (b : Bool) (x : A) (e : Stuck) (y : A) → cond b (Ok x) (Err e) ≡ Ok y → (b ≡ true) × (x ≡ y)
 guard_ok true x e y h = (refl, cc)
@@ -58,9 +55,6 @@ guard_ok false x e y h = absurd cc
 chosen : {A : Type 0} (b : Bool) (x y z : A) → cond b x y ≡ z → ((b ≡ true) × (x ≡ z)) ⊎ ((b ≡ false) × (y ≡ z))
 chosen true x y z e = inl (refl, e)
 chosen false x y z e = inr (refl, e)
-
-ok_is : {A : Type 0} (x y : A) → (let left : Result A Stuck = Ok x in left ≡ Ok y) → x ≡ y
-ok_is x y e = cc
 
 pub has_word_is : (w : Keyword) (k : TokenKind) → has_word w k ≡ true → k ≡ kind.Word w
 has_word_is w (kind.Word v) h = ap kind.Word (one_keyword v w ((bytes_eq-Decides (keyword_spelling v) (keyword_spelling w)).0 h))
@@ -108,7 +102,7 @@ name_took (t ∷ ts) x e =
 number_in_took : (k : TokenKind) (t : Lexeme) (ts : List Lexeme) (x : NodeText × List Lexeme) → t.kind ≡ k → number_in k t.line ts ≡ Ok x → Took (t ∷ ts) (IsNumberOn x.0.number x.0.line) x.1
 number_in_took (kind.Number n) t ts x k e =
     let made : NodeText × List Lexeme = (record { number = n; line = t.line }, ts) in
-    let same = ok_is made x e in
+    let same = same_value made x e in
     record { front = t ∷ []; parts = ap (λ (p : NodeText × List Lexeme). t ∷ p.1) same; is = (t, refl, k ∙ ap (λ (p : NodeText × List Lexeme). kind.Number p.0.number) same, ap (λ (p : NodeText × List Lexeme). p.0.line) (sym same)) }
 number_in_took (kind.Word w) t ts x k e = absurd cc
 number_in_took (kind.Symbol s) t ts x k e = absurd cc
@@ -125,10 +119,10 @@ any_number_took ts x e = took_as (λ front is. (x.0.line, is)) (number_took ts x
 factor_in_took : (k : TokenKind) (t : Lexeme) (ts : List Lexeme) (x : ExprTree × List Lexeme) → t.kind ≡ k → factor_in k t ts ≡ Ok x → Took (t ∷ ts) (IsFactor x.0) x.1
 factor_in_took (kind.Number n) t ts x k e =
     let made : ExprTree × List Lexeme = (LiteralTree (pos n), ts) in
-    subst (λ (p : ExprTree × List Lexeme). Took (t ∷ ts) (IsFactor p.0) p.1) (ok_is made x e) (record { front = t ∷ []; parts = refl; is = (n, (t.line, (t, refl, k, refl)), refl) })
+    subst (λ (p : ExprTree × List Lexeme). Took (t ∷ ts) (IsFactor p.0) p.1) (same_value made x e) (record { front = t ∷ []; parts = refl; is = (n, (t.line, (t, refl, k, refl)), refl) })
 factor_in_took kind.Name t ts x k e =
     let made : ExprTree × List Lexeme = (VariableTree (record { text = t.text; line = t.line }), ts) in
-    subst (λ (p : ExprTree × List Lexeme). Took (t ∷ ts) (IsFactor p.0) p.1) (ok_is made x e) (record { front = t ∷ []; parts = refl; is = (t, refl, k, refl) })
+    subst (λ (p : ExprTree × List Lexeme). Took (t ∷ ts) (IsFactor p.0) p.1) (same_value made x e) (record { front = t ∷ []; parts = refl; is = (t, refl, k, refl) })
 factor_in_took (kind.Word w) t ts x k e = absurd cc
 factor_in_took (kind.Symbol s) t ts x k e = absurd cc
 
@@ -140,10 +134,10 @@ factor_took (t ∷ ts) x e = factor_in_took t.kind t ts x refl e
 pub link_took : (ts : List Lexeme) (x : LinkTree × List Lexeme) → link_at ts ≡ Ok x → Took ts (IsLink x.0) x.1
 unfolding link_at
 link_took ts x e =
-    let a = bind_ok (symbol_at symbol.Plus ts) (λ rest. factor_at rest >>= λ value. Ok (record { operator = Add; value = value.0 }, value.1)) x e in
-    let b = bind_ok (factor_at a.0) (λ value. Ok (record { operator = Add; value = value.0 }, value.1)) x a.2 in
+    let a = went_on (symbol_at symbol.Plus ts) (λ rest. factor_at rest >>= λ value. Ok (record { operator = Add; value = value.0 }, value.1)) x e in
+    let b = went_on (factor_at a.0) (λ value. Ok (record { operator = Add; value = value.0 }, value.1)) x a.2 in
     let made : LinkTree × List Lexeme = (record { operator = Add; value = b.0.0 }, b.0.1) in
-    subst (λ (p : LinkTree × List Lexeme). Took ts (IsLink p.0) p.1) (ok_is made x b.2)
+    subst (λ (p : LinkTree × List Lexeme). Took ts (IsLink p.0) p.1) (same_value made x b.2)
     (then_took (symbol_took symbol.Plus ts a.0 a.1) (factor_took a.0 b.0 b.1))
 
 -- things read one after another are each in the grammar
@@ -151,18 +145,18 @@ pub many_took : {A : Type 0} (P : A → List Lexeme → Type 0) (starts : TokenK
     → (n : ℕ) (ts : List Lexeme) (x : List A × List Lexeme) → many starts item n ts ≡ Ok x → Took ts (IsEach P x.0) x.1
 many_took {A} P starts item took zero ts x e =
     let made : List A × List Lexeme = ([], ts) in
-    subst (λ (p : List A × List Lexeme). Took ts (IsEach P p.0) p.1) (ok_is made x e) (record { front = []; parts = refl; is = refl })
+    subst (λ (p : List A × List Lexeme). Took ts (IsEach P p.0) p.1) (same_value made x e) (record { front = []; parts = refl; is = refl })
 many_took {A} P starts item took (suc n) ts x e =
     elim (chosen (begins starts ts) (item ts >>= λ first. many starts item n first.1 >>= λ others. Ok (first.0 ∷ others.0, others.1)) (Ok ([], ts)) (Ok x) e) as (λ _. Took ts (IsEach P x.0) x.1) [
       | inl more ↦
-          let a = bind_ok (item ts) (λ first. many starts item n first.1 >>= λ others. Ok (first.0 ∷ others.0, others.1)) x more.1 in
-          let b = bind_ok (many starts item n a.0.1) (λ others. Ok (a.0.0 ∷ others.0, others.1)) x a.2 in
+          let a = went_on (item ts) (λ first. many starts item n first.1 >>= λ others. Ok (first.0 ∷ others.0, others.1)) x more.1 in
+          let b = went_on (many starts item n a.0.1) (λ others. Ok (a.0.0 ∷ others.0, others.1)) x a.2 in
           let made : List A × List Lexeme = (a.0.0 ∷ b.0.0, b.0.1) in
-          subst (λ (p : List A × List Lexeme). Took ts (IsEach P p.0) p.1) (ok_is made x b.2)
+          subst (λ (p : List A × List Lexeme). Took ts (IsEach P p.0) p.1) (same_value made x b.2)
           (then_took (took ts a.0 a.1) (many_took P starts item took n a.0.1 b.0 b.1))
       | inr stop ↦
           let made : List A × List Lexeme = ([], ts) in
-          subst (λ (p : List A × List Lexeme). Took ts (IsEach P p.0) p.1) (ok_is made x stop.1) (record { front = []; parts = refl; is = refl })
+          subst (λ (p : List A × List Lexeme). Took ts (IsEach P p.0) p.1) (same_value made x stop.1) (record { front = []; parts = refl; is = refl })
     ]
 
 -- a part that begins with one token takes it
@@ -194,10 +188,10 @@ links_took ts x e = many_took IsLink (has_symbol symbol.Plus) link_at link_took 
 pub expr_took : (ts : List Lexeme) (x : ExprTree × List Lexeme) → expr_at ts ≡ Ok x → Took ts (IsExpr x.0) x.1
 unfolding expr_at
 expr_took ts x e =
-    let a = bind_ok (factor_at ts) (λ first. links_at first.1 >>= λ links. Ok (chain_of first.0 links.0, links.1)) x e in
-    let b = bind_ok (links_at a.0.1) (λ links. Ok (chain_of a.0.0 links.0, links.1)) x a.2 in
+    let a = went_on (factor_at ts) (λ first. links_at first.1 >>= λ links. Ok (chain_of first.0 links.0, links.1)) x e in
+    let b = went_on (links_at a.0.1) (λ links. Ok (chain_of a.0.0 links.0, links.1)) x a.2 in
     let made : ExprTree × List Lexeme = (chain_of a.0.0 b.0.0, b.0.1) in
-    subst (λ (p : ExprTree × List Lexeme). Took ts (IsExpr p.0) p.1) (ok_is made x b.2)
+    subst (λ (p : ExprTree × List Lexeme). Took ts (IsExpr p.0) p.1) (same_value made x b.2)
     (took_as (λ front is. (a.0.0, b.0.0, refl, is)) (then_took (factor_took ts a.0 a.1) (links_took a.0.1 b.0 b.1)))
 
 -- a statement alone
@@ -217,20 +211,20 @@ AfterAssign name (PutTree value channel rest) ts = ⊥
 get_took : (name : NameTree) (ts : List Lexeme) (x : BlockTree × List Lexeme) → get_at name ts ≡ Ok x → Took ts (AfterAssign name x.0) x.1
 unfolding get_at AfterAssign
 get_took name ts x e =
-    let a = bind_ok (word_at keyword.Get ts) (λ got. name_at got.1 >>= λ channel. symbol_at symbol.Semicolon channel.1 >>= λ rest. Ok (GetTree name channel.0 NothingTree, rest)) x e in
-    let b = bind_ok (name_at a.0.1) (λ channel. symbol_at symbol.Semicolon channel.1 >>= λ rest. Ok (GetTree name channel.0 NothingTree, rest)) x a.2 in
-    let c = bind_ok (symbol_at symbol.Semicolon b.0.1) (λ rest. Ok (GetTree name b.0.0 NothingTree, rest)) x b.2 in
+    let a = went_on (word_at keyword.Get ts) (λ got. name_at got.1 >>= λ channel. symbol_at symbol.Semicolon channel.1 >>= λ rest. Ok (GetTree name channel.0 NothingTree, rest)) x e in
+    let b = went_on (name_at a.0.1) (λ channel. symbol_at symbol.Semicolon channel.1 >>= λ rest. Ok (GetTree name channel.0 NothingTree, rest)) x a.2 in
+    let c = went_on (symbol_at symbol.Semicolon b.0.1) (λ rest. Ok (GetTree name b.0.0 NothingTree, rest)) x b.2 in
     let made : BlockTree × List Lexeme = (GetTree name b.0.0 NothingTree, c.0) in
-    subst (λ (p : BlockTree × List Lexeme). Took ts (AfterAssign name p.0) p.1) (ok_is made x c.2)
+    subst (λ (p : BlockTree × List Lexeme). Took ts (AfterAssign name p.0) p.1) (same_value made x c.2)
     (took_as (λ front is. (refl, refl, is)) (then_took (any_word_took keyword.Get ts a.0 a.1) (then_took (name_took a.0.1 b.0 b.1) (symbol_took symbol.Semicolon b.0.1 c.0 c.1))))
 
 assign_took : (name : NameTree) (ts : List Lexeme) (x : BlockTree × List Lexeme) → assign_at name ts ≡ Ok x → Took ts (AfterAssign name x.0) x.1
 unfolding assign_at AfterAssign
 assign_took name ts x e =
-    let a = bind_ok (expr_at ts) (λ value. symbol_at symbol.Semicolon value.1 >>= λ rest. Ok (AssignTree name value.0 NothingTree, rest)) x e in
-    let b = bind_ok (symbol_at symbol.Semicolon a.0.1) (λ rest. Ok (AssignTree name a.0.0 NothingTree, rest)) x a.2 in
+    let a = went_on (expr_at ts) (λ value. symbol_at symbol.Semicolon value.1 >>= λ rest. Ok (AssignTree name value.0 NothingTree, rest)) x e in
+    let b = went_on (symbol_at symbol.Semicolon a.0.1) (λ rest. Ok (AssignTree name a.0.0 NothingTree, rest)) x a.2 in
     let made : BlockTree × List Lexeme = (AssignTree name a.0.0 NothingTree, b.0) in
-    subst (λ (p : BlockTree × List Lexeme). Took ts (AfterAssign name p.0) p.1) (ok_is made x b.2)
+    subst (λ (p : BlockTree × List Lexeme). Took ts (AfterAssign name p.0) p.1) (same_value made x b.2)
     (took_as (λ front is. (refl, refl, is)) (then_took (expr_took ts a.0 a.1) (symbol_took symbol.Semicolon a.0.1 b.0 b.1)))
 
 single_named : (name : NameTree) (block : BlockTree) (front : List Lexeme) → (IsName name >> IsSymbol symbol.Assign >> AfterAssign name block) front → IsSingle block front
@@ -243,8 +237,8 @@ single_named name (PutTree value channel rest) front is = absurd is.4.4
 named_took : (ts : List Lexeme) (x : BlockTree × List Lexeme) → named_at ts ≡ Ok x → Took ts (IsSingle x.0) x.1
 unfolding named_at
 named_took ts x e =
-    let a = bind_ok (name_at ts) (λ variable. symbol_at symbol.Assign variable.1 >>= λ rest. cond (begins (has_word keyword.Get) rest) (get_at variable.0 rest) (assign_at variable.0 rest)) x e in
-    let b = bind_ok (symbol_at symbol.Assign a.0.1) (λ rest. cond (begins (has_word keyword.Get) rest) (get_at a.0.0 rest) (assign_at a.0.0 rest)) x a.2 in
+    let a = went_on (name_at ts) (λ variable. symbol_at symbol.Assign variable.1 >>= λ rest. cond (begins (has_word keyword.Get) rest) (get_at variable.0 rest) (assign_at variable.0 rest)) x e in
+    let b = went_on (symbol_at symbol.Assign a.0.1) (λ rest. cond (begins (has_word keyword.Get) rest) (get_at a.0.0 rest) (assign_at a.0.0 rest)) x a.2 in
     let after : Took b.0 (AfterAssign a.0.0 x.0) x.1 =
     elim (chosen (begins (has_word keyword.Get) b.0) (get_at a.0.0 b.0) (assign_at a.0.0 b.0) (Ok x) b.2) as (λ _. Took b.0 (AfterAssign a.0.0 x.0) x.1) [
       | inl g ↦ get_took a.0.0 b.0 x g.1
@@ -255,13 +249,13 @@ named_took ts x e =
 put_took : (ts : List Lexeme) (x : BlockTree × List Lexeme) → put_at ts ≡ Ok x → Took ts (IsSingle x.0) x.1
 unfolding put_at IsSingle
 put_took ts x e =
-    let a = bind_ok (word_at keyword.Put ts) (λ start. expr_at start.1 >>= λ value. word_at keyword.To value.1 >>= λ to. name_at to.1 >>= λ channel. symbol_at symbol.Semicolon channel.1 >>= λ rest. Ok (PutTree value.0 channel.0 NothingTree, rest)) x e in
-    let b = bind_ok (expr_at a.0.1) (λ value. word_at keyword.To value.1 >>= λ to. name_at to.1 >>= λ channel. symbol_at symbol.Semicolon channel.1 >>= λ rest. Ok (PutTree value.0 channel.0 NothingTree, rest)) x a.2 in
-    let c = bind_ok (word_at keyword.To b.0.1) (λ to. name_at to.1 >>= λ channel. symbol_at symbol.Semicolon channel.1 >>= λ rest. Ok (PutTree b.0.0 channel.0 NothingTree, rest)) x b.2 in
-    let d = bind_ok (name_at c.0.1) (λ channel. symbol_at symbol.Semicolon channel.1 >>= λ rest. Ok (PutTree b.0.0 channel.0 NothingTree, rest)) x c.2 in
-    let f = bind_ok (symbol_at symbol.Semicolon d.0.1) (λ rest. Ok (PutTree b.0.0 d.0.0 NothingTree, rest)) x d.2 in
+    let a = went_on (word_at keyword.Put ts) (λ start. expr_at start.1 >>= λ value. word_at keyword.To value.1 >>= λ to. name_at to.1 >>= λ channel. symbol_at symbol.Semicolon channel.1 >>= λ rest. Ok (PutTree value.0 channel.0 NothingTree, rest)) x e in
+    let b = went_on (expr_at a.0.1) (λ value. word_at keyword.To value.1 >>= λ to. name_at to.1 >>= λ channel. symbol_at symbol.Semicolon channel.1 >>= λ rest. Ok (PutTree value.0 channel.0 NothingTree, rest)) x a.2 in
+    let c = went_on (word_at keyword.To b.0.1) (λ to. name_at to.1 >>= λ channel. symbol_at symbol.Semicolon channel.1 >>= λ rest. Ok (PutTree b.0.0 channel.0 NothingTree, rest)) x b.2 in
+    let d = went_on (name_at c.0.1) (λ channel. symbol_at symbol.Semicolon channel.1 >>= λ rest. Ok (PutTree b.0.0 channel.0 NothingTree, rest)) x c.2 in
+    let f = went_on (symbol_at symbol.Semicolon d.0.1) (λ rest. Ok (PutTree b.0.0 d.0.0 NothingTree, rest)) x d.2 in
     let made : BlockTree × List Lexeme = (PutTree b.0.0 d.0.0 NothingTree, f.0) in
-    subst (λ (p : BlockTree × List Lexeme). Took ts (IsSingle p.0) p.1) (ok_is made x f.2)
+    subst (λ (p : BlockTree × List Lexeme). Took ts (IsSingle p.0) p.1) (same_value made x f.2)
     (took_as (λ front is. (refl, is)) (then_took (any_word_took keyword.Put ts a.0 a.1) (then_took (expr_took a.0.1 b.0 b.1) (then_took (any_word_took keyword.To b.0.1 c.0 c.1) (then_took (name_took c.0.1 d.0 d.1) (symbol_took symbol.Semicolon d.0.1 f.0 f.1))))))
 
 pub statement_took : (ts : List Lexeme) (x : BlockTree × List Lexeme) → statement_at ts ≡ Ok x → Took ts (IsSingle x.0) x.1
@@ -297,19 +291,19 @@ each_joined (PutTree value channel rest ∷ blocks) front is =
 pub statements_took : (ts : List Lexeme) (x : BlockTree × List Lexeme) → statements_at ts ≡ Ok x → Took ts (IsStatements x.0) x.1
 unfolding statements_at
 statements_took ts x e =
-    let a = bind_ok (many starts_statement statement_at (length ts) ts) (λ each. Ok (joined each.0, each.1)) x e in
+    let a = went_on (many starts_statement statement_at (length ts) ts) (λ each. Ok (joined each.0, each.1)) x e in
     let made : BlockTree × List Lexeme = (joined a.0.0, a.0.1) in
-    subst (λ (p : BlockTree × List Lexeme). Took ts (IsStatements p.0) p.1) (ok_is made x a.2)
+    subst (λ (p : BlockTree × List Lexeme). Took ts (IsStatements p.0) p.1) (same_value made x a.2)
     (took_as (each_joined a.0.0) (many_took IsSingle starts_statement statement_at statement_took (length ts) ts a.0 a.1))
 
 pub block_took : (ts : List Lexeme) (x : BlockTree × List Lexeme) → block_at ts ≡ Ok x → Took ts (IsBlock x.0) x.1
 unfolding block_at
 block_took ts x e =
-    let a = bind_ok (symbol_at symbol.LeftBrace ts) (λ opened. statements_at opened >>= λ block. symbol_at symbol.RightBrace block.1 >>= λ rest. Ok (block.0, rest)) x e in
-    let b = bind_ok (statements_at a.0) (λ block. symbol_at symbol.RightBrace block.1 >>= λ rest. Ok (block.0, rest)) x a.2 in
-    let c = bind_ok (symbol_at symbol.RightBrace b.0.1) (λ rest. Ok (b.0.0, rest)) x b.2 in
+    let a = went_on (symbol_at symbol.LeftBrace ts) (λ opened. statements_at opened >>= λ block. symbol_at symbol.RightBrace block.1 >>= λ rest. Ok (block.0, rest)) x e in
+    let b = went_on (statements_at a.0) (λ block. symbol_at symbol.RightBrace block.1 >>= λ rest. Ok (block.0, rest)) x a.2 in
+    let c = went_on (symbol_at symbol.RightBrace b.0.1) (λ rest. Ok (b.0.0, rest)) x b.2 in
     let made : BlockTree × List Lexeme = (b.0.0, c.0) in
-    subst (λ (p : BlockTree × List Lexeme). Took ts (IsBlock p.0) p.1) (ok_is made x c.2)
+    subst (λ (p : BlockTree × List Lexeme). Took ts (IsBlock p.0) p.1) (same_value made x c.2)
     (then_took (symbol_took symbol.LeftBrace ts a.0 a.1) (then_took (statements_took a.0 b.0 b.1) (symbol_took symbol.RightBrace b.0.1 c.0 c.1)))
 
 -- what follows the = of a variable's first value
@@ -321,15 +315,15 @@ unfolding value_at IsValue
 value_took ts x e =
     elim (chosen (begins (has_symbol symbol.Minus) ts) (symbol_at symbol.Minus ts >>= λ rest. number_at rest >>= λ n. Ok (neg_ℤ (pos n.0.number), n.1)) (number_at ts >>= λ n. Ok (pos n.0.number, n.1)) (Ok x) e) as (λ _. Took ts (IsValue x.0) x.1) [
       | inl g ↦
-          let a = bind_ok (symbol_at symbol.Minus ts) (λ rest. number_at rest >>= λ n. Ok (neg_ℤ (pos n.0.number), n.1)) x g.1 in
-          let b = bind_ok (number_at a.0) (λ n. Ok (neg_ℤ (pos n.0.number), n.1)) x a.2 in
+          let a = went_on (symbol_at symbol.Minus ts) (λ rest. number_at rest >>= λ n. Ok (neg_ℤ (pos n.0.number), n.1)) x g.1 in
+          let b = went_on (number_at a.0) (λ n. Ok (neg_ℤ (pos n.0.number), n.1)) x a.2 in
           let made : ℤ × List Lexeme = (neg_ℤ (pos b.0.0.number), b.0.1) in
-          subst (λ (p : ℤ × List Lexeme). Took ts (IsValue p.0) p.1) (ok_is made x b.2)
+          subst (λ (p : ℤ × List Lexeme). Took ts (IsValue p.0) p.1) (same_value made x b.2)
           (took_as (λ front is. inr (b.0.0.number, refl, is)) (then_took (symbol_took symbol.Minus ts a.0 a.1) (any_number_took a.0 b.0 b.1)))
       | inr g ↦
-          let a = bind_ok (number_at ts) (λ n. Ok (pos n.0.number, n.1)) x g.1 in
+          let a = went_on (number_at ts) (λ n. Ok (pos n.0.number, n.1)) x g.1 in
           let made : ℤ × List Lexeme = (pos a.0.0.number, a.0.1) in
-          subst (λ (p : ℤ × List Lexeme). Took ts (IsValue p.0) p.1) (ok_is made x a.2)
+          subst (λ (p : ℤ × List Lexeme). Took ts (IsValue p.0) p.1) (same_value made x a.2)
           (took_as (λ front is. inl (a.0.0.number, refl, is)) (any_number_took ts a.0 a.1))
     ]
 
@@ -346,23 +340,23 @@ unfolding initial_at
 initial_took ts x e =
     elim (chosen (begins (has_symbol symbol.Assign) ts) (symbol_at symbol.Assign ts >>= λ rest. value_at rest) (Ok (pos 0, ts)) (Ok x) e) as (λ _. Took ts (IsInitial x.0) x.1) [
       | inl g ↦
-          let a = bind_ok (symbol_at symbol.Assign ts) (λ rest. value_at rest) x g.1 in
+          let a = went_on (symbol_at symbol.Assign ts) (λ rest. value_at rest) x g.1 in
           took_as (initial_from_value x.0) (then_took (symbol_took symbol.Assign ts a.0 a.1) (value_took a.0 x a.2))
       | inr g ↦
           let made : ℤ × List Lexeme = (pos 0, ts) in
-          subst (λ (p : ℤ × List Lexeme). Took ts (IsInitial p.0) p.1) (ok_is made x g.1) (record { front = []; parts = refl; is = inl (refl, refl) })
+          subst (λ (p : ℤ × List Lexeme). Took ts (IsInitial p.0) p.1) (same_value made x g.1) (record { front = []; parts = refl; is = inl (refl, refl) })
     ]
 
 pub variable_took : (ts : List Lexeme) (x : VariableText × List Lexeme) → variable_at ts ≡ Ok x → Took ts (IsVariable x.0) x.1
 unfolding variable_at
 variable_took ts x e =
     let made = λ (start : ℕ) (name : NameTree) (initial : ℤ). let v : VariableText = record { name = name; initial = initial; line = start } in v in
-    let a = bind_ok (word_at keyword.Var ts) (λ start. name_at start.1 >>= λ name. initial_at name.1 >>= λ initial. symbol_at symbol.Semicolon initial.1 >>= λ rest. Ok (made start.0 name.0 initial.0, rest)) x e in
-    let b = bind_ok (name_at a.0.1) (λ name. initial_at name.1 >>= λ initial. symbol_at symbol.Semicolon initial.1 >>= λ rest. Ok (made a.0.0 name.0 initial.0, rest)) x a.2 in
-    let c = bind_ok (initial_at b.0.1) (λ initial. symbol_at symbol.Semicolon initial.1 >>= λ rest. Ok (made a.0.0 b.0.0 initial.0, rest)) x b.2 in
-    let d = bind_ok (symbol_at symbol.Semicolon c.0.1) (λ rest. Ok (made a.0.0 b.0.0 c.0.0, rest)) x c.2 in
+    let a = went_on (word_at keyword.Var ts) (λ start. name_at start.1 >>= λ name. initial_at name.1 >>= λ initial. symbol_at symbol.Semicolon initial.1 >>= λ rest. Ok (made start.0 name.0 initial.0, rest)) x e in
+    let b = went_on (name_at a.0.1) (λ name. initial_at name.1 >>= λ initial. symbol_at symbol.Semicolon initial.1 >>= λ rest. Ok (made a.0.0 name.0 initial.0, rest)) x a.2 in
+    let c = went_on (initial_at b.0.1) (λ initial. symbol_at symbol.Semicolon initial.1 >>= λ rest. Ok (made a.0.0 b.0.0 initial.0, rest)) x b.2 in
+    let d = went_on (symbol_at symbol.Semicolon c.0.1) (λ rest. Ok (made a.0.0 b.0.0 c.0.0, rest)) x c.2 in
     let whole : VariableText × List Lexeme = (made a.0.0 b.0.0 c.0.0, d.0) in
-    subst (λ (p : VariableText × List Lexeme). Took ts (IsVariable p.0) p.1) (ok_is whole x d.2)
+    subst (λ (p : VariableText × List Lexeme). Took ts (IsVariable p.0) p.1) (same_value whole x d.2)
     (then_took (word_took keyword.Var ts a.0 a.1) (then_took (name_took a.0.1 b.0 b.1) (then_took (initial_took b.0.1 c.0 c.1) (symbol_took symbol.Semicolon c.0.1 d.0 d.1))))
 
 pub variable_shortens : IsShortening variable_at
@@ -378,14 +372,14 @@ loop_took ts x e =
     let made = λ (start : ℕ) (body : BlockTree). let l : Option LoopTree = Some (record { body = body; line = start }) in l in
     elim (chosen (begins (has_word keyword.Loop) ts) (word_at keyword.Loop ts >>= λ start. block_at start.1 >>= λ body. Ok (made start.0 body.0, body.1)) (Ok (None, ts)) (Ok x) e) as (λ _. Took ts (IsLoop x.0) x.1) [
       | inl g ↦
-          let a = bind_ok (word_at keyword.Loop ts) (λ start. block_at start.1 >>= λ body. Ok (made start.0 body.0, body.1)) x g.1 in
-          let b = bind_ok (block_at a.0.1) (λ body. Ok (made a.0.0 body.0, body.1)) x a.2 in
+          let a = went_on (word_at keyword.Loop ts) (λ start. block_at start.1 >>= λ body. Ok (made start.0 body.0, body.1)) x g.1 in
+          let b = went_on (block_at a.0.1) (λ body. Ok (made a.0.0 body.0, body.1)) x a.2 in
           let whole : Option LoopTree × List Lexeme = (made a.0.0 b.0.0, b.0.1) in
-          subst (λ (p : Option LoopTree × List Lexeme). Took ts (IsLoop p.0) p.1) (ok_is whole x b.2)
+          subst (λ (p : Option LoopTree × List Lexeme). Took ts (IsLoop p.0) p.1) (same_value whole x b.2)
           (then_took (word_took keyword.Loop ts a.0 a.1) (block_took a.0.1 b.0 b.1))
       | inr g ↦
           let whole : Option LoopTree × List Lexeme = (None, ts) in
-          subst (λ (p : Option LoopTree × List Lexeme). Took ts (IsLoop p.0) p.1) (ok_is whole x g.1) (record { front = []; parts = refl; is = refl })
+          subst (λ (p : Option LoopTree × List Lexeme). Took ts (IsLoop p.0) p.1) (same_value whole x g.1) (record { front = []; parts = refl; is = refl })
     ]
 
 -- (P >> R) >> Q is P >> (R >> Q)
@@ -400,13 +394,13 @@ head_took : (ts : List Lexeme) (x : HeadTree × List Lexeme) → head_at ts ≡ 
 unfolding head_at IsHead
 head_took ts x e =
     let made = λ (line : ℕ) (name : NameTree) (node : NodeText). let h : HeadTree = record { line = line; name = name; node = node } in h in
-    let a = bind_ok (word_at keyword.Process ts) (λ start. name_at start.1 >>= λ name. word_at keyword.On name.1 >>= λ on. number_at on.1 >>= λ node. symbol_at symbol.LeftBrace node.1 >>= λ rest. Ok (made start.0 name.0 node.0, rest)) x e in
-    let b = bind_ok (name_at a.0.1) (λ name. word_at keyword.On name.1 >>= λ on. number_at on.1 >>= λ node. symbol_at symbol.LeftBrace node.1 >>= λ rest. Ok (made a.0.0 name.0 node.0, rest)) x a.2 in
-    let c = bind_ok (word_at keyword.On b.0.1) (λ on. number_at on.1 >>= λ node. symbol_at symbol.LeftBrace node.1 >>= λ rest. Ok (made a.0.0 b.0.0 node.0, rest)) x b.2 in
-    let d = bind_ok (number_at c.0.1) (λ node. symbol_at symbol.LeftBrace node.1 >>= λ rest. Ok (made a.0.0 b.0.0 node.0, rest)) x c.2 in
-    let f = bind_ok (symbol_at symbol.LeftBrace d.0.1) (λ rest. Ok (made a.0.0 b.0.0 d.0.0, rest)) x d.2 in
+    let a = went_on (word_at keyword.Process ts) (λ start. name_at start.1 >>= λ name. word_at keyword.On name.1 >>= λ on. number_at on.1 >>= λ node. symbol_at symbol.LeftBrace node.1 >>= λ rest. Ok (made start.0 name.0 node.0, rest)) x e in
+    let b = went_on (name_at a.0.1) (λ name. word_at keyword.On name.1 >>= λ on. number_at on.1 >>= λ node. symbol_at symbol.LeftBrace node.1 >>= λ rest. Ok (made a.0.0 name.0 node.0, rest)) x a.2 in
+    let c = went_on (word_at keyword.On b.0.1) (λ on. number_at on.1 >>= λ node. symbol_at symbol.LeftBrace node.1 >>= λ rest. Ok (made a.0.0 b.0.0 node.0, rest)) x b.2 in
+    let d = went_on (number_at c.0.1) (λ node. symbol_at symbol.LeftBrace node.1 >>= λ rest. Ok (made a.0.0 b.0.0 node.0, rest)) x c.2 in
+    let f = went_on (symbol_at symbol.LeftBrace d.0.1) (λ rest. Ok (made a.0.0 b.0.0 d.0.0, rest)) x d.2 in
     let whole : HeadTree × List Lexeme = (made a.0.0 b.0.0 d.0.0, f.0) in
-    subst (λ (p : HeadTree × List Lexeme). Took ts (IsHead p.0) p.1) (ok_is whole x f.2)
+    subst (λ (p : HeadTree × List Lexeme). Took ts (IsHead p.0) p.1) (same_value whole x f.2)
     (then_took (word_took keyword.Process ts a.0 a.1) (then_took (name_took a.0.1 b.0 b.1) (then_took (any_word_took keyword.On b.0.1 c.0 c.1) (then_took (number_took c.0.1 d.0 d.1) (symbol_took symbol.LeftBrace d.0.1 f.0 f.1)))))
 
 -- a head and what follows it
@@ -421,24 +415,24 @@ unfolding process_at
 process_took ts x e =
     let made = λ (head : HeadTree) (variables : List VariableText) (prelude : BlockTree) (repeated : Option LoopTree).
     let p : ProcessTree = record { name = head.name; node = head.node; variables = variables; prelude = prelude; repeated = repeated; line = head.line } in p in
-    let a = bind_ok (head_at ts) (λ head. variables_at head.1 >>= λ variables. statements_at variables.1 >>= λ prelude. loop_at prelude.1 >>= λ repeated. symbol_at symbol.RightBrace repeated.1 >>= λ rest. Ok (made head.0 variables.0 prelude.0 repeated.0, rest)) x e in
-    let b = bind_ok (variables_at a.0.1) (λ variables. statements_at variables.1 >>= λ prelude. loop_at prelude.1 >>= λ repeated. symbol_at symbol.RightBrace repeated.1 >>= λ rest. Ok (made a.0.0 variables.0 prelude.0 repeated.0, rest)) x a.2 in
-    let c = bind_ok (statements_at b.0.1) (λ prelude. loop_at prelude.1 >>= λ repeated. symbol_at symbol.RightBrace repeated.1 >>= λ rest. Ok (made a.0.0 b.0.0 prelude.0 repeated.0, rest)) x b.2 in
-    let d = bind_ok (loop_at c.0.1) (λ repeated. symbol_at symbol.RightBrace repeated.1 >>= λ rest. Ok (made a.0.0 b.0.0 c.0.0 repeated.0, rest)) x c.2 in
-    let f = bind_ok (symbol_at symbol.RightBrace d.0.1) (λ rest. Ok (made a.0.0 b.0.0 c.0.0 d.0.0, rest)) x d.2 in
+    let a = went_on (head_at ts) (λ head. variables_at head.1 >>= λ variables. statements_at variables.1 >>= λ prelude. loop_at prelude.1 >>= λ repeated. symbol_at symbol.RightBrace repeated.1 >>= λ rest. Ok (made head.0 variables.0 prelude.0 repeated.0, rest)) x e in
+    let b = went_on (variables_at a.0.1) (λ variables. statements_at variables.1 >>= λ prelude. loop_at prelude.1 >>= λ repeated. symbol_at symbol.RightBrace repeated.1 >>= λ rest. Ok (made a.0.0 variables.0 prelude.0 repeated.0, rest)) x a.2 in
+    let c = went_on (statements_at b.0.1) (λ prelude. loop_at prelude.1 >>= λ repeated. symbol_at symbol.RightBrace repeated.1 >>= λ rest. Ok (made a.0.0 b.0.0 prelude.0 repeated.0, rest)) x b.2 in
+    let d = went_on (loop_at c.0.1) (λ repeated. symbol_at symbol.RightBrace repeated.1 >>= λ rest. Ok (made a.0.0 b.0.0 c.0.0 repeated.0, rest)) x c.2 in
+    let f = went_on (symbol_at symbol.RightBrace d.0.1) (λ rest. Ok (made a.0.0 b.0.0 c.0.0 d.0.0, rest)) x d.2 in
     let whole : ProcessTree × List Lexeme = (made a.0.0 b.0.0 c.0.0 d.0.0, f.0) in
-    subst (λ (p : ProcessTree × List Lexeme). Took ts (IsProcess p.0) p.1) (ok_is whole x f.2)
+    subst (λ (p : ProcessTree × List Lexeme). Took ts (IsProcess p.0) p.1) (same_value whole x f.2)
     (took_as (regroup_process a.0.0 _) (then_took (head_took ts a.0 a.1) (then_took (variables_took a.0.1 b.0 b.1) (then_took (statements_took b.0.1 c.0 c.1) (then_took (loop_took c.0.1 d.0 d.1) (symbol_took symbol.RightBrace d.0.1 f.0 f.1))))))
 
 pub channel_took : (role : Role) (ts : List Lexeme) (x : ChannelText × List Lexeme) → channel_at role ts ≡ Ok x → (x.0.role ≡ role) × Took ts (IsChannel x.0) x.1
 unfolding channel_at
 channel_took role ts x e =
     let made = λ (start : ℕ) (name : NameTree). let c : ChannelText = record { role = role; name = name; line = start } in c in
-    let a = bind_ok (word_at (first_word role) ts) (λ start. name_at start.1 >>= λ name. symbol_at symbol.Semicolon name.1 >>= λ rest. Ok (made start.0 name.0, rest)) x e in
-    let b = bind_ok (name_at a.0.1) (λ name. symbol_at symbol.Semicolon name.1 >>= λ rest. Ok (made a.0.0 name.0, rest)) x a.2 in
-    let c = bind_ok (symbol_at symbol.Semicolon b.0.1) (λ rest. Ok (made a.0.0 b.0.0, rest)) x b.2 in
+    let a = went_on (word_at (first_word role) ts) (λ start. name_at start.1 >>= λ name. symbol_at symbol.Semicolon name.1 >>= λ rest. Ok (made start.0 name.0, rest)) x e in
+    let b = went_on (name_at a.0.1) (λ name. symbol_at symbol.Semicolon name.1 >>= λ rest. Ok (made a.0.0 name.0, rest)) x a.2 in
+    let c = went_on (symbol_at symbol.Semicolon b.0.1) (λ rest. Ok (made a.0.0 b.0.0, rest)) x b.2 in
     let whole : ChannelText × List Lexeme = (made a.0.0 b.0.0, c.0) in
-    subst (λ (p : ChannelText × List Lexeme). (p.0.role ≡ role) × Took ts (IsChannel p.0) p.1) (ok_is whole x c.2)
+    subst (λ (p : ChannelText × List Lexeme). (p.0.role ≡ role) × Took ts (IsChannel p.0) p.1) (same_value whole x c.2)
     (refl, then_took (word_took (first_word role) ts a.0 a.1) (then_took (name_took a.0.1 b.0 b.1) (symbol_took symbol.Semicolon b.0.1 c.0 c.1)))
 
 IsEdition : List Lexeme → Type 0
@@ -447,8 +441,8 @@ IsEdition = IsWord keyword.Kahn >> IsNumber 1 >> IsSymbol symbol.Semicolon
 edition_took : (ts rest : List Lexeme) → edition_at ts ≡ Ok rest → Took ts IsEdition rest
 unfolding edition_at IsEdition
 edition_took ts rest e =
-    let a = bind_ok (word_at keyword.Kahn ts) (λ start. number_at start.1 >>= λ number. cond (number.0.number == 1) (symbol_at symbol.Semicolon number.1) (Err (At number.0.line))) rest e in
-    let b = bind_ok (number_at a.0.1) (λ number. cond (number.0.number == 1) (symbol_at symbol.Semicolon number.1) (Err (At number.0.line))) rest a.2 in
+    let a = went_on (word_at keyword.Kahn ts) (λ start. number_at start.1 >>= λ number. cond (number.0.number == 1) (symbol_at symbol.Semicolon number.1) (Err (At number.0.line))) rest e in
+    let b = went_on (number_at a.0.1) (λ number. cond (number.0.number == 1) (symbol_at symbol.Semicolon number.1) (Err (At number.0.line))) rest a.2 in
     let c : (b.0.0.number ≡ 1) × (symbol_at symbol.Semicolon b.0.1 ≡ Ok rest) =
     elim (chosen (b.0.0.number == 1) (symbol_at symbol.Semicolon b.0.1) (Err (At b.0.0.line)) (Ok rest) b.2) as (λ _. (b.0.0.number ≡ 1) × (symbol_at symbol.Semicolon b.0.1 ≡ Ok rest)) [
       | inl g ↦ (eqb-true _ _ g.0, g.1)
@@ -468,13 +462,13 @@ regroup_edition Q front is =
 pub whole_took : (ts : List Lexeme) (tree : List DeclarationTree) → whole_text ts ≡ Ok tree → IsText tree ts
 unfolding whole_text text_at
 whole_took ts tree e =
-    let t = bind_ok (text_at ts) (λ text. no_more text.0 text.1) tree e in
-    let a = bind_ok (edition_at ts) (λ declarations. channel_at Input declarations >>= λ input. channel_at Output input.1 >>= λ output. process_at output.1 >>= λ process. Ok (ChannelTree input.0 ∷ ChannelTree output.0 ∷ ProcessDeclared process.0 ∷ [], process.1)) t.0 t.1 in
-    let b = bind_ok (channel_at Input a.0) (λ input. channel_at Output input.1 >>= λ output. process_at output.1 >>= λ process. Ok (ChannelTree input.0 ∷ ChannelTree output.0 ∷ ProcessDeclared process.0 ∷ [], process.1)) t.0 a.2 in
-    let c = bind_ok (channel_at Output b.0.1) (λ output. process_at output.1 >>= λ process. Ok (ChannelTree b.0.0 ∷ ChannelTree output.0 ∷ ProcessDeclared process.0 ∷ [], process.1)) t.0 b.2 in
-    let d = bind_ok (process_at c.0.1) (λ process. Ok (ChannelTree b.0.0 ∷ ChannelTree c.0.0 ∷ ProcessDeclared process.0 ∷ [], process.1)) t.0 c.2 in
+    let t = went_on (text_at ts) (λ text. no_more text.0 text.1) tree e in
+    let a = went_on (edition_at ts) (λ declarations. channel_at Input declarations >>= λ input. channel_at Output input.1 >>= λ output. process_at output.1 >>= λ process. Ok (ChannelTree input.0 ∷ ChannelTree output.0 ∷ ProcessDeclared process.0 ∷ [], process.1)) t.0 t.1 in
+    let b = went_on (channel_at Input a.0) (λ input. channel_at Output input.1 >>= λ output. process_at output.1 >>= λ process. Ok (ChannelTree input.0 ∷ ChannelTree output.0 ∷ ProcessDeclared process.0 ∷ [], process.1)) t.0 a.2 in
+    let c = went_on (channel_at Output b.0.1) (λ output. process_at output.1 >>= λ process. Ok (ChannelTree b.0.0 ∷ ChannelTree output.0 ∷ ProcessDeclared process.0 ∷ [], process.1)) t.0 b.2 in
+    let d = went_on (process_at c.0.1) (λ process. Ok (ChannelTree b.0.0 ∷ ChannelTree c.0.0 ∷ ProcessDeclared process.0 ∷ [], process.1)) t.0 c.2 in
     let made : List DeclarationTree × List Lexeme = (ChannelTree b.0.0 ∷ ChannelTree c.0.0 ∷ ProcessDeclared d.0.0 ∷ [], d.0.1) in
-    let same = ok_is made t.0 d.2 in
+    let same = same_value made t.0 d.2 in
     let input = channel_took Input a.0 b.0 b.1 in
     let output = channel_took Output b.0.1 c.0 c.1 in
     let none = nothing_left t.0.0 t.0.1 tree t.2 in

@@ -6,7 +6,7 @@ use Rattle.net_text.specs.Trees.{DeclarationTree}
 use Rattle.net_text.specs.Tokens.{Lexeme}
 use Rattle.net_text.specs.Texts.{IsLineAmong}
 use Rattle.net_text.specs.Grammar.{first_word}
-use Rattle.net_text.specs.Reading.{◌>>=◌, Read, has_word, has_symbol, is_name, begins, word_at, symbol_at, name_at, number_in, number_at, factor_in, factor_at, many, link_at, links_at, expr_at, get_at, assign_at, named_at, put_at, statement_at, starts_statement, statements_at, block_at, value_at, initial_at, variable_at, variables_at, loop_at, head_at, process_at, channel_at, edition_at, text_at, no_more, whole_text}
+use Rattle.net_text.specs.Reading.{Read, has_word, has_symbol, is_name, begins, word_at, symbol_at, name_at, number_in, number_at, factor_in, factor_at, many, link_at, links_at, expr_at, get_at, assign_at, named_at, put_at, statement_at, starts_statement, statements_at, block_at, value_at, initial_at, variable_at, variables_at, loop_at, head_at, process_at, channel_at, edition_at, text_at, no_more, whole_text}
 use Rattle.net_text.specs.declared.parser.Stuck.{Stuck}
 use Rattle.net_text.specs.declared.parser.Stuck.TheVariants.{At, AtEnd}
 use Rattle.net_text.specs.declared.token.Keyword.{Keyword}
@@ -18,6 +18,7 @@ use Rattle.net_text.specs.declared.token.TokenKind.TheVariants as kind
 use Rattle.net_text.specs.declared.tree.Role.{Role}
 use Rattle.net_text.specs.declared.tree.Role.TheVariants.{Input, Output}
 use Rattle.net_text.specs.declared.tree.NodeText.{NodeText}
+use Rattle.net_text.specs.Results.{◌>>=◌}
 
 -- the line of each token has this property
 abbrev pub OnLines : (ℕ → Type 0) → List Lexeme → Type 0

@@ -1,7 +1,7 @@
 -- A text in the grammar has one reading, and that reading gives its tree.
 use Rattle.std.proofs.Common.{◌≡◌, ℕ, ◌≤◌, inl, inr, List, length, Result, Ok, Err, sym, ap, subst, ◌∙◌}
 use Rattle.net_text.specs.Trees.{DeclarationTree}
-use Rattle.net_text.specs.Tokens.{Lexeme, line_at, text_limit, AreTokens, IsReading, IsFirstFault}
+use Rattle.net_text.specs.Tokens.{Lexeme, line_at, AreTokens, IsReading, IsFirstFault}
 use Rattle.net_text.specs.Grammar.{IsText, IsTextOf}
 use Rattle.net_text.specs.Texts.{IsParseFault}
 use Rattle.net_text.specs.Reading.{whole_text, Fails, fault_at}
@@ -16,6 +16,7 @@ use Rattle.net_text.specs.declared.parser.Stuck.{Stuck}
 use Rattle.net_text.specs.declared.parser.Stuck.TheVariants.{At, AtEnd}
 use Rattle.net_text.specs.declared.parser.ParseError.{ParseError}
 use Rattle.net_text.specs.declared.parser.ParseError.TheVariants as error
+use Rattle.net_text.specs.declared.limits.TheConstants.{MAX_TEXT_BYTES}
 
 -- tokens that are a text's, all of them, are those that are read of it, up to its end
 pub tokens_read : (text : List ℕ) (ts us : List Lexeme) (stop : End) → AreTokens text ts → IsReading text us stop → (ts ≡ us) × (stop ≡ end.Text (line_at text (length text)))
@@ -40,11 +41,11 @@ one_tree ts found tree h g = let both : ok found ≡ ok tree = sym h ∙ g in cc
 pub no_bad_end : (stop : End) (fault : TextFault) (line : ℕ) → stop ≡ end.Bad fault → stop ≡ end.Text line → ⊥
 no_bad_end stop fault line h g = cc
 
-first_fault : (text : List ℕ) (ts : List Lexeme) (fault : TextFault) → length text ≤ text_limit → IsReading text ts (end.Bad fault) → IsFirstFault text fault
+first_fault : (text : List ℕ) (ts : List Lexeme) (fault : TextFault) → length text ≤ MAX_TEXT_BYTES → IsReading text ts (end.Bad fault) → IsFirstFault text fault
 first_fault text ts fault small g = (small, (ts, record { place = g.place; read = g.read; bad = g.stops }))
 
 -- the first bad token of a text is why it has no tokens
-tokens_fault : (text : List ℕ) (ts : List Lexeme) (fault : TextFault) → length text ≤ text_limit → IsReading text ts (end.Bad fault) → IsParseFault text fault
+tokens_fault : (text : List ℕ) (ts : List Lexeme) (fault : TextFault) → length text ≤ MAX_TEXT_BYTES → IsReading text ts (end.Bad fault) → IsParseFault text fault
 tokens_fault text ts NoMemory small g = tt
 tokens_fault text ts (BadToken line) small g = first_fault text ts (BadToken line) small g
 tokens_fault text ts (Unexpected line) small g = absurd g.stops.bad
@@ -61,13 +62,13 @@ stuck_tree text ts stop stuck g read tree is = let again = (tree_read text tree 
     err : Stuck → Result (List DeclarationTree) Stuck
     err s = Err s
 
-stuck_fault : (text : List ℕ) (ts : List Lexeme) (stop : End) (stuck : Stuck) → length text ≤ text_limit → IsReading text ts stop → whole_text ts ≡ Err stuck → IsParseFault text (fault_at stuck stop)
-stuck_fault text ts stop (At line) small g read = (stuck_tree text ts stop (At line) g read, (ts, g.place, g.read, inl (stuck_among ts line read)))
-stuck_fault text ts (end.Text line) AtEnd small g read = (stuck_tree text ts (end.Text line) AtEnd g read, (ts, g.place, g.read, inr g.stops))
+stuck_fault : (text : List ℕ) (ts : List Lexeme) (stop : End) (stuck : Stuck) → length text ≤ MAX_TEXT_BYTES → IsReading text ts stop → whole_text ts ≡ Err stuck → IsParseFault text (fault_at stuck stop)
+stuck_fault text ts stop (At line) small g read = (small, stuck_tree text ts stop (At line) g read, (ts, g.place, g.read, inl (stuck_among ts line read)))
+stuck_fault text ts (end.Text line) AtEnd small g read = (small, stuck_tree text ts (end.Text line) AtEnd g read, (ts, g.place, g.read, inr g.stops))
 stuck_fault text ts (end.Bad fault) AtEnd small g read = tokens_fault text ts fault small g
 
 -- a text whose reading is stuck is refused for what it is
-pub refused : (text : List ℕ) (read ts : List Lexeme) (stop : End) (e : ParseError) (stuck : Stuck) → length text ≤ text_limit → e ≡ error.Stuck stuck → Fails e (whole_text read) → read ≡ ts → IsReading text ts stop
+pub refused : (text : List ℕ) (read ts : List Lexeme) (stop : End) (e : ParseError) (stuck : Stuck) → length text ≤ MAX_TEXT_BYTES → e ≡ error.Stuck stuck → Fails e (whole_text read) → read ≡ ts → IsReading text ts stop
     → IsParseFault text (fault_at stuck stop) × ((tree : List DeclarationTree) → IsTextOf tree text → ⊥)
 refused text read ts stop (error.Stuck other) stuck small k h same g =
     let here : other ≡ stuck = let both : error.Stuck other ≡ error.Stuck stuck = k in cc in

@@ -10,7 +10,7 @@
 use Rattle.std.specs.Prelude.{◌≡◌, ◌⊎◌, ℕ, ◌≤◌, List, [], ◌∷◌, ◌++◌, length, Option, Some, None, ℤ, pos, neg_ℤ}
 use Rattle.net_text.specs.Names.{NameTree}
 use Rattle.net_text.specs.Trees.{ExprTree, LiteralTree, VariableTree, ChainTree, LinkTree, links_tree, BlockTree, NothingTree, GetTree, AssignTree, PutTree, LoopTree, ProcessTree, DeclarationTree, ChannelTree, ProcessDeclared}
-use Rattle.net_text.specs.Tokens.{Lexeme, AreTokens, text_limit}
+use Rattle.net_text.specs.Tokens.{Lexeme, AreTokens}
 use Rattle.net_text.specs.declared.token.Keyword.{Keyword}
 use Rattle.net_text.specs.declared.token.Keyword.TheVariants as keyword
 use Rattle.net_text.specs.declared.token.Symbol.{Symbol}
@@ -22,6 +22,7 @@ use Rattle.net_text.specs.declared.tree.Role.{Role}
 use Rattle.net_text.specs.declared.tree.Role.TheVariants.{Input, Inner, Output}
 use Rattle.net_text.specs.declared.tree.ChannelText.{ChannelText}
 use Rattle.net_text.specs.declared.tree.VariableText.{VariableText}
+use Rattle.net_text.specs.declared.limits.TheConstants.{MAX_TEXT_BYTES}
 
 infixr 6 ◌>>◌
 abbrev pub ◌>>◌ : (List Lexeme → Type 0) → (List Lexeme → Type 0) → List Lexeme → Type 0
@@ -142,7 +143,7 @@ pub record IsText (declarations : List DeclarationTree) (ts : List Lexeme) : Typ
 
 -- a text of this tree
 pub record IsTextOf (declarations : List DeclarationTree) (text : List ℕ) : Type 0 where
-  pub small : length text ≤ text_limit
+  pub small : length text ≤ MAX_TEXT_BYTES
   pub tokens : List Lexeme
   pub read : AreTokens text tokens
   pub grammar : IsText declarations tokens

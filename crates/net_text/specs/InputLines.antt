@@ -7,10 +7,7 @@ use Rattle.net_text.specs.Spellings.{is_word}
 use Rattle.net_text.specs.Trees.{InputTree}
 use Rattle.net_text.specs.declared.fault.TextFault.{TextFault}
 use Rattle.net_text.specs.declared.fault.TextFault.TheVariants.{NoMemory, BadToken, Unexpected, NumberRange, TooLong}
-
--- the bytes of an inputs text that may be read
-abbrev pub inputs_limit : ℕ
-inputs_limit = 16777216
+use Rattle.net_text.specs.declared.limits.TheConstants.{MAX_INPUTS_BYTES, MAX_NAME_BYTES}
 
 -- the lines, without their line feeds
 abbrev pub lines_of : List ℕ → List (List ℕ)
@@ -43,7 +40,7 @@ pub record IsEntry (number : ℕ) (line : List ℕ) (e : InputTree) : Type 0 whe
   pub rest : List ℕ
   pub parts : line ≡ e.name.text ++ 58 ∷ rest
   pub word : IsTrue (is_word e.name.text)
-  pub short : length e.name.text ≤ 64
+  pub short : length e.name.text ≤ MAX_NAME_BYTES
   pub line_is : e.name.line ≡ number
   pub items : IsItems e.items rest
 
@@ -56,7 +53,7 @@ AreEntries number (line ∷ lines) es =
 
 -- a text of these entries
 pub record IsInputsText (text : List ℕ) (es : List InputTree) : Type 0 where
-  pub small : length text ≤ inputs_limit
+  pub small : length text ≤ MAX_INPUTS_BYTES
   pub entries : AreEntries 1 (lines_of text) es
 
 -- a line that is neither blank nor an entry
@@ -75,4 +72,4 @@ IsInputsFault text NoMemory = Unit {0}
 IsInputsFault text (BadToken line) = IsBadLine text line
 IsInputsFault text (Unexpected line) = IsBadLine text line
 IsInputsFault text (NumberRange line) = IsBadLine text line
-IsInputsFault text (TooLong line) = ((inputs_limit < length text) × (line ≡ 1)) ⊎ IsBadLine text line
+IsInputsFault text (TooLong line) = ((MAX_INPUTS_BYTES < length text) × (line ≡ 1)) ⊎ IsBadLine text line

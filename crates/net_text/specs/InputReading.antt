@@ -1,4 +1,4 @@
--- Reading the lines of an inputs text from left to right, as the code does, with the first fault that is met.
+-- A reader of the lines of an inputs text: it goes from the left, and ends at the first fault.
 use Rattle.std.specs.Prelude.{◌≡◌, ℕ, zero, suc, ◌+◌, ◌^◌, Bool, true, false, ◌==◌, if◌then◌else◌, List, [], ◌∷◌, length, take, drop, slice_index, Option, Some, None, Result, Ok, Err, ℤ, pos, neg_ℤ, nat_lt, nat_le, ◌||◌}
 use Rattle.std.specs.Char.{is_ascii_digit}
 use Rattle.net_text.specs.Numbers.{numeral_value}
@@ -8,11 +8,8 @@ use Rattle.net_text.specs.InputLines.{is_space, is_comment}
 use Rattle.net_text.specs.declared.raw_inputs.InputLine.{InputLine}
 use Rattle.net_text.specs.declared.fault.TextFault.{TextFault}
 use Rattle.net_text.specs.declared.fault.TextFault.TheVariants.{NoMemory, BadToken, Unexpected, NumberRange, TooLong}
-
-infixl 10 ◌>>=◌
-abbrev pub ◌>>=◌ : {A B : Type 0} → Result A TextFault → (A → Result B TextFault) → Result B TextFault
-(Ok x) >>= f = f x
-(Err e) >>= f = Err e
+use Rattle.net_text.specs.declared.limits.TheConstants.{MAX_NAME_BYTES}
+use Rattle.net_text.specs.Results.{◌>>=◌}
 
 -- What a function returned, seen by view, is what reading gives, unless memory ran out. Reading itself never runs out of memory.
 abbrev pub Fails : {Y : Type 0} → TextFault → Result Y TextFault → Type 0
@@ -63,7 +60,7 @@ items_at line bytes = items_from line (suc (length bytes)) bytes
 -- the items after a name of this length
 unfoldable pub after_name : ℕ → ℕ → List ℕ → Result InputTree TextFault
 after_name line n bytes =
-    if nat_lt 64 n then Err (TooLong line)
+    if nat_lt MAX_NAME_BYTES n then Err (TooLong line)
     else (if n == length bytes then Err (Unexpected line)
     else (if slice_index bytes n == 58
     then (items_at line (drop (suc n) bytes) >>= λ items. Ok (record { name = record { text = take n bytes; line = line }; items = items }))

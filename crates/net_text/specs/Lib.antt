@@ -5,6 +5,7 @@ pub mod InputReading
 pub mod Names
 pub mod Numbers
 pub mod Reading
+pub mod Results
 pub mod Spellings
 pub mod Texts
 pub mod Tokens

@@ -28,14 +28,10 @@ use Rattle.net_text.specs.declared.tree.Role.TheVariants.{Input, Output}
 use Rattle.net_text.specs.declared.tree.ChannelText.{ChannelText}
 use Rattle.net_text.specs.declared.tree.VariableText.{VariableText}
 use Rattle.net_text.specs.declared.tree.NodeText.{NodeText}
+use Rattle.net_text.specs.Results.{◌>>=◌}
 
 abbrev pub Read : Type 0 → Type 0
 Read A = Result (A × List Lexeme) Stuck
-
-infixl 10 ◌>>=◌
-abbrev pub ◌>>=◌ : {A B : Type 0} → Result A Stuck → (A → Result B Stuck) → Result B Stuck
-(Ok x) >>= f = f x
-(Err e) >>= f = Err e
 
 -- What a function returned, seen by view, is what reading gives, unless memory ran out.
 abbrev pub Fails : {Y : Type 0} → ParseError → Result Y Stuck → Type 0

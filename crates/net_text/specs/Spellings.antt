@@ -13,6 +13,7 @@ use Rattle.net_text.specs.declared.token.TokenKind.{TokenKind}
 use Rattle.net_text.specs.declared.lexer.Shape.{Shape}
 use Rattle.net_text.specs.declared.lexer.Shape.TheVariants as shape
 use Rattle.net_text.specs.declared.token.TokenKind.TheVariants as kind
+use Rattle.net_text.specs.declared.limits.TheConstants.{MAX_NAME_BYTES}
 
 abbrev pub keyword_spelling : Keyword → List ℕ
 keyword_spelling keyword.Kahn = codes "kahn"
@@ -82,7 +83,7 @@ is_kept (kind.Symbol s) = true
 
 -- These bytes are a token of this kind. A name has at most 64 bytes, a number fits the signed 64 bits.
 abbrev pub Spells : TokenKind → List ℕ → Type 0
-Spells kind.Name bytes = IsTrue (is_word bytes) × ((w : Keyword) → bytes ≢ keyword_spelling w) × (length bytes ≤ 64)
+Spells kind.Name bytes = IsTrue (is_word bytes) × ((w : Keyword) → bytes ≢ keyword_spelling w) × (length bytes ≤ MAX_NAME_BYTES)
 Spells (kind.Number n) bytes = IsTrue (is_numeral bytes) × (n ≡ numeral_value bytes) × IsInRange n
 Spells (kind.Word w) bytes = bytes ≡ keyword_spelling w
 Spells (kind.Symbol s) bytes = bytes ≡ symbol_spelling s
@@ -102,7 +103,7 @@ IsShape (shape.Symbol s) bytes = bytes ≡ symbol_spelling s
 -- why a lexeme on this line is no token: its number is too large, or its name too long
 abbrev pub IsPastLimit : List ℕ → ℕ → TextFault → Type 0
 IsPastLimit bytes line (NumberRange at) = (at ≡ line) × IsTrue (is_numeral bytes) × (2 ^ 63 ≤ numeral_value bytes)
-IsPastLimit bytes line (TooLong at) = (at ≡ line) × IsTrue (is_word bytes) × (64 < length bytes)
+IsPastLimit bytes line (TooLong at) = (at ≡ line) × IsTrue (is_word bytes) × (MAX_NAME_BYTES < length bytes)
 IsPastLimit bytes line NoMemory = ⊥
 IsPastLimit bytes line (BadToken at) = ⊥
 IsPastLimit bytes line (Unexpected at) = ⊥

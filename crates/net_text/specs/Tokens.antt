@@ -8,10 +8,7 @@ use Rattle.net_text.specs.declared.lexer.End.{End}
 use Rattle.net_text.specs.declared.lexer.End.TheVariants as end
 use Rattle.net_text.specs.declared.token.Token.{Token}
 use Rattle.net_text.specs.declared.token.TokenKind.{TokenKind}
-
--- the bytes of a text that may be read
-abbrev pub text_limit : ℕ
-text_limit = 1048576
+use Rattle.net_text.specs.declared.limits.TheConstants.{MAX_NAME_BYTES, MAX_TEXT_BYTES}
 
 -- 1 plus the line feeds before a place
 abbrev pub line_at : List ℕ → ℕ → ℕ
@@ -80,7 +77,7 @@ IsBadAt text start (BadToken line) = (line ≡ line_at text start) × ((n : ℕ)
 -- a numeral past the range of the signed 64 bits
 IsBadAt text start (NumberRange line) = (line ≡ line_at text start) × ((front : List ℕ) × IsLongest front (drop start text) × IsTrue (is_numeral front) × (2 ^ 63 ≤ numeral_value front))
 -- a name of more than 64 bytes
-IsBadAt text start (TooLong line) = (line ≡ line_at text start) × ((front : List ℕ) × IsLongest front (drop start text) × IsTrue (is_word front) × (64 < length front))
+IsBadAt text start (TooLong line) = (line ≡ line_at text start) × ((front : List ℕ) × IsLongest front (drop start text) × IsTrue (is_word front) × (MAX_NAME_BYTES < length front))
 IsBadAt text start NoMemory = ⊥
 IsBadAt text start (Unexpected line) = ⊥
 
@@ -109,12 +106,12 @@ pub record AreTokensBefore (text : List ℕ) (ts : List Lexeme) (fault : TextFau
   pub bad : IsBadFrom text place fault
 
 abbrev pub IsFirstFault : List ℕ → TextFault → Type 0
-IsFirstFault text fault = (length text ≤ text_limit) × ((ts : List Lexeme) × AreTokensBefore text ts fault)
+IsFirstFault text fault = (length text ≤ MAX_TEXT_BYTES) × ((ts : List Lexeme) × AreTokensBefore text ts fault)
 
 -- Why a text has no tokens: it is over-long, or these are its tokens before the first that is bad. Of want of memory the text says nothing.
 abbrev pub IsTokensFault : List ℕ → TextFault → Type 0
 IsTokensFault text NoMemory = Unit {0}
 IsTokensFault text (BadToken line) = IsFirstFault text (BadToken line)
 IsTokensFault text (NumberRange line) = IsFirstFault text (NumberRange line)
-IsTokensFault text (TooLong line) = ((text_limit < length text) × (line ≡ 1)) ⊎ IsFirstFault text (TooLong line)
+IsTokensFault text (TooLong line) = ((MAX_TEXT_BYTES < length text) × (line ≡ 1)) ⊎ IsFirstFault text (TooLong line)
 IsTokensFault text (Unexpected line) = ⊥

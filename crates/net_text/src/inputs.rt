@@ -1,23 +1,21 @@
 //! Reading an inputs text: lines of a name, a colon and items.
 
-ghost use Rattle.std.specs.Prelude.{◌≡◌, ◌+◌, ◌≤◌, ◌==◌, List, [], ◌∷◌, ◌++◌, length, take, drop, slice_index, map, ◌||◌, ◌<◌, ◌^◌, IfOk, IfErr, OnOk, Option, Some, None};
-ghost use Rattle.std.specs.List.{list_all, slice_split};
+ghost use Rattle.std.specs.Prelude.{◌≡◌, ◌+◌, ◌==◌, List, [], ◌++◌, length, map, ◌||◌, ◌<◌, ◌^◌, IfOk, IfErr, OnOk, Option, Some, None};
+ghost use Rattle.std.specs.List.{slice_split};
 ghost use Rattle.std.specs.Str.{IsUtf8};
 ghost use Rattle.std.specs.Str.Lines.{strip_carriage_return};
 ghost use Rattle.net_text.specs.Trees.{InputTree, input_tree, inputs_tree};
-ghost use Rattle.net_text.specs.InputLines.{inputs_limit, is_space, is_comment, lines_of, IsInputsText, IsInputsFault};
+ghost use Rattle.net_text.specs.InputLines.{is_space, is_comment, IsInputsText, IsInputsFault};
 ghost use Rattle.net_text.specs.InputReading.{Gives, run, sign_len, item_at, items_at, after_name, entry_at, line_at, lines_at, entry_tree, with_entry};
 ghost use Rattle.net_text.specs.Spellings.{continues_word};
 ghost use Rattle.net_text.specs.Texts.{Answers};
 
 use crate::fault::TextFault;
-use crate::lexer::{LONGEST_NAME, numeral_len, starts_word, word_len};
+use crate::lexer::{numeral_len, starts_word, word_len};
+use crate::limits::{MAX_INPUTS_BYTES, MAX_NAME_BYTES};
 use crate::name::Name;
 use crate::raw_inputs::{InputLine, RawInputs};
 use std::alloc::{AllocError, Global};
-
-/// The bytes that an inputs text may have.
-pub const LONGEST_INPUTS: usize = 16_777_216;
 
 // How many spaces stand at the front.
 fn space_len(bytes: &[u8]) -> usize
@@ -90,7 +88,7 @@ fn after_name(alloc: Global, text: &str, len: usize, line: usize) -> Result<Inpu
     requires { len ≡ run continues_word text.now }
     ensures { Gives input_tree result (after_name line len text.now) }
 {
-    if len > LONGEST_NAME {
+    if len > MAX_NAME_BYTES {
         return Err(TextFault::TooLong { line });
     }
     let bytes = text.as_bytes();
@@ -152,7 +150,8 @@ fn without_return(line: &str) -> &str
 
 // Adds a line's entry, if it has one.
 fn add_entry(lines: &mut Vec<InputLine>, entry: Option<InputLine>) -> Result<(), AllocError>
-    ensures { OnOk result (map input_tree lines.new.items ≡ map input_tree lines.old.items ++ with_entry (entry_tree entry) []) }
+    ensures { OnOk result (map input_tree lines.new.items ≡ map input_tree lines.old.items
+        ++ with_entry (entry_tree entry) []) }
 {
     if let Some(entry) = entry {
         lines.push(entry)?;
@@ -162,7 +161,8 @@ fn add_entry(lines: &mut Vec<InputLine>, entry: Option<InputLine>) -> Result<(),
 
 fn entries(alloc: Global, parts: &[&str]) -> Result<Vec<InputLine>, TextFault>
     requires { length parts.now < 2 ^ 63 }
-    ensures { Gives (λ v. map input_tree v.items) result (lines_at 1 (map (λ part. strip_carriage_return part.now) parts.now)) }
+    ensures { Gives (λ v. map input_tree v.items) result
+        (lines_at 1 (map (λ part. strip_carriage_return part.now) parts.now)) }
 {
     let mut lines = Vec::new(alloc);
     for (i, part) in parts.iter().enumerate() {
@@ -174,7 +174,8 @@ fn entries(alloc: Global, parts: &[&str]) -> Result<Vec<InputLine>, TextFault>
 
 // The parts of a text between its line feeds.
 fn split_lines(alloc: Global, text: &str) -> Result<Vec<&str>, AllocError>
-    ensures { IfOk result (λ parts. map (λ part. part.now) parts.items ≡ slice_split (λ b. b == 10) text.now) }
+    ensures { IfOk result (λ parts. map (λ part. part.now) parts.items
+        ≡ slice_split (λ b. b == 10) text.now) }
 {
     text.split('\n').collect(alloc)
 }
@@ -188,9 +189,10 @@ pub fn parse_inputs(alloc: Global, text: &str) -> Result<RawInputs, TextFault>
     ensures ok { IfOk result (λ inputs. IsInputsText text.now (inputs_tree inputs)) }
     ensures err { IfErr result (IsInputsFault text.now) }
     // A text in the grammar is read, unless memory runs out.
-    ensures only { (es : List InputTree) → IsInputsText text.now es → Answers inputs_tree result es }
+    ensures only { (es : List InputTree) → IsInputsText text.now es
+        → Answers inputs_tree result es }
 {
-    if text.len() > LONGEST_INPUTS {
+    if text.len() > MAX_INPUTS_BYTES {
         return Err(TextFault::TooLong { line: 1 });
     }
     let parts = split_lines(alloc, text)?;

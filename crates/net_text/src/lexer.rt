@@ -1,16 +1,17 @@
 //! Cutting a text into tokens.
 
-ghost use Rattle.std.specs.Prelude.{◌≡◌, ◌≢◌, ◌↔◌, ℕ, ◌+◌, ◌<◌, ◌≤◌, ◌==◌, [], ◌∷◌, true, false, length, take, drop, count_by, slice_index, IsTrue, MatchOption, MatchResult, IfOk, IfErr, IfSome, IfNone, ◌^◌};
+ghost use Rattle.std.specs.Prelude.{◌≡◌, ◌≢◌, ℕ, ◌+◌, ◌<◌, ◌≤◌, ◌==◌, [], ◌∷◌, true, false, length, take, drop, count_by, slice_index, IsTrue, MatchOption, IfOk, IfErr, IfSome, IfNone};
 ghost use Rattle.std.specs.List.{list_all};
 ghost use Rattle.std.specs.Char.{is_ascii_digit};
-ghost use Rattle.net_text.specs.Numbers.{is_numeral, numeral_value};
+ghost use Rattle.net_text.specs.Numbers.{is_numeral};
 ghost use Rattle.net_text.specs.Spellings.{keyword_spelling, symbol_spelling, starts_word, continues_word, IsLongest, IsLexeme, IsLongestSymbol, IsShape, Spells, is_kept, is_word, IsPastLimit};
-ghost use Rattle.net_text.specs.Tokens.{is_white, after_gap, line_at, text_limit, lexeme_of, lexemes, IsAfterGap, IsTokenFrom, StopsAt, IsReading};
+ghost use Rattle.net_text.specs.Tokens.{is_white, after_gap, line_at, lexeme_of, lexemes, IsAfterGap, IsTokenFrom, StopsAt, IsReading};
 ghost use Rattle.net_text.specs.declared.fault.TextFault.{TextFault};
 ghost use Rattle.net_text.specs.declared.token.Keyword.{Keyword};
 ghost use Rattle.net_text.specs.declared.token.Symbol.{Symbol};
 
 use crate::fault::TextFault;
+use crate::limits::{MAX_NAME_BYTES, MAX_TEXT_BYTES};
 use crate::token::{Keyword, Symbol, Token, TokenKind};
 use std::alloc::{AllocError, Global};
 
@@ -84,7 +85,8 @@ fn line_feeds(bytes: &[u8]) -> usize
 pub(crate) fn word_len(bytes: &[u8]) -> usize
     ensures within { result ≤ length bytes.now }
     ensures all { list_all continues_word (take result bytes.now) ≡ true }
-    ensures stops { result < length bytes.now → continues_word (slice_index bytes.now result) ≡ false }
+    ensures stops { result < length bytes.now
+        → continues_word (slice_index bytes.now result) ≡ false }
 {
     for (i, b) in bytes.iter().enumerate() {
         if !continues_word(*b) {
@@ -98,7 +100,8 @@ pub(crate) fn word_len(bytes: &[u8]) -> usize
 pub(crate) fn numeral_len(bytes: &[u8]) -> usize
     ensures within { result ≤ length bytes.now }
     ensures all { list_all is_ascii_digit (take result bytes.now) ≡ true }
-    ensures stops { result < length bytes.now → is_ascii_digit (slice_index bytes.now result) ≡ false }
+    ensures stops { result < length bytes.now
+        → is_ascii_digit (slice_index bytes.now result) ≡ false }
 {
     for (i, b) in bytes.iter().enumerate() {
         if !b.is_ascii_digit() {
@@ -110,7 +113,8 @@ pub(crate) fn numeral_len(bytes: &[u8]) -> usize
 
 // The keyword that a word is, if it is one.
 fn keyword_of(word: &str) -> Option<Keyword>
-    ensures { MatchOption result ((w : Keyword) → word.now ≢ keyword_spelling w) (λ w. word.now ≡ keyword_spelling w) }
+    ensures { MatchOption result ((w : Keyword) → word.now ≢ keyword_spelling w)
+        (λ w. word.now ≡ keyword_spelling w) }
 {
     match word {
         "kahn" => Some(Keyword::Kahn),
@@ -136,7 +140,8 @@ fn keyword_of(word: &str) -> Option<Keyword>
 
 // The symbol that this byte is by itself.
 fn single_symbol(b: u8) -> Option<Symbol>
-    ensures { MatchOption result ((s : Symbol) → symbol_spelling s ≢ b ∷ []) (λ s. symbol_spelling s ≡ b ∷ []) }
+    ensures { MatchOption result ((s : Symbol) → symbol_spelling s ≢ b ∷ [])
+        (λ s. symbol_spelling s ≡ b ∷ []) }
 {
     match b {
         b';' => Some(Symbol::Semicolon),
@@ -156,7 +161,9 @@ fn single_symbol(b: u8) -> Option<Symbol>
 
 // The symbol that the first two bytes are.
 fn double_symbol(rest: &[u8]) -> Option<Symbol>
-    ensures { MatchOption result ((s : Symbol) → 2 ≤ length rest.now → take 2 rest.now ≢ symbol_spelling s) (λ s. (2 ≤ length rest.now) × (take 2 rest.now ≡ symbol_spelling s)) }
+    ensures { MatchOption result
+        ((s : Symbol) → 2 ≤ length rest.now → take 2 rest.now ≢ symbol_spelling s)
+        (λ s. (2 ≤ length rest.now) × (take 2 rest.now ≡ symbol_spelling s)) }
 {
     match rest {
         [b'=', b'=', ..] => Some(Symbol::Equal),
@@ -169,7 +176,9 @@ fn double_symbol(rest: &[u8]) -> Option<Symbol>
 
 // The longest symbol at the front, and its length.
 fn symbol_at(rest: &[u8]) -> Option<(Symbol, usize)>
-    ensures { MatchOption result ((s : Symbol) (n : ℕ) → n ≤ length rest.now → take n rest.now ≢ symbol_spelling s) (λ found. IsLongestSymbol found.0 found.1 rest.now) }
+    ensures { MatchOption result
+        ((s : Symbol) (n : ℕ) → n ≤ length rest.now → take n rest.now ≢ symbol_spelling s)
+        (λ found. IsLongestSymbol found.0 found.1 rest.now) }
 {
     if let Some(symbol) = double_symbol(rest) {
         return Some((symbol, 2));
@@ -187,7 +196,9 @@ fn symbol_at(rest: &[u8]) -> Option<(Symbol, usize)>
 // The longest front that a token may look like: its shape and its length.
 fn lexeme_at(rest: &[u8]) -> Option<(Shape, usize)>
     ensures none { IfNone result ((n : ℕ) → n ≤ length rest.now → IsLexeme (take n rest.now) → ⊥) }
-    ensures some { IfSome result (λ found. (found.1 ≤ length rest.now) × IsLongest (take found.1 rest.now) rest.now × IsShape found.0 (take found.1 rest.now)) }
+    ensures some { IfSome result
+        (λ found. (found.1 ≤ length rest.now) × IsLongest (take found.1 rest.now) rest.now
+        × IsShape found.0 (take found.1 rest.now)) }
 {
     if rest.is_empty() {
         return None;
@@ -205,8 +216,6 @@ fn lexeme_at(rest: &[u8]) -> Option<(Shape, usize)>
     }
 }
 
-pub(crate) const LONGEST_NAME: usize = 64;
-
 // A word that is no keyword is a name.
 fn word_kind(word: &str, line: usize) -> Result<TokenKind, TextFault>
     requires { IsTrue (is_word word.now) }
@@ -216,7 +225,7 @@ fn word_kind(word: &str, line: usize) -> Result<TokenKind, TextFault>
     if let Some(keyword) = keyword_of(word) {
         return Ok(TokenKind::Word(keyword));
     }
-    if word.len() > LONGEST_NAME {
+    if word.len() > MAX_NAME_BYTES {
         return Err(TextFault::TooLong { line });
     }
     Ok(TokenKind::Name)
@@ -252,7 +261,7 @@ fn kind_of(shape: Shape, text: &str, line: usize) -> Result<TokenKind, TextFault
 
 // Where the next token may begin after a place on this line, past white space and comments, and on which line.
 fn after_gap(bytes: &[u8], place: usize, line: usize) -> (usize, usize)
-    requires small { length bytes.now ≤ text_limit }
+    requires small { length bytes.now ≤ MAX_TEXT_BYTES }
     requires within { place ≤ length bytes.now }
     requires line { line ≡ line_at bytes.now place }
     ensures { IsAfterGap bytes.now place result.0 result.1 }
@@ -265,7 +274,7 @@ fn after_gap(bytes: &[u8], place: usize, line: usize) -> (usize, usize)
 
 // The first token from a place on, where that place stands on this line; or why there is none.
 fn next_token(source: &str, place: usize, line: usize) -> Result<Token<'_>, End>
-    requires small { length source.now ≤ text_limit }
+    requires small { length source.now ≤ MAX_TEXT_BYTES }
     requires within { place ≤ length source.now }
     requires line { line ≡ line_at source.now place }
     ensures ok { IfOk result (λ token. IsTokenFrom source.now place (lexeme_of token)) }
@@ -294,8 +303,9 @@ fn next_token(source: &str, place: usize, line: usize) -> Result<Token<'_>, End>
 
 /// The tokens of a text that isn't over-long, up to its end or to the first that is bad.
 pub(crate) fn read<'a>(alloc: Global, source: &'a str) -> Result<Reading<'a>, AllocError>
-    requires { length source.now ≤ text_limit }
-    ensures { IfOk result (λ reading. IsReading source.now (lexemes reading.tokens.items) reading.end) }
+    requires { length source.now ≤ MAX_TEXT_BYTES }
+    ensures { IfOk result (λ reading. IsReading source.now
+        (lexemes reading.tokens.items) reading.end) }
 {
     let mut tokens = Vec::new(alloc);
     let mut place = 0;

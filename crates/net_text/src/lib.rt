@@ -4,6 +4,7 @@
 mod fault;
 mod inputs;
 mod lexer;
+mod limits;
 mod name;
 mod parser;
 mod raw_inputs;
@@ -12,10 +13,11 @@ mod token;
 mod tree;
 
 pub use fault::TextFault;
-pub use inputs::{LONGEST_INPUTS, parse_inputs};
+pub use inputs::parse_inputs;
+pub use limits::{MAX_INPUTS_BYTES, MAX_NAME_BYTES, MAX_TEXT_BYTES};
 pub use name::Name;
 pub use raw_inputs::{InputLine, RawInputs};
-pub use text::{LONGEST_TEXT, parse, tokens};
+pub use text::{parse, tokens};
 pub use token::{Keyword, Symbol, Token, TokenKind};
 pub use tree::{
     ChannelText, Declaration, ExprText, LinkText, LoopText, NetText, NodeText, ProcessText, Role,

@@ -1,7 +1,7 @@
 //! Reading a network's text: functions from a slice of tokens to what they say and the tokens after it.
 //! Each gives what its reader in specs/ gives; that the readers are those of the grammar stands in proofs/.
 
-ghost use Rattle.std.specs.Prelude.{◌≡◌, ◌↔◌, IsTrue, IfOk, length, map, Option};
+ghost use Rattle.std.specs.Prelude.{◌≡◌, IfOk, map, Option};
 ghost use Rattle.net_text.specs.Trees.{expr_tree, link_tree, then_tree, block_tree, repeated_tree, process_tree, net_tree, NothingTree};
 ghost use Rattle.net_text.specs.Numbers.{IsInRange};
 ghost use Rattle.net_text.specs.Grammar.{chain_of, first_word};
@@ -12,8 +12,8 @@ ghost use Rattle.net_text.specs.declared.parser.ParseError.TheVariants.{NoMemory
 use crate::name::Name;
 use crate::token::{Keyword, Symbol, Token, TokenKind};
 use crate::tree::{
-    ChannelText, Declaration, ExprText, LinkText, LoopText, NetText, NodeText,
-    ProcessText, Role, StatementText, VariableText,
+    ChannelText, Declaration, ExprText, LinkText, LoopText, NetText, NodeText, ProcessText, Role,
+    StatementText, VariableText,
 };
 use kahn_net::Operator;
 use std::alloc::{AllocError, AllocFailed, Global};
@@ -70,7 +70,8 @@ fn is_symbol(found: TokenKind, symbol: Symbol) -> bool
 }
 
 fn name_of(alloc: Global, token: &Token) -> Result<Name, AllocError>
-    ensures { IfOk result (λ name. name ≡ record { text = token.now.text.now; line = token.now.line }) }
+    ensures { IfOk result (λ name. name
+        ≡ record { text = token.now.text.now; line = token.now.line }) }
 {
     Ok(Name::new(String::from_str(alloc, token.text)?, token.line))
 }
@@ -78,7 +79,8 @@ fn name_of(alloc: Global, token: &Token) -> Result<Name, AllocError>
 // A value with its links, which is the value itself where there are none.
 #[tactic(auto, using(crate::specs::TreeLaws::chain_tree))]
 fn chain(alloc: Global, first: ExprText, links: Vec<LinkText>) -> Result<ExprText, AllocError>
-    ensures { IfOk result (λ e. expr_tree e ≡ chain_of (expr_tree first) (map link_tree links.items)) }
+    ensures { IfOk result (λ e. expr_tree e
+        ≡ chain_of (expr_tree first) (map link_tree links.items)) }
 {
     if links.is_empty() {
         return Ok(first);
@@ -283,7 +285,8 @@ impl<'a> Parser<'a> {
     // The rest of a get, past the `=`.
     #[tactic(auto, unfolding(crate::specs::Reading::get_at))]
     fn get(&mut self, variable: Name) -> Result<StatementText, ParseError>
-        ensures { Gives (λ s. (then_tree s NothingTree, self.new)) result (get_at variable self.old) }
+        ensures { Gives (λ s. (then_tree s NothingTree, self.new)) result
+            (get_at variable self.old) }
     {
         let _line = self.word(Keyword::Get)?;
         let channel = self.name()?;
@@ -294,7 +297,8 @@ impl<'a> Parser<'a> {
     // The rest of an assignment, past the `=`.
     #[tactic(auto, unfolding(crate::specs::Reading::assign_at))]
     fn assign(&mut self, variable: Name) -> Result<StatementText, ParseError>
-        ensures { Gives (λ s. (then_tree s NothingTree, self.new)) result (assign_at variable self.old) }
+        ensures { Gives (λ s. (then_tree s NothingTree, self.new)) result
+            (assign_at variable self.old) }
     {
         let value = self.expr()?;
         self.symbol(Symbol::Semicolon)?;

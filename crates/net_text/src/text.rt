@@ -2,31 +2,31 @@
 
 ghost use Rattle.std.specs.Prelude.{◌≡◌, ◌≤◌, List, length, IfOk, IfErr};
 ghost use Rattle.net_text.specs.Trees.{DeclarationTree, net_tree};
-ghost use Rattle.net_text.specs.Tokens.{Lexeme, lexemes, text_limit, AreTokens, IsTokensFault};
+ghost use Rattle.net_text.specs.Tokens.{Lexeme, lexemes, AreTokens, IsTokensFault};
 ghost use Rattle.net_text.specs.Grammar.{IsTextOf};
 ghost use Rattle.net_text.specs.Reading.{fault_at};
 ghost use Rattle.net_text.specs.Texts.{Answers, IsParseFault};
 
 use crate::fault::TextFault;
 use crate::lexer::{End, read};
+use crate::limits::MAX_TEXT_BYTES;
 use crate::parser::{ParseError, Parser, Stuck};
 use crate::token::Token;
 use crate::tree::NetText;
 use std::alloc::Global;
 
-/// The bytes that a network's text may have.
-pub const LONGEST_TEXT: usize = 1_048_576;
-
 /// The tokens of a text, in order. Each is the longest that can stand at its place, past white space and
 /// comments. Refuses the first bad token: 2 for a character that begins none, 4 for a number past the signed
 /// 64 bits, 5 for a name of more than 64 bytes; and an over-long text by 5 on line 1 before all else.
 pub fn tokens(alloc: Global, text: &str) -> Result<Vec<Token<'_>>, TextFault>
-    ensures ok { IfOk result (λ ts. (length text.now ≤ text_limit) × AreTokens text.now (lexemes ts.items)) }
+    ensures ok { IfOk result (λ ts. (length text.now ≤ MAX_TEXT_BYTES)
+        × AreTokens text.now (lexemes ts.items)) }
     ensures err { IfErr result (IsTokensFault text.now) }
     // What can be cut into tokens is, unless memory runs out.
-    ensures only { (ts : List Lexeme) → length text.now ≤ text_limit → AreTokens text.now ts → Answers (λ v. lexemes v.items) result ts }
+    ensures only { (ts : List Lexeme) → length text.now ≤ MAX_TEXT_BYTES → AreTokens text.now ts
+        → Answers (λ v. lexemes v.items) result ts }
 {
-    if text.len() > LONGEST_TEXT {
+    if text.len() > MAX_TEXT_BYTES {
         return Err(TextFault::TooLong { line: 1 });
     }
     let reading = read(alloc, text)?;
@@ -42,9 +42,10 @@ pub fn parse(alloc: Global, text: &str) -> Result<NetText, TextFault>
     ensures ok { IfOk result (λ net. IsTextOf (net_tree net) text.now) }
     ensures err { IfErr result (IsParseFault text.now) }
     // A text in the grammar is read, unless memory runs out.
-    ensures only { (tree : List DeclarationTree) → IsTextOf tree text.now → Answers net_tree result tree }
+    ensures only { (tree : List DeclarationTree) → IsTextOf tree text.now
+        → Answers net_tree result tree }
 {
-    if text.len() > LONGEST_TEXT {
+    if text.len() > MAX_TEXT_BYTES {
         return Err(TextFault::TooLong { line: 1 });
     }
     let reading = read(alloc, text)?;

@@ -10,7 +10,7 @@ use record::Image;
 use crate::state::LAST_NUMBER;
 use kahn_net::{Channel, History, Port, ProcState};
 use net_check::{Inputs, Net};
-use retained::{LOG_ITEMS, Log};
+use retained::{Log, MAX_LOG_ITEMS};
 use proc_step::Job;
 use std::alloc::{AllocError, Global};
 use std::sync::Arc;
@@ -87,7 +87,7 @@ pub(crate) fn places(log: Option<&Log>) -> usize
     match log {
         Some(log) => {
             let positions = (LAST_NUMBER - log.end()).min(JOB_ITEMS as u64) as usize;
-            positions.min(LOG_ITEMS - log.len())
+            positions.min(MAX_LOG_ITEMS - log.len())
         }
         None => 0,
     }

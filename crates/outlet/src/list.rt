@@ -1,5 +1,5 @@
 // An outlet in memory.
-ghost use Rattle.std.specs.Prelude.{◌≡◌, ◌⊎◌, ℕ, List, [], ◌∷◌, ◌++◌, ℤ, length, OnOk, IsErrOf};
+ghost use Rattle.std.specs.Prelude.{◌≡◌, ◌⊎◌, List, [], ◌∷◌, ◌++◌, ℤ, OnOk, IsErrOf};
 ghost use Rattle.outlet.specs.Faults.{failures_after};
 
 use crate::fault::OutletFault;
@@ -51,8 +51,8 @@ impl Outlet for ListOutlet {
 
         // It never fails, so that the trait's other clauses hold of themselves.
         ensures never_fails { ¬ (IsErrOf result OutletFault.Failed) }
-        ensures failed { IsErrOf result OutletFault.Failed
-            → (self.new ≡ self.old) ⊎ (self.new ≡ self.old ++ item ∷ []) }
+        ensures failed { IsErrOf result OutletFault.Failed → (self.new ≡ self.old)
+            ⊎ (self.new ≡ self.old ++ item ∷ []) }
         ensures count { 0 ≡ failures_after result 0 }
     {
         self.items.push(item)?;

@@ -24,8 +24,8 @@ pub trait Outlet: Drop {
     /// item or didn't.
     fn append(&mut self, item: i64) -> Result<(), OutletFault>
         ensures ok { OnOk result (taken self.new ≡ taken self.old ++ item ∷ []) }
-        ensures failed { IsErrOf result OutletFault.Failed
-            → (taken self.new ≡ taken self.old) ⊎ (taken self.new ≡ taken self.old ++ item ∷ []) }
+        ensures failed { IsErrOf result OutletFault.Failed → (taken self.new ≡ taken self.old)
+            ⊎ (taken self.new ≡ taken self.old ++ item ∷ []) }
         ensures no_memory { IsErrOf result OutletFault.NoMemory → taken self.new ≡ taken self.old }
         ensures count { failures self.new ≡ failures_after result (failures self.old) };
 }

@@ -5,8 +5,8 @@ ghost use Rattle.outlet.specs.Faults.{failures_after};
 ghost use Rattle.outlet.specs.Released.{CanRelease, released_items, IsBeginningOf, TookSome, TookSomeOrAll};
 
 use crate::fault::OutletFault;
-use retained::Log;
 use crate::outlet::Outlet;
+use retained::Log;
 
 /// Whether `release` may be called: the log holds what comes next for the outlet, and `covered` is at most the log's end.
 pub fn can_release<O: Outlet>(outlet: &O, log: &Log, covered: u64) -> bool
@@ -17,11 +17,12 @@ pub fn can_release<O: Outlet>(outlet: &O, log: &Log, covered: u64) -> bool
 
 // Appends the log's item at a position, where there is one.
 fn append_at<O: Outlet>(outlet: &mut O, log: &Log, position: u64) -> Result<(), OutletFault>
-    ensures ok { OnOk result (O.taken outlet.new ≡ O.taken outlet.old ++ items_at log.now position) }
-    ensures failed { IsErrOf result OutletFault.Failed
-        → (O.taken outlet.new ≡ O.taken outlet.old)
+    ensures ok { OnOk result (O.taken outlet.new ≡ O.taken outlet.old
+        ++ items_at log.now position) }
+    ensures failed { IsErrOf result OutletFault.Failed → (O.taken outlet.new ≡ O.taken outlet.old)
         ⊎ (O.taken outlet.new ≡ O.taken outlet.old ++ items_at log.now position) }
-    ensures no_memory { IsErrOf result OutletFault.NoMemory → O.taken outlet.new ≡ O.taken outlet.old }
+    ensures no_memory { IsErrOf result OutletFault.NoMemory
+        → O.taken outlet.new ≡ O.taken outlet.old }
     ensures count { O.failures outlet.new ≡ failures_after result (O.failures outlet.old) }
 {
     match log.get(position) {
@@ -37,8 +38,8 @@ fn append_at<O: Outlet>(outlet: &mut O, log: &Log, position: u64) -> Result<(), 
 /// be called again as it is, and goes on from what the outlet took, so that no item is lost and none is taken twice.
 pub fn release<O: Outlet>(outlet: &mut O, log: &Log, covered: u64) -> Result<(), OutletFault>
     requires { CanRelease log.now (length (O.taken outlet.old)) covered }
-    ensures ok { OnOk result (O.taken outlet.new
-        ≡ O.taken outlet.old ++ released_items log.now (length (O.taken outlet.old)) covered) }
+    ensures ok { OnOk result (O.taken outlet.new ≡ O.taken outlet.old
+        ++ released_items log.now (length (O.taken outlet.old)) covered) }
     ensures no_memory { IsErrOf result OutletFault.NoMemory
         → TookSome (released_items log.now (length (O.taken outlet.old)) covered)
         (O.taken outlet.old) (O.taken outlet.new) }

@@ -1,15 +1,15 @@
 -- One statement after another.
-use Rattle.std.proofs.Common.{◌≡◌, ℕ, ◌+◌, ◌<◌, ◌≤◌, List, ℤ, [], ◌∷◌, ◌++◌, length, set, drop, refl, sym, ap, ◌∙◌, subst, append_assoc}
+use Rattle.std.proofs.Common.{◌≡◌, ℕ, ◌+◌, ◌<◌, List, ℤ, [], ◌∷◌, ◌++◌, length, set, drop, refl, sym, ap, ◌∙◌, subst, append_assoc}
 use Rattle.std.specs.Prelude.{slice_index, slice_get, Some}
 use Rattle.kahn_net.specs.Streams.{history_of}
-use Rattle.kahn_net.specs.Syntax.{Tree, Block, Nothing, GetThen, PutThen, AssignThen}
+use Rattle.kahn_net.specs.Syntax.{Tree, Block, GetThen, PutThen, AssignThen}
 use Rattle.kahn_net.specs.Statements.{Trace, Step, Got, Sent, trace_of, on_get, value_of}
 use Rattle.kahn_net.specs.Processes.{standing_at}
 use Rattle.kahn_net.specs.Puts.{put_by, put_after}
 use Rattle.kahn_net.specs.Laws.Puts.{put_after-append}
 use Rattle.kahn_net.specs.Resuming.{left_by, left_after}
 use Rattle.kahn_net.specs.Laws.Got.{left_after-append}
-use Rattle.proc_step.specs.declared.statements.Flow.TheVariants.{RanOut, Stands}
+use Rattle.proc_step.specs.declared.statements.Flow.TheVariants.{Stands}
 use Rattle.proc_step.specs.Turns.{CanBeMade, CanAllBeMade}
 use Rattle.proc_step.specs.Parts.{Part}
 
@@ -79,10 +79,6 @@ module _ {first : Trace} {room : List ℕ} {unread0 sent0 : List (List ℤ)} whe
   pub going_get : {site x c : ℕ} {rest : Block} {vars : List ℤ} {unread sent : List (List ℤ)} (item : ℤ) (left : List ℤ) → history_of unread c ≡ item ∷ left → Going first room unread0 sent0 site (GetThen x c rest) vars unread sent → Going first room unread0 sent0 (site + 1) rest (set vars x item) (set unread c left) sent
   going_get {site} {x} {c} {rest} {vars} {unread} {sent} item left h g = got_with (history_of unread c) site x c rest vars unread sent item left g.done h refl g.whole g.end g.made g.left g.put
 
-  pub stops_put : {site : ℕ} {e : Tree} {c : ℕ} {rest : Block} {vars : List ℤ} {unread sent : List (List ℤ)} → slice_index room c ≤ length (history_of sent c) → Going first room unread0 sent0 site (PutThen e c rest) vars unread sent → Part first room unread0 sent0 (Stands site) vars unread sent
-  stops_put {site} {e} {c} {rest} {vars} {unread} {sent} h g =
-      record { done = g.done; rest = (trace_of site (PutThen e c rest) vars unread).steps; whole = g.whole; made = g.made; left = g.left; put = g.put; stop = (refl, h) }
-
   waits_with : (hist : List ℤ) (site x c : ℕ) (rest : Block) (vars : List ℤ) (unread sent : List (List ℤ)) (done : List Step) → hist ≡ []
       → (first.steps ≡ done ++ (on_get hist site c vars (λ i l. trace_of (site + 1) rest (set vars x i) (set unread c l))).steps)
       → (first.end ≡ (on_get hist site c vars (λ i l. trace_of (site + 1) rest (set vars x i) (set unread c l))).end)
@@ -90,12 +86,3 @@ module _ {first : Trace} {room : List ℕ} {unread0 sent0 : List (List ℤ)} whe
       → Part first room unread0 sent0 (Stands site) vars unread sent
   waits_with hist site x c rest vars unread sent done h w e m l p =
       record { done = done; rest = []; whole = rw h at w; made = m; left = l; put = p; stop = (ap (standing_at []) (rw h at e), tt) }
-
-  pub stops_get : {site x c : ℕ} {rest : Block} {vars : List ℤ} {unread sent : List (List ℤ)} → history_of unread c ≡ [] → Going first room unread0 sent0 site (GetThen x c rest) vars unread sent → Part first room unread0 sent0 (Stands site) vars unread sent
-  stops_get {site} {x} {c} {rest} {vars} {unread} {sent} h g = waits_with (history_of unread c) site x c rest vars unread sent g.done h g.whole g.end g.made g.left g.put
-
-  pub runs_out : {site : ℕ} {vars : List ℤ} {unread sent : List (List ℤ)} → Going first room unread0 sent0 site Nothing vars unread sent → Part first room unread0 sent0 RanOut vars unread sent
-  runs_out g = record { done = g.done; rest = []; whole = g.whole; made = g.made; left = g.left; put = g.put; stop = (refl, g.end) }
-
-pub going_first : (site : ℕ) (b : Block) (room : List ℕ) (vars : List ℤ) (unread sent : List (List ℤ)) → Going (trace_of site b vars unread) room unread sent site b vars unread sent
-going_first site b room vars unread sent = record { done = []; whole = refl; end = refl; made = tt; left = refl; put = refl }

@@ -1,11 +1,11 @@
 -- Parts of traces, one after another: the rest of a pass, and then the loop.
-use Rattle.std.proofs.Common.{◌≡◌, ℕ, suc, ◌<◌, List, ℤ, [], ◌∷◌, ◌++◌, refl, sym, ap, ◌∙◌, subst, append_assoc, append-nil, arith, Option, Some, None}
+use Rattle.std.proofs.Common.{◌≡◌, ℕ, suc, ◌<◌, List, ℤ, [], ◌∷◌, ◌++◌, sym, ap, ◌∙◌, subst, append_assoc, append-nil, arith, Option, Some}
 use Rattle.std.specs.Prelude.{IsTrue}
 use Rattle.kahn_net.specs.Streams.{total}
 use Rattle.kahn_net.specs.Syntax.{Block}
 use Rattle.kahn_net.specs.Valid.{is_passing}
 use Rattle.kahn_net.specs.Statements.{Trace, Step, End, Ended, Waits, trace_of, from_end, then_do}
-use Rattle.kahn_net.specs.Processes.{At, Done, standing_at, passes, loop_trace}
+use Rattle.kahn_net.specs.Processes.{At, passes, loop_trace}
 use Rattle.kahn_net.specs.Laws.Passes.{one_pass, fewer_left}
 use Rattle.kahn_net.specs.Puts.{put_after}
 use Rattle.kahn_net.specs.Laws.Puts.{put_after-append}
@@ -70,19 +70,6 @@ pass_less k b room v0 u0 s0 v u s passing p = let h = fewer_left k b v0 u0 v u p
 pub played_stands : (t : Trace) (room : List ℕ) (u0 s0 : List (List ℤ)) (site : ℕ) (v : List ℤ) (u s : List (List ℤ)) → Part t room u0 s0 (Stands site) v u s → Played t room u0 s0 (At site v) u s
 played_stands t room u0 s0 site v u s p = record { done = p.done; rest = p.rest; whole = p.whole; made = p.made; left = p.left; put = p.put; stands = sym p.stop.0; held_back = p.stop.1 }
 
--- and one that was the whole leaves it past its last statement
-pub played_whole : (t : Trace) (room : List ℕ) (u0 s0 : List (List ℤ)) (v : List ℤ) (u s : List (List ℤ)) → Part t room u0 s0 RanOut v u s → Played t room u0 s0 (Done v) u s
-played_whole t room u0 s0 v u s p = record {
-  done = p.done;
-  rest = [];
-  whole = p.whole ∙ ap (λ (x : List Step). p.done ++ x) p.stop.0;
-  made = p.made;
-  left = p.left;
-  put = p.put;
-  stands = ap (standing_at []) (sym p.stop.1);
-  held_back = tt;
-}
-
 -- the statements ended, and then the loop stands
 pub played_loop : (t : Trace) (sites : ℕ) (body : Option Block) (b b' : Block) (room : List ℕ) (u0 s0 : List (List ℤ)) (v1 : List ℤ) (u1 s1 : List (List ℤ)) (flow : Flow) (first site : ℕ) (v : List ℤ) (u s : List (List ℤ)) →
     flow ≡ RanOut → body ≡ Some b' → b ≡ b' → first ≡ sites →
@@ -93,17 +80,3 @@ played_loop t sites body b b' room u0 s0 v1 u1 s1 flow first site v u s ran is s
     let m2 = subst (λ (x : Block). Part (passes (suc (total u1)) sites x v1 u1) room u1 s1 (Stands site) v u s) same m in
     let m3 = subst (λ (x : Option Block). Part (loop_trace sites x v1 u1) room u1 s1 (Stands site) v u s) (sym is) m2 in
     played_stands _ room u0 s0 site v u s (after_whole t (loop_trace sites body) room u0 s0 v1 u1 s1 (Stands site) v u s f m3)
-
--- the statements ended, and there is no loop
-pub played_end : (t : Trace) (sites : ℕ) (body : Option Block) (room : List ℕ) (u0 s0 : List (List ℤ)) (v1 : List ℤ) (u1 s1 : List (List ℤ)) (flow : Flow) → flow ≡ RanOut → body ≡ None →
-    Part t room u0 s0 flow v1 u1 s1 → Played (then_do t (loop_trace sites body)) room u0 s0 (Done v1) u1 s1
-played_end t sites body room u0 s0 v1 u1 s1 flow ran none start =
-    let f = subst (λ (x : Flow). Part t room u0 s0 x v1 u1 s1) ran start in
-    let rest = subst (λ (x : Option Block). Part (loop_trace sites x v1 u1) room u1 s1 RanOut v1 u1 s1) (sym none) (record { done = []; rest = []; whole = refl; made = tt; left = refl; put = refl; stop = (refl, refl) }) in
-    played_whole _ room u0 s0 v1 u1 s1 (after_whole t (loop_trace sites body) room u0 s0 v1 u1 s1 RanOut v1 u1 s1 f rest)
-
--- the statements stand
-pub played_first : (t : Trace) (go : List ℤ → List (List ℤ) → Trace) (room : List ℕ) (u0 s0 : List (List ℤ)) (v1 : List ℤ) (u1 s1 : List (List ℤ)) (flow : Flow) (site : ℕ) → flow ≡ Stands site →
-    Part t room u0 s0 flow v1 u1 s1 → Played (then_do t go) room u0 s0 (At site v1) u1 s1
-played_first t go room u0 s0 v1 u1 s1 flow site is start =
-    played_stands _ room u0 s0 site v1 u1 s1 (before_more t go room u0 s0 site v1 u1 s1 (subst (λ (x : Flow). Part t room u0 s0 x v1 u1 s1) is start))

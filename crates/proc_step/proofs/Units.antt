@@ -3,6 +3,7 @@ use Rattle.std.proofs.Common.{◌≡◌, ℕ, ◌+◌, ◌<◌, ◌≤◌, ◌^�
 use Rattle.kahn_net.specs.Syntax.{Block, Nothing, GetThen, PutThen, AssignThen}
 use Rattle.kahn_net.specs.Statements.{sites_of}
 use Rattle.kahn_net.specs.Valid.{block_units, body_units}
+use Rattle.kahn_net.specs.declared.limits.TheConstants.{MAX_UNITS}
 
 -- each site is a unit
 pub sites_within : (b : Block) → sites_of b ≤ block_units b
@@ -11,7 +12,7 @@ sites_within (GetThen x c rest) = let h = sites_within rest in omega arith
 sites_within (AssignThen x e rest) = let h = sites_within rest in omega arith
 sites_within (PutThen e c rest) = let h = sites_within rest in omega arith
 
-pub few_in_body : (prelude b b' : Block) (body : Option Block) (first : ℕ) → body ≡ Some b' → b ≡ b' → first ≡ sites_of prelude → block_units prelude + body_units body ≤ 4096 → first + sites_of b < 2 ^ 64
+pub few_in_body : (prelude b b' : Block) (body : Option Block) (first : ℕ) → body ≡ Some b' → b ≡ b' → first ≡ sites_of prelude → block_units prelude + body_units body ≤ MAX_UNITS → first + sites_of b < 2 ^ 64
 few_in_body prelude b b' body first is same sites few =
     let p = sites_within prelude in
     let q = sites_within b' in

@@ -41,7 +41,8 @@ impl Job {
 
     /// The process.
     fn code(&self) -> &Process
-        ensures { slice_get (network_of self.now.net.value.program).codes self.now.process ≡ Some (code_of result.now) }
+        ensures { slice_get (network_of self.now.net.value.program).codes self.now.process
+            ≡ Some (code_of result.now) }
     {
         &self.net.program.processes[self.process]
     }

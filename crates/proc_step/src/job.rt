@@ -37,7 +37,8 @@ pub struct Done {
     pub state: ProcState,
     pub taken: Vec<usize>,
     pub sent: Vec<History>,
-    pub ghost turn: { ∥ IsOwnTurn job.net.value.program job.process job.state job.items.items job.room.items state taken.items sent.items ∥₁ },
+    pub ghost turn: { ∥ IsOwnTurn job.net.value.program job.process job.state job.items.items
+        job.room.items state taken.items sent.items ∥₁ },
 }
 
 /// Want of memory (1), with the job as it was.
@@ -59,7 +60,9 @@ impl JobFault {
 impl Job {
     /// The node of the process.
     pub fn node(&self) -> u8
-        ensures { (code : Code) → slice_get (network_of self.now.net.value.program).codes self.now.process ≡ Some code → result ≡ code.node }
+        ensures { (code : Code) → slice_get
+            (network_of self.now.net.value.program).codes self.now.process ≡ Some code
+            → result ≡ code.node }
     {
         self.net.program.processes[self.process].node
     }

@@ -6,6 +6,7 @@ ghost use Rattle.kahn_net.specs.NextActs.{first_of, next_of};
 ghost use Rattle.kahn_net.specs.States.{standing_of};
 ghost use Rattle.kahn_net.specs.Valid.{block_units, body_units};
 ghost use Rattle.proc_step.specs.NextView.{next_view};
+ghost use Rattle.kahn_net.specs.declared.limits.TheConstants.{MAX_UNITS};
 
 use crate::sites::count_sites;
 use crate::turn::statements_at;
@@ -40,7 +41,8 @@ fn first_act(statements: &[Statement]) -> NextAct
 
 /// What a process does next from this state. Takes no memory.
 pub fn next_act(process: &Process, state: &ProcState) -> NextAct
-    requires { block_units (code_of process.now).prelude + body_units (code_of process.now).body ≤ 4096 }
+    requires { block_units (code_of process.now).prelude + body_units (code_of process.now).body
+        ≤ MAX_UNITS }
     ensures { next_view result ≡ next_of (code_of process.now) (standing_of state.now) }
 {
     match state.place {

@@ -8,6 +8,7 @@ ghost use Rattle.kahn_net.specs.States.{standing_in, standing_of};
 ghost use Rattle.kahn_net.specs.Valid.{block_units, body_units};
 ghost use Rattle.proc_step.specs.Turns.{IsTurn, nothing_sent};
 ghost use Rattle.proc_step.specs.Parts.{taken_of};
+ghost use Rattle.kahn_net.specs.declared.limits.TheConstants.{MAX_UNITS};
 
 use crate::room::empty_histories;
 use crate::turn::play;
@@ -61,10 +62,13 @@ fn turn_from(
     sent: &mut [History],
 ) -> Result<Stop, AllocError>
     requires passing { HasPassingLoop (code_of process.now) }
-    requires units { block_units (code_of process.now).prelude + body_units (code_of process.now).body ≤ 4096 }
+    requires units { block_units (code_of process.now).prelude + body_units
+        (code_of process.now).body ≤ MAX_UNITS }
     requires untaken { left.old ≡ items.now }
     requires unsent { sent.old ≡ nothing_sent room.now }
-    ensures { IfOk result (λ stop. IsTurn (code_of process.now) (standing_in place variables.old) items.now room.now (standing_in stop.place variables.new) stop.taken.items sent.new) }
+    ensures { IfOk result (λ stop. IsTurn (code_of process.now)
+        (standing_in place variables.old) items.now room.now
+        (standing_in stop.place variables.new) stop.taken.items sent.new) }
 {
     let after = play(process, place, variables, left, room, sent)?;
     let taken = count_taken(alloc, items, left)?;
@@ -83,8 +87,11 @@ pub fn take_turn(
     room: &[usize],
 ) -> Result<Outcome, AllocError>
     requires passing { HasPassingLoop (code_of process.now) }
-    requires units { block_units (code_of process.now).prelude + body_units (code_of process.now).body ≤ 4096 }
-    ensures { IfOk result (λ after. IsTurn (code_of process.now) (standing_of state.now) items.now room.now (standing_of after.state) after.taken.items after.sent.items) }
+    requires units { block_units (code_of process.now).prelude + body_units
+        (code_of process.now).body ≤ MAX_UNITS }
+    ensures { IfOk result (λ after. IsTurn (code_of process.now)
+        (standing_of state.now) items.now room.now
+        (standing_of after.state) after.taken.items after.sent.items) }
 {
     let mut variables = Vec::from_slice(alloc, state.variables.as_slice())?;
     let mut left = all_unread(alloc, items)?;

@@ -1,6 +1,6 @@
 //! What is sent in a turn, and the room for it.
 
-ghost use Rattle.std.specs.Prelude.{◌≡◌, ◌↔◌, ◌<◌, IsTrue, IfOk, OnOk, length, slice_index, slice_set, replicate, [], ◌∷◌, ◌++◌};
+ghost use Rattle.std.specs.Prelude.{◌≡◌, ◌↔◌, ◌<◌, IsTrue, IfOk, OnOk, length, slice_index, slice_set, [], ◌∷◌, ◌++◌};
 ghost use Rattle.kahn_net.specs.Streams.{history_of};
 ghost use Rattle.proc_step.specs.Turns.{nothing_sent};
 
@@ -21,7 +21,8 @@ pub fn empty_histories(alloc: Global, room: &[usize]) -> Result<Vec<History>, Al
 /// Whether a channel has room for one more item.
 pub fn has_room(sent: &[History], room: &[usize], channel: usize) -> bool
     requires { length sent.now ≡ length room.now }
-    ensures { IsTrue result ↔ (length (history_of sent.now channel) < slice_index room.now channel) }
+    ensures { IsTrue result ↔ (length (history_of sent.now channel)
+        < slice_index room.now channel) }
 {
     if channel < room.len() {
         let items = &sent[channel];
@@ -34,7 +35,8 @@ pub fn has_room(sent: &[History], room: &[usize], channel: usize) -> bool
 /// Sends an item on a channel.
 pub fn send(sent: &mut [History], channel: usize, item: i64) -> Result<(), AllocError>
     requires { channel < length sent.old }
-    ensures { OnOk result (sent.new ≡ slice_set sent.old channel (history_of sent.old channel ++ item ∷ [])) }
+    ensures { OnOk result (sent.new
+        ≡ slice_set sent.old channel (history_of sent.old channel ++ item ∷ [])) }
 {
     let items = &mut sent[channel];
     items.push(item)

@@ -25,7 +25,8 @@ pub fn count_sites(statements: &[Statement]) -> usize
 fn find_site(statements: &[Statement], first: usize, site: usize) -> usize
     requires { first + sites_of (block_of statements.now) < 2 ^ 64 }
     ensures within { result ≤ length statements.now }
-    ensures found { block_of (drop result statements.now) ≡ from_site first site (block_of statements.now) }
+    ensures found { block_of (drop result statements.now)
+        ≡ from_site first site (block_of statements.now) }
 {
     let mut number = first;
     for (index, statement) in statements.iter().enumerate() {

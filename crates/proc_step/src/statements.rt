@@ -30,7 +30,10 @@ pub fn play_statements(
 ) -> Result<Flow, AllocError>
     requires few { first + sites_of (block_of statements.now) < 2 ^ 64 }
     requires rooms { length sent.old ≡ length room.now }
-    ensures part { IfOk result (λ flow. Part (trace_of first (block_of statements.now) variables.old unread.old) room.now unread.old sent.old flow variables.new unread.new sent.new) }
+    ensures part { IfOk result
+        (λ flow. Part (trace_of first
+        (block_of statements.now) variables.old unread.old) room.now unread.old sent.old flow
+        variables.new unread.new sent.new) }
     ensures rooms { length sent.new ≡ length sent.old }
 {
     let mut site = first;

@@ -10,6 +10,7 @@ ghost use Rattle.kahn_net.specs.States.{standing_in};
 ghost use Rattle.kahn_net.specs.Valid.{block_units, body_units, is_passing};
 ghost use Rattle.proc_step.specs.Parts.{Part, Played};
 ghost use Rattle.proc_step.specs.declared.statements.Flow.TheVariants.{Stands};
+ghost use Rattle.kahn_net.specs.declared.limits.TheConstants.{MAX_UNITS};
 
 use crate::sites::{count_sites, statements_from};
 use crate::statements::{Flow, play_statements};
@@ -29,7 +30,10 @@ fn play_loop(
     requires few { first + sites_of (block_of body.now) < 2 ^ 64 }
     requires rooms { length sent.old ≡ length room.now }
     requires passing { IsTrue (is_passing (block_of body.now)) }
-    ensures part { IfOk result (λ site. Part (passes (suc (total unread.old)) first (block_of body.now) variables.old unread.old) room.now unread.old sent.old (Stands site) variables.new unread.new sent.new) }
+    ensures part { IfOk result
+        (λ site. Part (passes (suc (total unread.old)) first
+        (block_of body.now) variables.old unread.old) room.now unread.old sent.old
+        (Stands site) variables.new unread.new sent.new) }
     ensures rooms { length sent.new ≡ length sent.old }
 {
     loop {
@@ -42,7 +46,8 @@ fn play_loop(
 /// The statements from a site on, until the prelude or the pass of the loop's body ends.
 pub fn statements_at(process: &Process, prelude_sites: usize, site: usize) -> &[Statement]
     requires sites { prelude_sites ≡ sites_of (code_of process.now).prelude }
-    requires few { block_units (code_of process.now).prelude + body_units (code_of process.now).body ≤ 4096 }
+    requires few { block_units (code_of process.now).prelude + body_units (code_of process.now).body
+        ≤ MAX_UNITS }
     ensures rest { block_of result.now ≡ from (code_of process.now) site }
     ensures few { site + sites_of (block_of result.now) < 2 ^ 64 }
 {
@@ -68,12 +73,15 @@ fn play_on(
 ) -> Result<Place, AllocError>
     requires passing { HasPassingLoop (code_of process.now) }
     requires sites { prelude_sites ≡ sites_of (code_of process.now).prelude }
-    requires units { block_units (code_of process.now).prelude + body_units (code_of process.now).body ≤ 4096 }
+    requires units { block_units (code_of process.now).prelude + body_units
+        (code_of process.now).body ≤ MAX_UNITS }
     requires few { first + sites_of (block_of statements.now) < 2 ^ 64 }
     requires rooms { length sent.old ≡ length room.now }
     ensures { IfOk result (λ place. Played
-        (then_do (trace_of first (block_of statements.now) variables.old unread.old) (loop_trace (sites_of (code_of process.now).prelude) (code_of process.now).body))
-        room.now unread.old sent.old (standing_in place variables.new) unread.new sent.new) }
+        (then_do (trace_of first (block_of statements.now) variables.old unread.old)
+        (loop_trace (sites_of (code_of process.now).prelude)
+        (code_of process.now).body)) room.now unread.old sent.old
+        (standing_in place variables.new) unread.new sent.new) }
 {
     let flow = play_statements(statements, first, variables, unread, room, sent)?;
     if let Flow::Stands(site) = flow {
@@ -97,11 +105,13 @@ pub fn play(
     sent: &mut [History],
 ) -> Result<Place, AllocError>
     requires passing { HasPassingLoop (code_of process.now) }
-    requires units { block_units (code_of process.now).prelude + body_units (code_of process.now).body ≤ 4096 }
+    requires units { block_units (code_of process.now).prelude + body_units
+        (code_of process.now).body ≤ MAX_UNITS }
     requires rooms { length sent.old ≡ length room.now }
     ensures { IfOk result (λ after. Played
-        (trace_from (code_of process.now) (standing_in place variables.old) unread.old)
-        room.now unread.old sent.old (standing_in after variables.new) unread.new sent.new) }
+        (trace_from (code_of process.now)
+        (standing_in place variables.old) unread.old) room.now unread.old sent.old
+        (standing_in after variables.new) unread.new sent.new) }
 {
     let sites = count_sites(&process.prelude);
     match place {

@@ -3,8 +3,8 @@ ghost use Rattle.std.specs.Prelude.{◌≡◌, ◌+◌, ◌≤◌, IfOk, IsErrOf
 ghost use Rattle.record.specs.Changes.{LogTakes, counted, pushed, trimmed_end, trimmed_image, trimmed_saved};
 ghost use Rattle.record.specs.Ends.{base_of, end_of, log_at, log_of, received_at, received_of, sent_of};
 
-use kahn_net::ProcState;
-use retained::{LAST_POSITION, Log, LogFault};
+use kahn_net::{MAX_COUNT, ProcState};
+use retained::{Log, LogFault};
 use std::alloc::{AllocError, Global};
 use std::marker::Model;
 
@@ -91,7 +91,7 @@ impl End {
 
     /// Counts items that were got.
     pub fn count(&mut self, taken: usize)
-        requires { received_at (Some self.old) + taken ≤ LAST_POSITION }
+        requires { received_at (Some self.old) + taken ≤ MAX_COUNT }
         ensures { self.new ≡ counted taken self.old }
     {
         match self {

@@ -17,7 +17,8 @@ impl Model for Decision {
 
     ghost Value = { DecisionView };
 
-    ghost view = { λ decision. record { number = decision.number; participants = decision.participants.items } };
+    ghost view = { λ decision. record
+        { number = decision.number; participants = decision.participants.items } };
 }
 
 impl Decision {

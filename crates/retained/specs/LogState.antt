@@ -1,6 +1,8 @@
 -- What a log is: the last items of a history, and how many came before them.
-use Rattle.std.specs.Prelude.{◌≡◌, ◌⊎◌, ℕ, ◌+◌, ◌-◌, ◌^◌, ◌<◌, ◌≤◌, nat_lt, if◌then◌else◌, List, ℤ, length, take, drop, Option, None, slice_get}
+use Rattle.std.specs.Prelude.{◌≡◌, ◌⊎◌, ℕ, ◌+◌, ◌-◌, ◌<◌, ◌≤◌, nat_lt, if◌then◌else◌, List, ℤ, length, take, drop, Option, None, slice_get}
 use Rattle.std.specs.Option.{option_to_list}
+use Rattle.kahn_net.specs.declared.limits.TheConstants.{MAX_COUNT}
+use Rattle.retained.specs.declared.log.TheConstants.{MAX_LOG_ITEMS}
 
 -- the items from the position `base` on
 pub record LogState : Type 0 where
@@ -13,16 +15,16 @@ log_end log = log.base + length log.items
 
 -- what is true of every log
 pub record IsWithinLimits (log : LogState) : Type 0 where
-  pub count : length log.items ≤ 65536
-  pub last : log_end log ≤ 2 ^ 63 - 1
+  pub count : length log.items ≤ MAX_LOG_ITEMS
+  pub last : log_end log ≤ MAX_COUNT
 
 -- no item fits
 abbrev pub IsFull : LogState → Type 0
-IsFull log = (length log.items ≡ 65536) ⊎ (log_end log ≡ 2 ^ 63 - 1)
+IsFull log = (length log.items ≡ MAX_LOG_ITEMS) ⊎ (log_end log ≡ MAX_COUNT)
 
 -- so many items more don't all fit
 abbrev pub Overfills : LogState → ℕ → Type 0
-Overfills log count = (65536 < length log.items + count) ⊎ (2 ^ 63 - 1 < log_end log + count)
+Overfills log count = (MAX_LOG_ITEMS < length log.items + count) ⊎ (MAX_COUNT < log_end log + count)
 
 -- the position of an item or the end
 pub record IsInLog (log : LogState) (position : ℕ) : Type 0 where

@@ -11,7 +11,8 @@ pub enum LogFault {
     /// There is no memory. Refusal 1.
     #[error("no memory")]
     NoMemory,
-    /// What was to be added doesn't all fit: a log holds at most 65,536 items, and its end is at most 2^63 - 1. Refusal 50.
+    /// What was to be added doesn't all fit: a log holds at most `MAX_LOG_ITEMS`, and its end is at most
+    /// `MAX_COUNT`. Refusal 50.
     #[error("the log is full")]
     Full,
 }

@@ -5,4 +5,4 @@ mod fault;
 mod log;
 
 pub use fault::LogFault;
-pub use log::{LAST_POSITION, LOG_ITEMS, Log};
+pub use log::{Log, MAX_LOG_ITEMS};

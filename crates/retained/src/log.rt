@@ -1,18 +1,16 @@
 // The items of a history that may still be asked for.
-ghost use Rattle.std.specs.Prelude.{◌≡◌, ◌==◌, ◌↔◌, ℕ, ◌+◌, ◌-◌, ◌^◌, ◌<◌, ◌≤◌, List, [], ◌∷◌, ◌++◌, ℤ, length, take, drop, slice_get, IfOk, IfSome, Some, IsTrue, OnOk, OnErr, IsErrOf};
+ghost use Rattle.std.specs.Prelude.{◌≡◌, ◌==◌, ◌↔◌, ◌+◌, ◌-◌, ◌<◌, ◌≤◌, List, [], ◌∷◌, ◌++◌, ℤ, length, take, drop, slice_get, IfOk, IfSome, Some, IsTrue, OnOk, OnErr, IsErrOf};
 ghost use Rattle.std.specs.VecDeque.{deque_len, deque_capacity};
 ghost use Rattle.retained.specs.LogState.{log_end, IsFull, Overfills, IsInLog, item_at, trimmed, cut_at, IsLogOf};
 
 use crate::fault::LogFault;
+use kahn_net::MAX_COUNT;
 use std::alloc::{AllocError, Global};
 use std::collections::VecDeque;
 use std::marker::Model;
 
 /// The most items of a log.
-pub const LOG_ITEMS: usize = 65_536;
-
-/// The most that a log's end can be.
-pub const LAST_POSITION: u64 = (1 << 63) - 1;
+pub const MAX_LOG_ITEMS: usize = 65_536;
 
 /// The items of one history from the position `base` on: a base, and the items at the positions from it to the end.
 ///
@@ -30,7 +28,8 @@ impl Model for Log {
 
     ghost view = { λ log. record { base = log.base; items = log.items.items } };
 
-    ghost invariant = { λ log. IsWithinLimits (record { base = log.base; items = log.items.items }) };
+    ghost invariant = { λ log. IsWithinLimits
+        (record { base = log.base; items = log.items.items }) };
 }
 
 // Drops so many items from the front, each by itself, so that the others stay where they are.
@@ -72,7 +71,7 @@ impl Log {
 
     /// The log of a history with so many items, none of which it holds.
     pub fn starting_at(alloc: Global, base: u64) -> Log
-        requires { base ≤ 2 ^ 63 - 1 }
+        requires { base ≤ MAX_COUNT }
         ensures { result ≡ record { base = base; items = [] } }
     {
         Log {
@@ -84,12 +83,14 @@ impl Log {
     /// Adds an item at the end. Refuses with `NoMemory` (1) and `Full` (50), and is then as it was.
     pub fn push(&mut self, item: i64) -> Result<(), LogFault>
         ensures full { IsErrOf result LogFault.Full ↔ IsFull self.old }
-        ensures ok { OnOk result (self.new ≡ record (self.old) { items = self.old.items ++ item ∷ [] }) }
+        ensures ok { OnOk result (self.new
+            ≡ record (self.old) { items = self.old.items ++ item ∷ [] }) }
         ensures err { OnErr result (self.new ≡ self.old) }
         ensures history { OnOk result
-            ((history : List ℤ) → IsLogOf self.old history → IsLogOf self.new (history ++ item ∷ [])) }
+            ((history : List ℤ) → IsLogOf self.old history
+            → IsLogOf self.new (history ++ item ∷ [])) }
     {
-        if self.len() == LOG_ITEMS || self.end() == LAST_POSITION {
+        if self.len() == MAX_LOG_ITEMS || self.end() == MAX_COUNT {
             return Err(LogFault::Full);
         }
         self.items.push_back(item)?;
@@ -100,12 +101,14 @@ impl Log {
     /// where not all of them fit, and is then as it was.
     pub fn push_all(&mut self, items: &[i64]) -> Result<(), LogFault>
         ensures full { IsErrOf result LogFault.Full ↔ Overfills self.old (length items.now) }
-        ensures ok { OnOk result (self.new ≡ record (self.old) { items = self.old.items ++ items.now }) }
+        ensures ok { OnOk result (self.new
+            ≡ record (self.old) { items = self.old.items ++ items.now }) }
         ensures err { OnErr result (self.new ≡ self.old) }
         ensures history { OnOk result
-            ((history : List ℤ) → IsLogOf self.old history → IsLogOf self.new (history ++ items.now)) }
+            ((history : List ℤ) → IsLogOf self.old history
+            → IsLogOf self.new (history ++ items.now)) }
     {
-        if items.len() > LOG_ITEMS - self.len() || items.len() as u64 > LAST_POSITION - self.end() {
+        if items.len() > MAX_LOG_ITEMS - self.len() || items.len() as u64 > MAX_COUNT - self.end() {
             return Err(LogFault::Full);
         }
         self.items.reserve(items.len())?;
@@ -117,7 +120,8 @@ impl Log {
     pub fn get(&self, position: u64) -> Option<i64>
         ensures value { result ≡ item_at self.now position }
         ensures history { IfSome result
-            (λ item. (history : List ℤ) → IsLogOf self.now history → slice_get history position ≡ Some item) }
+            (λ item. (history : List ℤ) → IsLogOf self.now history
+            → slice_get history position ≡ Some item) }
     {
         if position < self.base {
             return None;
@@ -143,7 +147,8 @@ impl Log {
     pub fn cut(&mut self, position: u64)
         ensures cut { IsInLog self.old position → self.new ≡ cut_at self.old position }
         ensures otherwise { ¬ (IsInLog self.old position) → self.new ≡ self.old }
-        ensures history { (history : List ℤ) → IsInLog self.old position → IsLogOf self.old history → IsLogOf self.new (take position history) }
+        ensures history { (history : List ℤ) → IsInLog self.old position → IsLogOf self.old history
+            → IsLogOf self.new (take position history) }
     {
         if self.base <= position && position < self.end() {
             self.items.truncate((position - self.base) as usize);
@@ -160,7 +165,7 @@ impl Log {
     /// The position behind the last item: how many items the history has.
     pub fn end(&self) -> u64
         ensures value { result ≡ log_end self.now }
-        ensures bound { result ≤ 2 ^ 63 - 1 }
+        ensures bound { result ≤ MAX_COUNT }
     {
         self.base + self.len() as u64
     }
@@ -168,7 +173,7 @@ impl Log {
     /// How many items the log holds.
     pub fn len(&self) -> usize
         ensures value { result ≡ length self.now.items }
-        ensures bound { result ≤ 65536 }
+        ensures bound { result ≤ MAX_LOG_ITEMS }
     {
         self.items.len()
     }

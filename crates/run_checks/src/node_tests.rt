@@ -13,7 +13,7 @@ use net_check::{Inputs, Net, bind, check};
 use net_text::{parse, parse_inputs};
 use record::{Decision, End, Image, Record, SavedEnd, SavedProcess, Tentative};
 use node::{CellFault, LAST_NUMBER, MemCell, NodeState, StableCell};
-use retained::{LOG_ITEMS, Log};
+use retained::{Log, MAX_LOG_ITEMS};
 use proc_step::{Done, Job};
 use std::alloc::Global;
 use std::sync::Arc;
@@ -388,7 +388,7 @@ fn received_at(end: &End) -> u64
 fn log_fits(log: &Log, count: usize) -> bool
     ensures { IsTrue result → ¬ (Overfills log.now count) }
 {
-    count <= LOG_ITEMS - log.len() && count as u64 <= LAST_NUMBER - log.end()
+    count <= MAX_LOG_ITEMS - log.len() && count as u64 <= LAST_NUMBER - log.end()
 }
 
 fn put_fits(end: &End, count: usize) -> bool

@@ -1,12 +1,10 @@
 -- One statement after another.
-use Rattle.std.proofs.Common.{◌≡◌, ℕ, ◌+◌, ◌<◌, ◌≤◌, true, false, List, ℤ, [], ◌∷◌, ◌++◌, length, get_or, set, drop, refl, sym, ap, ◌∙◌, subst}
+use Rattle.std.proofs.Common.{◌≡◌, ℕ, ◌+◌, ◌<◌, ◌≤◌, false, List, ℤ, [], ◌∷◌, ◌++◌, length, set, refl, sym, subst}
 use Rattle.std.specs.Prelude.{slice_index}
-use Rattle.std.proofs.lemmas.List.{at_drop_more}
 use Rattle.kahn_net.specs.Streams.{history_of}
-use Rattle.kahn_net.specs.Syntax.{Tree, Block, Nothing, GetThen, AssignThen, PutThen, block_of, then_of}
+use Rattle.kahn_net.specs.Syntax.{Tree, Block, GetThen, AssignThen, PutThen}
 use Rattle.kahn_net.specs.Statements.{Trace, End, trace_of, on_get, value_of}
 use Rattle.kahn_net.specs.Puts.{put_after}
-use Rattle.kahn_net.specs.declared.program.Statement.{Statement}
 use Rattle.stream_eq.specs.Limits.{GoesPast}
 use Rattle.stream_eq.specs.Play.{EndsAs, IsPlayed}
 use Rattle.stream_eq.proofs.Puts.{past_more, past_put}
@@ -46,13 +44,6 @@ module _ {first : Trace} {start : List (List ℤ)} where
       → IsPlayed first start sent false vars' unread'
   waits_with history x c rest vars vars' unread unread' sent site h s e =
       record { put = rw h at s; end = subst (λ (d : End). EndsAs d false vars' unread') (rw h at e) refl }
-
-  -- a get that finds nothing waits
-  pub going_waits : {x c : ℕ} {rest : Block} {vars vars' : List ℤ} {unread unread' sent : List (List ℤ)} → history_of unread c ≡ [] → Going first start (GetThen x c rest) vars unread sent → IsPlayed first start sent false vars' unread'
-  going_waits {x} {c} {rest} {vars} {vars'} {unread} {unread'} {sent} h g = waits_with (history_of unread c) x c rest vars vars' unread unread' sent g.site h g.put g.end
-
-  pub going_ends : {vars : List ℤ} {unread sent : List (List ℤ)} → Going first start Nothing vars unread sent → IsPlayed first start sent true vars unread
-  going_ends {vars} {unread} {sent} g = record { put = g.put; end = subst (λ (d : End). EndsAs d true vars unread) g.end (refl, refl, refl) }
 
   -- a put on a channel that is at its limit leads past it
   pub going_past : {e : Tree} {c : ℕ} {rest : Block} {vars : List ℤ} {unread sent : List (List ℤ)} (limits : List ℕ) → c < length sent → slice_index limits c ≤ length (history_of sent c) → Going first start (PutThen e c rest) vars unread sent → GoesPast limits (put_after first.steps start)

@@ -12,32 +12,33 @@ use Rattle.kahn_net.specs.Approximations.{approximation, next_histories, IsSolut
 use Rattle.kahn_net.specs.Laws.Prefixes.{prefix_length}
 use Rattle.kahn_net.specs.Laws.Approximations.{approximations_grow, agreement, length-next_from, solution_is_next}
 use Rattle.stream_eq.specs.Limits.{HasLongHistory, IsWithin, GoesPast}
+use Rattle.kahn_net.specs.declared.limits.TheConstants.{MAX_HISTORY_ITEMS}
 
-limit_most : (k c : ℕ) → slice_index (replicate k 1048576) c ≤ 1048576
+limit_most : (k c : ℕ) → slice_index (replicate k MAX_HISTORY_ITEMS) c ≤ MAX_HISTORY_ITEMS
 limit_most k c = at (cases_lt c k)
   where
-    at : (c < k) ⊎ (k ≤ c) → slice_index (replicate k 1048576) c ≤ 1048576
-    at (inl l) = let e : slice_index (replicate k 1048576) c ≡ 1048576 = get_or-replicate k c 1048576 0 l in omega arith
+    at : (c < k) ⊎ (k ≤ c) → slice_index (replicate k MAX_HISTORY_ITEMS) c ≤ MAX_HISTORY_ITEMS
+    at (inl l) = let e : slice_index (replicate k MAX_HISTORY_ITEMS) c ≡ MAX_HISTORY_ITEMS = get_or-replicate k c MAX_HISTORY_ITEMS 0 l in omega arith
     at (inr l) =
-        let n : length {A = ℕ} (replicate k 1048576) ≡ k = length-replicate k 1048576 in
-        let past : length {A = ℕ} (replicate k 1048576) ≤ c = omega arith in
-        let e : slice_index (replicate k 1048576) c ≡ 0 = get_or_past (replicate k 1048576) c 0 past in
+        let n : length {A = ℕ} (replicate k MAX_HISTORY_ITEMS) ≡ k = length-replicate k MAX_HISTORY_ITEMS in
+        let past : length {A = ℕ} (replicate k MAX_HISTORY_ITEMS) ≤ c = omega arith in
+        let e : slice_index (replicate k MAX_HISTORY_ITEMS) c ≡ 0 = get_or_past (replicate k MAX_HISTORY_ITEMS) c 0 past in
         omega arith
 
 -- inputs that fit are within the limit
-pub inputs_within : (net : Network) (inputs all : List (List ℤ)) (limits : List ℕ) → Fits net inputs → limits ≡ replicate (length inputs) 1048576 → all ≡ inputs → IsWithin limits all
+pub inputs_within : (net : Network) (inputs all : List (List ℤ)) (limits : List ℕ) → Fits net inputs → limits ≡ replicate (length inputs) MAX_HISTORY_ITEMS → all ≡ inputs → IsWithin limits all
 inputs_within net inputs all limits fits e same =
     subst (IsWithin limits) (sym same) (subst (λ (l : List ℕ). IsWithin l inputs) (sym e) (record { at = λ c. at c (slice_get_cases inputs c).1 }))
   where
-    at : (c : ℕ) → ((x : List ℤ) × (c < length inputs) × (slice_get inputs c ≡ Some x) × (get_or inputs c x ≡ x)) ⊎ ((length inputs ≤ c) × (slice_get inputs c ≡ None)) → length (history_of inputs c) ≤ slice_index (replicate (length inputs) 1048576) c
+    at : (c : ℕ) → ((x : List ℤ) × (c < length inputs) × (slice_get inputs c ≡ Some x) × (get_or inputs c x ≡ x)) ⊎ ((length inputs ≤ c) × (slice_get inputs c ≡ None)) → length (history_of inputs c) ≤ slice_index (replicate (length inputs) MAX_HISTORY_ITEMS) c
     at c (inl here) =
         let few = fits.few c here.0 here.2 in
-        let limit : slice_index (replicate (length inputs) 1048576) c ≡ 1048576 = get_or-replicate (length inputs) c 1048576 0 here.1 in
+        let limit : slice_index (replicate (length inputs) MAX_HISTORY_ITEMS) c ≡ MAX_HISTORY_ITEMS = get_or-replicate (length inputs) c MAX_HISTORY_ITEMS 0 here.1 in
         omega (arith, ap (length {A = ℤ}) (get_or_from_slice_get inputs c here.0 [] here.2))
     at c (inr past) = omega (arith, ap (length {A = ℤ}) (get_or_past inputs c [] past.0))
 
 -- where an approximation is within the limit, none up to it is too long
-pub not_long : (net : Network) → IsValid net → (inputs all : List (List ℤ)) (limits : List ℕ) (n : ℕ) → Fits net inputs → limits ≡ replicate (length inputs) 1048576 → all ≡ approximation net inputs n → IsWithin limits all → HasLongHistory net inputs n → ⊥
+pub not_long : (net : Network) → IsValid net → (inputs all : List (List ℤ)) (limits : List ℕ) (n : ℕ) → Fits net inputs → limits ≡ replicate (length inputs) MAX_HISTORY_ITEMS → all ≡ approximation net inputs n → IsWithin limits all → HasLongHistory net inputs n → ⊥
 not_long net valid inputs all limits n fits e same w h =
     let grown = prefix_length _ _ ((approximations_grow net valid inputs fits h.round n h.up_to).at h.channel) in
     let most = limit_most (length inputs) h.channel in
@@ -46,17 +47,17 @@ not_long net valid inputs all limits n fits e same w h =
     absurd (omega (arith, ap (λ (l : List ℕ). slice_index l h.channel) e, ap (λ (x : List (List ℤ)). length (history_of x h.channel)) same))
 
 -- a round that goes past the limit shows an approximation that is too long
-pub long_at : (net : Network) (inputs all : List (List ℤ)) (limits : List ℕ) (round n : ℕ) → Fits net inputs → limits ≡ replicate (length inputs) 1048576 → all ≡ approximation net inputs round → round < n → GoesPast limits (next_histories net inputs all) → HasLongHistory net inputs n
+pub long_at : (net : Network) (inputs all : List (List ℤ)) (limits : List ℕ) (round n : ℕ) → Fits net inputs → limits ≡ replicate (length inputs) MAX_HISTORY_ITEMS → all ≡ approximation net inputs round → round < n → GoesPast limits (next_histories net inputs all) → HasLongHistory net inputs n
 long_at net inputs all limits round n fits e same lt past = record {
   round = suc round;
   up_to = omega arith;
   channel = past.channel;
-  long = subst (λ (x : List (List ℤ)). 1048576 < length (history_of (next_histories net inputs x) past.channel)) same (at (cases_lt past.channel (length inputs)));
+  long = subst (λ (x : List (List ℤ)). MAX_HISTORY_ITEMS < length (history_of (next_histories net inputs x) past.channel)) same (at (cases_lt past.channel (length inputs)));
 }
   where
-    at : (past.channel < length inputs) ⊎ (length inputs ≤ past.channel) → 1048576 < length (history_of (next_histories net inputs all) past.channel)
+    at : (past.channel < length inputs) ⊎ (length inputs ≤ past.channel) → MAX_HISTORY_ITEMS < length (history_of (next_histories net inputs all) past.channel)
     at (inl l) =
-        let limit : slice_index (replicate (length inputs) 1048576) past.channel ≡ 1048576 = get_or-replicate (length inputs) past.channel 1048576 0 l in
+        let limit : slice_index (replicate (length inputs) MAX_HISTORY_ITEMS) past.channel ≡ MAX_HISTORY_ITEMS = get_or-replicate (length inputs) past.channel MAX_HISTORY_ITEMS 0 l in
         let more = past.past in
         omega (arith, ap (λ (x : List ℕ). slice_index x past.channel) e)
     at (inr l) =

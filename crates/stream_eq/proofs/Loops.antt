@@ -1,10 +1,10 @@
 -- The prelude, and then one pass of the body after another.
-use Rattle.std.proofs.Common.{◌≡◌, ℕ, suc, ◌<◌, Bool, true, false, List, ℤ, [], ◌++◌, Option, Some, refl, sym, ap, subst, ◌∙◌, append-nil, arith}
+use Rattle.std.proofs.Common.{◌≡◌, ℕ, suc, ◌<◌, Bool, true, List, ℤ, Option, Some, refl, sym, ap, subst, ◌∙◌, arith}
 use Rattle.std.specs.Prelude.{IsTrue}
 use Rattle.kahn_net.specs.Streams.{total}
 use Rattle.kahn_net.specs.Syntax.{Block}
 use Rattle.kahn_net.specs.Valid.{is_passing}
-use Rattle.kahn_net.specs.Statements.{Trace, Step, End, Ended, Waits, trace_of, from_end, then_do}
+use Rattle.kahn_net.specs.Statements.{Trace, End, Ended, Waits, trace_of, from_end, then_do}
 use Rattle.kahn_net.specs.Processes.{passes, loop_trace}
 use Rattle.kahn_net.specs.Laws.Passes.{fewer_left, one_pass}
 use Rattle.kahn_net.specs.Puts.{put_after}
@@ -30,14 +30,6 @@ goes_on site b vars vars' unread unread' sent sent' r is passing m =
     let later = (passes (suc (total unread')) site b vars' unread').steps in
     ap (put_after later) m.put ∙ (sym (put_after-append first later sent)
     ∙ ap (λ (t : Trace). put_after t.steps sent) (sym (one_pass site b vars unread vars' unread' passing (ended_is _ r vars' unread' is m.end))))
-
--- where one waits, nothing is put after it
-pub waits_then : (t : Trace) (go : List ℤ → List (List ℤ) → Trace) (sent sent' : List (List ℤ)) (r : Bool) (v : List ℤ) (u : List (List ℤ)) → r ≡ false → IsPlayed t sent sent' r v u → sent' ≡ put_after (then_do t go).steps sent
-waits_then t go sent sent' r v u is m = m.put ∙ ap (λ (s : List Step). put_after s sent) (sym (append-nil t.steps) ∙ ap (λ (s : List Step). t.steps ++ s) (at_end t.end m.end))
-  where
-    at_end : (e : End) → EndsAs e r v u → [] ≡ (from_end e go).steps
-    at_end (Ended w x) h = let a = h.0 in absurd (cc)
-    at_end (Waits s w c) h = refl
 
 -- where one ended, what comes after it is put too
 pub ended_then : (t : Trace) (go : List ℤ → List (List ℤ) → Trace) (sent sent' sent'' : List (List ℤ)) (r : Bool) (v : List ℤ) (u : List (List ℤ)) → r ≡ true → IsPlayed t sent sent' r v u → sent'' ≡ put_after (go v u).steps sent' → sent'' ≡ put_after (then_do t go).steps sent

@@ -3,13 +3,14 @@ use Rattle.std.specs.Prelude.{ℕ, ℤ, List, ◌≤◌, ◌<◌, length, slice_
 use Rattle.kahn_net.specs.Streams.{history_of}
 use Rattle.kahn_net.specs.Syntax.{Network}
 use Rattle.kahn_net.specs.Approximations.{approximation}
+use Rattle.kahn_net.specs.declared.limits.TheConstants.{MAX_HISTORY_ITEMS}
 
 -- an approximation up to the n-th has a history of more than 1,048,576 items
 pub record HasLongHistory (net : Network) (inputs : List (List ℤ)) (n : ℕ) : Type 0 where
   pub round : ℕ
   pub up_to : round ≤ n
   pub channel : ℕ
-  pub long : 1048576 < length (history_of (approximation net inputs round) channel)
+  pub long : MAX_HISTORY_ITEMS < length (history_of (approximation net inputs round) channel)
 
 -- each history has at most as many items as the limit of its channel
 pub record IsWithin (limits : List ℕ) (histories : List (List ℤ)) : Type 0 where

@@ -1,6 +1,6 @@
 //! The approximations of a network's histories.
 
-ghost use Rattle.std.specs.Prelude.{◌≡◌, length, replicate, IfOk, OnOk, IsErrOf};
+ghost use Rattle.std.specs.Prelude.{◌≡◌, replicate, IfOk, OnOk, IsErrOf};
 ghost use Rattle.kahn_net.specs.Syntax.{network_of};
 ghost use Rattle.kahn_net.specs.Fits.{Fits};
 ghost use Rattle.kahn_net.specs.Approximations.{approximation};
@@ -9,26 +9,24 @@ ghost use Rattle.stream_eq.specs.Limits.{HasLongHistory};
 use crate::fault::Fault;
 use crate::histories::{Histories, are_same, copies};
 use crate::round::next;
-use kahn_net::History;
+use kahn_net::{History, MAX_HISTORY_ITEMS};
 use net_check::{Inputs, Net};
 use std::alloc::{AllocError, Global};
 
-/// The most items that a history may have.
-const LONGEST_HISTORY: usize = 1_048_576;
-
 /// The same limit for each of so many channels.
 fn same_limits(alloc: Global, channels: usize) -> Result<Vec<usize>, AllocError>
-    ensures { IfOk result (λ limits. limits.items ≡ replicate channels 1048576) }
+    ensures { IfOk result (λ limits. limits.items ≡ replicate channels MAX_HISTORY_ITEMS) }
 {
-    vec![in alloc; LONGEST_HISTORY; channels]
+    vec![in alloc; MAX_HISTORY_ITEMS; channels]
 }
 
 /// The n-th approximation, from a list of items for each channel.
 fn approximate(alloc: Global, net: &Net, inputs: &[History], n: u64) -> Result<Histories, Fault>
     requires { Fits (network_of net.now.program) inputs.now }
-    ensures value { IfOk result (λ histories.
-        histories ≡ approximation (network_of net.now.program) inputs.now n) }
-    ensures long { IsErrOf result Fault.Long → HasLongHistory (network_of net.now.program) inputs.now n }
+    ensures value { IfOk result
+        (λ histories. histories ≡ approximation (network_of net.now.program) inputs.now n) }
+    ensures long { IsErrOf result Fault.Long
+        → HasLongHistory (network_of net.now.program) inputs.now n }
     ensures not_long { OnOk result (¬ HasLongHistory (network_of net.now.program) inputs.now n) }
 {
     let limits = same_limits(alloc, inputs.len())?;
@@ -52,9 +50,10 @@ fn approximate(alloc: Global, net: &Net, inputs: &[History], n: u64) -> Result<H
 /// 1,048,576 items, unless memory is refused.
 pub fn approx(alloc: Global, net: &Net, inputs: &Inputs, n: u64) -> Result<Histories, Fault>
     requires { Fits (network_of net.now.program) inputs.now }
-    ensures value { IfOk result (λ histories.
-        histories ≡ approximation (network_of net.now.program) inputs.now n) }
-    ensures long { IsErrOf result Fault.Long → HasLongHistory (network_of net.now.program) inputs.now n }
+    ensures value { IfOk result
+        (λ histories. histories ≡ approximation (network_of net.now.program) inputs.now n) }
+    ensures long { IsErrOf result Fault.Long
+        → HasLongHistory (network_of net.now.program) inputs.now n }
     ensures not_long { OnOk result (¬ HasLongHistory (network_of net.now.program) inputs.now n) }
 {
     approximate(alloc, net, inputs.as_slice(), n)

@@ -4,8 +4,7 @@ ghost use Rattle.std.specs.Prelude.{◌≡◌, slice_set};
 ghost use Rattle.kahn_net.specs.Syntax.{tree_of};
 ghost use Rattle.kahn_net.specs.Statements.{apply, value_of};
 
-use kahn_net::Expr;
-use kahn_net::Operator;
+use kahn_net::{Expr, Operator};
 
 /// The value of an operator on two values.
 fn operate(operator: Operator, left: i64, right: i64) -> i64

@@ -1,6 +1,6 @@
 //! A history for each channel of a network.
 
-ghost use Rattle.std.specs.Prelude.{◌≡◌, ◌↔◌, length, take, IsTrue, IfOk, OnOk};
+ghost use Rattle.std.specs.Prelude.{◌≡◌, ◌↔◌, IsTrue, IfOk};
 
 use kahn_net::History;
 use std::alloc::{AllocError, Global};

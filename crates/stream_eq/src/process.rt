@@ -20,14 +20,14 @@ use std::alloc::Global;
 /// Puts an item on a channel, unless that goes past the channel's limit.
 fn put_item(sent: &mut [History], limits: &[usize], channel: usize, item: i64) -> Result<(), Fault>
     requires { length limits.now ≡ length sent.old }
-    ensures ok { OnOk result (
-        sent.new ≡ slice_set sent.old channel (history_of sent.old channel ++ item ∷ [])) }
-    ensures room { OnOk result (
-        channel < length sent.old →
-        length (history_of sent.old channel) < slice_index limits.now channel) }
+    ensures ok { OnOk result (sent.new
+        ≡ slice_set sent.old channel (history_of sent.old channel ++ item ∷ [])) }
+    ensures room { OnOk result
+        (channel < length sent.old
+        → length (history_of sent.old channel) < slice_index limits.now channel) }
     ensures long_here { IsErrOf result Fault.Long → channel < length sent.old }
-    ensures long { IsErrOf result Fault.Long →
-        slice_index limits.now channel ≤ length (history_of sent.old channel) }
+    ensures long { IsErrOf result Fault.Long
+        → slice_index limits.now channel ≤ length (history_of sent.old channel) }
 {
     if channel >= sent.len() {
         return Ok(());
@@ -50,12 +50,15 @@ fn play_statements(
     sent: &mut [History],
 ) -> Result<bool, Fault>
     requires { length limits.now ≡ length sent.old }
-    ensures played { IfOk result (λ ended.
-        (site : ℕ) → IsPlayed (trace_of site (block_of statements.now) variables.old unread.old)
-        sent.old sent.new ended variables.new unread.new) }
+    ensures played { IfOk result
+        (λ ended. (site : ℕ) → IsPlayed
+        (trace_of site (block_of statements.now) variables.old unread.old) sent.old sent.new ended
+        variables.new unread.new) }
     ensures within { OnOk result (IsWithin limits.now sent.old → IsWithin limits.now sent.new) }
-    ensures long { IsErrOf result Fault.Long → (site : ℕ) → GoesPast limits.now
-        (put_after (trace_of site (block_of statements.now) variables.old unread.old).steps sent.old) }
+    ensures long { IsErrOf result Fault.Long
+        → (site : ℕ) → GoesPast limits.now
+        (put_after (trace_of site
+        (block_of statements.now) variables.old unread.old).steps sent.old) }
 {
     for statement in statements {
         match statement {
@@ -94,10 +97,12 @@ fn play_loop(
 ) -> Result<(), Fault>
     requires passing { IsTrue (is_passing (block_of body.now)) }
     requires count { length limits.now ≡ length sent.old }
-    ensures played { OnOk result (
-        (site : ℕ) → sent.new ≡ put_by_passes site (block_of body.now) variables.old unread.old sent.old) }
+    ensures played { OnOk result
+        ((site : ℕ) → sent.new ≡ put_by_passes site
+        (block_of body.now) variables.old unread.old sent.old) }
     ensures within { OnOk result (IsWithin limits.now sent.old → IsWithin limits.now sent.new) }
-    ensures long { IsErrOf result Fault.Long → (site : ℕ) → GoesPast limits.now
+    ensures long { IsErrOf result Fault.Long
+        → (site : ℕ) → GoesPast limits.now
         (put_by_passes site (block_of body.now) variables.old unread.old sent.old) }
 {
     while play_statements(body, variables, unread, limits, sent)? {}
@@ -115,11 +120,11 @@ fn play(
     requires first { variables.old ≡ (code_of process.now).vars }
     requires passing { HasPassingLoop (code_of process.now) }
     requires count { length limits.now ≡ length sent.old }
-    ensures played { OnOk result (
-        sent.new ≡ put_by_process (code_of process.now) unread.old sent.old) }
+    ensures played { OnOk result
+        (sent.new ≡ put_by_process (code_of process.now) unread.old sent.old) }
     ensures within { OnOk result (IsWithin limits.now sent.old → IsWithin limits.now sent.new) }
-    ensures long { IsErrOf result Fault.Long →
-        GoesPast limits.now (put_by_process (code_of process.now) unread.old sent.old) }
+    ensures long { IsErrOf result Fault.Long
+        → GoesPast limits.now (put_by_process (code_of process.now) unread.old sent.old) }
 {
     let ended = play_statements(&process.prelude, variables, unread, limits, sent)?;
     if !ended {
@@ -142,11 +147,11 @@ pub fn put_outputs(
 ) -> Result<(), Fault>
     requires passing { HasPassingLoop (code_of process.now) }
     requires count { length limits.now ≡ length sent.old }
-    ensures played { OnOk result (
-        sent.new ≡ put_by_process (code_of process.now) histories.now sent.old) }
+    ensures played { OnOk result
+        (sent.new ≡ put_by_process (code_of process.now) histories.now sent.old) }
     ensures within { OnOk result (IsWithin limits.now sent.old → IsWithin limits.now sent.new) }
-    ensures long { IsErrOf result Fault.Long →
-        GoesPast limits.now (put_by_process (code_of process.now) histories.now sent.old) }
+    ensures long { IsErrOf result Fault.Long
+        → GoesPast limits.now (put_by_process (code_of process.now) histories.now sent.old) }
 {
     let mut variables = Vec::from_slice(alloc, process.variables.as_slice())?;
     let mut unread = all_unread(alloc, histories)?;

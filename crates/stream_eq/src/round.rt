@@ -25,10 +25,11 @@ fn put_all(
 ) -> Result<(), Fault>
     requires passing { AllHavePassingLoops (map code_of processes.now) }
     requires count { length limits.now ≡ length after.old }
-    ensures put { OnOk result (after.new ≡ put_by_all (map code_of processes.now) histories.now after.old) }
+    ensures put { OnOk result
+        (after.new ≡ put_by_all (map code_of processes.now) histories.now after.old) }
     ensures within { OnOk result (IsWithin limits.now after.old → IsWithin limits.now after.new) }
-    ensures long { IsErrOf result Fault.Long →
-        GoesPast limits.now (put_by_all (map code_of processes.now) histories.now after.old) }
+    ensures long { IsErrOf result Fault.Long
+        → GoesPast limits.now (put_by_all (map code_of processes.now) histories.now after.old) }
 {
     for process in processes {
         put_outputs(alloc, process, histories, limits, after)?;
@@ -47,11 +48,14 @@ pub fn next(
 ) -> Result<Vec<History>, Fault>
     requires fits { Fits (network_of net.now.program) inputs.now }
     requires count { length limits.now ≡ length inputs.now }
-    ensures next { IfOk result (λ after.
-        after.items ≡ next_histories (network_of net.now.program) inputs.now histories.now) }
-    ensures within { IfOk result (λ after. IsWithin limits.now inputs.now → IsWithin limits.now after.items) }
-    ensures long { IsErrOf result Fault.Long →
-        GoesPast limits.now (next_histories (network_of net.now.program) inputs.now histories.now) }
+    ensures next { IfOk result
+        (λ after. after.items ≡ next_histories
+        (network_of net.now.program) inputs.now histories.now) }
+    ensures within { IfOk result
+        (λ after. IsWithin limits.now inputs.now → IsWithin limits.now after.items) }
+    ensures long { IsErrOf result Fault.Long
+        → GoesPast limits.now (next_histories
+        (network_of net.now.program) inputs.now histories.now) }
 {
     let mut after = copies(alloc, inputs)?;
     put_all(alloc, &net.program.processes, histories, limits, &mut after)?;

@@ -31,8 +31,9 @@ fn solves(
     histories: &[History],
 ) -> Result<bool, Fault>
     requires { Fits (network_of net.now.program) inputs.now }
-    ensures answer { IfOk result (λ answer.
-        IsTrue answer ↔ IsSolution (network_of net.now.program) inputs.now histories.now) }
+    ensures answer { IfOk result
+        (λ answer. IsTrue answer ↔ IsSolution
+        (network_of net.now.program) inputs.now histories.now) }
     ensures memory { IfErr result (λ fault. fault ≡ Fault.NoMemory) }
 {
     let limits = lengths(alloc, histories)?;
@@ -59,8 +60,9 @@ pub fn is_solution(
     histories: &Histories,
 ) -> Result<bool, Fault>
     requires { Fits (network_of net.now.program) inputs.now }
-    ensures answer { IfOk result (λ answer.
-        IsTrue answer ↔ IsSolution (network_of net.now.program) inputs.now histories.now) }
+    ensures answer { IfOk result
+        (λ answer. IsTrue answer ↔ IsSolution
+        (network_of net.now.program) inputs.now histories.now) }
     ensures memory { IfErr result (λ fault. fault ≡ Fault.NoMemory) }
 {
     solves(alloc, net, inputs.as_slice(), histories.as_slice())

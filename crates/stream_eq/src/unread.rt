@@ -74,10 +74,11 @@ pub fn all_unread<'a>(
 
 /// Takes the next item of a channel, if there is one.
 pub fn take_item(unread: &mut [Unread<'_>], channel: usize) -> Option<i64>
-    ensures some { IfSome result (λ item.
-        (left : List ℤ) × (history_of unread.old channel ≡ item ∷ left) ×
-        (unread.new ≡ slice_set unread.old channel left)) }
-    ensures none { IfNone result ((history_of unread.old channel ≡ []) × (unread.new ≡ unread.old)) }
+    ensures some { IfSome result
+        (λ item. (left : List ℤ) × (history_of unread.old channel ≡ item ∷ left)
+        × (unread.new ≡ slice_set unread.old channel left)) }
+    ensures none { IfNone result
+        ((history_of unread.old channel ≡ []) × (unread.new ≡ unread.old)) }
 {
     if channel < unread.len() {
         let items = &mut unread[channel];

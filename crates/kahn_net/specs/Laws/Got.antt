@@ -165,11 +165,6 @@ reads_steps t unread m c r =
 pub reads : (code : Code) (inputs : List (List ℤ)) (m c : ℕ) → history_of inputs c ≡ got_on c (take m (process_trace code inputs).steps) ++ history_of (left_after (take m (process_trace code inputs).steps) inputs) c
 reads code inputs m c = reads_steps (process_trace code inputs) inputs m c (reads_process code inputs)
 
--- the same from where it stands, of what is unread
-pub reads_on : (code : Code) (standing : Standing) (unread : List (List ℤ)) (m c : ℕ)
-    → history_of unread c ≡ got_on c (take m (trace_from code standing unread).steps) ++ history_of (left_after (take m (trace_from code standing unread).steps) unread) c
-reads_on code standing unread m c = reads_steps (trace_from code standing unread) unread m c (reads_from code standing unread)
-
 -- where it waits at a get, nothing is left on its channel
 pub waits_empty : (code : Code) (standing : Standing) (unread : List (List ℤ)) (site : ℕ) (v : List ℤ) (c : ℕ) → (trace_from code standing unread).end ≡ Waits site v c → history_of (left_after (trace_from code standing unread).steps unread) c ≡ []
 waits_empty code standing unread site v c e = (reads_from code standing unread).empty site v c e

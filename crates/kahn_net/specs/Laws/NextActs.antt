@@ -1,6 +1,5 @@
 -- Laws of what comes next: each act that a process makes is the first of the statements from its site on, and so is the get at which it waits.
-use Rattle.std.proofs.Common.{◌≡◌, ◌==◌, ℕ, zero, suc, ◌+◌, ◌<◌, ◌≤◌, Bool, true, false, cond, List, ℤ, [], ◌∷◌, ◌++◌, length, Option, Some, None, refl, sym, ap, ◌∙◌, subst, arith, drop, set}
-use Rattle.std.proofs.lemmas.List.{drop_all}
+use Rattle.std.proofs.Common.{◌≡◌, ◌==◌, ℕ, zero, suc, ◌+◌, ◌<◌, ◌≤◌, Bool, true, false, cond, List, ℤ, [], ◌∷◌, ◌++◌, Option, Some, None, refl, ap, ◌∙◌, subst, arith, drop, set}
 use Rattle.std.proofs.lemmas.Bool.{lt-ltb, le-ltb}
 use Rattle.std.proofs.lemmas.Bool.Decides.{nat_tests}
 use Rattle.std.specs.Prelude.{slice_get}
@@ -189,51 +188,3 @@ next_acts code inputs m (At site vars) s passing step h =
     let same : site ≡ step.site = cc in
     let here : ComesNext code step.site (foretold_by step.act) = all_at (λ step. ComesNext code step.site (foretold_by step.act)) t.steps m step (foretells_process code inputs).acts h in
     foretold (first_of (statements_from code site)) step.act (ap (λ (n : ℕ). first_of (statements_from code n)) same ∙ here)
-
--- past the last act it stands where the trace ends
-stands_at_end : (steps : List Step) (m : ℕ) (e : End) → m ≡ length steps → standing_at (drop m steps) e ≡ standing_at [] e
-stands_at_end steps m e h = ap (λ (l : List Step). standing_at l e) (drop_all m steps (omega (arith, h)))
-
--- how it ends where it stands at a site past its last act
-ends_waiting : (code : Code) (inputs : List (List ℤ)) (site : ℕ) (vars : List ℤ) (e : End) → (process_trace code inputs).end ≡ e → At site vars ≡ standing_at [] e
-    → (c : ℕ) × ((process_trace code inputs).end ≡ Waits site vars c) × (first_of (statements_from code site) ≡ Gets c)
-ends_waiting code inputs site vars (Ended v u) is h = absurd (not_done v vars site (sym h))
-ends_waiting code inputs site vars (Waits s v c) is h =
-    let same : Waits s v c ≡ Waits site vars c = (let a : s ≡ site = cc in let b : v ≡ vars = cc in cc) in
-    (c, is ∙ same, (foretells_process code inputs).waits site vars c (is ∙ same))
-
--- where its acts are all made and a get comes next, it waits at this get
-pub next_waits : (code : Code) (inputs : List (List ℤ)) (m : ℕ) (standing : Standing) → StandsAt code inputs m standing → m ≡ length (process_trace code inputs).steps
-    → (c : ℕ) → next_of code standing ≡ Gets c → (site : ℕ) × (vars : List ℤ) × ((process_trace code inputs).end ≡ Waits site vars c)
-next_waits code inputs m (NotBegun vars) s all c e = absurd (cc)
-next_waits code inputs m (Done vars) s all c e = absurd (cc)
-next_waits code inputs m (At site vars) s all c e =
-    let t = process_trace code inputs in
-    let w = ends_waiting code inputs site vars t.end refl (s.here ∙ stands_at_end t.steps m t.end all) in
-    let here : Gets w.0 ≡ Gets c = sym w.2 ∙ e in
-    let same : w.0 ≡ c = cc in
-    (site, vars, w.1 ∙ ap (λ (d : ℕ). Waits site vars d) same)
-
--- there no put comes next
-pub no_put_at_end : (code : Code) (inputs : List (List ℤ)) (m : ℕ) (standing : Standing) → StandsAt code inputs m standing → m ≡ length (process_trace code inputs).steps
-    → (c : ℕ) → next_of code standing ≡ Puts c → ⊥
-no_put_at_end code inputs m (NotBegun vars) s all c e = cc
-no_put_at_end code inputs m (Done vars) s all c e = cc
-no_put_at_end code inputs m (At site vars) s all c e =
-    let t = process_trace code inputs in
-    let w = ends_waiting code inputs site vars t.end refl (s.here ∙ stands_at_end t.steps m t.end all) in
-    let here : Gets w.0 ≡ Puts c = sym w.2 ∙ e in
-    cc
-
--- and where it waits there, having begun, the get at which it waits comes next
-pub waits_next : (code : Code) (inputs : List (List ℤ)) (m : ℕ) (standing : Standing) → StandsAt code inputs m standing → m ≡ length (process_trace code inputs).steps
-    → (site : ℕ) (vars : List ℤ) (c : ℕ) → (process_trace code inputs).end ≡ Waits site vars c → ((first : List ℤ) → standing ≡ NotBegun first → ⊥) → next_of code standing ≡ Gets c
-waits_next code inputs m (NotBegun first) s all site vars c e begun = absurd (begun first refl)
-waits_next code inputs m (Done last) s all site vars c e begun =
-    let t = process_trace code inputs in
-    absurd (not_done last vars site (s.here ∙ (stands_at_end t.steps m t.end all ∙ ap (standing_at []) e)))
-waits_next code inputs m (At place values) s all site vars c e begun =
-    let t = process_trace code inputs in
-    let at : At place values ≡ At site vars = s.here ∙ (stands_at_end t.steps m t.end all ∙ ap (standing_at []) e) in
-    let same : place ≡ site = cc in
-    ap (λ (n : ℕ). first_of (statements_from code n)) same ∙ (foretells_process code inputs).waits site vars c e

@@ -65,10 +65,3 @@ pub one_pass : (site : ℕ) (b : Block) (vars : List ℤ) (unread : List (List �
 one_pass site b vars unread v u passing e =
     ap (λ (w : Trace). let r : Trace = record { steps = (trace_of site b vars unread).steps ++ w.steps; end = w.end } in r)
     (ap (λ (d : End). from_end d (passes (total unread) site b)) e ∙ fueled (total unread) site b v u passing (fewer_left site b vars unread v u passing e))
-
--- a pass that waits is the last one
-pub last_pass : (site : ℕ) (b : Block) (vars : List ℤ) (unread : List (List ℤ)) (s : ℕ) (v : List ℤ) (c : ℕ) → (trace_of site b vars unread).end ≡ Waits s v c
-    → passes (suc (total unread)) site b vars unread ≡ record { steps = (trace_of site b vars unread).steps ++ []; end = Waits s v c }
-last_pass site b vars unread s v c e =
-    ap (λ (w : Trace). let r : Trace = record { steps = (trace_of site b vars unread).steps ++ w.steps; end = w.end } in r)
-    (ap (λ (d : End). from_end d (passes (total unread) site b)) e)

@@ -11,8 +11,8 @@ returns-then-is_some-clause-err c =
     let r = when_some c.find_variable.result _ _ c.find_variable.ensures (sym c.is_some.ensures ∙ c.if-is_some.true) in
     λ process same text p h. rw c.line.ensures (twice_variable_of process c.args.variables.now c.loop-i.i c.index-variables-i.result r.0 same (omega arith) c.index-variables-i.is r.1 text p h)
 
-pub returns-then-i-ge-VARIABLES-clause-err : goal.returns-then-i-ge-VARIABLES-clause-err
-returns-then-i-ge-VARIABLES-clause-err c = λ process same.
+pub returns-then-i-ge-MAX_VARIABLES-clause-err : goal.returns-then-i-ge-MAX_VARIABLES-clause-err
+returns-then-i-ge-MAX_VARIABLES-clause-err c = λ process same.
     many_variables_of process c.args.variables.now c.loop-i.i c.index-variables-i.result same (omega arith) c.index-variables-i.is (let f = c.loop-i.invariant.few in omega arith)
 
 pub loop-i-preserved : goal.loop-i-preserved

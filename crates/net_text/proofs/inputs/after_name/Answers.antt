@@ -5,6 +5,7 @@ use Rattle.net_text.proofs.Runs.{run_le, colon_cut}
 use Rattle.net_text.specs.Names.{NameTree}
 use Rattle.net_text.proofs.Items.{after_name_done, after_name_fails}
 use Rattle.net_text.proofs.inputs.after_name.Goals as goal
+use Rattle.net_text.specs.declared.limits.TheConstants.{MAX_NAME_BYTES}
 
 pub bounds-bytes-len : goal.bounds-bytes-len
 bounds-bytes-len c =
@@ -29,7 +30,7 @@ returns-in_err-items c =
     let colon : get_or c.args.text.now c.args.len 0 ≡ 58 = ap (λ (bs : List ℕ). get_or bs c.args.len 0) (sym c.as_bytes-bytes.ensures.value) ∙ c.if-bytes-len-ne58.false in
     let some = λ (e : c.args.len ≡ length c.args.text.now). c.if-len-bytes.false (e ∙ ap length (sym c.as_bytes-bytes.ensures.value)) in
     let rest : c.split_at-2.result.1.now ≡ drop (suc c.args.len) c.args.text.now = rw (← add-one) c.split_at-2.ensures.back in
-    rw (p.1, p.2) (after_name_fails c.in_err-items.field-0.0 c.args.line c.args.len c.args.text.now c.split_at-2.result.1.now (let h = c.if-len-gt-LONGEST_NAME.false in omega arith) some colon rest c.in_err-items.ensures)
+    rw (p.1, p.2) (after_name_fails c.in_err-items.field-0.0 c.args.line c.args.len c.args.text.now c.split_at-2.result.1.now (let h = c.if-len-gt-MAX_NAME_BYTES.false in omega arith) some colon rest c.in_err-items.ensures)
 
 pub returns : goal.returns
 returns c =
@@ -38,4 +39,4 @@ returns c =
     let rest : c.split_at-2.result.1.now ≡ drop (suc c.args.len) c.args.text.now = rw (← add-one) c.split_at-2.ensures.back in
     let text = c.in_ok-from_str.ensures.ok ∙ c.split_at.ensures.front in
     let name : c.new-name.result ≡ record { text = take c.args.len c.args.text.now; line = c.args.line } = c.new-name.ensures ∙ ap (λ (t : List ℕ). let n : NameTree = record { text = t; line = c.args.line } in n) text in
-    after_name_done c.args.line c.args.len c.args.text.now c.split_at-2.result.1.now c.new-name.result c.in_ok-items.items.items (let h = c.if-len-gt-LONGEST_NAME.false in omega arith) some colon rest c.in_ok-items.ensures name
+    after_name_done c.args.line c.args.len c.args.text.now c.split_at-2.result.1.now c.new-name.result c.in_ok-items.items.items (let h = c.if-len-gt-MAX_NAME_BYTES.false in omega arith) some colon rest c.in_ok-items.ensures name

@@ -10,8 +10,8 @@ returns-then-is_some-clause-err c =
     let r = when_some c.find_channel.result _ _ c.find_channel.ensures.found (sym c.is_some.ensures ∙ c.if-is_some.true) in
     λ text more e. rw c.line.ensures (twice_channel c.args.self.now.channels.items c.args.channel r.0 (subst (λ (xs : List ChannelText). Reads (channel_names xs) r.0 c.args.channel.name.text) c.deref.ensures.value r.1) text more e)
 
-pub returns-then-len-ge-CHANNELS-clause-err : goal.returns-then-len-ge-CHANNELS-clause-err
-returns-then-len-ge-CHANNELS-clause-err c = many_channels_at c.args.self.now.channels.items c.args.channel (let d = c.requires.few_channels in omega arith)
+pub returns-then-len-ge-MAX_CHANNELS-clause-err : goal.returns-then-len-ge-MAX_CHANNELS-clause-err
+returns-then-len-ge-MAX_CHANNELS-clause-err c = many_channels_at c.args.self.now.channels.items c.args.channel (let d = c.requires.few_channels in omega arith)
 
 pub returns-clause-declared : goal.returns-clause-declared
 returns-clause-declared c =
