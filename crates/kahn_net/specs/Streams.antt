@@ -1,15 +1,14 @@
 -- Histories: the items that go over each channel, by the channel's number. After Kahn, "The semantics of a simple language for
 -- parallel programming" (1974): a network means the histories of its channels, whole lists without machine or schedule.
-use Rattle.std.specs.Prelude.{◌≡◌, ℕ, ◌+◌, ℤ, List, [], ◌∷◌, ◌++◌, length, slice_index_or}
+use Rattle.std.specs.Prelude.{◌≡◌, ℕ, ◌+◌, ℤ, List, [], ◌∷◌, length, slice_index_or, take}
 
 -- A history is a list of items, in order. This is the history of a channel, empty where there is no such channel.
 abbrev pub history_of : List (List ℤ) → ℕ → List ℤ
 history_of histories channel = slice_index_or histories channel []
 
--- whole is part, followed by some list
-pub record IsPrefix (part whole : List ℤ) : Type 0 where
-  pub rest : List ℤ
-  pub is : whole ≡ part ++ rest
+-- part is a beginning of whole: it is as many of its first items
+abbrev pub IsPrefix : List ℤ → List ℤ → Type 0
+IsPrefix part whole = part ≡ take (length part) whole
 
 -- each history of the one is a prefix of the other's
 pub record ArePrefixes (small big : List (List ℤ)) : Type 0 where

@@ -1,5 +1,5 @@
 -- What a world's outlets took are the streams of a run.
-use Rattle.std.proofs.Common.{◌≡◌, ◌≢◌, ◌⊎◌, inl, inr, Vec, Global, ℕ, zero, suc, ◌+◌, ◌<◌, Bool, true, false, eqb, cond, List, ℤ, [], ◌∷◌, ◌++◌, length, map, drop, get_or, Option, Some, None, refl, sym, ap, subst, ◌∙◌, append_assoc, arith}
+use Rattle.std.proofs.Common.{◌≡◌, ◌≢◌, ◌⊎◌, inl, inr, Vec, Global, ℕ, zero, suc, ◌+◌, ◌<◌, Bool, true, false, eqb, cond, List, ℤ, [], ◌∷◌, ◌++◌, length, map, drop, get_or, Option, Some, refl, sym, ap, subst, ◌∙◌, append_assoc, arith}
 use Rattle.std.specs.Prelude.{Result, Ok, Err, IfOk, IfSome, slice_get, find, IsTrue, if◌then◌else◌}
 use Rattle.std.specs.Io.KnownBytes.{Appends}
 use Rattle.std.proofs.Math.Logic.{∥∥₁_map}
@@ -7,7 +7,7 @@ use Rattle.std.proofs.Math.Seq.{drop-cons}
 use Rattle.std.proofs.lemmas.Bool.Decides.{nat_tests}
 use Rattle.kahn_net.specs.Streams.{history_of, IsPrefix}
 use Rattle.kahn_net.specs.Syntax.{Network, network_of}
-use Rattle.kahn_net.specs.Approximations.{approximation, IsReached}
+use Rattle.kahn_net.specs.Approximations.{approximation}
 use Rattle.kahn_net.specs.declared.program.Channel.{Channel}
 use Rattle.world.specs.Sound.{goes_outside, output_channels}
 use Rattle.world.specs.Headline as headline
@@ -30,7 +30,7 @@ use Rattle.net_check.specs.declared.net.Net.{Net}
 use Rattle.kahn_program.specs.Report.{one_if_output, output_count, report_text}
 use Rattle.kahn_program.specs.Readings.{IsNetOf, AreInputsOf}
 use Rattle.kahn_program.specs.Statuses.{status_of_run}
-use Rattle.kahn_program.specs.Runs.{released_streams, AreWithin, AreAll, IsRun, IsReport, IsReported, HasWritten}
+use Rattle.kahn_program.specs.Runs.{released_streams, IsRun, IsReport, IsReported, HasWritten}
 use Rattle.kahn_program.specs.declared.failure.Failure.{Failure}
 
 -- The outlet of a channel
@@ -153,9 +153,6 @@ counted_streams f number (channel ∷ channels) = at channel.consumer (counted_s
     at (Process p) rest = rest
 
 -- The streams of a world of one station
-
-abbrev IsOf : {C O : Type 0} {cell : CellWords C} {outlet : OutletWords O} → Network → List (List ℤ) → Station C O cell outlet → Type 0
-IsOf net inputs station = (network_of station.net.value.program ≡ net) × (station.inputs.value ≡ inputs)
 
 one_run : {C O : Type 0} {cell : CellWords C} {outlet : OutletWords O} (complete : Bool) (station : Station C O cell outlet)
     → (IsTrue complete → quiet.AreWhole (network_of station.net.value.program) station.inputs.value (outputs_view outlet.taken station.outputs.items))

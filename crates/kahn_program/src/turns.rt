@@ -9,6 +9,7 @@ ghost use Rattle.world.specs.Released.{released_of};
 ghost use Rattle.world.specs.Sound.{goes_outside, output_channels};
 ghost use Rattle.world.specs.WorldView.{station_view, IsOfSame};
 ghost use Rattle.kahn_program.specs.Runs.{IsReport};
+ghost use Rattle.kahn_net.specs.declared.limits.TheConstants.{MAX_CHANNELS};
 
 use crate::failure::Failure;
 use crate::reporting::{Stream, report};
@@ -109,7 +110,7 @@ fn streams<'a>(
     channels: &[Channel],
     world: &'a World<MemCell, ListOutlet>,
 ) -> Result<Vec<Stream<'a>>, AllocError>
-    requires { length channels.now ≤ 256 }
+    requires { length channels.now ≤ MAX_CHANNELS }
     ensures { IfOk result (λ streams. streams.items
         ≡ map (λ channel. released_of channel (map station_view world.now.stations.items)) (output_channels 0 channels.now)) }
 {

@@ -7,7 +7,7 @@ use Rattle.record.specs.ImageView.{ImageView}
 use Rattle.record.specs.Ends.{sent_of}
 use Rattle.record.specs.RecordView.{RecordView}
 use Rattle.node.specs.NodeView.{NodeView}
-use Rattle.node.specs.Starting.{with_own, with_kept, decided, decided_with, may_start, may_decide, is_own, stopped, IsStart, IsDecision, HasPutMore, LeavesAsMuch, AreInOrder}
+use Rattle.node.specs.Starting.{with_kept, decided, decided_with, stopped, IsDecision, HasPutMore, LeavesAsMuch, AreInOrder}
 use Rattle.record.specs.declared.record.Tentative.{Tentative}
 use Rattle.node.specs.declared.putting.Putting.{Putting}
 use Rattle.node.specs.declared.putting.Putting.TheVariants.{NotDue, Stored, Refused, Failed}
@@ -25,12 +25,6 @@ stopped_order round old new is order = subst (λ (n : NodeView). AreInOrder n.ke
 some_is : {A : Type 0} (x y : A) → Some x ≡ Some y → x ≡ y
 some_is x y e = cc
 
-started_order : (number : ℕ) (old new : NodeView) → new ≡ with_kept (with_own number old.current old.kept) old → AreInOrder old.kept old.current → AreInOrder new.kept new.current
-started_order number old new is order = subst (λ (n : NodeView). AreInOrder n.kept n.current) (sym is) (record {
-  current_ahead = order.current_ahead;
-  held_ahead = λ held h. subst (λ (t : Tentative). HasPutMore old.kept.permanent t.image) (some_is _ held h) order.current_ahead;
-  held_behind = λ held h. subst (λ (t : Tentative). HasPutMore t.image old.current) (some_is _ held h) (put_more_refl old.current);
-})
 
 decided_order : (old new : NodeView) → new ≡ with_kept (decided old.kept) old → AreInOrder old.kept old.current → AreInOrder new.kept new.current
 decided_order old new is order = subst (λ (n : NodeView). AreInOrder n.kept n.current) (sym is) (at old.kept.tentative refl)
@@ -46,23 +40,11 @@ decided_order old new is order = subst (λ (n : NodeView). AreInOrder n.kept n.c
         nothing : {other : Tentative} → None ≡ Some other → ⊥
         nothing e = cc
 
-start_order : (number round : ℕ) (old : NodeView) (outcome : Putting) (new : NodeView) → IsStart number round old outcome new → AreInOrder old.kept old.current → AreInOrder new.kept new.current
-start_order number round old NotDue new step order = same_order old new step.1 order
-start_order number round old Stored new step order = started_order number old new step.2 order
-start_order number round old (Refused refusal) new step order = same_order old new step.2 order
-start_order number round old Failed new step order = stopped_order round old new step.2 order
-
 decision_order : (number round : ℕ) (old : NodeView) (outcome : Putting) (new : NodeView) → IsDecision number round old outcome new → AreInOrder old.kept old.current → AreInOrder new.kept new.current
 decision_order number round old NotDue new step order = same_order old new step.1 order
 decision_order number round old Stored new step order = decided_order old new step.1 order
 decision_order number round old (Refused refusal) new step order = same_order old new step.2 order
 decision_order number round old Failed new step order = stopped_order round old new step.1 order
-
--- after a start, whatever came of it
-pub order_started : (number round : ℕ) (old new : NodeView) (result : Result Putting AllocError) → IfOk result (λ outcome. IsStart number round old outcome new) → OnErr result (new ≡ old)
-    → AreInOrder old.kept old.current → AreInOrder new.kept new.current
-order_started number round old new (Ok outcome) ok err order = start_order number round old outcome new ok order
-order_started number round old new (Err e) ok err order = same_order old new err order
 
 -- after a decision, whatever came of it
 pub order_decided : (number round : ℕ) (old new : NodeView) (result : Result Putting AllocError) → IfOk result (λ outcome. IsDecision number round old outcome new) → OnErr result (new ≡ old)
@@ -85,18 +67,6 @@ pub highest_decided : (number round : ℕ) (old new : NodeView) (result : Result
     → new.kept.highest ≡ old.kept.highest
 highest_decided number round old new (Ok outcome) ok err = decision_highest number round old outcome new ok
 highest_decided number round old new (Err e) ok err = ap (λ (n : NodeView). n.kept.highest) err
-
--- a start leaves the permanent image
-start_permanent : (number round : ℕ) (old : NodeView) (outcome : Putting) (new : NodeView) → IsStart number round old outcome new → new.kept.permanent ≡ old.kept.permanent
-start_permanent number round old NotDue new step = ap (λ (n : NodeView). n.kept.permanent) step.1
-start_permanent number round old Stored new step = ap (λ (n : NodeView). n.kept.permanent) step.2
-start_permanent number round old (Refused refusal) new step = ap (λ (n : NodeView). n.kept.permanent) step.2
-start_permanent number round old Failed new step = ap (λ (n : NodeView). n.kept.permanent) step.2
-
-pub permanent_started : (number round : ℕ) (old new : NodeView) (result : Result Putting AllocError) → IfOk result (λ outcome. IsStart number round old outcome new) → OnErr result (new ≡ old)
-    → new.kept.permanent ≡ old.kept.permanent
-permanent_started number round old new (Ok outcome) ok err = start_permanent number round old outcome new ok
-permanent_started number round old new (Err e) ok err = ap (λ (n : NodeView). n.kept.permanent) err
 
 -- a record that is left has as much as its own permanent image
 leaves_itself : (image : ImageView) (kept : RecordView) (left : Option RecordView) → left ≡ Some kept → HasPutMore image kept.permanent → LeavesAsMuch image left

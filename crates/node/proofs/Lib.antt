@@ -1,4 +1,5 @@
 mod History
+mod Handing
 mod Slices
 mod Installs
 mod Keeping

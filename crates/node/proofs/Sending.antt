@@ -1,14 +1,14 @@
 -- How many items an image has put, as turns are taken in and logs are trimmed.
-use Rattle.std.proofs.Common.{◌≡◌, ◌⊎◌, ℕ, zero, suc, ◌+◌, ◌-◌, ◌<◌, ◌≤◌, Bool, true, false, List, ℤ, [], ◌∷◌, ◌++◌, map, length, drop, Option, Some, None, inl, inr, refl, sym, ap, subst, ◌∙◌, length-append, arith}
-use Rattle.std.specs.Prelude.{◌==◌, eqb, nat_lt, if◌then◌else◌, find, option_map}
+use Rattle.std.proofs.Common.{◌≡◌, ◌⊎◌, ℕ, ◌-◌, ◌<◌, ◌≤◌, Bool, true, false, List, ℤ, [], ◌∷◌, map, length, drop, Option, Some, inl, inr, refl, ap, ◌∙◌, length-append, arith}
+use Rattle.std.specs.Prelude.{◌==◌, eqb, find, option_map}
 use Rattle.std.proofs.lemmas.List.{length-drop}
 use Rattle.std.proofs.lemmas.Bool.{cases_lt, lt-ltb, le-ltb}
 use Rattle.kahn_net.specs.Processes.{Standing}
 use Rattle.kahn_net.specs.declared.program.Channel.{Channel}
-use Rattle.retained.specs.LogState.{LogState, log_end, trimmed}
+use Rattle.retained.specs.LogState.{LogState, log_end}
 use Rattle.record.specs.ImageView.{ImageView}
-use Rattle.record.specs.Ends.{end_of, log_at, log_of, sent_in, sent_of}
-use Rattle.record.specs.Changes.{log_with, pushed, counted}
+use Rattle.record.specs.Ends.{log_at, sent_in}
+use Rattle.record.specs.Changes.{pushed, counted}
 use Rattle.node.specs.Installing.{put_on, taken_from, saved_pushed, saved_counted, installed}
 use Rattle.record.specs.Changes.{trimmed_log, trimmed_end, trimmed_saved, trimmed_image}
 use Rattle.node.specs.Starting.{HasPutMore}

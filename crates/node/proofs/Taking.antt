@@ -1,6 +1,6 @@
 -- What a node keeps when a turn comes back, and when an item leaves.
 use Rattle.std.proofs.Common.{◌≡◌, ℕ, Bool, true, false, List, ℤ, refl, sym, ap, subst}
-use Rattle.std.specs.Prelude.{Result, Ok, Err, IfOk, OnErr, IsErrOf, IsTrue}
+use Rattle.std.specs.Prelude.{Result, Ok, Err, IfOk, OnErr, IsErrOf}
 use Rattle.kahn_net.specs.Processes.{Standing}
 use Rattle.kahn_net.specs.declared.program.Channel.{Channel}
 use Rattle.retained.specs.declared.fault.LogFault.{LogFault}
@@ -11,9 +11,8 @@ use Rattle.node.specs.JobView.{JobView}
 use Rattle.record.specs.RecordView.{RecordView}
 use Rattle.node.specs.NodeView.{NodeView}
 use Rattle.node.specs.Installing.{IsInstall, with_turn}
-use Rattle.node.specs.Starting.{HasPutMore, AreInOrder}
+use Rattle.node.specs.Starting.{AreInOrder}
 use Rattle.record.specs.Changes.{trimmed_image}
-use Rattle.record.specs.declared.record.Tentative.{Tentative}
 use Rattle.node.proofs.Sending.{put_more_installed, put_more_trimmed}
 
 -- the record and whether the node is up stay, and the images are in order

@@ -1,5 +1,5 @@
 -- Which process of a node goes on next, and the job that it is given.
-use Rattle.std.specs.Prelude.{ℕ, ◌-◌, ◌^◌, Bool, true, false, ◌&&◌, nat_lt, if◌then◌else◌, ℤ, List, length, find, Option, Some, None, slice_get}
+use Rattle.std.specs.Prelude.{ℕ, Bool, true, false, ◌&&◌, nat_lt, if◌then◌else◌, ℤ, List, length, find, Option, Some, None, slice_get}
 use Rattle.kahn_net.specs.Streams.{history_of}
 use Rattle.kahn_net.specs.Syntax.{Code, Network}
 use Rattle.kahn_net.specs.Processes.{Standing}
@@ -14,6 +14,7 @@ use Rattle.node.specs.JobView.{JobView}
 use Rattle.node.specs.NodeView.{NodeView}
 use Rattle.node.specs.Granting.{room_in, job_for}
 use Rattle.node.specs.Starting.{is_none}
+use Rattle.kahn_net.specs.declared.limits.TheConstants.{MAX_COUNT}
 
 -- a next item is at hand of a channel whose items come from there
 abbrev pub has_next : List (List ℤ) → ImageView → ℕ → Port → Bool
@@ -63,7 +64,7 @@ next_ready net inputs image last = or_else (ready_after net inputs image last) (
 
 -- a node may grant a job: it runs, holds no tentative image, has no job out, and its version isn't the greatest
 abbrev pub may_grant : NodeView → Bool
-may_grant node = node.up && (is_none node.kept.tentative && (is_none node.out && nat_lt node.version (2 ^ 63 - 1)))
+may_grant node = node.up && (is_none node.kept.tentative && (is_none node.out && nat_lt node.version MAX_COUNT))
 
 abbrev pub job_of : Network → List (List ℤ) → NodeView → Option SavedProcessView → Option JobView
 job_of net inputs node None = None

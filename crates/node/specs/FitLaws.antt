@@ -1,5 +1,5 @@
 -- Laws of a turn that fits: what it takes is there, what it puts has room, and what is kept of an image is kept by it.
-use Rattle.std.proofs.Common.{◌≡◌, ◌⊎◌, inl, inr, ℕ, zero, suc, ◌+◌, ◌-◌, ◌^◌, ◌<◌, ◌≤◌, Bool, true, false, eqb, cond, ℤ, List, [], ◌∷◌, length, drop, map, get_or, Option, Some, None, option_map, refl, sym, ap, subst, ◌∙◌, arith}
+use Rattle.std.proofs.Common.{◌≡◌, ◌⊎◌, inl, inr, ℕ, zero, suc, ◌+◌, ◌-◌, ◌<◌, ◌≤◌, Bool, true, false, eqb, cond, ℤ, List, [], ◌∷◌, length, drop, map, get_or, Option, Some, None, option_map, refl, sym, ap, subst, ◌∙◌, arith}
 use Rattle.std.specs.Prelude.{slice_get, slice_index, find, min}
 use Rattle.std.proofs.Math.Nat.{min-le_left, min-le_right}
 use Rattle.std.proofs.lemmas.Bool.{cases_lt}
@@ -32,6 +32,9 @@ use Rattle.node.specs.InstallLaws.{turn_of_job, job_has_code, log_then}
 use Rattle.record.specs.declared.image.SavedEnd.{SavedEnd}
 use Rattle.record.specs.declared.image.End.{End}
 use Rattle.record.specs.declared.image.End.TheVariants.{Receives, Sends, Both}
+use Rattle.kahn_net.specs.declared.limits.TheConstants.{MAX_COUNT, MAX_HISTORY_ITEMS}
+use Rattle.node.specs.declared.granting.TheConstants.{MAX_JOB_ITEMS}
+use Rattle.retained.specs.declared.log.TheConstants.{MAX_LOG_ITEMS}
 
 -- What a turn takes
 
@@ -41,8 +44,8 @@ at_hand_is_left : (inputs : List (List ℤ)) (image : ImageView) (c : ℕ) (gets
 at_hand_is_left inputs image c false port = omega arith
 at_hand_is_left inputs image c true (Process q) = omega arith
 at_hand_is_left inputs image c true Outside =
-    let some = length-take 64 (drop (received_of image c) (history_of inputs c)) in
-    let few = min-le_right 64 (length (drop (received_of image c) (history_of inputs c))) in
+    let some = length-take MAX_JOB_ITEMS (drop (received_of image c) (history_of inputs c)) in
+    let few = min-le_right MAX_JOB_ITEMS (length (drop (received_of image c) (history_of inputs c))) in
     let left = length-drop (received_of image c) (history_of inputs c) in
     omega (arith, some, few, left)
 
@@ -132,18 +135,18 @@ put_has_room net inputs n made image job code after taken sent stands laid of th
 fits_log : (log : LogState) (count : ℕ) → IsWithinLimits log → count ≤ room_in (Some log) → Overfills log count → ⊥
 fits_log log count limits room over = at over
   where
-    all : count ≤ min (65536 - length log.items) (2 ^ 63 - 1 - log_end log)
-    all = let less = min-le_right 64 (min (65536 - length log.items) (2 ^ 63 - 1 - log_end log)) in omega (arith, room, less)
+    all : count ≤ min (MAX_LOG_ITEMS - length log.items) (MAX_COUNT - log_end log)
+    all = let less = min-le_right MAX_JOB_ITEMS (min (MAX_LOG_ITEMS - length log.items) (MAX_COUNT - log_end log)) in omega (arith, room, less)
 
-    at : ((65536 < length log.items + count) ⊎ (2 ^ 63 - 1 < log_end log + count)) → ⊥
-    at (inl many) = let less = min-le_left (65536 - length log.items) (2 ^ 63 - 1 - log_end log) in let n = limits.count in omega (arith, all, less, many, n)
-    at (inr far) = let less = min-le_right (65536 - length log.items) (2 ^ 63 - 1 - log_end log) in let n = limits.last in omega (arith, all, less, far, n)
+    at : ((MAX_LOG_ITEMS < length log.items + count) ⊎ (MAX_COUNT < log_end log + count)) → ⊥
+    at (inl many) = let less = min-le_left (MAX_LOG_ITEMS - length log.items) (MAX_COUNT - log_end log) in let n = limits.count in omega (arith, all, less, many, n)
+    at (inr far) = let less = min-le_right (MAX_LOG_ITEMS - length log.items) (MAX_COUNT - log_end log) in let n = limits.last in omega (arith, all, less, far, n)
 
 -- the lists that fit are short
-history_is_short : (net : Network) (inputs : List (List ℤ)) (c : ℕ) → Fits net inputs → length (history_of inputs c) ≤ 1048576
+history_is_short : (net : Network) (inputs : List (List ℤ)) (c : ℕ) → Fits net inputs → length (history_of inputs c) ≤ MAX_HISTORY_ITEMS
 history_is_short net inputs c fits = at (slice_get_cases inputs c).1
   where
-    at : ((x : List ℤ) × (c < length inputs) × (slice_get inputs c ≡ Some x) × (get_or inputs c x ≡ x)) ⊎ ((length inputs ≤ c) × (slice_get inputs c ≡ None)) → length (history_of inputs c) ≤ 1048576
+    at : ((x : List ℤ) × (c < length inputs) × (slice_get inputs c ≡ Some x) × (get_or inputs c x ≡ x)) ⊎ ((length inputs ≤ c) × (slice_get inputs c ≡ None)) → length (history_of inputs c) ≤ MAX_HISTORY_ITEMS
     at (inl here) = let few = fits.few c here.0 here.2 in omega (arith, few, ap (length {A = ℤ}) (get_or_from_slice_get inputs c here.0 [] here.2))
     at (inr past) = omega (arith, ap (length {A = ℤ}) (get_or_past inputs c [] past.0))
 
@@ -247,8 +250,8 @@ counts_after_turn net inputs n made image job code after taken sent stands laid 
 log_takes : (log : LogState) (items : List ℤ) → (Overfills log (length items) → ⊥) → IsWithinLimits (log_with items log)
 log_takes log items takes =
     let sum = length-append log.items items in
-    let few = not_more 65536 (length log.items + length items) (λ h. takes (inl h)) in
-    let last = not_more (2 ^ 63 - 1) (log_end log + length items) (λ h. takes (inr h)) in
+    let few = not_more MAX_LOG_ITEMS (length log.items + length items) (λ h. takes (inl h)) in
+    let last = not_more MAX_COUNT (log_end log + length items) (λ h. takes (inr h)) in
     record { count = omega (arith, sum, few); last = omega (arith, sum, last) }
   where
     not_more : (a b : ℕ) → (a < b → ⊥) → b ≤ a

@@ -1,5 +1,5 @@
 -- What a job has at hand, and the room that it has.
-use Rattle.std.specs.Prelude.{ℕ, suc, ◌-◌, ◌^◌, min, Bool, false, ◌==◌, if◌then◌else◌, ℤ, List, [], ◌∷◌, length, take, drop, Option, Some, None, slice_get}
+use Rattle.std.specs.Prelude.{ℕ, suc, ◌-◌, min, Bool, false, ◌==◌, if◌then◌else◌, ℤ, List, [], ◌∷◌, length, take, drop, Option, Some, None, slice_get}
 use Rattle.kahn_net.specs.Streams.{history_of}
 use Rattle.kahn_net.specs.Syntax.{Network}
 use Rattle.kahn_net.specs.Processes.{Standing}
@@ -10,6 +10,9 @@ use Rattle.retained.specs.LogState.{LogState, log_end}
 use Rattle.record.specs.ImageView.{ImageView}
 use Rattle.record.specs.Ends.{received_of, log_of}
 use Rattle.node.specs.JobView.{JobView}
+use Rattle.kahn_net.specs.declared.limits.TheConstants.{MAX_COUNT}
+use Rattle.node.specs.declared.granting.TheConstants.{MAX_JOB_ITEMS}
+use Rattle.retained.specs.declared.log.TheConstants.{MAX_LOG_ITEMS}
 
 -- this process stands at an end of a channel
 abbrev pub is_process : ℕ → Port → Bool
@@ -19,7 +22,7 @@ is_process process (Process p) = p == process
 -- The items of a channel that are at hand, at most 64: those of an input that come next. None of any other channel, since nothing
 -- brings items from a process yet.
 abbrev pub next_items : List (List ℤ) → ImageView → ℕ → Port → List ℤ
-next_items inputs image channel Outside = take 64 (drop (received_of image channel) (history_of inputs channel))
+next_items inputs image channel Outside = take MAX_JOB_ITEMS (drop (received_of image channel) (history_of inputs channel))
 next_items inputs image channel (Process p) = []
 
 -- what a process has at hand of each channel, the first one of this number: of those from which it gets
@@ -31,7 +34,7 @@ items_from inputs image process number (channel ∷ channels) =
 -- the places that a log has for a job: at most 64, and no more than fit
 abbrev pub room_in : Option LogState → ℕ
 room_in None = 0
-room_in (Some log) = min 64 (min (65536 - length log.items) (2 ^ 63 - 1 - log_end log))
+room_in (Some log) = min MAX_JOB_ITEMS (min (MAX_LOG_ITEMS - length log.items) (MAX_COUNT - log_end log))
 
 -- the room that a process has on each channel, the first one of this number: on those on which it puts
 abbrev pub room_from : ImageView → ℕ → ℕ → List Channel → List ℕ

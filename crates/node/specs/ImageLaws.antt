@@ -73,15 +73,6 @@ find_within {A} test (y ∷ xs) x h = at (test y) (λ e. find_within test xs x e
     at true later e = (0, e)
     at false later e = let r = later e in (suc r.0, r.1)
 
--- and passes the test
-pub find_passes : {A : Type 0} (test : A → Bool) (xs : List A) (x : A) → find test xs ≡ Some x → test x ≡ true
-find_passes test [] x h = absurd (cc)
-find_passes {A} test (y ∷ xs) x h = at (test y) refl (λ e. find_passes test xs x e) h
-  where
-    at : (b : Bool) → test y ≡ b → (find test xs ≡ Some x → test x ≡ true) → cond b (Some y) (find test xs) ≡ Some x → test x ≡ true
-    at true is later e = let same : y ≡ x = cc in ap test (sym same) ∙ is
-    at false is later e = later e
-
 -- what is found in a list that keeps each number
 pub find_map : {A : Type 0} (f : A → ℕ) (g : A → A) (xs : List A) (n : ℕ) → ((x : A) → f (g x) ≡ f x) → find (λ (z : A). eqb (f z) n) (map g xs) ≡ option_map g (find (λ (z : A). eqb (f z) n) xs)
 find_map f g [] n keeps = refl

@@ -1,5 +1,5 @@
 -- An image after a turn of one of its processes.
-use Rattle.std.specs.Prelude.{◌≡◌, ℕ, ◌+◌, ◌-◌, ◌≤◌, ◌^◌, Bool, true, false, ◌==◌, if◌then◌else◌, ℤ, List, [], ◌∷◌, ◌++◌, length, map, Option, Some, None, slice_get, slice_index}
+use Rattle.std.specs.Prelude.{◌≡◌, ℕ, ◌+◌, ◌≤◌, Bool, true, false, ◌==◌, if◌then◌else◌, ℤ, List, [], ◌∷◌, length, map, Option, Some, None, slice_get, slice_index}
 use Rattle.kahn_net.specs.Streams.{history_of}
 use Rattle.kahn_net.specs.Processes.{Standing}
 use Rattle.kahn_net.specs.declared.program.Channel.{Channel}
@@ -11,8 +11,7 @@ use Rattle.node.specs.JobView.{JobView}
 use Rattle.node.specs.NodeView.{NodeView}
 use Rattle.node.specs.Granting.{is_process}
 use Rattle.record.specs.declared.image.SavedEnd.{SavedEnd}
-use Rattle.record.specs.declared.image.End.{End}
-use Rattle.record.specs.declared.image.End.TheVariants.{Receives, Sends, Both}
+use Rattle.kahn_net.specs.declared.limits.TheConstants.{MAX_COUNT}
 
 -- this process gets from the channel, or puts on it
 abbrev pub is_consumer : ℕ → Option Channel → Bool
@@ -51,7 +50,7 @@ installed channels process standing taken sent image = record {
 
 -- an end takes what the turn took and put
 pub record EndTakes (channels : List Channel) (process : ℕ) (taken : List ℕ) (sent : List (List ℤ)) (saved : SavedEnd) : Type 0 where
-  pub received : received_at (Some (saved.end)) + taken_from channels process taken saved.channel ≤ 2 ^ 63 - 1
+  pub received : received_at (Some (saved.end)) + taken_from channels process taken saved.channel ≤ MAX_COUNT
   pub put : LogTakes (length (put_on channels process sent saved.channel)) (log_at (Some (saved.end)))
 
 -- the turn fits the image: no count and no log comes past its limit

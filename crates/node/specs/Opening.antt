@@ -1,5 +1,5 @@
 -- A node before its first event.
-use Rattle.std.specs.Prelude.{ℕ, zero, suc, true, ℤ, List, [], ◌∷◌, length, replicate, Option, Some, None}
+use Rattle.std.specs.Prelude.{ℕ, suc, true, List, [], ◌∷◌, replicate, None}
 use Rattle.kahn_net.specs.Syntax.{Code, Network}
 use Rattle.kahn_net.specs.Processes.{NotBegun}
 use Rattle.kahn_net.specs.declared.program.Channel.{Channel}

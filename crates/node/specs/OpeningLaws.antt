@@ -9,8 +9,7 @@ use Rattle.kahn_net.specs.declared.program.Port.TheVariants.{Outside, Process}
 use Rattle.retained.specs.LogState.{LogState, IsLogOf}
 use Rattle.record.specs.ProcessView.{SavedProcessView}
 use Rattle.record.specs.Ends.{received_at, log_at}
-use Rattle.node.specs.Opening.{opening_processes, opening_end, opening_ends, opening_image, opening_record, opening_node}
-use Rattle.node.specs.Starting.{AreInOrder}
+use Rattle.node.specs.Opening.{opening_processes, opening_end, opening_ends, opening_image, opening_node}
 use Rattle.node.specs.Reached.{first_acts, EndStands, ImageStands, HasReached, numbers_from, is_counting, is_logging, IsLaidOut, CountsAreWithin, LogsAreWithin}
 use Rattle.record.specs.declared.image.SavedEnd.{SavedEnd}
 use Rattle.record.specs.declared.image.End.{End}
@@ -153,10 +152,3 @@ logs_opening net k saved log is has =
     let base : log.base ≡ 0 = none.0 in
     let items : length log.items ≡ 0 = ap (length {A = ℤ}) none.1 in
     record { count = omega (arith, items); last = omega (arith, items, base) }
-
-pub in_order_opening : (net : Network) (nodes : ℕ) → AreInOrder (opening_record net nodes) (opening_image net)
-in_order_opening net nodes = record {
-  current_ahead = λ c. omega arith;
-  held_ahead = λ held is. absurd (cc);
-  held_behind = λ held is. absurd (cc);
-}

@@ -5,7 +5,7 @@ use Rattle.std.proofs.lemmas.Bool.Decides.{eqb_tells}
 use Rattle.std.proofs.lemmas.List.{get_or_past, take-append-drop}
 use Rattle.std.proofs.lemmas.Option.{slice_get_cases, slice_get_within}
 use Rattle.kahn_net.specs.Streams.{history_of, IsPrefix}
-use Rattle.kahn_net.specs.Laws.Prefixes.{prefix_nil, prefix_along}
+use Rattle.kahn_net.specs.Laws.Prefixes.{prefix_nil, prefix_along, prefix_of}
 use Rattle.kahn_net.specs.Syntax.{Network}
 use Rattle.kahn_net.specs.Processes.{got_on}
 use Rattle.kahn_net.specs.Approximations.{approximation, next_history}
@@ -20,6 +20,7 @@ use Rattle.node.specs.Granting.{is_process, next_items, items_from}
 use Rattle.node.specs.Reached.{acts_of, ImageStands, IsLaidOut}
 use Rattle.node.specs.ImageLaws.{numbered_there, channel_at, received_is}
 use Rattle.record.specs.declared.image.SavedEnd.{SavedEnd}
+use Rattle.node.specs.declared.granting.TheConstants.{MAX_JOB_ITEMS}
 
 -- an input is the same in each approximation
 pub input_stays : (net : Network) (inputs : List (List ℤ)) (n c : ℕ) (channel : Channel) → slice_get net.channels c ≡ Some channel → channel.producer ≡ Outside
@@ -65,7 +66,7 @@ received_stands net histories made image c p channel stands laid is to =
 
 -- a front of what is left after so many items
 prefix_of_take : (k : ℕ) (xs : List ℤ) → IsPrefix (take k xs) xs
-prefix_of_take k xs = record { rest = drop k xs; is = sym (take-append-drop k xs) }
+prefix_of_take k xs = prefix_of (record { rest = drop k xs; is = sym (take-append-drop k xs) })
 
 -- what a process has at hand comes next, once it has made its acts
 pub next_are_at_hand : (net : Network) (inputs : List (List ℤ)) (n : ℕ) (made : ℕ → ℕ) (image : ImageView) (p : ℕ)
@@ -84,7 +85,7 @@ next_are_at_hand net inputs n made image p stands laid c = at (slice_get_cases n
         prefix_along _ _ left _ refl
         (ap (λ (k : ℕ). drop k (history_of (approximation net inputs n) c)) (sym (received_stands net (approximation net inputs n) made image c p channel stands laid is to))
         ∙ ap (drop (received_of image c)) (input_stays net inputs n c channel is from))
-        (prefix_of_take 64 (drop (received_of image c) (history_of inputs c)))
+        (prefix_of_take MAX_JOB_ITEMS (drop (received_of image c) (history_of inputs c)))
 
     by_number : (channel : Channel) → slice_get net.channels c ≡ Some channel → (q : ℕ) → channel.consumer ≡ Process q
         → ((eqb q p ≡ true) × (q ≡ p)) ⊎ ((eqb q p ≡ false) × (q ≢ p)) → IsPrefix (cond (eqb q p) (next_items inputs image c channel.producer) []) left

@@ -4,7 +4,7 @@ use Rattle.std.specs.Prelude.{slice_get}
 use Rattle.std.proofs.lemmas.List.{take-append-drop, take-take}
 use Rattle.std.proofs.lemmas.Option.{slice_get_within}
 use Rattle.kahn_net.specs.Streams.{history_of, IsPrefix}
-use Rattle.kahn_net.specs.Laws.Prefixes.{prefix_nil, prefix_along, prefix_trans, prefix_take, prefix_from_take}
+use Rattle.kahn_net.specs.Laws.Prefixes.{prefix_nil, prefix_along, prefix_trans, prefix_of}
 use Rattle.kahn_net.specs.Syntax.{Code, Network}
 use Rattle.kahn_net.specs.Statements.{Step}
 use Rattle.kahn_net.specs.Processes.{process_trace, sent_on}
@@ -15,7 +15,6 @@ use Rattle.kahn_net.specs.declared.program.Channel.{Channel}
 use Rattle.kahn_net.specs.declared.program.Port.{Port}
 use Rattle.kahn_net.specs.declared.program.Port.TheVariants.{Process}
 use Rattle.retained.specs.LogState.{LogState, IsLogOf}
-use Rattle.outlet.specs.Released.{IsBeginningOf}
 use Rattle.record.specs.ImageView.{ImageView}
 use Rattle.node.specs.NodeView.{NodeView}
 use Rattle.record.specs.Ends.{log_of}
@@ -26,12 +25,12 @@ use Rattle.record.specs.declared.image.SavedEnd.{SavedEnd}
 -- what the first acts of a process put is a front of what it puts
 pub put_is_prefix : (code : Option Code) (histories : List (List ℤ)) (m c : ℕ) → IsPrefix (sent_on c (first_acts code histories m)) (output_at code histories c)
 put_is_prefix None histories m c = prefix_nil [] [] refl
-put_is_prefix (Some code) histories m c = record {
+put_is_prefix (Some code) histories m c = prefix_of (record {
   rest = sent_on c (drop m (process_trace code histories).steps);
   is =
       ap (sent_on c) (sym (take-append-drop m (process_trace code histories).steps))
       ∙ sent_on-append c (take m (process_trace code histories).steps) (drop m (process_trace code histories).steps);
-}
+})
 
 -- and so of its channel's next history
 pub acts_put_prefix : (net : Network) (inputs : List (List ℤ)) (n : ℕ) (made : ℕ → ℕ) (c p : ℕ) (channel : Channel) → slice_get net.channels c ≡ Some channel → channel.producer ≡ Process p
@@ -51,22 +50,6 @@ log_stands net histories made image c p channel log stands laid is from has =
     subst (λ (d : ℕ). IsLogOf log (sent_on d (acts_of net histories made p))) here
     (end.retained p log from (sym (log_is net image c there.0 laid there.1) ∙ has))
 
--- a log of a history, and the history is a beginning of this one
-pub record IsLogOfBeginning (log : LogState) (whole : List ℤ) : Type 0 where
-  pub history : List ℤ
-  pub holds : IsLogOf log history
-  pub begins : IsPrefix history whole
-
--- what a node's log of a channel holds is of a beginning of the channel's history in the approximation that comes next
-pub released_is_prefix : (net : Network) (inputs : List (List ℤ)) (node : NodeView) (c p : ℕ) (channel : Channel) (log : LogState) → (reached : HasReached net inputs node) → IsLaidOut net node.current
-    → slice_get net.channels c ≡ Some channel → channel.producer ≡ Process p → log_of node.current c ≡ Some log
-    → IsLogOfBeginning log (history_of (approximation net inputs (suc reached.n)) c)
-released_is_prefix net inputs node c p channel log reached laid is from has = record {
-  history = sent_on c (acts_of net (approximation net inputs reached.n) reached.current_acts p);
-  holds = log_stands net (approximation net inputs reached.n) reached.current_acts node.current c p channel log reached.current laid is from has;
-  begins = acts_put_prefix net inputs reached.n reached.current_acts c p channel is from;
-}
-
 -- What has left the system stays a beginning of what was put
 
 -- the acts of before are a front of those of later
@@ -74,24 +57,24 @@ acts_are_front : (code : Option Code) (histories : List (List ℤ)) (m n c : ℕ
 acts_are_front None histories m n c le = prefix_nil [] [] refl
 acts_are_front (Some code) histories m n c le =
     let front : take m (take n (process_trace code histories).steps) ≡ take m (process_trace code histories).steps = take-take m n (process_trace code histories).steps le in
-    record {
+    prefix_of (record {
       rest = sent_on c (drop m (take n (process_trace code histories).steps));
       is =
           ap (sent_on c) (sym (take-append-drop m (take n (process_trace code histories).steps)))
           ∙ (sent_on-append c (take m (take n (process_trace code histories).steps)) (drop m (take n (process_trace code histories).steps))
           ∙ ap (λ (steps : List Step). sent_on c steps ++ sent_on c (drop m (take n (process_trace code histories).steps))) front);
-    }
+    })
 
 -- a beginning of a beginning
-beginning_of_whole : (taken part whole : List ℤ) → IsPrefix part whole → IsBeginningOf taken part → IsBeginningOf taken whole
+beginning_of_whole : (taken part whole : List ℤ) → IsPrefix part whole → IsPrefix taken part → IsPrefix taken whole
 beginning_of_whole taken part whole front begins =
-    prefix_take taken whole (prefix_trans taken part whole (prefix_from_take taken part begins) front)
+    prefix_trans taken part whole begins front
 
 -- what left is still a beginning of what the process put, once the node has come on
 pub beginning_stays : (net : Network) (inputs : List (List ℤ)) (old new : NodeView) (before : HasReached net inputs old) (after : HasReached net inputs new) (c p : ℕ) (taken : List ℤ)
     → HasComeOn net inputs old new before after
-    → IsBeginningOf taken (sent_on c (acts_of net (approximation net inputs before.n) before.current_acts p))
-    → IsBeginningOf taken (sent_on c (acts_of net (approximation net inputs after.n) after.current_acts p))
+    → IsPrefix taken (sent_on c (acts_of net (approximation net inputs before.n) before.current_acts p))
+    → IsPrefix taken (sent_on c (acts_of net (approximation net inputs after.n) after.current_acts p))
 beginning_stays net inputs old new before after c p taken on begins =
-    subst (λ (n : ℕ). IsBeginningOf taken (sent_on c (acts_of net (approximation net inputs n) after.current_acts p))) (sym on.same)
+    subst (λ (n : ℕ). IsPrefix taken (sent_on c (acts_of net (approximation net inputs n) after.current_acts p))) (sym on.same)
     (beginning_of_whole taken _ _ (acts_are_front (slice_get net.codes p) (approximation net inputs before.n) (before.current_acts p) (after.current_acts p) c (on.further p)) begins)

@@ -1,5 +1,5 @@
 -- A node's record while a checkpoint of its own is taken and decided, and how a put of it comes out.
-use Rattle.std.specs.Prelude.{◌≡◌, ◌⊎◌, ◌≢◌, ℕ, ◌+◌, ◌-◌, ◌<◌, ◌≤◌, ◌^◌, ◌==◌, nat_lt, if◌then◌else◌, Bool, true, false, ◌&&◌, IsTrue, Option, Some, None, Result, Ok, Err, slice_set, slice_index}
+use Rattle.std.specs.Prelude.{◌≡◌, ◌⊎◌, ◌≢◌, ℕ, ◌+◌, ◌<◌, ◌≤◌, ◌==◌, nat_lt, if◌then◌else◌, Bool, true, false, ◌&&◌, IsTrue, Option, Some, None, Result, Ok, Err, slice_set, slice_index}
 use Rattle.std.specs.declared.alloc.AllocError.{AllocError}
 use Rattle.record.specs.ImageView.{ImageView}
 use Rattle.record.specs.Ends.{sent_of}
@@ -10,6 +10,7 @@ use Rattle.gate_cell.specs.declared.fault.CellFault.{CellFault}
 use Rattle.gate_cell.specs.declared.fault.CellFault.TheVariants.{NoMemory, Device, TooLarge, Reopen}
 use Rattle.node.specs.declared.putting.Putting.{Putting}
 use Rattle.node.specs.declared.putting.Putting.TheVariants.{NotDue, Stored, Refused, Failed}
+use Rattle.kahn_net.specs.declared.limits.TheConstants.{MAX_COUNT}
 
 -- nothing is there
 abbrev pub is_none : {A : Type 0} → Option A → Bool
@@ -53,7 +54,7 @@ decided kept = decided_with kept kept.tentative
 
 -- the next number, round or version, which stops at the greatest
 abbrev pub next_number : ℕ → ℕ
-next_number n = if nat_lt n (2 ^ 63 - 1) then n + 1 else n
+next_number n = if nat_lt n MAX_COUNT then n + 1 else n
 
 abbrev pub with_kept : RecordView → NodeView → NodeView
 with_kept kept node = record { kept = kept; current = node.current; out = node.out; version = node.version; last = node.last; up = node.up; restart = node.restart }
@@ -65,10 +66,10 @@ stopped round node = record { kept = node.kept; current = node.current; out = No
 -- how a tentative image is taken: of which the record is stored, or is too large (22), or would pass the greatest number (44)
 abbrev pub IsStart : ℕ → ℕ → NodeView → Putting → NodeView → Type 0
 IsStart number round old NotDue new = (may_start old ≡ false) × (new ≡ old)
-IsStart number round old Stored new = IsTrue (may_start old) × (highest_used number old.kept < 2 ^ 63 - 1) × (new ≡ with_kept (with_own number old.current old.kept) old)
+IsStart number round old Stored new = IsTrue (may_start old) × (highest_used number old.kept < MAX_COUNT) × (new ≡ with_kept (with_own number old.current old.kept) old)
 IsStart number round old (Refused refusal) new =
-    IsTrue (may_start old) × (((refusal ≡ 44) × (2 ^ 63 - 1 ≤ highest_used number old.kept)) ⊎ ((refusal ≡ 22) × (highest_used number old.kept < 2 ^ 63 - 1))) × (new ≡ old)
-IsStart number round old Failed new = IsTrue (may_start old) × (highest_used number old.kept < 2 ^ 63 - 1) × (new ≡ stopped round old)
+    IsTrue (may_start old) × (((refusal ≡ 44) × (MAX_COUNT ≤ highest_used number old.kept)) ⊎ ((refusal ≡ 22) × (highest_used number old.kept < MAX_COUNT))) × (new ≡ old)
+IsStart number round old Failed new = IsTrue (may_start old) × (highest_used number old.kept < MAX_COUNT) × (new ≡ stopped round old)
 
 -- how it is made permanent
 abbrev pub IsDecision : ℕ → ℕ → NodeView → Putting → NodeView → Type 0

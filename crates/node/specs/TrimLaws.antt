@@ -1,29 +1,29 @@
 -- Laws of a trimmed image: what is kept of an image is kept, and a node has come as far.
-use Rattle.std.proofs.Common.{◌≡◌, ◌≢◌, ◌⊎◌, inl, inr, ℕ, zero, suc, ◌+◌, ◌-◌, ◌^◌, ◌≤◌, Bool, true, false, eqb, ltb, cond, ℤ, List, [], ◌∷◌, length, take, drop, map, Option, Some, None, option_map, refl, sym, ap, subst, ◌∙◌, arith}
+use Rattle.std.proofs.Common.{◌≡◌, ◌⊎◌, inl, inr, ℕ, zero, suc, ◌+◌, ◌-◌, ◌≤◌, Bool, true, false, eqb, ltb, cond, ℤ, List, [], ◌∷◌, length, take, drop, map, Option, Some, None, option_map, refl, sym, ap, subst, ◌∙◌, arith}
 use Rattle.std.specs.Prelude.{slice_get, slice_index, find, min}
 use Rattle.std.proofs.Math.Nat.{min-le_left, min-le_right, le-min}
-use Rattle.std.proofs.lemmas.Bool.{ltb-false, eqb-true, ne_eqb}
+use Rattle.std.proofs.lemmas.Bool.{ltb-false}
 use Rattle.std.proofs.lemmas.List.{length-drop, drop-drop}
 use Rattle.kahn_net.specs.Streams.{history_of}
 use Rattle.kahn_net.specs.Syntax.{Network}
 use Rattle.kahn_net.specs.Processes.{sent_on}
-use Rattle.kahn_net.specs.Approximations.{approximation}
 use Rattle.kahn_net.specs.declared.program.Channel.{Channel}
 use Rattle.kahn_net.specs.declared.program.Port.{Port}
 use Rattle.kahn_net.specs.declared.program.Port.TheVariants.{Outside, Process}
 use Rattle.retained.specs.LogState.{LogState, IsLogOf, IsWithinLimits, log_end, trimmed}
 use Rattle.record.specs.ImageView.{ImageView}
 use Rattle.node.specs.JobView.{JobView}
-use Rattle.node.specs.NodeView.{NodeView}
 use Rattle.record.specs.Ends.{received_of, received_at, log_of, log_at, sent_in, sent_of, end_of, base_in, base_of}
 use Rattle.node.specs.Granting.{is_process, next_items, items_from, room_in, room_from}
 use Rattle.record.specs.Changes.{trimmed_log, trimmed_end, trimmed_saved, trimmed_image}
-use Rattle.node.specs.Trimming.{with_current}
-use Rattle.node.specs.Reached.{acts_of, EndStands, ImageStands, HasReached, is_counting, is_logging, IsLaidOut, CountsAreWithin, LogsAreWithin, IsJobOf, HasComeOn}
-use Rattle.node.specs.ImageLaws.{find_passes, map_got, map_keeps, end_of_changed}
+use Rattle.node.specs.Reached.{acts_of, EndStands, ImageStands, is_counting, is_logging, IsLaidOut, CountsAreWithin, LogsAreWithin, IsJobOf}
+use Rattle.node.specs.ImageLaws.{map_got, map_keeps, end_of_changed}
 use Rattle.record.specs.declared.image.SavedEnd.{SavedEnd}
 use Rattle.record.specs.declared.image.End.{End}
 use Rattle.record.specs.declared.image.End.TheVariants.{Receives, Sends, Both}
+use Rattle.kahn_net.specs.declared.limits.TheConstants.{MAX_COUNT}
+use Rattle.node.specs.declared.granting.TheConstants.{MAX_JOB_ITEMS}
+use Rattle.retained.specs.declared.log.TheConstants.{MAX_LOG_ITEMS}
 
 -- Logs
 
@@ -103,13 +103,13 @@ still_sent position true (Both received log) = (trimmed_end_stays position log).
 more_room : (position : ℕ) (log : LogState) → room_in (Some log) ≤ room_in (Some (trimmed_log position log))
 more_room position log =
     let stays = trimmed_end_stays position log in
-    let before = min (65536 - length log.items) (2 ^ 63 - 1 - log_end log) in
-    let few = min-le_left 64 before in
-    let all = min-le_right 64 before in
-    let items = min-le_left (65536 - length log.items) (2 ^ 63 - 1 - log_end log) in
-    let last = min-le_right (65536 - length log.items) (2 ^ 63 - 1 - log_end log) in
-    let in_items : min 64 before ≤ 65536 - length ((trimmed_log position log).items) = omega (arith, all, items, stays.1) in
-    let in_numbers : min 64 before ≤ 2 ^ 63 - 1 - log_end (trimmed_log position log) = omega (arith, all, last, stays.0) in
+    let before = min (MAX_LOG_ITEMS - length log.items) (MAX_COUNT - log_end log) in
+    let few = min-le_left MAX_JOB_ITEMS before in
+    let all = min-le_right MAX_JOB_ITEMS before in
+    let items = min-le_left (MAX_LOG_ITEMS - length log.items) (MAX_COUNT - log_end log) in
+    let last = min-le_right (MAX_LOG_ITEMS - length log.items) (MAX_COUNT - log_end log) in
+    let in_items : min MAX_JOB_ITEMS before ≤ MAX_LOG_ITEMS - length ((trimmed_log position log).items) = omega (arith, all, items, stays.1) in
+    let in_numbers : min MAX_JOB_ITEMS before ≤ MAX_COUNT - log_end (trimmed_log position log) = omega (arith, all, last, stays.0) in
     le-min few (le-min in_items in_numbers)
 
 room_stays : (position : ℕ) (trims : Bool) (end : End) → room_in (log_at (Some end)) ≤ room_in (log_at (Some (cond trims (trimmed_end position end) end)))
@@ -160,17 +160,6 @@ base_trimmed c position image d h =
     at : (o : Option SavedEnd) → base_in (log_at (option_map (λ (s : SavedEnd). s.end) o)) ≤ position → base_in (log_at (option_map (λ (s : SavedEnd). (trimmed_saved c position s).end) o)) ≤ position
     at None h = omega arith
     at (Some s) h = base_below position (eqb s.channel c) s.end h
-
--- and any other log begins where it did
-pub other_log_stays : (c position : ℕ) (image : ImageView) (d : ℕ) → d ≢ c → log_of (trimmed_image c position image) d ≡ log_of image d
-other_log_stays c position image d other = ap log_at (end_of_trimmed c position image d) ∙ at (find (λ (s : SavedEnd). eqb s.channel d) image.ends) refl
-  where
-    at : (o : Option SavedEnd) → find (λ (s : SavedEnd). eqb s.channel d) image.ends ≡ o → log_at (option_map (λ (s : SavedEnd). (trimmed_saved c position s).end) o) ≡ log_at (option_map (λ (s : SavedEnd). s.end) o)
-    at None is = refl
-    at (Some s) is =
-        let number : s.channel ≡ d = eqb-true s.channel d (find_passes (λ (z : SavedEnd). eqb z.channel d) image.ends s is) in
-        let ne : s.channel ≡ c → ⊥ = (λ e. other (sym number ∙ e)) in
-        ap (λ (b : Bool). log_at (Some (cond b (trimmed_end position s.end) s.end))) (ne_eqb s.channel c ne)
 
 pub room_trimmed : (c position : ℕ) (image : ImageView) (d : ℕ) → room_in (log_of image d) ≤ room_in (log_of (trimmed_image c position image) d)
 room_trimmed c position image d =
@@ -237,7 +226,7 @@ items_same inputs image later process number (x ∷ channels) same =
     ∙ ap (λ (rest : List (List ℤ)). cond (is_process process x.consumer) (next_items inputs image number x.producer) [] ∷ rest) (items_same inputs image later process (suc number) channels same)
   where
     at : (port : Port) → next_items inputs later number port ≡ next_items inputs image number port
-    at Outside = ap (λ (k : ℕ). take 64 (drop k (history_of inputs number))) (same number)
+    at Outside = ap (λ (k : ℕ). take MAX_JOB_ITEMS (drop k (history_of inputs number))) (same number)
     at (Process q) = refl
 
 room_grows : (image later : ImageView) (process number : ℕ) (channels : List Channel) (d : ℕ) → ((d : ℕ) → room_in (log_of image d) ≤ room_in (log_of later d))
@@ -288,22 +277,3 @@ image_trimmed net histories made c position image stands = record { processes = 
         let number : old.0.channel ≡ saved.channel = ap (λ (s : SavedEnd). s.channel) old.2 in
         subst (λ (s : SavedEnd). EndStands net histories made s.channel channel s.end) old.2
         (of_old old.0 channel (stands.ends k old.0 channel old.1 (ap (slice_get net.channels) number ∙ on)))
-
--- a node whose image is trimmed has come as far as before
-pub reached_trim : (net : Network) (inputs : List (List ℤ)) (c position : ℕ) (node : NodeView) → HasReached net inputs node → HasReached net inputs (with_current (trimmed_image c position node.current) node)
-reached_trim net inputs c position node reached = record {
-  n = reached.n;
-  permanent_acts = reached.permanent_acts;
-  held_acts = reached.held_acts;
-  current_acts = reached.current_acts;
-  permanent = reached.permanent;
-  held = reached.held;
-  current = image_trimmed net (approximation net inputs reached.n) reached.current_acts c position node.current reached.current;
-  held_after = reached.held_after;
-  current_after = reached.current_after;
-}
-
-pub on_trim : (net : Network) (inputs : List (List ℤ)) (c position : ℕ) (node : NodeView) (reached : HasReached net inputs node)
-    → HasComeOn net inputs node (with_current (trimmed_image c position node.current) node) reached (reached_trim net inputs c position node reached)
-unfolding reached_trim
-on_trim net inputs c position node reached = record { same = refl; further = λ p. omega arith }

@@ -5,8 +5,8 @@ ghost use Rattle.gate_cell.specs.CellFault.{HasCause};
 ghost use Rattle.record.specs.RecordView.{RecordView};
 ghost use Rattle.node.specs.Cell.{IsUnchanged};
 
-use record::Record;
 use gate_cell::CellFault;
+use record::Record;
 
 /// A cell holds one record.
 ///

@@ -1,22 +1,23 @@
 // Which process of a node goes on next, and the job that it is given.
-ghost use Rattle.std.specs.Prelude.{◌≡◌, ◌≤◌, ◌<◌, ◌&&◌, ℕ, ℤ, List, length, find, slice_get, IfOk, IfSome, OnErr, is_some, option_map, option_copied};
+ghost use Rattle.std.specs.Prelude.{◌≡◌, ◌≤◌, ◌<◌, ◌&&◌, length, slice_get, IfOk, IfSome, OnErr, is_some, option_map, option_copied};
 ghost use Rattle.kahn_net.specs.Syntax.{network_of};
 ghost use Rattle.node.specs.JobView.{job_view};
 ghost use Rattle.node.specs.NodeView.{node_view};
 ghost use Rattle.node.specs.Choosing.{has_item, has_room, is_ready, is_after, ready_after, next_ready, may_grant, next_job, after_grant};
+ghost use Rattle.kahn_net.specs.declared.limits.TheConstants.{MAX_CHANNELS};
 
 use crate::granting::{make_job, places};
-use record::{Image, SavedProcess};
-use crate::state::{LAST_NUMBER, NodeState};
-use kahn_net::{Channel, History, Port};
+use crate::state::NodeState;
+use kahn_net::{Channel, History, MAX_COUNT, Port};
 use net_check::{Inputs, Net};
 use proc_step::{Job, NextAct, next_act};
+use record::{Image, SavedProcess};
 use std::alloc::{AllocError, Global};
 use std::sync::Arc;
 
 // Whether a next item of this channel is at hand.
 fn has_item(channels: &[Channel], inputs: &[History], image: &Image, channel: usize) -> bool
-    requires { length channels.now ≤ 256 }
+    requires { length channels.now ≤ MAX_CHANNELS }
     ensures { result ≡ has_item inputs.now image.now channel (slice_get channels.now channel) }
 {
     match channels.get(channel) {
@@ -33,7 +34,7 @@ fn has_item(channels: &[Channel], inputs: &[History], image: &Image, channel: us
 
 // Whether there is room on this channel.
 fn has_room(channels: &[Channel], image: &Image, channel: usize) -> bool
-    requires { length channels.now ≤ 256 }
+    requires { length channels.now ≤ MAX_CHANNELS }
     ensures { result ≡ has_room image.now channel (slice_get channels.now channel) }
 {
     channel < channels.len() && places(image.log(channel as u8)) > 0
@@ -102,7 +103,7 @@ impl NodeState {
     fn can_grant(&self) -> bool
         ensures { result ≡ may_grant (node_view self.now) }
     {
-        self.up && self.kept.tentative.is_none() && self.out.is_none() && self.version < LAST_NUMBER
+        self.up && self.kept.tentative.is_none() && self.out.is_none() && self.version < MAX_COUNT
     }
 
     /// Whether a job can be granted now.

@@ -1,9 +1,8 @@
 // The events of a node.
-ghost use Rattle.std.specs.Prelude.{◌≡◌, ◌⊎◌, ◌+◌, ◌↔◌, ℤ, List, length, IfOk, OnOk, OnErr, IsErrOf, Some, option_map};
+ghost use Rattle.std.specs.Prelude.{◌≡◌, ◌⊎◌, ◌+◌, ℤ, List, length, IfOk, OnOk, OnErr, IsErrOf, Some, option_map};
 ghost use Rattle.kahn_net.specs.Syntax.{network_of};
 ghost use Rattle.kahn_net.specs.States.{standing_of};
 ghost use Rattle.retained.specs.LogState.{LogState, IsLogOf};
-ghost use Rattle.outlet.specs.Released.{IsBeginningOf};
 ghost use Rattle.outlet.specs.Faults.{failures_after};
 ghost use Rattle.sector_disk.specs.Clock.{LeavesOnly};
 ghost use Rattle.record.specs.Ends.{log_of};
@@ -14,7 +13,8 @@ ghost use Rattle.node.specs.Installing.{ImageTakes, IsOut, IsInstall};
 ghost use Rattle.node.specs.Cell.{IsUnchanged};
 ghost use Rattle.node.specs.Starting.{with_own, decided, IsStart, IsDecision, IsPut, LeavesCell};
 ghost use Rattle.record.specs.Changes.{trimmed_image};
-ghost use Rattle.node.specs.Trimming.{with_current, HasNext};
+ghost use Rattle.node.specs.Trimming.{with_current, HasNext, TookNext};
+ghost use Rattle.kahn_net.specs.Streams.{IsPrefix};
 
 use crate::cell::StableCell;
 use crate::node::Node;
@@ -23,9 +23,9 @@ use crate::releasing::release_next;
 use crate::starting::{put_decision, put_own};
 use kahn_net::Channel;
 use net_check::{Inputs, Net};
-use retained::LogFault;
 use outlet::{Outlet, OutletFault};
 use proc_step::{Done, Job};
+use retained::LogFault;
 use std::alloc::{AllocError, Global};
 use std::sync::Arc;
 
@@ -109,9 +109,14 @@ impl<C: StableCell> Node<C> {
             ⊎ (length (O.taken outlet.new) ≡ length (O.taken outlet.old) + 1) }
         ensures trimmed { ¬ (IsErrOf result OutletFault.NoMemory) → node_view self.new.state
             ≡ with_current (trimmed_image channel (length (O.taken outlet.new)) self.old.state.current) (node_view self.old.state) }
-        ensures begins { IsBeginningOf (O.taken outlet.old) (O.taken outlet.new) }
+        ensures item { OnOk result
+            (TookNext (log_of self.old.state.current channel) (O.taken outlet.old) (O.taken outlet.new)) }
+        ensures failed_item { IsErrOf result OutletFault.Failed
+            → (O.taken outlet.new ≡ O.taken outlet.old)
+            ⊎ (TookNext (log_of self.old.state.current channel) (O.taken outlet.old) (O.taken outlet.new)) }
+        ensures begins { IsPrefix (O.taken outlet.old) (O.taken outlet.new) }
         ensures history { (log : LogState) (history : List ℤ) → log_of self.old.state.current channel ≡ Some log → IsLogOf log history
-            → IsBeginningOf (O.taken outlet.old) history → IsBeginningOf (O.taken outlet.new) history }
+            → IsPrefix (O.taken outlet.old) history → IsPrefix (O.taken outlet.new) history }
         ensures count { O.failures outlet.new ≡ failures_after result (O.failures outlet.old) }
         ensures same { (self.new.cell ≡ self.old.cell) × (self.new.number ≡ self.old.number) }
     {

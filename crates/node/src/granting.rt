@@ -1,22 +1,21 @@
 // The job that a process of a node is given.
-ghost use Rattle.std.specs.Prelude.{◌≡◌, ◌≤◌, ◌<◌, if◌then◌else◌, [], IfOk, length, take, drop, option_copied};
-ghost use Rattle.kahn_net.specs.Streams.{history_of};
+ghost use Rattle.std.specs.Prelude.{◌≡◌, ◌≤◌, ◌<◌, IfOk, length, take, drop, option_copied};
 ghost use Rattle.kahn_net.specs.Syntax.{network_of};
 ghost use Rattle.kahn_net.specs.States.{standing_of};
 ghost use Rattle.node.specs.JobView.{job_view};
 ghost use Rattle.node.specs.Granting.{is_process, next_items, items_from, room_in, room_from, job_for};
+ghost use Rattle.kahn_net.specs.declared.limits.TheConstants.{MAX_CHANNELS};
 
-use record::Image;
-use crate::state::LAST_NUMBER;
-use kahn_net::{Channel, History, Port, ProcState};
+use kahn_net::{Channel, History, MAX_COUNT, Port, ProcState};
 use net_check::{Inputs, Net};
-use retained::{Log, MAX_LOG_ITEMS};
 use proc_step::Job;
+use record::Image;
+use retained::{Log, MAX_LOG_ITEMS};
 use std::alloc::{AllocError, Global};
 use std::sync::Arc;
 
 /// The most items of a channel in a job, and the most places of room.
-const JOB_ITEMS: usize = 64;
+pub const MAX_JOB_ITEMS: usize = 64;
 
 /// Whether this process stands at an end of a channel.
 pub(crate) fn is_at(port: Port, process: usize) -> bool
@@ -30,10 +29,10 @@ pub(crate) fn is_at(port: Port, process: usize) -> bool
 
 // The items that come next after so many, at most as many as a job may have.
 fn next_of(items: &[i64], received: u64) -> &[i64]
-    ensures { result.now ≡ take 64 (drop received items.now) }
+    ensures { result.now ≡ take MAX_JOB_ITEMS (drop received items.now) }
 {
     let rest = &items[(received as usize).min(items.len())..];
-    &rest[..JOB_ITEMS.min(rest.len())]
+    &rest[..MAX_JOB_ITEMS.min(rest.len())]
 }
 
 // A copy of the items that are at hand of a channel whose items come from there.
@@ -66,7 +65,7 @@ fn copy_items(
     image: &Image,
     process: usize,
 ) -> Result<Vec<History>, AllocError>
-    requires { length channels.now ≤ 256 }
+    requires { length channels.now ≤ MAX_CHANNELS }
     ensures { IfOk result (λ items. items.items ≡ items_from inputs.now image.now process 0 channels.now) }
 {
     let mut items = Vec::with_capacity(alloc, channels.len())?;
@@ -86,7 +85,7 @@ pub(crate) fn places(log: Option<&Log>) -> usize
 {
     match log {
         Some(log) => {
-            let positions = (LAST_NUMBER - log.end()).min(JOB_ITEMS as u64) as usize;
+            let positions = (MAX_COUNT - log.end()).min(MAX_JOB_ITEMS as u64) as usize;
             positions.min(MAX_LOG_ITEMS - log.len())
         }
         None => 0,
@@ -100,7 +99,7 @@ fn list_room(
     image: &Image,
     process: usize,
 ) -> Result<Vec<usize>, AllocError>
-    requires { length channels.now ≤ 256 }
+    requires { length channels.now ≤ MAX_CHANNELS }
     ensures { IfOk result (λ room. room.items ≡ room_from image.now process 0 channels.now) }
 {
     let mut room = Vec::with_capacity(alloc, channels.len())?;

@@ -1,20 +1,20 @@
 // An image after a turn of one of its processes.
-ghost use Rattle.std.specs.Prelude.{◌≡◌, ◌≤◌, ◌+◌, ◌^◌, ◌-◌, ◌++◌, ℕ, if◌then◌else◌, [], map, length, take, drop, slice_get, slice_index, true, ◌↔◌, IfOk, OnOk, OnErr, IsErrOf, IsTrue, Some, option_map};
-ghost use Rattle.kahn_net.specs.Streams.{history_of};
+ghost use Rattle.std.specs.Prelude.{◌≡◌, ◌≤◌, ◌+◌, ◌-◌, ◌++◌, ℕ, [], map, length, take, drop, slice_get, true, ◌↔◌, IfOk, OnOk, OnErr, IsErrOf, IsTrue, Some, option_map};
 ghost use Rattle.kahn_net.specs.States.{standing_of};
 ghost use Rattle.record.specs.Ends.{received_at, log_at};
-ghost use Rattle.record.specs.Changes.{pushed, counted, LogTakes};
-ghost use Rattle.node.specs.Installing.{is_consumer, is_producer, taken_from, put_on, saved_pushed, saved_counted, moved, installed, EndTakes, ImageTakes, IsOut, IsInstall};
+ghost use Rattle.record.specs.Changes.{LogTakes};
+ghost use Rattle.node.specs.Installing.{taken_from, put_on, saved_pushed, saved_counted, moved, installed, ImageTakes, IsOut, IsInstall};
 ghost use Rattle.node.specs.JobView.{job_view};
 ghost use Rattle.node.specs.NodeView.{node_view};
 ghost use Rattle.record.specs.declared.image.SavedEnd.{SavedEnd};
+ghost use Rattle.kahn_net.specs.declared.limits.TheConstants.{MAX_COUNT};
 
 use crate::granting::is_at;
-use record::{End, Image, SavedEnd, SavedProcess};
 use crate::state::NodeState;
 use kahn_net::{Channel, History, ProcState};
-use retained::LogFault;
 use proc_step::{Done, Job};
+use record::{End, Image, SavedEnd, SavedProcess};
+use retained::LogFault;
 use std::alloc::Global;
 
 // How many items a process took from a channel.
@@ -87,7 +87,7 @@ fn push_sent(
 // Counts what was taken at each end.
 fn count_all(ends: &mut Vec<SavedEnd>, channels: &[Channel], process: usize, taken: &[usize])
     requires { (k : ℕ) (saved : SavedEnd) → slice_get ends.old.items k ≡ Some saved
-        → received_at (Some (saved.end)) + taken_from channels.now process taken.now saved.channel ≤ 2 ^ 63 - 1 }
+        → received_at (Some (saved.end)) + taken_from channels.now process taken.now saved.channel ≤ MAX_COUNT }
     ensures { ends.new.items ≡ map (saved_counted channels.now process taken.now) ends.old.items }
 {
     for saved in ends.iter_mut() {

@@ -20,8 +20,9 @@ mod state;
 
 pub use cell::StableCell;
 pub use gate_cell::CellFault;
+pub use granting::MAX_JOB_ITEMS;
 pub use memory::MemCell;
 pub use node::Node;
 pub use putting::Putting;
 pub use starting::next_after;
-pub use state::{LAST_NUMBER, NodeState};
+pub use state::NodeState;

@@ -1,5 +1,5 @@
 // A record in memory.
-ghost use Rattle.std.specs.Prelude.{◌≡◌, ◌⊎◌, ◌↔◌, false, IfOk, IfErr, OnOk, IsErrOf, IsTrue, Some, ◌+◌};
+ghost use Rattle.std.specs.Prelude.{◌≡◌, ◌⊎◌, ◌↔◌, false, IfOk, IfErr, OnOk, IsErrOf, IsTrue, Some};
 ghost use Rattle.std.proofs.Common.{refl, inl};
 ghost use Rattle.sector_disk.specs.Clock.{LeavesOnly, TimePasses};
 ghost use Rattle.gate_cell.specs.CellFault.{HasCause};
@@ -10,8 +10,8 @@ ghost use Rattle.node.specs.MemCell.{value_of, is_ready_of, may_leave_of, moment
 
 use crate::cell::StableCell;
 use crate::past::Past;
-use record::Record;
 use gate_cell::CellFault;
+use record::Record;
 use std::alloc::Global;
 
 /// A cell in memory, which never fails: its calls refuse for want of memory alone.

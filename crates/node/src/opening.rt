@@ -1,23 +1,24 @@
 // A node before its first event.
-ghost use Rattle.std.specs.Prelude.{◌≡◌, ◌<◌, ◌≤◌, ℕ, map, length, replicate, false, IfOk, IsErrOf, IsTrue};
-ghost use Rattle.kahn_net.specs.Syntax.{Network, code_of, network_of};
+ghost use Rattle.std.specs.Prelude.{◌≡◌, ◌<◌, ◌≤◌, map, length, false, IfOk, IsErrOf, IsTrue};
+ghost use Rattle.kahn_net.specs.Syntax.{code_of, network_of};
 ghost use Rattle.node.specs.NodeView.{node_view};
 ghost use Rattle.node.specs.Cell.{HasFailed};
 ghost use Rattle.node.specs.Opening.{opening_processes, opening_end, opening_ends, opening_image, opening_record, opening_node};
+ghost use Rattle.kahn_net.specs.declared.limits.TheConstants.{MAX_CHANNELS, MAX_PROCESSES};
 
 use crate::cell::StableCell;
 use crate::node::Node;
-use record::{End, Image, Record, SavedEnd, SavedProcess};
 use crate::state::NodeState;
 use gate_cell::CellFault;
 use kahn_net::{Channel, Place, Port, ProcState, Process};
 use net_check::Net;
+use record::{End, Image, Record, SavedEnd, SavedProcess};
 use retained::Log;
 use std::alloc::{AllocError, Global};
 
 // No process has begun.
 fn open_processes(alloc: Global, processes: &[Process]) -> Result<Vec<SavedProcess>, AllocError>
-    requires { length processes.now ≤ 64 }
+    requires { length processes.now ≤ MAX_PROCESSES }
     ensures { IfOk result (λ saved. saved.items ≡ opening_processes 0 (map code_of processes.now)) }
 {
     let mut saved = Vec::with_capacity(alloc, processes.len())?;
@@ -50,7 +51,7 @@ fn open_end(alloc: Global, channel: &Channel) -> End
 }
 
 fn open_ends(alloc: Global, channels: &[Channel]) -> Result<Vec<SavedEnd>, AllocError>
-    requires { length channels.now ≤ 256 }
+    requires { length channels.now ≤ MAX_CHANNELS }
     ensures { IfOk result (λ ends. ends.items ≡ opening_ends 0 channels.now) }
 {
     let mut ends = Vec::with_capacity(alloc, channels.len())?;

@@ -1,15 +1,16 @@
 // One item leaves the system, and the log lets go of it.
-ghost use Rattle.std.specs.Prelude.{◌≡◌, ◌⊎◌, ◌+◌, ℤ, List, [], ◌∷◌, ◌++◌, map, length, OnOk, IsErrOf, option_copied};
-ghost use Rattle.retained.specs.LogState.{LogState, IsLogOf, items_at};
-ghost use Rattle.outlet.specs.Released.{CanRelease, IsBeginningOf};
+ghost use Rattle.std.specs.Prelude.{◌≡◌, ◌⊎◌, ◌+◌, ℤ, List, length, OnOk, IsErrOf, Some};
+ghost use Rattle.retained.specs.LogState.{LogState, IsLogOf};
+ghost use Rattle.outlet.specs.Released.{CanRelease};
 ghost use Rattle.outlet.specs.Faults.{failures_after};
 ghost use Rattle.record.specs.Ends.{log_of};
-ghost use Rattle.record.specs.Changes.{trimmed_end, trimmed_saved, trimmed_image};
-ghost use Rattle.node.specs.Trimming.{HasNext};
+ghost use Rattle.record.specs.Changes.{trimmed_image};
+ghost use Rattle.node.specs.Trimming.{HasNext, TookNext};
+ghost use Rattle.kahn_net.specs.Streams.{IsPrefix};
 
+use outlet::{Outlet, OutletFault, release};
 use record::{End, Image, SavedEnd};
 use retained::Log;
-use outlet::{Outlet, OutletFault, release};
 
 // Hands an outlet the log's item that comes next for it.
 fn hand_item<O: Outlet>(log: &Log, outlet: &mut O) -> Result<(), OutletFault>
@@ -19,9 +20,13 @@ fn hand_item<O: Outlet>(log: &Log, outlet: &mut O) -> Result<(), OutletFault>
     ensures failed { IsErrOf result OutletFault.Failed
         → (length (O.taken outlet.new) ≡ length (O.taken outlet.old))
         ⊎ (length (O.taken outlet.new) ≡ length (O.taken outlet.old) + 1) }
-    ensures begins { IsBeginningOf (O.taken outlet.old) (O.taken outlet.new) }
+    ensures item { OnOk result (TookNext (Some log.now) (O.taken outlet.old) (O.taken outlet.new)) }
+    ensures failed_item { IsErrOf result OutletFault.Failed
+        → (O.taken outlet.new ≡ O.taken outlet.old)
+        ⊎ (TookNext (Some log.now) (O.taken outlet.old) (O.taken outlet.new)) }
+    ensures begins { IsPrefix (O.taken outlet.old) (O.taken outlet.new) }
     ensures history { (history : List ℤ) → IsLogOf log.now history
-        → IsBeginningOf (O.taken outlet.old) history → IsBeginningOf (O.taken outlet.new) history }
+        → IsPrefix (O.taken outlet.old) history → IsPrefix (O.taken outlet.new) history }
     ensures count { O.failures outlet.new ≡ failures_after result (O.failures outlet.old) }
 {
     let taken = outlet.len();
@@ -40,9 +45,13 @@ fn hand_next<O: Outlet>(image: &Image, channel: u8, outlet: &mut O) -> Result<()
     ensures failed { IsErrOf result OutletFault.Failed
         → (length (O.taken outlet.new) ≡ length (O.taken outlet.old))
         ⊎ (length (O.taken outlet.new) ≡ length (O.taken outlet.old) + 1) }
-    ensures begins { IsBeginningOf (O.taken outlet.old) (O.taken outlet.new) }
+    ensures item { OnOk result (TookNext (log_of image.now channel) (O.taken outlet.old) (O.taken outlet.new)) }
+    ensures failed_item { IsErrOf result OutletFault.Failed
+        → (O.taken outlet.new ≡ O.taken outlet.old)
+        ⊎ (TookNext (log_of image.now channel) (O.taken outlet.old) (O.taken outlet.new)) }
+    ensures begins { IsPrefix (O.taken outlet.old) (O.taken outlet.new) }
     ensures history { (log : LogState) (history : List ℤ) → log_of image.now channel ≡ Some log → IsLogOf log history
-        → IsBeginningOf (O.taken outlet.old) history → IsBeginningOf (O.taken outlet.new) history }
+        → IsPrefix (O.taken outlet.old) history → IsPrefix (O.taken outlet.new) history }
     ensures count { O.failures outlet.new ≡ failures_after result (O.failures outlet.old) }
 {
     match image.log(channel) {
@@ -66,9 +75,13 @@ pub(crate) fn release_next<O: Outlet>(
         ⊎ (length (O.taken outlet.new) ≡ length (O.taken outlet.old) + 1) }
     ensures trimmed { ¬ (IsErrOf result OutletFault.NoMemory)
         → image.new ≡ trimmed_image channel (length (O.taken outlet.new)) image.old }
-    ensures begins { IsBeginningOf (O.taken outlet.old) (O.taken outlet.new) }
+    ensures item { OnOk result (TookNext (log_of image.old channel) (O.taken outlet.old) (O.taken outlet.new)) }
+    ensures failed_item { IsErrOf result OutletFault.Failed
+        → (O.taken outlet.new ≡ O.taken outlet.old)
+        ⊎ (TookNext (log_of image.old channel) (O.taken outlet.old) (O.taken outlet.new)) }
+    ensures begins { IsPrefix (O.taken outlet.old) (O.taken outlet.new) }
     ensures history { (log : LogState) (history : List ℤ) → log_of image.old channel ≡ Some log → IsLogOf log history
-        → IsBeginningOf (O.taken outlet.old) history → IsBeginningOf (O.taken outlet.new) history }
+        → IsPrefix (O.taken outlet.old) history → IsPrefix (O.taken outlet.new) history }
     ensures count { O.failures outlet.new ≡ failures_after result (O.failures outlet.old) }
 {
     match hand_next(image, channel, outlet) {

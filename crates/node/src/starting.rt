@@ -1,5 +1,5 @@
 // Checkpoints: a node takes a tentative image, and makes it permanent.
-ghost use Rattle.std.specs.Prelude.{◌≡◌, ◌⊎◌, ◌<◌, ◌-◌, ◌^◌, false, IfOk, MatchOption, IsTrue, OnOk, OnErr, Some, None, length, slice_set};
+ghost use Rattle.std.specs.Prelude.{◌≡◌, ◌⊎◌, ◌<◌, ◌-◌, false, IfOk, MatchOption, IsTrue, OnErr, Some, None, length};
 ghost use Rattle.gate_cell.specs.declared.fault.CellFault.TheVariants.{NoMemory};
 ghost use Rattle.node.specs.NodeView.{node_view};
 ghost use Rattle.sector_disk.specs.Clock.{LeavesOnly};
@@ -8,9 +8,10 @@ ghost use Rattle.node.specs.Starting.{highest_used, may_start, with_own, decided
 
 use crate::cell::StableCell;
 use crate::putting::Putting;
-use record::{Image, Record, Tentative};
-use crate::state::{LAST_NUMBER, NodeState};
+use crate::state::NodeState;
 use gate_cell::CellFault;
+use kahn_net::MAX_COUNT;
+use record::{Image, Record, Tentative};
 use std::alloc::{AllocError, Global};
 
 // The refusals of a start.
@@ -22,7 +23,7 @@ const SPENT: u8 = 44;
 pub fn next_after(number: u64) -> u64
     ensures { result ≡ next_number number }
 {
-    if number < LAST_NUMBER {
+    if number < MAX_COUNT {
         number + 1
     } else {
         number
@@ -58,14 +59,9 @@ impl NodeState {
 }
 
 // The record with a tentative image of a node's own beside the permanent one, under its next number.
-fn own_record(
-    alloc: Global,
-    kept: &Record,
-    node: u8,
-    image: &Image,
-) -> Result<Record, AllocError>
+fn own_record(alloc: Global, kept: &Record, node: u8, image: &Image) -> Result<Record, AllocError>
     requires listed { node < length kept.now.highest }
-    requires number { highest_used node kept.now < 2 ^ 63 - 1 }
+    requires number { highest_used node kept.now < MAX_COUNT }
     ensures { IfOk result (λ next. next ≡ with_own node image.now kept.now) }
 {
     let mut next = kept.copy(alloc)?;
@@ -108,7 +104,7 @@ pub(crate) fn put_own<C: StableCell>(
         return Ok(Putting::NotDue);
     }
     let highest = state.kept.highest[usize::from(number)];
-    if highest >= LAST_NUMBER {
+    if highest >= MAX_COUNT {
         return Ok(Putting::Refused(SPENT));
     }
     let next = own_record(alloc, &state.kept, number, &state.current)?;

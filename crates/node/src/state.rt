@@ -1,10 +1,7 @@
 //! What a node has.
 
-use record::{Image, Record};
 use proc_step::Job;
-
-/// The greatest version, round, number and count: a node whose version has come so far grants no job.
-pub const LAST_NUMBER: u64 = (1 << 63) - 1;
+use record::{Image, Record};
 
 /// All that a node has beside its cell.
 #[derive(Drop)]
@@ -15,7 +12,7 @@ pub struct NodeState {
     pub current: Image,
     /// The job that is out, to compare with what comes back.
     pub out: Option<Job>,
-    /// Rises with each crash, so that a job from before it can be told.
+    /// Rises with each crash, so that a job from before it can be told. At the greatest no job is granted.
     pub version: u64,
     /// The process to which the last job was granted.
     pub last: Option<usize>,

@@ -1,14 +1,16 @@
 -- The steps of a release.
-use Rattle.std.proofs.Common.{◌≡◌, ◌⊎◌, inl, inr, ℕ, ◌+◌, ◌-◌, ◌<◌, ◌≤◌, max, List, [], ◌∷◌, ◌++◌, ℤ, pos, length, take, drop, get_or, Some, arith, rules, refl, sym, ◌∙◌, ap}
-use Rattle.std.specs.Prelude.{slice_get, Err, IsErrOf}
-use Rattle.std.specs.Option.{option_to_list}
+use Rattle.std.proofs.Common.{◌≡◌, ◌⊎◌, inl, inr, ℕ, ◌+◌, ◌-◌, ◌<◌, ◌≤◌, max, List, ◌++◌, ℤ, length, take, drop, arith, rules, refl, sym, ◌∙◌, ap}
+use Rattle.std.specs.Prelude.{Err, IsErrOf}
+
 use Rattle.std.proofs.Math.Seq.{take-add}
-use Rattle.std.proofs.lemmas.List.{take_more, take-take, take_min, length-take, length-take-le, length-drop, length-append, get_or-drop, drop-drop, append_assoc}
-use Rattle.std.proofs.lemmas.Option.{slice_get-get_or, get_or_from_slice_get, slice_get_within}
-use Rattle.retained.specs.LogState.{LogState, log_end, item_at, items_at, IsLogOf}
+use Rattle.std.proofs.lemmas.List.{take-take, take_min, length-take, length-take-le, length-drop, length-append, drop-drop, append_assoc}
+
+use Rattle.retained.specs.LogState.{LogState, items_at, IsLogOf}
 use Rattle.outlet.specs.declared.fault.OutletFault.{OutletFault}
 use Rattle.outlet.specs.declared.fault.OutletFault.TheVariants.{NoMemory, Failed}
-use Rattle.outlet.specs.Released.{released_items, CanRelease, IsBeginningOf, TookSome, TookSomeOrAll}
+use Rattle.outlet.specs.Released.{released_items, CanRelease, TookSome, TookSomeOrAll}
+use Rattle.kahn_net.specs.Streams.{IsPrefix}
+use Rattle.outlet.specs.ReleaseLaws.{one_more}
 
 -- how far an outlet has come in a release
 pub record HasCome (log : LogState) (covered position : ℕ) (before now : List ℤ) (failures_before failures : ℕ) : Type 0 where
@@ -16,35 +18,6 @@ pub record HasCome (log : LogState) (covered position : ℕ) (before now : List 
   pub at_most : position ≤ max (length before) covered
   pub taken : now ≡ before ++ released_items log (length before) position
   pub none_failed : failures ≡ failures_before
-
--- from its base on a log's items are those of its list
-in_its_list : (log : LogState) (position : ℕ) → log.base ≤ position → item_at log position ≡ slice_get log.items (position - log.base)
-in_its_list log position le = search rules
-
--- the item behind n items from the k-th one on
-next : (items : List ℤ) (k n place : ℕ) (item : ℤ) → k + n ≡ place → slice_get items place ≡ Some item → take (n + 1) (drop k items) ≡ take n (drop k items) ++ item ∷ []
-next items k n place item e there =
-    let within : place < length items = slice_get_within items place item there in
-    let lt : n < length (drop k items) = omega (arith, length-drop k items) in
-    let is : get_or (drop k items) n (pos 0) ≡ item
-    = get_or-drop k items n (pos 0) ∙ ap (λ i. get_or items i (pos 0)) e ∙ get_or_from_slice_get items place item (pos 0) there
-    in take_more (drop k items) n (pos 0) lt ∙ ap (λ (x : ℤ). take n (drop k items) ++ x ∷ []) is
-
--- an item is added at the end of those released
-pub one_more : (log : LogState) (len position : ℕ) → log.base ≤ len → len ≤ position → position < log_end log
-    → released_items log len (position + 1) ≡ released_items log len position ++ items_at log position
-one_more log len position no_gap le within =
-    let one_later : position + 1 - len ≡ position - len + 1 = omega arith in
-    let place : (len - log.base) + (position - len) ≡ position - log.base = omega arith in
-    let from_base : log.base ≤ position = omega arith in
-    let inside : position - log.base < length log.items = omega arith in
-    let there : slice_get log.items (position - log.base) ≡ Some (get_or log.items (position - log.base) (pos 0))
-    = slice_get-get_or log.items (position - log.base) (pos 0) inside
-    in let found : items_at log position ≡ get_or log.items (position - log.base) (pos 0) ∷ []
-    = ap option_to_list (in_its_list log position from_base ∙ there)
-    in ap (λ (n : ℕ). take n (drop (len - log.base) log.items)) one_later
-    ∙ next log.items (len - log.base) (position - len) (position - log.base) (get_or log.items (position - log.base) (pos 0)) place there
-    ∙ ap (λ (items : List ℤ). released_items log len position ++ items) (sym found)
 
 -- how many are released
 pub count_released : (log : LogState) (len covered : ℕ) → CanRelease log len covered → length (released_items log len covered) ≡ covered - len
@@ -59,13 +32,13 @@ earlier log len position covered le =
     take-take (position - len) (covered - len) (drop (len - log.base) log.items) fewer
 
 -- a beginning of any length is one of its own length
-by_its_length : (j : ℕ) (taken history : List ℤ) → taken ≡ take j history → IsBeginningOf taken history
+by_its_length : (j : ℕ) (taken history : List ℤ) → taken ≡ take j history → IsPrefix taken history
 by_its_length j taken history e =
     e ∙ sym (take_min j history) ∙ ap (λ (n : ℕ). take n history) (sym (ap length e ∙ length-take j history))
 
 -- a beginning of a history goes on as one, by the items behind it
 goes_on_by : (log : LogState) (n : ℕ) (before now history : List ℤ) → log.base ≤ length before → now ≡ before ++ take n (drop (length before - log.base) log.items)
-    → IsLogOf log history → IsBeginningOf before history → IsBeginningOf now history
+    → IsLogOf log history → IsPrefix before history → IsPrefix now history
 goes_on_by log n before now history no_gap taken is_log begins =
     let reaches : log.base + (length before - log.base) ≡ length before = omega arith in
     let rest : drop (length before - log.base) log.items ≡ drop (length before) history
@@ -81,7 +54,7 @@ goes_on_by log n before now history no_gap taken is_log begins =
 
 -- at the end of a release
 pub goes_on : (log : LogState) (covered : ℕ) (before now history : List ℤ) → log.base ≤ length before → now ≡ before ++ released_items log (length before) covered
-    → IsLogOf log history → IsBeginningOf before history → IsBeginningOf now history
+    → IsLogOf log history → IsPrefix before history → IsPrefix now history
 goes_on log covered before now history no_gap taken is_log begins = goes_on_by log (covered - length before) before now history no_gap taken is_log begins
 
 -- one item later
@@ -149,7 +122,7 @@ took_some_or_all log covered position before was now f₀ f₁ can lt come (inr 
 
 -- wherever a release stops, a beginning of a history is one still
 pub stays_beginning : (log : LogState) (covered : ℕ) (before now history : List ℤ) → log.base ≤ length before
-    → TookSomeOrAll (released_items log (length before) covered) before now → IsLogOf log history → IsBeginningOf before history → IsBeginningOf now history
+    → TookSomeOrAll (released_items log (length before) covered) before now → IsLogOf log history → IsPrefix before history → IsPrefix now history
 stays_beginning log covered before now history no_gap took is_log begins =
     let fewer : took.count ≤ covered - length before = omega (arith, took.at_most_all, length-take (covered - length before) (drop (length before - log.base) log.items)) in
     goes_on_by log took.count before now history no_gap

@@ -11,10 +11,6 @@ pub record CanRelease (log : LogState) (len covered : ℕ) : Type 0 where
   pub no_gap : log.base ≤ len
   pub within : covered ≤ log_end log
 
--- an outlet's items are the first ones of a history
-abbrev pub IsBeginningOf : List ℤ → List ℤ → Type 0
-IsBeginningOf taken history = taken ≡ take (length taken) history
-
 -- an outlet took a beginning of these items, and it hadn't got all of them
 pub record TookSome (items old new : List ℤ) : Type 0 where
   pub count : ℕ

@@ -2,7 +2,8 @@
 ghost use Rattle.std.specs.Prelude.{◌≡◌, ◌⊎◌, ◌↔◌, List, ◌++◌, ℤ, length, max, IsTrue, OnOk, IsErrOf};
 ghost use Rattle.retained.specs.LogState.{IsLogOf, items_at};
 ghost use Rattle.outlet.specs.Faults.{failures_after};
-ghost use Rattle.outlet.specs.Released.{CanRelease, released_items, IsBeginningOf, TookSome, TookSomeOrAll};
+ghost use Rattle.outlet.specs.Released.{CanRelease, released_items, TookSome, TookSomeOrAll};
+ghost use Rattle.kahn_net.specs.Streams.{IsPrefix};
 
 use crate::fault::OutletFault;
 use crate::outlet::Outlet;
@@ -51,7 +52,7 @@ pub fn release<O: Outlet>(outlet: &mut O, log: &Log, covered: u64) -> Result<(),
         (length (O.taken outlet.new) ≡ max (length (O.taken outlet.old)) covered) }
     ensures again { CanRelease log.now (length (O.taken outlet.new)) covered }
     ensures history { (history : List ℤ) → IsLogOf log.now history
-        → IsBeginningOf (O.taken outlet.old) history → IsBeginningOf (O.taken outlet.new) history }
+        → IsPrefix (O.taken outlet.old) history → IsPrefix (O.taken outlet.new) history }
 {
     for position in outlet.len()..covered {
         append_at(outlet, log, position)?;

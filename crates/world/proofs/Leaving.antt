@@ -7,7 +7,6 @@ use Rattle.std.proofs.Math.Seq.{take-length}
 use Rattle.std.specs.declared.alloc.AllocError.{AllocError}
 use Rattle.kahn_net.specs.Syntax.{Network}
 use Rattle.retained.specs.LogState.{LogState, IsLogOf}
-use Rattle.outlet.specs.Released.{IsBeginningOf}
 use Rattle.record.specs.Ends.{log_of, sent_of}
 use Rattle.node.specs.NodeView.{NodeView}
 use Rattle.node.specs.Starting.{AreInOrder}
@@ -20,6 +19,7 @@ use Rattle.world.specs.Growing.{EachBegins}
 use Rattle.world.specs.LeaveLaws.{has_next, sound_released}
 use Rattle.world.specs.declared.output.Output.{Output}
 use Rattle.world.specs.declared.event.Reply.{Reply}
+use Rattle.kahn_net.specs.Streams.{IsPrefix}
 
 -- an output of the list, as it is seen
 pub seen_at : {O : Type 0} (taken : O → List ℤ) (outputs : List (Output O)) (j : ℕ) (x : Output O) → j < length outputs → x ≡ get_or outputs j x → slice_get (outputs_view taken outputs) j ≡ Some (output_view taken x)
@@ -54,8 +54,8 @@ module _ (net : Network) (inputs : List (List ℤ)) (node new : NodeView) (xs : 
   logged : log_of node.current x.channel ≢ None
   logged none = subst (λ (o : Option LogState). HasNext o (length x.taken)) none next_there
 
-  module _ (channel : y.channel ≡ x.channel) (longer : (length y.taken ≡ length x.taken) ⊎ (length y.taken ≡ length x.taken + 1)) (begins : IsBeginningOf x.taken y.taken)
-      (goes_on : (log : LogState) (history : List ℤ) → log_of node.current x.channel ≡ Some log → IsLogOf log history → IsBeginningOf x.taken history → IsBeginningOf y.taken history) where
+  module _ (channel : y.channel ≡ x.channel) (longer : (length y.taken ≡ length x.taken) ⊎ (length y.taken ≡ length x.taken + 1)) (begins : IsPrefix x.taken y.taken)
+      (goes_on : (log : LogState) (history : List ℤ) → log_of node.current x.channel ≡ Some log → IsLogOf log history → IsPrefix x.taken history → IsPrefix y.taken history) where
     covers : length y.taken ≤ sent_of node.kept.permanent x.channel
     covers = at longer
       where
@@ -83,14 +83,14 @@ module _ (net : Network) (inputs : List (List ℤ)) (node new : NodeView) (xs : 
         some_same : (a b : OutputView) → Some a ≡ Some b → a ≡ b
         some_same a b e = cc
 
-        at : (i : ℕ) (output later : OutputView) → slice_get xs i ≡ Some output → ((i ≡ j) × (y ≡ later)) ⊎ ((i ≢ j) × (slice_get xs i ≡ Some later)) → (later.channel ≡ output.channel) × IsBeginningOf output.taken later.taken
+        at : (i : ℕ) (output later : OutputView) → slice_get xs i ≡ Some output → ((i ≡ j) × (y ≡ later)) ⊎ ((i ≢ j) × (slice_get xs i ≡ Some later)) → (later.channel ≡ output.channel) × IsPrefix output.taken later.taken
         at i output later h (inl here) =
             let first : x ≡ output = some_same x output (sym is ∙ (ap (slice_get xs) (sym here.0) ∙ h)) in
-            subst (λ (o : OutputView). (o.channel ≡ output.channel) × IsBeginningOf output.taken o.taken) here.1
-            (subst (λ (o : OutputView). (y.channel ≡ o.channel) × IsBeginningOf o.taken y.taken) first (channel, begins))
+            subst (λ (o : OutputView). (o.channel ≡ output.channel) × IsPrefix output.taken o.taken) here.1
+            (subst (λ (o : OutputView). (y.channel ≡ o.channel) × IsPrefix o.taken y.taken) first (channel, begins))
         at i output later h (inr other) =
             let same : output ≡ later = some_same output later (sym h ∙ other.1) in
-            subst (λ (o : OutputView). (o.channel ≡ output.channel) × IsBeginningOf output.taken o.taken) same (refl, sym (take-length output.taken))
+            subst (λ (o : OutputView). (o.channel ≡ output.channel) × IsPrefix output.taken o.taken) same (refl, sym (take-length output.taken))
 
   -- nothing changed where it was refused
   pub same_after : y.channel ≡ x.channel → (result : Result Reply AllocError) → OnErr result ((new ≡ node) × (y.taken ≡ x.taken)) → OnErr result ((new ≡ node) × (slice_set xs j y ≡ xs))
@@ -104,7 +104,7 @@ begins_same xs = record {
   begins = λ i output later h g. at output later (sym h ∙ g);
 }
   where
-    at : (output later : OutputView) → Some output ≡ Some later → (later.channel ≡ output.channel) × IsBeginningOf output.taken later.taken
+    at : (output later : OutputView) → Some output ≡ Some later → (later.channel ≡ output.channel) × IsPrefix output.taken later.taken
     at output later e =
         let same : output ≡ later = cc in
-        subst (λ (o : OutputView). (o.channel ≡ output.channel) × IsBeginningOf output.taken o.taken) same (refl, sym (take-length output.taken))
+        subst (λ (o : OutputView). (o.channel ≡ output.channel) × IsPrefix output.taken o.taken) same (refl, sym (take-length output.taken))

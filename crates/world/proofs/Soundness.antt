@@ -1,6 +1,6 @@
 -- What is true of a station stays so through its checkpoints.
-use Rattle.std.proofs.Common.{◌≡◌, ◌⊎◌, ℕ, ◌≤◌, Bool, true, false, List, ℤ, length, Option, Some, None, inl, inr, refl, sym, ap, subst, ◌∙◌, arith}
-use Rattle.std.specs.Prelude.{Result, Ok, Err, IfOk, OnErr, slice_get}
+use Rattle.std.proofs.Common.{◌≡◌, ◌⊎◌, ℕ, ◌≤◌, Bool, true, false, List, ℤ, Option, Some, None, inl, inr, refl, sym, subst, ◌∙◌, arith}
+use Rattle.std.specs.Prelude.{Result, Ok, Err, IfOk, OnErr}
 use Rattle.std.proofs.Math.Logic.{∥∥₁_map}
 use Rattle.std.specs.declared.alloc.AllocError.{AllocError}
 use Rattle.sector_disk.specs.Clock.{LeavesOnly}
@@ -10,7 +10,7 @@ use Rattle.record.specs.Ends.{sent_of}
 use Rattle.node.specs.JobView.{JobView}
 use Rattle.record.specs.RecordView.{RecordView}
 use Rattle.node.specs.NodeView.{NodeView}
-use Rattle.node.specs.Reached.{HasReached, IsJobOf}
+use Rattle.node.specs.Reached.{IsJobOf}
 use Rattle.proc_step.specs.declared.job.Job.{Job}
 use Rattle.node.specs.Starting.{with_own, with_kept, decided, decided_with, stopped, IsStart, IsDecision, HasPutMore, LeavesAsMuch, AreInOrder}
 use Rattle.node.specs.StepLaws.{reached_start, reached_decide, reached_stopped, reached_grant, on_start, on_decide, on_stopped, on_grant}
@@ -28,8 +28,8 @@ use Rattle.kahn_net.specs.Processes.{Standing}
 use Rattle.retained.specs.declared.fault.LogFault.{LogFault}
 use Rattle.world.specs.TurnLaws.{IsTurnOfJob, takes_done, sound_done}
 use Rattle.world.specs.OutputView.{OutputView}
-use Rattle.world.specs.Sound.{HasCome, NodeIsSound, OutputsAreSound, IsSound}
-use Rattle.world.specs.Covered.{IsCovered, AreCovered}
+use Rattle.world.specs.Sound.{HasCome, IsSound}
+use Rattle.world.specs.Covered.{AreCovered}
 
 module _ (net : Network) (inputs : List (List ℤ)) (outputs : List OutputView) where
   same_sound : (old new : NodeView) → new ≡ old → IsSound net inputs old outputs → IsSound net inputs new outputs

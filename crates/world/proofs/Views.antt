@@ -1,5 +1,5 @@
 -- Views of stations.
-use Rattle.std.proofs.Common.{◌≡◌, ◌⊎◌, ℕ, ◌+◌, ◌<◌, Bool, true, false, cond, List, ℤ, length, get_or, Option, Some, None, map, refl, sym, ap, subst, ◌∙◌}
+use Rattle.std.proofs.Common.{◌≡◌, ℕ, ◌<◌, Bool, true, cond, List, ℤ, length, get_or, Option, Some, None, map, refl, sym, ap, subst, ◌∙◌}
 use Rattle.std.specs.Prelude.{Result, Ok, Err, IfOk, slice_get, slice_set}
 use Rattle.std.proofs.lemmas.List.{map-set}
 use Rattle.std.proofs.lemmas.Option.{slice_get_read}
@@ -10,7 +10,7 @@ use Rattle.record.specs.Changes.{trimmed_image}
 use Rattle.node.specs.Trimming.{with_current}
 use Rattle.world.specs.OutputLaws.{map_at}
 use Rattle.world.specs.StationView.{OutletView, StationView, outlet_view, outlet_views}
-use Rattle.world.specs.Steps.{first_waiting, next_release, IsHanded, IsReleaseAt, IsRelease, released_to, IsStationStep, IsActOf, IsAct}
+use Rattle.world.specs.Steps.{first_waiting, next_release, IsHanded, IsRelease, IsStationStep, IsActOf, IsAct}
 use Rattle.world.specs.WorldView.{IsCellUnchanged}
 use Rattle.world.specs.declared.event.Event.{Event}
 use Rattle.world.specs.declared.station.Station.{Station}

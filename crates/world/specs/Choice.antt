@@ -1,5 +1,5 @@
 -- Which event is next for a node: the first one of a list that is due.
-use Rattle.std.specs.Prelude.{◌==◌, ℕ, ◌%◌, nat_lt, Bool, true, false, ◌&&◌, ◌||◌, not, if◌then◌else◌, List, [], ◌∷◌, length, Option, Some, None, is_some, slice_get}
+use Rattle.std.specs.Prelude.{◌==◌, ℕ, ◌%◌, nat_lt, Bool, false, ◌&&◌, ◌||◌, not, if◌then◌else◌, List, [], ◌∷◌, length, Option, Some, None, is_some, slice_get}
 use Rattle.record.specs.ImageView.{ImageView}
 use Rattle.record.specs.Ends.{received_of, sent_of}
 use Rattle.node.specs.Choosing.{next_job}
@@ -10,6 +10,7 @@ use Rattle.world.specs.StationView.{StationView}
 use Rattle.world.specs.Steps.{WorldView, next_release}
 use Rattle.world.specs.declared.event.Event.{Event}
 use Rattle.world.specs.declared.event.Event.TheVariants.{Grant, Send, Start, Decide, Release, Idle}
+use Rattle.world.specs.declared.turning.TheConstants.{MAX_GRANTS}
 
 -- a count of one of these channels is above what it is in an earlier image
 abbrev pub counts_rose : ImageView → ImageView → List SavedEnd → Bool
@@ -34,7 +35,7 @@ has_sent round station = (turns_of round station.turns).sent && not ((turns_of r
 abbrev pub station_choice : ℕ → ℕ → StationView → Event
 station_choice nodes round station =
     if is_some (next_release round station) then Release station.number
-    else (if nat_lt (turns_of round station.turns).granted 64 && is_some (next_job station.net station.inputs station.node) then Grant station.number
+    else (if nat_lt (turns_of round station.turns).granted MAX_GRANTS && is_some (next_job station.net station.inputs station.node) then Grant station.number
     else (if may_decide station.number station.node then Decide station.number
     else (if wants_checkpoint nodes round station then Start station.number
     else (if station.node.up && not (has_sent round station) then Send station.number

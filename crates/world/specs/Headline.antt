@@ -8,7 +8,7 @@ use Rattle.kahn_net.specs.Valid.{IsValid}
 use Rattle.kahn_net.specs.Syntax.{Network}
 use Rattle.kahn_net.specs.Processes.{sent_on}
 use Rattle.kahn_net.specs.Approximations.{approximation}
-use Rattle.kahn_net.specs.Laws.Prefixes.{prefix_trans, prefix_from_take}
+use Rattle.kahn_net.specs.Laws.Prefixes.{prefix_trans}
 use Rattle.kahn_net.specs.declared.program.Channel.{Channel}
 use Rattle.kahn_net.specs.declared.program.Port.{Port}
 use Rattle.kahn_net.specs.declared.program.Port.TheVariants.{Outside, Process}
@@ -42,7 +42,7 @@ module _ (net : Network) (inputs : List (List ℤ)) (node : NodeView) (outputs :
       let there = output_channel net inputs node outputs sound j output is in
       let from = from_process valid output.channel there.0 there.1 there.2 in
       prefix_trans output.taken (sent_on output.channel (acts_of net (approximation net inputs come.reached.n) come.reached.current_acts from.0)) (history_of (approximation net inputs (suc come.reached.n)) output.channel)
-      (prefix_from_take output.taken _ (come.released j from.0 output there.0 is there.1 from.1))
+      ((come.released j from.0 output there.0 is there.1 from.1))
       (acts_put_prefix net inputs come.reached.n come.reached.current_acts output.channel from.0 there.0 there.1 from.1)
 
   pub released_prefix : IsValid net → Fits net inputs → IsSound net inputs node outputs → AreApproximated net inputs outputs

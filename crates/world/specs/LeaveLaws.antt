@@ -12,7 +12,6 @@ use Rattle.kahn_net.specs.Approximations.{approximation}
 use Rattle.kahn_net.specs.declared.program.Channel.{Channel}
 use Rattle.kahn_net.specs.declared.program.Port.TheVariants.{Process}
 use Rattle.retained.specs.LogState.{LogState, IsLogOf, log_end, trimmed}
-use Rattle.outlet.specs.Released.{IsBeginningOf}
 use Rattle.record.specs.ImageView.{ImageView}
 use Rattle.node.specs.NodeView.{NodeView}
 use Rattle.record.specs.Ends.{log_of, log_at, base_in, base_of, sent_in, sent_of}
@@ -29,6 +28,7 @@ use Rattle.record.specs.declared.image.End.TheVariants.{Receives, Sends, Both}
 use Rattle.world.specs.OutputView.{OutputView}
 use Rattle.world.specs.Sound.{OutputIsSound, OutputsAreSound, HasCome, IsSound}
 use Rattle.world.specs.OutputLaws.{set_cases, set_keeps, same_output}
+use Rattle.kahn_net.specs.Streams.{IsPrefix}
 
 -- Where a trimmed log begins
 
@@ -86,7 +86,7 @@ base_elsewhere c position image d other =
     (end_of_changed image (trimmed_image c position image) d (trimmed_saved c position) (λ s. refl) refl ∙ other_ends c position d image.ends other)
 
 -- a beginning is no longer than the whole
-beginning_length : (taken whole : List ℤ) → IsBeginningOf taken whole → length taken ≤ length whole
+beginning_length : (taken whole : List ℤ) → IsPrefix taken whole → length taken ≤ length whole
 beginning_length taken whole is =
     let count = length-take (length taken) whole in
     let few = min-le_right (length taken) (length whole) in
@@ -110,9 +110,9 @@ module _ (net : Network) (inputs : List (List ℤ)) (node : NodeView) (outputs :
   -- After an item left, or all that the outlet took of it
 
   module _ (j : ℕ) (output : OutputView) (taken : List ℤ) (sound : IsSound net inputs node outputs) (is : slice_get outputs j ≡ Some output)
-      (longer : IsBeginningOf output.taken taken)
+      (longer : IsPrefix output.taken taken)
       (covers : length taken ≤ sent_of node.kept.permanent output.channel)
-      (goes_on : (log : LogState) (history : List ℤ) → log_of node.current output.channel ≡ Some log → IsLogOf log history → IsBeginningOf output.taken history → IsBeginningOf taken history)
+      (goes_on : (log : LogState) (history : List ℤ) → log_of node.current output.channel ≡ Some log → IsLogOf log history → IsPrefix output.taken history → IsPrefix taken history)
       (logged : log_of node.current output.channel ≢ None) where
     covered_then : OutputsAreSound (with_current (trimmed_image output.channel (length taken) node.current) node) (slice_set outputs j (record { channel = output.channel; taken = taken }))
     covered_then i one there = at (set_cases outputs j i (record { channel = output.channel; taken = taken }) one there)
@@ -134,11 +134,11 @@ module _ (net : Network) (inputs : List (List ℤ)) (node : NodeView) (outputs :
 
     released_then : (come : HasCome net inputs node outputs) (i p : ℕ) (one : OutputView) (channel : Channel)
         → slice_get (slice_set outputs j (record { channel = output.channel; taken = taken })) i ≡ Some one → slice_get net.channels one.channel ≡ Some channel → channel.producer ≡ Process p
-        → IsBeginningOf one.taken (sent_on one.channel (acts_of net (approximation net inputs come.reached.n) come.reached.current_acts p))
+        → IsPrefix one.taken (sent_on one.channel (acts_of net (approximation net inputs come.reached.n) come.reached.current_acts p))
     released_then come i p one channel there on from = at (set_cases outputs j i (record { channel = output.channel; taken = taken }) one there)
       where
         by_log : (o : Option LogState) → log_of node.current output.channel ≡ o → slice_get net.channels output.channel ≡ Some channel
-            → IsBeginningOf taken (sent_on output.channel (acts_of net (approximation net inputs come.reached.n) come.reached.current_acts p))
+            → IsPrefix taken (sent_on output.channel (acts_of net (approximation net inputs come.reached.n) come.reached.current_acts p))
         by_log None has on' = absurd (logged has)
         by_log (Some log) has on' =
             goes_on log (sent_on output.channel (acts_of net (approximation net inputs come.reached.n) come.reached.current_acts p)) has
@@ -146,11 +146,11 @@ module _ (net : Network) (inputs : List (List ℤ)) (node : NodeView) (outputs :
             (come.released j p output channel is on' from)
 
         at : ((i ≡ j) × (◌≡◌ {A = OutputView} (record { channel = output.channel; taken = taken }) one)) ⊎ ((i ≢ j) × (slice_get outputs i ≡ Some one))
-            → IsBeginningOf one.taken (sent_on one.channel (acts_of net (approximation net inputs come.reached.n) come.reached.current_acts p))
+            → IsPrefix one.taken (sent_on one.channel (acts_of net (approximation net inputs come.reached.n) come.reached.current_acts p))
         at (inr other) = come.released i p one channel other.1 on from
         at (inl here) =
             let number : output.channel ≡ one.channel = ap (λ (o : OutputView). o.channel) here.1 in
-            subst (λ (o : OutputView). IsBeginningOf o.taken (sent_on o.channel (acts_of net (approximation net inputs come.reached.n) come.reached.current_acts p))) here.1
+            subst (λ (o : OutputView). IsPrefix o.taken (sent_on o.channel (acts_of net (approximation net inputs come.reached.n) come.reached.current_acts p))) here.1
             (by_log (log_of node.current output.channel) refl (ap (slice_get net.channels) number ∙ on))
 
     come_then : HasCome net inputs node outputs → HasCome net inputs (with_current (trimmed_image output.channel (length taken) node.current) node) (slice_set outputs j (record { channel = output.channel; taken = taken }))

@@ -6,13 +6,13 @@ use Rattle.kahn_net.specs.Syntax.{Network}
 use Rattle.kahn_net.specs.declared.program.Channel.{Channel}
 use Rattle.kahn_net.specs.declared.program.Port.{Port}
 use Rattle.kahn_net.specs.declared.program.Port.TheVariants.{Outside, Process}
-use Rattle.outlet.specs.Released.{IsBeginningOf}
 use Rattle.record.specs.Ends.{log_at, base_in, base_of}
 use Rattle.node.specs.Opening.{opening_end, opening_ends, opening_image, opening_node}
 use Rattle.node.specs.OpeningLaws.{reached_opening, laid_out_opening, counts_opening, logs_opening}
 use Rattle.record.specs.declared.image.SavedEnd.{SavedEnd}
 use Rattle.world.specs.OutputView.{OutputView}
 use Rattle.world.specs.Sound.{output_channels, HasCome, IsSound}
+use Rattle.kahn_net.specs.Streams.{IsPrefix}
 
 -- nothing has left of any output
 abbrev pub NothingLeft : List OutputView → Type 0
@@ -44,7 +44,7 @@ module _ (net : Network) (inputs : List (List ℤ)) (nodes : ℕ) (outputs : Lis
     released = λ j p output channel is on from. nothing output.taken _ (none j output is);
   }
     where
-      nothing : (taken whole : List ℤ) → taken ≡ [] → IsBeginningOf taken whole
+      nothing : (taken whole : List ℤ) → taken ≡ [] → IsPrefix taken whole
       nothing taken whole e = e ∙ ap (λ (t : List ℤ). take (length t) whole) (sym e)
 
   pub sound_opened : IsValid net → map (λ (output : OutputView). output.channel) outputs ≡ output_channels 0 net.channels → NothingLeft outputs

@@ -1,5 +1,5 @@
 -- Laws of a station's outputs: each is of a channel of its own, which goes outside.
-use Rattle.std.proofs.Common.{◌≡◌, ◌≢◌, ◌⊎◌, inl, inr, ℕ, zero, suc, ◌+◌, ◌≤◌, Bool, true, false, cond, ℤ, List, [], ◌∷◌, map, Some, refl, sym, ap, subst, ◌∙◌, arith}
+use Rattle.std.proofs.Common.{◌≡◌, ◌≢◌, ◌⊎◌, inl, inr, ℕ, zero, suc, ◌+◌, ◌≤◌, Bool, true, false, cond, ℤ, List, [], ◌∷◌, map, Some, refl, sym, ap, ◌∙◌, arith}
 use Rattle.std.specs.Prelude.{slice_get, slice_set}
 use Rattle.kahn_net.specs.Syntax.{Network}
 use Rattle.kahn_net.specs.declared.program.Channel.{Channel}
@@ -111,7 +111,3 @@ module _ (net : Network) (inputs : List (List ℤ)) (node : NodeView) (outputs :
       let there = channel_there 0 net.channels j output.channel (listed_at sound j output is) in
       let sum : 0 + there.0 ≡ there.0 = omega arith in
       (there.1, ap (slice_get net.channels) (there.2 ∙ sum) ∙ there.3, there.4)
-
-  -- and where nothing left they are as they were
-  pub sound_same_outputs : (j : ℕ) (output : OutputView) → slice_get outputs j ≡ Some output → IsSound net inputs node outputs → IsSound net inputs node (slice_set outputs j output)
-  sound_same_outputs j output is sound = subst (λ (os : List OutputView). IsSound net inputs node os) (sym (set_same outputs j output is)) sound

@@ -14,7 +14,7 @@ use Rattle.kahn_net.specs.Processes.{Standing, StandsAt, HasPassingLoop, process
 use Rattle.kahn_net.specs.Resuming.{left_after}
 use Rattle.kahn_net.specs.Approximations.{approximation, IsReached}
 use Rattle.kahn_net.specs.Laws.Approximations.{next_histories_past, inner_empty, approximation_grows}
-use Rattle.kahn_net.specs.Laws.Prefixes.{prefix_refl, prefix_nil, prefix_along, prefix_from_take}
+use Rattle.kahn_net.specs.Laws.Prefixes.{prefix_refl, prefix_nil, prefix_along}
 use Rattle.kahn_net.specs.Laws.Streams.{longer_process, stands_on}
 use Rattle.kahn_net.specs.Laws.Got.{reads}
 use Rattle.kahn_net.specs.NextActs.{Next, Begins, Gets, Puts, NoNext, next_of}
@@ -233,7 +233,7 @@ module _ (net : Network) (inputs : List (List ℤ)) (node : NodeView) (outputs :
       let from = producer_of output.channel there.0 there.1 there.2 in
       let count = left_at node.current outputs j output left is in
       let put = sent_stands net base come.reached.current_acts node.current output.channel from.0 there.0 come.reached.current sound.kept.laid_out there.1 from.1 in
-      prefix_whole output.taken (sent_on output.channel (made from.0)) (prefix_from_take output.taken _ (come.released j from.0 output there.0 is there.1 from.1)) (omega (arith, count, put))
+      prefix_whole output.taken (sent_on output.channel (made from.0)) ((come.released j from.0 output there.0 is there.1 from.1)) (omega (arith, count, put))
       ∙ sym (ap (λ (all : List (List ℤ)). history_of all output.channel) (settled rest) ∙ (put_by_now-at net inputs made output.channel there.0 there.1 ∙ ap (put_so_far inputs made output.channel) from.1))
 
   whole_there : IsTrue (is_quiet net inputs node outputs)

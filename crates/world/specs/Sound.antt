@@ -6,12 +6,12 @@ use Rattle.kahn_net.specs.Approximations.{approximation}
 use Rattle.kahn_net.specs.declared.program.Channel.{Channel}
 use Rattle.kahn_net.specs.declared.program.Port.{Port}
 use Rattle.kahn_net.specs.declared.program.Port.TheVariants.{Outside, Process}
-use Rattle.outlet.specs.Released.{IsBeginningOf}
 use Rattle.node.specs.JobView.{JobView}
 use Rattle.node.specs.NodeView.{NodeView}
 use Rattle.record.specs.Ends.{base_of, sent_of}
 use Rattle.node.specs.Reached.{HasReached, IsLaidOut, CountsAreWithin, LogsAreWithin, IsJobOf, acts_of}
 use Rattle.world.specs.OutputView.{OutputView}
+use Rattle.kahn_net.specs.Streams.{IsPrefix}
 
 -- items go outside there
 abbrev pub goes_outside : Port → Bool
@@ -39,7 +39,7 @@ pub record HasCome (net : Network) (inputs : List (List ℤ)) (node : NodeView) 
   pub reached : HasReached net inputs node
   pub out : (job : JobView) → node.out ≡ Some job → IsJobOf net inputs node.current job
   pub released : (j p : ℕ) (output : OutputView) (channel : Channel) → slice_get outputs j ≡ Some output → slice_get net.channels output.channel ≡ Some channel → channel.producer ≡ Process p
-      → IsBeginningOf output.taken (sent_on output.channel (acts_of net (approximation net inputs reached.n) reached.current_acts p))
+      → IsPrefix output.taken (sent_on output.channel (acts_of net (approximation net inputs reached.n) reached.current_acts p))
 
 -- the channels whose items go outside, the first one of this number
 abbrev pub output_channels : ℕ → List Channel → List ℕ

@@ -3,11 +3,10 @@
 -- A relation goes by cases of the event; a reply that an event never has is nowhere in its case. An event that can't happen is answered by
 -- `NotDue` and changes nothing, and only such an event is. What the network and the nodes' own state don't settle is whether a device or an
 -- outlet fails, and whether an outlet that fails took the item.
-use Rattle.std.specs.Prelude.{◌≡◌, ◌⊎◌, ◌==◌, ℕ, ◌+◌, nat_lt, Bool, true, false, ◌&&◌, ◌||◌, not, if◌then◌else◌, ℤ, List, [], ◌∷◌, length, Option, Some, None, slice_get, slice_set, option_map}
+use Rattle.std.specs.Prelude.{◌≡◌, ◌⊎◌, ◌==◌, ℕ, ◌+◌, nat_lt, Bool, true, false, ◌&&◌, ◌||◌, not, if◌then◌else◌, ℤ, List, [], ◌∷◌, length, Option, Some, None, slice_get, slice_set}
 use Rattle.kahn_net.specs.Syntax.{Code, network_of}
 use Rattle.kahn_net.specs.States.{standing_of}
 use Rattle.retained.specs.LogState.{LogState, IsLogOf}
-use Rattle.outlet.specs.Released.{IsBeginningOf}
 use Rattle.proc_step.specs.declared.job.Job.{Job}
 use Rattle.proc_step.specs.declared.job.Done.{Done}
 use Rattle.record.specs.Ends.{log_of, sent_of}
@@ -28,6 +27,7 @@ use Rattle.world.specs.declared.event.Event.TheVariants as event
 use Rattle.world.specs.declared.event.Reply.{Reply}
 use Rattle.world.specs.declared.event.Reply.TheVariants as reply
 use Rattle.world.specs.declared.turns.RoundTurns.{RoundTurns}
+use Rattle.kahn_net.specs.Streams.{IsPrefix}
 
 -- One station
 
@@ -96,8 +96,8 @@ next_release round station = if station.node.up then first_waiting station.node.
 -- the outlet was handed the next item of this log
 pub record IsHanded (round : ℕ) (log : Option LogState) (outlet : OutletView) (answer : Reply) (later : OutletView) : Type 0 where
   pub channel : later.channel ≡ outlet.channel
-  pub begins : IsBeginningOf outlet.taken later.taken
-  pub next : (held : LogState) (history : List ℤ) → log ≡ Some held → IsLogOf held history → IsBeginningOf outlet.taken history → IsBeginningOf later.taken history
+  pub begins : IsPrefix outlet.taken later.taken
+  pub next : (held : LogState) (history : List ℤ) → log ≡ Some held → IsLogOf held history → IsPrefix outlet.taken history → IsPrefix later.taken history
   pub came : ((answer ≡ reply.Released (record { output = outlet.channel; number = length later.taken }))
       × (length later.taken ≡ length outlet.taken + 1) × (later.failed ≡ outlet.failed) × (later.failures ≡ outlet.failures))
       ⊎ ((answer ≡ reply.OutletFailed)

@@ -1,7 +1,7 @@
 -- A turn that comes back fits what the node has now, and what is true of a station stays so.
-use Rattle.std.proofs.Common.{◌≡◌, ℕ, List, ℤ, length, Option, Some, None, sym, subst, ◌∙◌, arith}
-use Rattle.std.specs.Prelude.{slice_get}
-use Rattle.std.proofs.Math.Logic.{∥∥₁_elim, ∥∥₁_map, ∥∥₁_map₂}
+use Rattle.std.proofs.Common.{◌≡◌, ℕ, List, ℤ, length, Option, Some, None, ◌∙◌, arith}
+
+use Rattle.std.proofs.Math.Logic.{∥∥₁_elim, ∥∥₁_map₂}
 use Rattle.std.proofs.Math.Bridge.{le_prop}
 use mathlib.Core.HLevel.{⊥_prop}
 use Rattle.kahn_net.specs.Fits.{Fits}
@@ -28,13 +28,6 @@ IsTurnOfJob job after taken sent = (code : Code) → job.code ≡ Some code → 
 
 module _ (net : Network) (inputs : List (List ℤ)) (node : NodeView) (outputs : List OutputView) (job : JobView) (after : Standing) (taken : List ℕ) (sent : List (List ℤ)) where
   -- Which code the turn is of
-
-  -- a turn of the code that the process has
-  turn_of_code : (code : Code) → slice_get net.codes job.process ≡ Some code → IsTurn code job.standing job.items job.room after taken sent → IsTurnOf net job after taken sent
-  turn_of_code code there turn other is =
-      let both : Some code ≡ Some other = sym there ∙ is in
-      let same : code ≡ other = cc in
-      subst (λ (c : Code). IsTurn c job.standing job.items job.room after taken sent) same turn
 
   -- or of the job's own code: the job that is out is of this network
   turn_of_done : IsJobOf net inputs node.current job → IsTurnOfJob job after taken sent → IsTurnOf net job after taken sent
@@ -99,14 +92,6 @@ module _ (net : Network) (inputs : List (List ℤ)) (node : NodeView) (outputs :
   }
 
   -- Of the code that the process has
-
-  pub takes_turn : (code : Code) → IsValid net → Fits net inputs → IsSound net inputs node outputs → IsOut job node → slice_get net.codes job.process ≡ Some code
-      → ∥ IsTurn code job.standing job.items job.room after taken sent ∥₁ → ImageTakes net.channels job.process taken sent node.current
-  takes_turn code valid fits sound out there turn = takes fits sound out (∥∥₁_map turn (turn_of_code code there))
-
-  pub sound_installed : (code : Code) → IsValid net → Fits net inputs → IsSound net inputs node outputs → IsOut job node → slice_get net.codes job.process ≡ Some code
-      → ∥ IsTurn code job.standing job.items job.room after taken sent ∥₁ → IsSound net inputs (with_turn net.channels job.process after taken sent node) outputs
-  sound_installed code valid fits sound out there turn = stays fits sound out (∥∥₁_map turn (turn_of_code code there))
 
   -- The same of what a job that was run says of itself
 

@@ -4,6 +4,7 @@ use Rattle.node.specs.JobView.{JobView}
 use Rattle.node.specs.declared.putting.Putting.{Putting}
 use Rattle.node.specs.declared.putting.Putting.TheVariants as putting
 use Rattle.world.specs.declared.turns.RoundTurns.{RoundTurns}
+use Rattle.world.specs.declared.turning.TheConstants.{MAX_GRANTS}
 
 -- nothing yet in this round
 abbrev pub no_turns : ℕ → RoundTurns
@@ -15,7 +16,7 @@ turns_of round turns = if turns.round == round then turns else no_turns round
 
 -- 64 jobs at most are counted
 abbrev pub count_grant : RoundTurns → RoundTurns
-count_grant turns = record { round = turns.round; granted = if nat_lt turns.granted 64 then turns.granted + 1 else turns.granted; started = turns.started; sent = turns.sent; sent_holding = turns.sent_holding; idled = turns.idled }
+count_grant turns = record { round = turns.round; granted = if nat_lt turns.granted MAX_GRANTS then turns.granted + 1 else turns.granted; started = turns.started; sent = turns.sent; sent_holding = turns.sent_holding; idled = turns.idled }
 
 abbrev pub count_start : RoundTurns → RoundTurns
 count_start turns = record { round = turns.round; granted = turns.granted; started = true; sent = turns.sent; sent_holding = turns.sent_holding; idled = turns.idled }

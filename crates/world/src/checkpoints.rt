@@ -1,7 +1,7 @@
 // A station's checkpoints.
 ghost use Rattle.std.specs.Prelude.{◌≡◌, IfOk, OnErr};
 ghost use Rattle.node.specs.NodeView.{node_view};
-ghost use Rattle.node.specs.Starting.{IsStart, IsDecision};
+
 ghost use Rattle.world.specs.OutputView.{outputs_view};
 ghost use Rattle.world.specs.Covered.{AreCoveredSince};
 ghost use Rattle.world.specs.Replies.{start_reply, decision_reply, LeavesCells};

@@ -1,15 +1,16 @@
 // A world before its first event.
-ghost use Rattle.std.specs.Prelude.{◌≡◌, ◌++◌, ℕ, ◌≤◌, List, [], ◌∷◌, if◌then◌else◌, length, map, false, IfOk, OnOk, IsErrOf, IsTrue};
+ghost use Rattle.std.specs.Prelude.{◌≡◌, ◌++◌, ◌≤◌, [], ◌∷◌, if◌then◌else◌, length, map, false, IfOk, OnOk, IsErrOf, IsTrue};
 ghost use Rattle.kahn_net.specs.Fits.{Fits};
 ghost use Rattle.kahn_net.specs.Nodes.{IsOnOneNode};
 ghost use Rattle.kahn_net.specs.Syntax.{network_of};
 ghost use Rattle.node.specs.NodeView.{node_view};
 ghost use Rattle.node.specs.Cell.{HasFailed};
 ghost use Rattle.node.specs.Opening.{opening_record, opening_node};
-ghost use Rattle.world.specs.OutputView.{OutputView, outputs_view};
+
 ghost use Rattle.world.specs.Sound.{goes_outside, output_channels};
-ghost use Rattle.world.specs.OpenLaws.{NothingLeft};
+
 ghost use Rattle.world.specs.Pairs.{Every};
+ghost use Rattle.kahn_net.specs.declared.limits.TheConstants.{MAX_CHANNELS};
 
 use crate::output::Output;
 use crate::station::Station;
@@ -46,7 +47,7 @@ fn add_output(
 
 // An outlet in memory for each channel whose items go outside.
 fn open_outputs(alloc: Global, channels: &[Channel]) -> Result<Vec<Output<ListOutlet>>, AllocError>
-    requires { length channels.now ≤ 256 }
+    requires { length channels.now ≤ MAX_CHANNELS }
     ensures listed { IfOk result (λ outputs. map (λ output. output.channel) outputs.items ≡ output_channels 0 channels.now) }
     ensures empty { IfOk result (λ outputs. Every outputs.items (λ output. output.outlet ≡ [])) }
 {

@@ -13,7 +13,7 @@ ghost use Rattle.world.specs.WorldView.{station_view, world_view};
 use crate::event::Event;
 use crate::releasing::next_output;
 use crate::station::Station;
-use crate::turning::GRANTS;
+use crate::turning::MAX_GRANTS;
 use crate::world::World;
 use record::{Image, Record};
 use node::{NodeState, StableCell};
@@ -81,11 +81,11 @@ impl<C: StableCell, O: Outlet> Station<C, O> {
 
     // Whether a job is next: a process is ready, and fewer were granted in this round than may be.
     fn has_grant(&self, round: u64) -> bool
-        ensures { result ≡ (nat_lt (turns_of round self.now.turns).granted 64
+        ensures { result ≡ (nat_lt (turns_of round self.now.turns).granted MAX_GRANTS
             && is_some (next_job (network_of self.now.net.value.program) self.now.inputs.value (node_view self.now.node.state))) }
     {
         let node = &self.node;
-        self.turns.of(round).granted < GRANTS && node.state.has_job(&self.net, &self.inputs)
+        self.turns.of(round).granted < MAX_GRANTS && node.state.has_job(&self.net, &self.inputs)
     }
 
     // Whether its node is the one whose turn it is to begin a checkpoint in this round, and has something new to keep.

@@ -6,6 +6,7 @@ ghost use Rattle.node.specs.NodeView.{node_view};
 ghost use Rattle.world.specs.OutputView.{outputs_view};
 ghost use Rattle.world.specs.Pairs.{Every};
 ghost use Rattle.world.specs.Quiet.{has_got_all, is_at_rest, are_at_rest, have_all_left, is_quiet, AreWhole};
+ghost use Rattle.kahn_net.specs.declared.limits.TheConstants.{MAX_CHANNELS};
 
 use crate::output::Output;
 use crate::station::Station;
@@ -29,7 +30,7 @@ fn count_of(inputs: &[History], channel: usize) -> usize
 
 // Whether each item of a channel was received: of an input all that there are, of any other all that was put.
 fn has_got_all(channels: &[Channel], inputs: &[History], image: &Image, channel: usize) -> bool
-    requires { length channels.now ≤ 256 }
+    requires { length channels.now ≤ MAX_CHANNELS }
     ensures { result ≡ has_got_all inputs.now image.now channel (slice_get channels.now channel) }
 {
     match channels.get(channel) {

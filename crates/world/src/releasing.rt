@@ -1,17 +1,17 @@
 // A station's outputs: one item leaves the system.
-ghost use Rattle.std.specs.Prelude.{◌≡◌, ◌⊎◌, ◌<◌, ◌+◌, ℕ, ℤ, List, length, IfSome, IfOk, OnErr, Some, slice_get};
+ghost use Rattle.std.specs.Prelude.{◌≡◌, ◌⊎◌, ◌<◌, ◌+◌, ℤ, List, length, IfSome, IfOk, OnErr, Some, slice_get};
 ghost use Rattle.retained.specs.LogState.{LogState, IsLogOf};
-ghost use Rattle.outlet.specs.Released.{IsBeginningOf};
 ghost use Rattle.record.specs.Ends.{log_of, sent_of};
 ghost use Rattle.record.specs.Changes.{trimmed_image};
 ghost use Rattle.node.specs.Trimming.{with_current, HasNext};
 ghost use Rattle.node.specs.NodeView.{node_view};
-ghost use Rattle.world.specs.OutputView.{OutputView, output_view, outputs_view};
+ghost use Rattle.world.specs.OutputView.{OutputView, outputs_view};
 ghost use Rattle.world.specs.Covered.{AreCoveredSince};
 ghost use Rattle.world.specs.Growing.{EachBegins};
 ghost use Rattle.world.specs.StationView.{outlet_view, outlet_views};
 ghost use Rattle.world.specs.Steps.{has_failed_in, is_waiting, first_waiting, next_release, IsHanded, IsRelease};
 ghost use Rattle.world.specs.WorldView.{station_view};
+ghost use Rattle.kahn_net.specs.Streams.{IsPrefix};
 
 use crate::event::{Freed, Reply};
 use crate::output::Output;
@@ -69,9 +69,9 @@ fn release_at<C: StableCell, O: Outlet>(
     ensures channel { output.new.channel ≡ output.old.channel }
     ensures length { (length (O.taken output.new.outlet) ≡ length (O.taken output.old.outlet))
         ⊎ (length (O.taken output.new.outlet) ≡ length (O.taken output.old.outlet) + 1) }
-    ensures begins { IsBeginningOf (O.taken output.old.outlet) (O.taken output.new.outlet) }
+    ensures begins { IsPrefix (O.taken output.old.outlet) (O.taken output.new.outlet) }
     ensures history { (log : LogState) (history : List ℤ) → log_of node.old.state.current output.old.channel ≡ Some log → IsLogOf log history
-        → IsBeginningOf (O.taken output.old.outlet) history → IsBeginningOf (O.taken output.new.outlet) history }
+        → IsPrefix (O.taken output.old.outlet) history → IsPrefix (O.taken output.new.outlet) history }
     ensures refused { OnErr result ((node_view node.new.state ≡ node_view node.old.state)
         × (O.taken output.new.outlet ≡ O.taken output.old.outlet)) }
     ensures trimmed { IfOk result (λ reply. node_view node.new.state

@@ -1,11 +1,11 @@
 // A station's jobs: they are granted, and what came of them comes back.
-ghost use Rattle.std.specs.Prelude.{◌≡◌, ◌⊎◌, true, IfOk, OnErr, Some, slice_get, option_map};
+ghost use Rattle.std.specs.Prelude.{◌≡◌, true, IfOk, OnErr, Some, option_map};
 ghost use Rattle.kahn_net.specs.Syntax.{network_of};
-ghost use Rattle.kahn_net.specs.States.{standing_of};
+
 ghost use Rattle.node.specs.NodeView.{node_view};
 ghost use Rattle.node.specs.JobView.{job_view};
-ghost use Rattle.node.specs.Choosing.{next_job, after_grant};
-ghost use Rattle.node.specs.Installing.{IsOut, IsInstall};
+ghost use Rattle.node.specs.Choosing.{next_job};
+
 ghost use Rattle.world.specs.OutputView.{outputs_view};
 ghost use Rattle.world.specs.Covered.{AreCoveredSince};
 ghost use Rattle.world.specs.Turns.{count_grant, turns_granted};
@@ -21,7 +21,7 @@ use proc_step::{Done, Job};
 use std::alloc::{AllocError, Global};
 
 /// The most jobs that are counted in a round.
-pub(crate) const GRANTS: u8 = 64;
+pub(crate) const MAX_GRANTS: u8 = 64;
 
 impl RoundTurns {
     // One job more was granted.
@@ -29,7 +29,7 @@ impl RoundTurns {
         ensures { result ≡ count_grant self }
     {
         let mut turns = self;
-        if turns.granted < GRANTS {
+        if turns.granted < MAX_GRANTS {
             turns.granted += 1;
         }
         turns

@@ -13,6 +13,7 @@ use Rattle.kahn_net.specs.Laws.Approximations.{length-next_from, solution_is_nex
 use Rattle.kahn_net.specs.declared.program.Channel.{Channel}
 use Rattle.kahn_net.specs.declared.program.Port.{Port}
 use Rattle.kahn_net.specs.declared.program.Port.TheVariants.{Outside, Process}
+use Rattle.kahn_net.specs.Laws.Prefixes.{followed}
 
 -- what is on a channel by now: of an input all that there is, of any other what its process put by these acts
 abbrev pub put_so_far : List (List ℤ) → (ℕ → List Step) → ℕ → Port → List ℤ
@@ -56,7 +57,7 @@ put_by_now_past net inputs acts c past =
 
 -- a prefix that is as long as the whole is the whole
 pub prefix_whole : (part whole : List ℤ) → IsPrefix part whole → length whole ≤ length part → part ≡ whole
-prefix_whole part whole p few = at p.rest p.is
+prefix_whole part whole p few = let parts = followed part whole p in at parts.rest parts.is
   where
     at : (rest : List ℤ) → whole ≡ part ++ rest → part ≡ whole
     at [] is = sym (is ∙ append-nil part)
@@ -67,7 +68,8 @@ prefix_whole part whole p few = at p.rest p.is
 
 -- two that are prefixes of one another are the same
 pub prefix_both : (xs ys : List ℤ) → IsPrefix xs ys → IsPrefix ys xs → xs ≡ ys
-prefix_both xs ys p q =
+prefix_both xs ys p front =
+    let q = followed ys xs front in
     let count : length xs ≡ length (ys ++ q.rest) = ap (length {A = ℤ}) q.is in
     let sum : length (ys ++ q.rest) ≡ length ys + length q.rest = length-append ys q.rest in
     prefix_whole xs ys p (omega (arith, count, sum))

@@ -4,7 +4,7 @@ use Rattle.std.proofs.Common.{true, false, cond, eqb, Bool, ◌≡◌, ◌≢◌
 use Rattle.std.proofs.lemmas.List.{get_or-set_same, get_or-set_other, take-append-drop, append_cancel_left, length-append}
 use Rattle.std.proofs.lemmas.Bool.Decides.{eqb_tells, nat_tests}
 use Rattle.std.specs.Prelude.{take, IsTrue}
-use Rattle.kahn_net.specs.Streams.{history_of, total, IsPrefix, ArePrefixes}
+use Rattle.kahn_net.specs.Streams.{history_of, total, ArePrefixes}
 use Rattle.kahn_net.specs.Syntax.{Block, Nothing, GetThen, AssignThen, PutThen, Code}
 use Rattle.kahn_net.specs.Valid.{is_passing}
 use Rattle.kahn_net.specs.Statements.{Act, Got, Sent, Step, Trace, End, Ended, Waits, trace_of, on_get, from_end, then_do, value_of, sites_of}
@@ -12,6 +12,7 @@ use Rattle.kahn_net.specs.Processes.{Standing, NotBegun, At, Done, standing_at, 
 use Rattle.kahn_net.specs.Resuming.{statements_from, trace_from, left_by, left_after}
 use Rattle.kahn_net.specs.Laws.Passes.{fewer_left}
 use Rattle.kahn_net.specs.Laws.Streams.{IsLonger, within, prefixes_set, not_done, longer, longer_then, longer_loop, longer_process}
+use Rattle.kahn_net.specs.Laws.Prefixes.{IsFollowed, followed, prefix_of}
 
 -- where more is unread, a process does from where it stands what it did, and then more
 pub longer_from : (code : Code) (standing : Standing) (small big : List (List ℤ)) → HasPassingLoop code → ArePrefixes small big → IsLonger (trace_from code standing small) (trace_from code standing big)
@@ -198,7 +199,7 @@ next_block site (PutThen e c b) v u w p =
   where
     later : (more : List Step) → (trace_of site (PutThen e c b) v w).steps ≡ (trace_of site (PutThen e c b) v u).steps ++ more → (trace_of (site + 1) b v w).steps ≡ (trace_of (site + 1) b v u).steps ++ more
     later more h = cc
-next_block site (GetThen x c b) v u w p = at_get (history_of u c) (history_of w c) refl refl (p.at c)
+next_block site (GetThen x c b) v u w p = at_get (history_of u c) (history_of w c) refl refl (followed (history_of u c) (history_of w c) (p.at c))
     (λ item l l' q. next_block (site + 1) b (set v x item) (set u c l) (set w c l') q)
   where
     first : (d : ℕ) (s' : ℕ) (v' : List ℤ) (ys : List ℤ) (more : List Step) → Waits site v c ≡ Waits s' v' d → (on_get ys site c v (λ item left. trace_of (site + 1) b (set v x item) (set w c left))).steps ≡ more → GetsNext d more
@@ -210,7 +211,7 @@ next_block site (GetThen x c b) v u w p = at_get (history_of u c) (history_of w 
         let head : step ≡ z = cc in
         subst (λ (k : Step). IsGetFrom d k.act) head same
 
-    at_get : (h h' : List ℤ) → history_of u c ≡ h → history_of w c ≡ h' → IsPrefix (history_of u c) (history_of w c)
+    at_get : (h h' : List ℤ) → history_of u c ≡ h → history_of w c ≡ h' → IsFollowed (history_of u c) (history_of w c)
         → ((item : ℤ) (l l' : List ℤ) → ArePrefixes (set u c l) (set w c l') → NextIsGet (trace_of (site + 1) b (set v x item) (set u c l)) (trace_of (site + 1) b (set v x item) (set w c l')))
         → NextIsGet (on_get h site c v (λ item left. trace_of (site + 1) b (set v x item) (set u c left))) (on_get h' site c v (λ item left. trace_of (site + 1) b (set v x item) (set w c left)))
     at_get [] ys hu hw m later = record { next = λ s' v' d is more e. first d s' v' ys more is e }
@@ -358,7 +359,7 @@ function_of_got code inputs gots m passing few no_put got =
     rest = drop m (process_trace code inputs).steps
 
     p : ArePrefixes gots inputs
-    p = record { at = λ c. record { rest = history_of (left_after done inputs) c; is = reads code inputs m c ∙ ap (λ (x : List ℤ). x ++ history_of (left_after done inputs) c) (sym (got c)) } }
+    p = record { at = λ c. prefix_of (record { rest = history_of (left_after done inputs) c; is = reads code inputs m c ∙ ap (λ (x : List ℤ). x ++ history_of (left_after done inputs) c) (sym (got c)) }) }
 
     l : IsLonger (process_trace code gots) (process_trace code inputs)
     l = longer_process code gots inputs passing p

@@ -10,6 +10,7 @@ use Rattle.kahn_net.specs.Statements.{Got, Sent, Step, Trace, End, Ended, Waits,
 use Rattle.kahn_net.specs.Processes.{Standing, NotBegun, At, Done, standing_at, IsHere, StandsAt, HasPassingLoop, passes, loop_trace, process_trace, sent_on, output_of}
 use Rattle.kahn_net.specs.Laws.Passes.{fewer_left}
 use Rattle.kahn_net.specs.Laws.Puts.{sent_on-append}
+use Rattle.kahn_net.specs.Laws.Prefixes.{IsFollowed, followed, prefix_of}
 
 -- A longer trace does the same and goes on: where this one waits it stands at the same place, and where this one ended it ends too.
 pub record IsLonger (t long : Trace) : Type 0 where
@@ -29,14 +30,14 @@ pub prefixes_set : (small big : List (List ℤ)) (c : ℕ) (x y : ℤ) (left res
 prefixes_set small big c x y left rest ys p h k e = record { at = λ d. at d (eqb_tells d c) }
   where
     at : (d : ℕ) → ((eqb d c ≡ true) × (d ≡ c)) ⊎ ((eqb d c ≡ false) × (d ≢ c)) → IsPrefix (history_of (set small c left) d) (history_of (set big c ys) d)
-    at d (inl s) = record {
+    at d (inl s) = prefix_of (record {
       rest = rest;
       is = subst (λ (n : ℕ). history_of (set big c ys) n ≡ history_of (set small c left) n ++ rest) (sym s.1)
           (get_or-set_same big c ys [] (within big c y ys k) ∙ (e ∙ ap (λ (z : List ℤ). z ++ rest) (sym (get_or-set_same small c left [] (within small c x left h)))));
-    }
+    })
     at d (inr s) =
-        let m = p.at d in
-        record { rest = m.rest; is = get_or-set_other big c d ys [] s.1 ∙ (m.is ∙ ap (λ (z : List ℤ). z ++ m.rest) (sym (get_or-set_other small c d left [] s.1))) }
+        let m = followed (history_of small d) (history_of big d) (p.at d) in
+        prefix_of (record { rest = m.rest; is = get_or-set_other big c d ys [] s.1 ∙ (m.is ∙ ap (λ (z : List ℤ). z ++ m.rest) (sym (get_or-set_other small c d left [] s.1))) })
 
 pub not_done : (v v' : List ℤ) (site : ℕ) → Done v ≡ At site v' → ⊥
 not_done v v' site e = cc
@@ -56,10 +57,10 @@ longer site (PutThen e c b) v u w p =
     let r = longer (site + 1) b v u w p in
     let s : Step = record { site = site; vars = v; act = Sent c (value_of e v) } in
     record { more = r.more; steps = ap (λ (x : List Step). s ∷ x) r.steps; stands = r.stands; ends = r.ends }
-longer site (GetThen x c b) v u w p = at_get (history_of u c) (history_of w c) refl refl (p.at c)
+longer site (GetThen x c b) v u w p = at_get (history_of u c) (history_of w c) refl refl (followed (history_of u c) (history_of w c) (p.at c))
     (λ item l l' q. longer (site + 1) b (set v x item) (set u c l) (set w c l') q)
   where
-    at_get : (h h' : List ℤ) → history_of u c ≡ h → history_of w c ≡ h' → IsPrefix (history_of u c) (history_of w c)
+    at_get : (h h' : List ℤ) → history_of u c ≡ h → history_of w c ≡ h' → IsFollowed (history_of u c) (history_of w c)
         → ((item : ℤ) (l l' : List ℤ) → ArePrefixes (set u c l) (set w c l') → IsLonger (trace_of (site + 1) b (set v x item) (set u c l)) (trace_of (site + 1) b (set v x item) (set w c l')))
         → IsLonger (on_get h site c v (λ item left. trace_of (site + 1) b (set v x item) (set u c left))) (on_get h' site c v (λ item left. trace_of (site + 1) b (set v x item) (set w c left)))
     at_get [] [] hu hw m later = record { more = []; steps = refl; stands = λ site' v' h. h; ends = λ v' u' h. absurd (cc) }
@@ -132,7 +133,7 @@ longer_process code small big passing p =
 pub monotone : (code : Code) (small big : List (List ℤ)) (channel : ℕ) → HasPassingLoop code → ArePrefixes small big → IsPrefix (output_of code small channel) (output_of code big channel)
 monotone code small big channel passing p =
     let l = longer_process code small big passing p in
-    record { rest = sent_on channel l.more; is = ap (sent_on channel) l.steps ∙ sent_on-append channel (process_trace code small).steps l.more }
+    prefix_of (record { rest = sent_on channel l.more; is = ap (sent_on channel) l.steps ∙ sent_on-append channel (process_trace code small).steps l.more })
 
 -- where a process stands on fewer items, before steps that it still has to make, it stands on more
 pub still_stands : (t long : Trace) (l : IsLonger t long) (rest : List Step) → standing_at (rest ++ l.more) long.end ≡ standing_at rest t.end

@@ -1,4 +1,3 @@
-use Rattle.std.proofs.Common.{ap}
 use Rattle.kahn_program.proofs.Released.{run_of_readers}
 use Rattle.kahn_program.proofs.running.report_of_readers.Goals as goal
 

@@ -1,7 +1,7 @@
 use Rattle.std.proofs.Common.{◌≡◌, ℕ, ℤ, List, length, map, sym, ap, ◌∙◌}
 use Rattle.kahn_net.specs.Syntax.{network_of}
 use Rattle.net_check.specs.declared.net.Net.{Net}
-use Rattle.kahn_net.specs.declared.program.Channel.{Channel}
+
 use Rattle.world.specs.Released.{released_of}
 use Rattle.world.specs.WorldView.{station_view}
 use Rattle.kahn_program.specs.Report.{output_count, report_text}

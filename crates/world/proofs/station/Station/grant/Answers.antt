@@ -1,6 +1,3 @@
-use Rattle.std.proofs.Common.{◌≡◌, ap, sym, subst}
-use Rattle.kahn_net.specs.Syntax.{network_of}
-use Rattle.net_check.specs.declared.net.Net.{Net}
 use Rattle.node.specs.NodeView.{node_view}
 use Rattle.world.proofs.Soundness.{sound_granted, covered_same}
 use Rattle.world.proofs.station.Station.grant.Goals as goal

@@ -2,7 +2,7 @@ use Rattle.std.proofs.Common.{sym, ap, subst, ◌∙◌}
 use Rattle.kahn_net.specs.Syntax.{network_of}
 use Rattle.net_check.specs.declared.net.Net.{Net}
 use Rattle.node.specs.Opening.{opening_node}
-use Rattle.node.specs.NodeView.{NodeView, node_view}
+use Rattle.node.specs.NodeView.{NodeView}
 use Rattle.world.specs.OutputView.{outputs_view}
 use Rattle.world.specs.Sound.{IsSound}
 use Rattle.world.specs.OpenLaws.{sound_opened}

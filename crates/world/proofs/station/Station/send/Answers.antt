@@ -1,4 +1,3 @@
-use Rattle.std.proofs.Common.{refl}
 use Rattle.node.specs.NodeView.{node_view}
 use Rattle.world.proofs.Soundness.{covered_still}
 use Rattle.world.proofs.station.Station.send.Goals as goal

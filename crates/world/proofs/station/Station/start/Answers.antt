@@ -1,4 +1,3 @@
-use Rattle.kahn_net.specs.Syntax.{network_of}
 use Rattle.node.specs.NodeView.{node_view}
 use Rattle.world.proofs.Soundness.{sound_started, covered_start}
 use Rattle.world.proofs.station.Station.start.Goals as goal
