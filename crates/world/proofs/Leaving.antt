@@ -28,10 +28,10 @@ seen_at taken outputs j x within is = map_at (output_view taken) outputs j x (sl
 pub seen_set : {O : Type 0} (taken : O → List ℤ) (outputs : List (Output O)) (j : ℕ) (y : Output O) → outputs_view taken (slice_set outputs j y) ≡ slice_set (outputs_view taken outputs) j (output_view taken y)
 seen_set taken outputs j y = map-set (output_view taken) outputs j y
 
-set_same : (xs : List OutputView) (j : ℕ) (x y : OutputView) → slice_get xs j ≡ Some x → y ≡ x → slice_set xs j y ≡ xs
+pub set_same : {A : Type 0} (xs : List A) (j : ℕ) (x y : A) → slice_get xs j ≡ Some x → y ≡ x → slice_set xs j y ≡ xs
 set_same [] j x y h e = absurd (cc)
-set_same (z ∷ xs) zero x y h e = let same : z ≡ x = cc in ap (λ (w : OutputView). w ∷ xs) (e ∙ sym same)
-set_same (z ∷ xs) (suc j) x y h e = ap (λ (rest : List OutputView). z ∷ rest) (set_same xs j x y h e)
+set_same {A} (z ∷ xs) zero x y h e = let same : z ≡ x = cc in ap (λ (w : A). w ∷ xs) (e ∙ sym same)
+set_same {A} (z ∷ xs) (suc j) x y h e = ap (λ (rest : List A). z ∷ rest) (set_same xs j x y h e)
 
 length_set : (xs : List OutputView) (j : ℕ) (y : OutputView) → length (slice_set xs j y) ≡ length xs
 length_set [] j y = refl
@@ -91,11 +91,6 @@ module _ (net : Network) (inputs : List (List ℤ)) (node new : NodeView) (xs : 
         at i output later h (inr other) =
             let same : output ≡ later = some_same output later (sym h ∙ other.1) in
             subst (λ (o : OutputView). (o.channel ≡ output.channel) × IsPrefix output.taken o.taken) same (refl, sym (take-length output.taken))
-
-  -- nothing changed where it was refused
-  pub same_after : y.channel ≡ x.channel → (result : Result Reply AllocError) → OnErr result ((new ≡ node) × (y.taken ≡ x.taken)) → OnErr result ((new ≡ node) × (slice_set xs j y ≡ xs))
-  same_after channel (Ok reply) err = tt
-  same_after channel (Err e) err = (err.0, set_same xs j x y is (same_output x y channel err.1))
 
 -- outputs that stay begin with what they had
 pub begins_same : (xs : List OutputView) → EachBegins xs xs

@@ -1,6 +1,6 @@
 -- Views of stations.
-use Rattle.std.proofs.Common.{◌≡◌, ℕ, ◌<◌, Bool, true, cond, List, ℤ, length, get_or, Option, Some, None, map, refl, sym, ap, subst, ◌∙◌}
-use Rattle.std.specs.Prelude.{Result, Ok, Err, IfOk, slice_get, slice_set}
+use Rattle.std.proofs.Common.{◌≡◌, ℕ, zero, suc, ◌<◌, Bool, true, cond, List, ℤ, [], ◌∷◌, length, get_or, Option, Some, None, map, refl, sym, ap, subst, ◌∙◌}
+use Rattle.std.specs.Prelude.{Result, Ok, Err, IfOk, OnErr, slice_get, slice_set}
 use Rattle.std.proofs.lemmas.List.{map-set}
 use Rattle.std.proofs.lemmas.Option.{slice_get_read}
 use Rattle.std.specs.declared.alloc.AllocError.{AllocError}
@@ -9,6 +9,7 @@ use Rattle.node.specs.NodeView.{NodeView}
 use Rattle.record.specs.Changes.{trimmed_image}
 use Rattle.node.specs.Trimming.{with_current}
 use Rattle.world.specs.OutputLaws.{map_at}
+use Rattle.world.proofs.Leaving.{set_same}
 use Rattle.world.specs.StationView.{OutletView, StationView, outlet_view, outlet_views}
 use Rattle.world.specs.Steps.{first_waiting, next_release, IsHanded, IsRelease, IsStationStep, IsActOf, IsAct}
 use Rattle.world.specs.WorldView.{IsCellUnchanged}
@@ -64,6 +65,17 @@ module _ (round place : ℕ) (old : StationView) (outlet later : OutletView) (no
             ∙ ap (λ (state : NodeView). stands state old.number old.failures (slice_set old.outlets place later)) trimmed));
       })
 
+  -- nothing changed where it was refused
+  pub release_refused : (failures number : ℕ) (outlets : List OutletView) (result : Result Reply AllocError) → slice_get old.outlets place ≡ Some outlet
+      → number ≡ old.number → failures ≡ old.failures → outlets ≡ slice_set old.outlets place later → OnErr result ((node ≡ old.node) × (later ≡ outlet))
+      → OnErr result (stands node number failures outlets ≡ old)
+  release_refused failures number outlets (Ok reply) there same_number same_failures set same = tt
+  release_refused failures number outlets (Err e) there same_number same_failures set same =
+      ap (λ (n : ℕ). stands node n failures outlets) same_number
+      ∙ (ap (λ (n : ℕ). stands node old.number n outlets) same_failures
+      ∙ (ap (stands node old.number old.failures) (set ∙ set_same old.outlets place outlet later there same.1)
+      ∙ ap (λ (state : NodeView). stands state old.number old.failures old.outlets) same.0))
+
 -- Stations of a world
 
 -- an event at the station of this place is one of the list of stations
@@ -89,3 +101,16 @@ cell_stays station = record {
   since = λ t left. (λ h. h, λ h. h);
   same_failures = refl;
 }
+
+-- a refused event leaves the list of stations as it is seen
+pub refused_at : {S : Type 0} (view : S → StationView) (P : Type 0) (xs : List S) (place : ℕ) (x y : S) (result : Result Reply AllocError) → place < length xs → x ≡ get_or xs place x
+    → OnErr result ((view y ≡ view x) × P) → OnErr result ((map view (slice_set xs place y) ≡ map view xs) × P)
+refused_at view P xs place x y (Ok reply) within is same = tt
+refused_at {S} view P xs place x y (Err e) within is same =
+    let there : slice_get xs place ≡ Some x = slice_get_read xs (length xs) place x refl within is in
+    (same_seen xs place there, same.1)
+  where
+    same_seen : (xs : List S) (place : ℕ) → slice_get xs place ≡ Some x → map view (slice_set xs place y) ≡ map view xs
+    same_seen [] place h = refl
+    same_seen (z ∷ xs) zero h = let first : z ≡ x = cc in ap (λ (v : StationView). v ∷ map view xs) (same.0 ∙ ap view (sym first))
+    same_seen (z ∷ xs) (suc k) h = ap (λ (rest : List StationView). view z ∷ rest) (same_seen xs k h)

@@ -19,3 +19,4 @@ pub mod Quiet
 pub mod QuietLaws
 pub mod WorldView
 pub mod Released
+pub mod OpeningWorld

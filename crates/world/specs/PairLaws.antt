@@ -1,21 +1,21 @@
 -- Laws of what holds of two lists place by place.
 use Rattle.std.proofs.Common.{◌≡◌, ℕ, zero, suc, ◌<◌, List, [], ◌∷◌, ◌++◌, length, get_or, subst, arith}
 use Rattle.std.specs.Prelude.{Result, Ok, Err, OnErr, slice_set}
-use Rattle.world.specs.Pairs.{Pairs, Every}
+use Rattle.std.specs.List.{AllByRecursion, AllZip}
 
 -- of a list and itself
-pub pairs_refl : {A : Type 0} (P : A → A → Type 0) → ((x : A) → P x x) → (xs : List A) → Pairs xs xs P
+pub pairs_refl : {A : Type 0} (P : A → A → Type 0) → ((x : A) → P x x) → (xs : List A) → AllZip P xs xs
 pairs_refl P same [] = tt
 pairs_refl P same (x ∷ xs) = (same x, pairs_refl P same xs)
 
 -- of a list and the same with one element replaced
-pub pairs_set : {A : Type 0} (P : A → A → Type 0) → ((x : A) → P x x) → (xs : List A) (k : ℕ) (x y : A) → k < length xs → x ≡ get_or xs k x → P x y → Pairs xs (slice_set xs k y) P
+pub pairs_set : {A : Type 0} (P : A → A → Type 0) → ((x : A) → P x x) → (xs : List A) (k : ℕ) (x y : A) → k < length xs → x ≡ get_or xs k x → P x y → AllZip P xs (slice_set xs k y)
 pairs_set P same [] k x y within is p = absurd (omega (arith, within))
 pairs_set P same (z ∷ xs) zero x y within is p = (subst (λ w. P w y) is p, pairs_refl P same xs)
 pairs_set P same (z ∷ xs) (suc k) x y within is p = let below : k < length xs = omega (arith, within) in (same z, pairs_set P same xs k x y below is p)
 
 -- through a list between
-pub pairs_then : {A : Type 0} (P Q R : A → A → Type 0) → ((x y z : A) → P x y → Q y z → R x z) → (xs ys zs : List A) → Pairs xs ys P → Pairs ys zs Q → Pairs xs zs R
+pub pairs_then : {A : Type 0} (P Q R : A → A → Type 0) → ((x y z : A) → P x y → Q y z → R x z) → (xs ys zs : List A) → AllZip P xs ys → AllZip Q ys zs → AllZip R xs zs
 pairs_then P Q R join [] [] [] p q = tt
 pairs_then P Q R join (x ∷ xs) (y ∷ ys) (z ∷ zs) p q = (join x y z p.0 q.0, pairs_then P Q R join xs ys zs p.1 q.1)
 pairs_then P Q R join [] (y ∷ ys) zs p q = absurd p
@@ -23,7 +23,8 @@ pairs_then P Q R join (x ∷ xs) [] zs p q = absurd p
 pairs_then P Q R join [] [] (z ∷ zs) p q = absurd q
 pairs_then P Q R join (x ∷ xs) (y ∷ ys) [] p q = absurd q
 
-pub every_one : {A : Type 0} (P : A → Type 0) → ((x : A) → P x) → (xs : List A) → Every xs P
+-- what holds of everything
+pub every_one : {A : Type 0} (P : A → Type 0) → ((x : A) → P x) → (xs : List A) → AllByRecursion P xs
 every_one P all [] = tt
 every_one P all (x ∷ xs) = (all x, every_one P all xs)
 
@@ -33,6 +34,11 @@ on_err_map (Ok value) p f = tt
 on_err_map (Err e) p f = f p
 
 -- one element more
-pub every_more : {A : Type 0} (P : A → Type 0) (xs : List A) (x : A) → Every xs P → P x → Every (xs ++ x ∷ []) P
+pub every_more : {A : Type 0} (P : A → Type 0) (xs : List A) (x : A) → AllByRecursion P xs → P x → AllByRecursion P (xs ++ x ∷ [])
 every_more P [] x all p = (p, tt)
 every_more P (y ∷ xs) x all p = (all.0, every_more P xs x all.1 p)
+
+-- what follows from it holds of each too
+pub every_map : {A : Type 0} (P Q : A → Type 0) → ((x : A) → P x → Q x) → (xs : List A) → AllByRecursion P xs → AllByRecursion Q xs
+every_map P Q then [] all = tt
+every_map P Q then (x ∷ xs) all = (then x all.0, every_map P Q then xs all.1)

@@ -2,6 +2,8 @@
 use Rattle.std.specs.Prelude.{Result, Ok, Err}
 use Rattle.node.specs.declared.putting.Putting.{Putting}
 use Rattle.node.specs.declared.putting.Putting.TheVariants as putting
+use Rattle.world.specs.declared.event.Event.{Event}
+use Rattle.world.specs.declared.event.Event.TheVariants as event
 use Rattle.world.specs.declared.event.Reply.{Reply}
 use Rattle.world.specs.declared.event.Reply.TheVariants.{Granted, Installed, Discarded, Sent, Started, Decided, Refused, Released, OutletFailed, Down, Idled, NotDue}
 
@@ -32,3 +34,13 @@ LeavesCells (Ok OutletFailed) = Unit {0}
 LeavesCells (Ok Down) = ⊥
 LeavesCells (Ok Idled) = Unit {0}
 LeavesCells (Ok NotDue) = Unit {0}
+
+-- an event that takes memory: any but a send and an idle turn
+abbrev pub TakesMemory : Event → Type 0
+TakesMemory (event.Grant k) = Unit {0}
+TakesMemory (event.Install done) = Unit {0}
+TakesMemory (event.Send k) = ⊥
+TakesMemory (event.Start k) = Unit {0}
+TakesMemory (event.Decide k) = Unit {0}
+TakesMemory (event.Release k) = Unit {0}
+TakesMemory (event.Idle k) = ⊥

@@ -3,10 +3,10 @@
 -- A relation goes by cases of the event; a reply that an event never has is nowhere in its case. An event that can't happen is answered by
 -- `NotDue` and changes nothing, and only such an event is. What the network and the nodes' own state don't settle is whether a device or an
 -- outlet fails, and whether an outlet that fails took the item.
-use Rattle.std.specs.Prelude.{◌≡◌, ◌⊎◌, ◌==◌, ℕ, ◌+◌, nat_lt, Bool, true, false, ◌&&◌, ◌||◌, not, if◌then◌else◌, ℤ, List, [], ◌∷◌, length, Option, Some, None, slice_get, slice_set}
+use Rattle.std.specs.Prelude.{◌≡◌, ◌⊎◌, ◌==◌, ℕ, ◌+◌, nat_lt, Bool, true, false, ◌&&◌, ◌||◌, not, if◌then◌else◌, List, [], ◌∷◌, length, Option, Some, None, slice_get, slice_set}
 use Rattle.kahn_net.specs.Syntax.{Code, network_of}
 use Rattle.kahn_net.specs.States.{standing_of}
-use Rattle.retained.specs.LogState.{LogState, IsLogOf}
+use Rattle.retained.specs.LogState.{LogState}
 use Rattle.proc_step.specs.declared.job.Job.{Job}
 use Rattle.proc_step.specs.declared.job.Done.{Done}
 use Rattle.record.specs.Ends.{log_of, sent_of}
@@ -17,7 +17,7 @@ use Rattle.node.specs.Choosing.{next_job, after_grant}
 use Rattle.node.specs.Installing.{IsInstall}
 use Rattle.node.specs.Starting.{is_none, next_number, with_own, decided, IsStart, IsDecision, IsPut}
 use Rattle.record.specs.Changes.{trimmed_image}
-use Rattle.node.specs.Trimming.{with_current}
+use Rattle.node.specs.Trimming.{with_current, TookNext}
 use Rattle.node.specs.declared.putting.Putting.{Putting}
 use Rattle.world.specs.Replies.{start_reply, decision_reply}
 use Rattle.world.specs.Turns.{turns_of, turns_granted, turns_started, count_send, count_idle}
@@ -27,7 +27,6 @@ use Rattle.world.specs.declared.event.Event.TheVariants as event
 use Rattle.world.specs.declared.event.Reply.{Reply}
 use Rattle.world.specs.declared.event.Reply.TheVariants as reply
 use Rattle.world.specs.declared.turns.RoundTurns.{RoundTurns}
-use Rattle.kahn_net.specs.Streams.{IsPrefix}
 
 -- One station
 
@@ -93,15 +92,13 @@ first_waiting kept round place (outlet ∷ outlets) = if is_waiting kept round o
 abbrev pub next_release : ℕ → StationView → Option ℕ
 next_release round station = if station.node.up then first_waiting station.node.kept round 0 station.outlets else None
 
--- the outlet was handed the next item of this log
+-- the outlet was handed the next item of this log: it took it, or failed and took it or didn't
 pub record IsHanded (round : ℕ) (log : Option LogState) (outlet : OutletView) (answer : Reply) (later : OutletView) : Type 0 where
   pub channel : later.channel ≡ outlet.channel
-  pub begins : IsPrefix outlet.taken later.taken
-  pub next : (held : LogState) (history : List ℤ) → log ≡ Some held → IsLogOf held history → IsPrefix outlet.taken history → IsPrefix later.taken history
   pub came : ((answer ≡ reply.Released (record { output = outlet.channel; number = length later.taken }))
-      × (length later.taken ≡ length outlet.taken + 1) × (later.failed ≡ outlet.failed) × (later.failures ≡ outlet.failures))
+      × TookNext log outlet.taken later.taken × (length later.taken ≡ length outlet.taken + 1) × (later.failed ≡ outlet.failed) × (later.failures ≡ outlet.failures))
       ⊎ ((answer ≡ reply.OutletFailed)
-      × ((length later.taken ≡ length outlet.taken) ⊎ (length later.taken ≡ length outlet.taken + 1)) × (later.failed ≡ Some round) × (later.failures ≡ outlet.failures + 1))
+      × ((later.taken ≡ outlet.taken) ⊎ TookNext log outlet.taken later.taken) × (later.failed ≡ Some round) × (later.failures ≡ outlet.failures + 1))
 
 -- and the log lets go of what the outlet has
 abbrev pub released_to : OutletView → ℕ → OutletView → StationView → StationView

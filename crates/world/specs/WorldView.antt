@@ -1,5 +1,5 @@
 -- A world without pointers.
-use Rattle.std.specs.Prelude.{ℕ, ◌≡◌, List, map, Bool}
+use Rattle.std.specs.Prelude.{ℕ, ◌≡◌, List, map, Bool, IsTrue}
 use Rattle.kahn_net.specs.Syntax.{network_of}
 use Rattle.record.specs.RecordView.{RecordView}
 use Rattle.node.specs.NodeView.{node_view}
@@ -7,7 +7,16 @@ use Rattle.node.specs.Cell.{IsUnchanged}
 use Rattle.node.specs.declared.cell.StableCell.{Ghosts as CellWords}
 use Rattle.outlet.specs.declared.outlet.Outlet.{Ghosts as OutletWords}
 use Rattle.world.specs.StationView.{StationView, outlet_views}
+use Rattle.std.specs.declared.sync.Arc.{Arc}
+use Rattle.std.specs.declared.alloc.Global.{Global}
+use Rattle.net_check.specs.declared.net.Net.{Net}
+use Rattle.net_check.specs.declared.inputs.Inputs.{Inputs}
+use Rattle.world.specs.Headline.{AreApproximated}
+use Rattle.world.specs.OutputView.{outputs_view}
+use Rattle.world.specs.Pairs.{HasGrown}
+use Rattle.world.specs.Quiet.{is_quiet, AreWhole}
 use Rattle.world.specs.Steps.{WorldView}
+use Rattle.world.specs.declared.output.Output.{Output}
 use Rattle.world.specs.declared.station.Station.{Station}
 
 abbrev pub station_view : {C O : Type 0} {cell : CellWords C} {outlet : OutletWords O} → Station C O cell outlet → StationView
@@ -35,3 +44,27 @@ IsCellUnchanged {C} {O} {cell} {outlet} old new = IsUnchanged cell.value cell.is
 -- a station is of the same network and inputs as another
 abbrev pub IsOfSame : {C O : Type 0} {cell : CellWords C} {outlet : OutletWords O} → Station C O cell outlet → Station C O cell outlet → Type 0
 IsOfSame old new = (new.net ≡ old.net) × (new.inputs ≡ old.inputs)
+
+-- what has left a station only grew, and is covered at each moment between
+abbrev pub IsGrown : {C O : Type 0} {cell : CellWords C} {outlet : OutletWords O} → Station C O cell outlet → Station C O cell outlet → Type 0
+IsGrown {C} {O} {cell} {outlet} old new = HasGrown cell.moment cell.left_since old.node.cell new.node.cell (outputs_view outlet.taken old.outputs.items) (outputs_view outlet.taken new.outputs.items)
+
+-- what has left a station are prefixes of its channels' histories in one approximation
+abbrev pub IsApproximated : {C O : Type 0} {cell : CellWords C} {outlet : OutletWords O} → Station C O cell outlet → Type 0
+IsApproximated {C} {O} {cell} {outlet} station = AreApproximated (network_of station.net.value.program) station.inputs.value (outputs_view outlet.taken station.outputs.items)
+
+-- nothing is left to do at a station
+abbrev pub IsQuiet : {C O : Type 0} {cell : CellWords C} {outlet : OutletWords O} → Station C O cell outlet → Type 0
+IsQuiet {C} {O} {cell} {outlet} station = IsTrue (is_quiet (network_of station.net.value.program) station.inputs.value (node_view station.node.state) (outputs_view outlet.taken station.outputs.items))
+
+-- what has left a station are the whole histories of the least solution
+abbrev pub IsWhole : {C O : Type 0} {cell : CellWords C} {outlet : OutletWords O} → Station C O cell outlet → Type 0
+IsWhole {C} {O} {cell} {outlet} station = AreWhole (network_of station.net.value.program) station.inputs.value (outputs_view outlet.taken station.outputs.items)
+
+-- a station of this share of a network and of its inputs
+abbrev pub IsStationOf : {C O : Type 0} {cell : CellWords C} {outlet : OutletWords O} → Arc Net Global → Arc Inputs Global → Station C O cell outlet → Type 0
+IsStationOf net inputs station = (station.net ≡ net) × (station.inputs ≡ inputs)
+
+-- a station with the outlets of these outputs
+abbrev pub HasOutlets : {C O : Type 0} {cell : CellWords C} {outlet : OutletWords O} → List (Output O) → Station C O cell outlet → Type 0
+HasOutlets {C} {O} outputs station = map (λ (output : Output O). output.outlet) station.outputs.items ≡ map (λ (output : Output O). output.outlet) outputs

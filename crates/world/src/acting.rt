@@ -1,10 +1,9 @@
 // An event at its station.
 ghost use Rattle.std.specs.Prelude.{◌≡◌, IfOk, OnErr};
-ghost use Rattle.node.specs.NodeView.{node_view};
 ghost use Rattle.world.specs.OutputView.{outputs_view};
 ghost use Rattle.world.specs.Covered.{AreCoveredSince};
 ghost use Rattle.world.specs.Pairs.{HasGrown};
-ghost use Rattle.world.specs.Replies.{LeavesCells};
+ghost use Rattle.world.specs.Replies.{LeavesCells, TakesMemory};
 ghost use Rattle.world.specs.Turns.{count_send, count_idle};
 ghost use Rattle.world.specs.Steps.{IsSendOf, IsIdle, IsStationStep};
 ghost use Rattle.world.specs.WorldView.{station_view, IsCellUnchanged};
@@ -75,8 +74,7 @@ impl<C: StableCell, O: Outlet> Station<C, O> {
         ensures same { (self.new.net ≡ self.old.net) × (self.new.inputs ≡ self.old.inputs) × (self.new.node.number ≡ self.old.node.number) }
         ensures grown { HasGrown C.moment C.left_since self.old.node.cell self.new.node.cell
             (outputs_view O.taken self.old.outputs.items) (outputs_view O.taken self.new.outputs.items) }
-        ensures refused { OnErr result ((node_view self.new.node.state ≡ node_view self.old.node.state)
-            × (outputs_view O.taken self.new.outputs.items ≡ outputs_view O.taken self.old.outputs.items)) }
+        ensures refused { OnErr result ((station_view self.new ≡ station_view self.old) × TakesMemory event.now) }
         ensures step { IfOk result (λ reply. IsStationStep (C.fits self.old.node.cell) round event.now (station_view self.old) reply (station_view self.new)) }
         ensures unchanged { LeavesCells result → IsCellUnchanged self.old self.new }
     {

@@ -1,7 +1,5 @@
 // A station's checkpoints.
-ghost use Rattle.std.specs.Prelude.{◌≡◌, IfOk, OnErr};
-ghost use Rattle.node.specs.NodeView.{node_view};
-
+ghost use Rattle.std.specs.Prelude.{◌≡◌, ◌≤◌, IfOk, OnErr};
 ghost use Rattle.world.specs.OutputView.{outputs_view};
 ghost use Rattle.world.specs.Covered.{AreCoveredSince};
 ghost use Rattle.world.specs.Replies.{start_reply, decision_reply, LeavesCells};
@@ -64,7 +62,8 @@ impl<C: StableCell, O: Outlet> Station<C, O> {
         ensures outputs { outputs_view O.taken self.new.outputs.items ≡ outputs_view O.taken self.old.outputs.items }
         ensures same { (self.new.net ≡ self.old.net) × (self.new.inputs ≡ self.old.inputs) × (self.new.node.number ≡ self.old.node.number) }
         ensures covered { AreCoveredSince C.moment C.left_since self.old.node.cell self.new.node.cell (outputs_view O.taken self.new.outputs.items) }
-        ensures refused { OnErr result (node_view self.new.node.state ≡ node_view self.old.node.state) }
+        ensures later { C.moment self.old.node.cell ≤ C.moment self.new.node.cell }
+        ensures refused { OnErr result (station_view self.new ≡ station_view self.old) }
         ensures step { IfOk result (λ reply. IsBegun (C.fits self.old.node.cell) round (station_view self.old) reply (station_view self.new)) }
         ensures unchanged { LeavesCells result → IsCellUnchanged self.old self.new }
     {
@@ -77,7 +76,8 @@ impl<C: StableCell, O: Outlet> Station<C, O> {
         ensures outputs { outputs_view O.taken self.new.outputs.items ≡ outputs_view O.taken self.old.outputs.items }
         ensures same { (self.new.net ≡ self.old.net) × (self.new.inputs ≡ self.old.inputs) × (self.new.node.number ≡ self.old.node.number) }
         ensures covered { AreCoveredSince C.moment C.left_since self.old.node.cell self.new.node.cell (outputs_view O.taken self.new.outputs.items) }
-        ensures refused { OnErr result (node_view self.new.node.state ≡ node_view self.old.node.state) }
+        ensures later { C.moment self.old.node.cell ≤ C.moment self.new.node.cell }
+        ensures refused { OnErr result (station_view self.new ≡ station_view self.old) }
         ensures step { IfOk result (λ reply. IsDecided (C.fits self.old.node.cell) round (station_view self.old) reply (station_view self.new)) }
         ensures unchanged { LeavesCells result → IsCellUnchanged self.old self.new }
     {

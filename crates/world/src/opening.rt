@@ -6,10 +6,11 @@ ghost use Rattle.kahn_net.specs.Syntax.{network_of};
 ghost use Rattle.node.specs.NodeView.{node_view};
 ghost use Rattle.node.specs.Cell.{HasFailed};
 ghost use Rattle.node.specs.Opening.{opening_record, opening_node};
-
 ghost use Rattle.world.specs.Sound.{goes_outside, output_channels};
-
-ghost use Rattle.world.specs.Pairs.{Every};
+ghost use Rattle.std.specs.List.{AllByRecursion};
+ghost use Rattle.world.specs.OpeningWorld.{fresh, opening_station, opening_world, IsUnused};
+ghost use Rattle.world.specs.StationView.{outlet_views};
+ghost use Rattle.world.specs.WorldView.{station_view, world_view, HasOutlets, IsStationOf};
 ghost use Rattle.kahn_net.specs.declared.limits.TheConstants.{MAX_CHANNELS};
 
 use crate::output::Output;
@@ -30,10 +31,10 @@ fn add_output(
     number: u8,
     channel: &Channel,
 ) -> Result<(), AllocError>
-    requires { Every outputs.old.items (λ output. output.outlet ≡ []) }
+    requires { AllByRecursion (IsUnused (λ taken. taken)) outputs.old.items }
     ensures listed { OnOk result (map (λ output. output.channel) outputs.new.items
         ≡ map (λ output. output.channel) outputs.old.items ++ (if goes_outside channel.now.consumer then number ∷ [] else [])) }
-    ensures empty { OnOk result (Every outputs.new.items (λ output. output.outlet ≡ [])) }
+    ensures empty { OnOk result (AllByRecursion (IsUnused (λ taken. taken)) outputs.new.items) }
 {
     if let Port::Outside = channel.consumer {
         outputs.push(Output {
@@ -49,7 +50,8 @@ fn add_output(
 fn open_outputs(alloc: Global, channels: &[Channel]) -> Result<Vec<Output<ListOutlet>>, AllocError>
     requires { length channels.now ≤ MAX_CHANNELS }
     ensures listed { IfOk result (λ outputs. map (λ output. output.channel) outputs.items ≡ output_channels 0 channels.now) }
-    ensures empty { IfOk result (λ outputs. Every outputs.items (λ output. output.outlet ≡ [])) }
+    ensures empty { IfOk result
+        (λ outputs. AllByRecursion (IsUnused (λ taken. taken)) outputs.items) }
 {
     let mut outputs = Vec::new(alloc);
     for (number, channel) in channels.iter().enumerate() {
@@ -61,9 +63,27 @@ fn open_outputs(alloc: Global, channels: &[Channel]) -> Result<Vec<Output<ListOu
 /// An outlet in memory for each output of a network.
 pub fn list_outputs(alloc: Global, net: &Net) -> Result<Vec<Output<ListOutlet>>, AllocError>
     ensures listed { IfOk result (λ outputs. map (λ output. output.channel) outputs.items ≡ output_channels 0 (network_of net.now.program).channels) }
-    ensures empty { IfOk result (λ outputs. Every outputs.items (λ output. output.outlet ≡ [])) }
+    ensures empty { IfOk result
+        (λ outputs. AllByRecursion (IsUnused (λ taken. taken)) outputs.items) }
 {
     open_outputs(alloc, &net.program.channels)
+}
+
+impl<O: Outlet> Output<O> {
+    // No failure of its outlet is remembered.
+    fn forget_failure(&mut self)
+        ensures { self.new ≡ fresh self.old }
+    {
+        self.failed = None;
+    }
+}
+
+fn forget_failures<O: Outlet>(outputs: &mut Vec<Output<O>>)
+    ensures { outputs.new.items ≡ map fresh outputs.old.items }
+{
+    for output in outputs.iter_mut() {
+        output.forget_failure();
+    }
 }
 
 impl<C: StableCell, O: Outlet> Station<C, O> {
@@ -78,8 +98,11 @@ impl<C: StableCell, O: Outlet> Station<C, O> {
         requires fits { Fits (network_of net.value.program) inputs.value }
         requires ready { IsTrue (C.is_ready cell) }
         requires listed { map (λ output. output.channel) outputs.items ≡ output_channels 0 (network_of net.value.program).channels }
-        requires empty { Every outputs.items (λ output. O.taken output.outlet ≡ []) }
+        requires empty { AllByRecursion (IsUnused O.taken) outputs.items }
         ensures node { IfOk result (λ station. node_view station.node.state ≡ opening_node (network_of net.value.program) 1) }
+        ensures opening { IfOk result (λ station. station_view station
+            ≡ opening_station (network_of net.value.program) inputs.value (C.failure_count cell)
+            (outlet_views O.taken O.failures outputs.items)) }
         ensures same { IfOk result (λ station. (station.net ≡ net) × (station.inputs ≡ inputs) × (station.outputs ≡ outputs)) }
         ensures fits { IfOk result (λ station. IsTrue (C.fits cell (opening_record (network_of net.value.program) 1)) × (C.failure_count station.node.cell ≡ C.failure_count cell)) }
         ensures too_large { IsErrOf result CellFault.TooLarge → C.fits cell (opening_record (network_of net.value.program) 1) ≡ false }
@@ -112,17 +135,24 @@ impl<C: StableCell, O: Outlet> World<C, O> {
         requires fits { Fits (network_of net.value.program) inputs.value }
         requires ready { IsTrue (C.is_ready cell) }
         requires listed { map (λ output. output.channel) outputs.items ≡ output_channels 0 (network_of net.value.program).channels }
-        requires empty { Every outputs.items (λ output. O.taken output.outlet ≡ []) }
-        ensures opening { IfOk result (λ world. Every world.stations.items (λ station. (station.net ≡ net) × (station.inputs ≡ inputs) × (station.outputs ≡ outputs)
-            × (node_view station.node.state ≡ opening_node (network_of net.value.program) 1))) }
+        requires empty { AllByRecursion (IsUnused O.taken) outputs.items }
+        // It is the opening world of the network and the inputs, with the outlets that were given.
+        ensures opening { IfOk result (λ world. world_view world.stations.items world.round
+            ≡ opening_world (network_of net.value.program) inputs.value (C.failure_count cell)
+            (outlet_views O.taken O.failures outputs.items)) }
+        ensures same { IfOk result
+            (λ world. AllByRecursion (IsStationOf net inputs) world.stations.items) }
+        ensures outlets { IfOk result
+            (λ world. AllByRecursion (HasOutlets outputs.items) world.stations.items) }
         ensures one { IfOk result (λ world. length world.stations.items ≡ 1) }
-        ensures round { IfOk result (λ world. world.round ≡ 0) }
         // A device failure is told where the device failed, 22 where the record doesn't fit, and 23 never.
         ensures fits { IfOk result (λ world. IsTrue (C.fits cell (opening_record (network_of net.value.program) 1))) }
         ensures too_large { IsErrOf result CellFault.TooLarge → C.fits cell (opening_record (network_of net.value.program) 1) ≡ false }
         ensures device { IsErrOf result CellFault.Device → HasFailed C.failure_count cell }
         ensures reopen { ¬ (IsErrOf result CellFault.Reopen) }
     {
+        let mut outputs = outputs;
+        forget_failures(&mut outputs);
         let station = Station::open(alloc, net, inputs, cell, outputs)?;
         let mut stations = Vec::with_capacity(alloc, 1)?;
         stations.push(station)?;

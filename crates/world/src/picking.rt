@@ -15,9 +15,9 @@ use crate::releasing::next_output;
 use crate::station::Station;
 use crate::turning::MAX_GRANTS;
 use crate::world::World;
-use record::{Image, Record};
 use node::{NodeState, StableCell};
 use outlet::Outlet;
+use record::{Image, Record};
 
 // Whether a node holds its own tentative image.
 fn holds_own(kept: &Record, number: u8) -> bool

@@ -4,8 +4,9 @@ ghost use Rattle.kahn_net.specs.Streams.{history_of};
 ghost use Rattle.kahn_net.specs.Syntax.{network_of};
 ghost use Rattle.node.specs.NodeView.{node_view};
 ghost use Rattle.world.specs.OutputView.{outputs_view};
-ghost use Rattle.world.specs.Pairs.{Every};
-ghost use Rattle.world.specs.Quiet.{has_got_all, is_at_rest, are_at_rest, have_all_left, is_quiet, AreWhole};
+ghost use Rattle.std.specs.List.{AllByRecursion};
+ghost use Rattle.world.specs.WorldView.{IsQuiet, IsWhole};
+ghost use Rattle.world.specs.Quiet.{has_got_all, is_at_rest, are_at_rest, have_all_left, is_quiet};
 ghost use Rattle.kahn_net.specs.declared.limits.TheConstants.{MAX_CHANNELS};
 
 use crate::output::Output;
@@ -13,10 +14,10 @@ use crate::station::Station;
 use crate::world::World;
 use kahn_net::{Channel, History, Port};
 use net_check::Net;
-use record::{Image, SavedProcess};
 use node::StableCell;
 use outlet::Outlet;
 use proc_step::{NextAct, next_act};
+use record::{Image, SavedProcess};
 
 // How many items an input has; none where there is no such channel.
 fn count_of(inputs: &[History], channel: usize) -> usize
@@ -102,12 +103,10 @@ impl<C: StableCell, O: Outlet> World<C, O> {
     /// out, and each outlet has all that was put. Takes no memory.
     pub fn complete(&self) -> bool
         // It says just that, of each station.
-        ensures quiet { IsTrue result ↔ Every self.now.stations.items (λ station. IsTrue (is_quiet (network_of station.net.value.program) station.inputs.value
-            (node_view station.node.state) (outputs_view O.taken station.outputs.items))) }
+        ensures quiet { IsTrue result ↔ AllByRecursion IsQuiet self.now.stations.items }
         // And then the approximations have come to rest, at the network's least solution, and each stream that has left
         // is its channel's whole history there.
-        ensures whole { IsTrue result → Every self.now.stations.items (λ station. AreWhole (network_of station.net.value.program) station.inputs.value
-            (outputs_view O.taken station.outputs.items)) }
+        ensures whole { IsTrue result → AllByRecursion IsWhole self.now.stations.items }
     {
         for station in &self.stations {
             if !station.is_complete() {

@@ -16,9 +16,9 @@ ghost use Rattle.kahn_net.specs.Streams.{IsPrefix};
 use crate::event::{Freed, Reply};
 use crate::output::Output;
 use crate::station::Station;
-use record::Record;
 use node::{Node, StableCell};
 use outlet::{Outlet, OutletFault};
+use record::Record;
 use std::alloc::AllocError;
 
 // Whether an outlet failed in this round.
@@ -73,7 +73,7 @@ fn release_at<C: StableCell, O: Outlet>(
     ensures history { (log : LogState) (history : List ℤ) → log_of node.old.state.current output.old.channel ≡ Some log → IsLogOf log history
         → IsPrefix (O.taken output.old.outlet) history → IsPrefix (O.taken output.new.outlet) history }
     ensures refused { OnErr result ((node_view node.new.state ≡ node_view node.old.state)
-        × (O.taken output.new.outlet ≡ O.taken output.old.outlet)) }
+        × (outlet_view O.taken O.failures output.new ≡ outlet_view O.taken O.failures output.old)) }
     ensures trimmed { IfOk result (λ reply. node_view node.new.state
         ≡ with_current (trimmed_image output.old.channel (length (O.taken output.new.outlet)) node.old.state.current) (node_view node.old.state)) }
     ensures same { (node.new.cell ≡ node.old.cell) × (node.new.number ≡ node.old.number) }
@@ -101,8 +101,7 @@ impl<C: StableCell, O: Outlet> Station<C, O> {
         ensures same { (self.new.net ≡ self.old.net) × (self.new.inputs ≡ self.old.inputs) × (self.new.node.number ≡ self.old.node.number) }
         ensures cell { self.new.node.cell ≡ self.old.node.cell }
         ensures covered { AreCoveredSince C.moment C.left_since self.old.node.cell self.new.node.cell (outputs_view O.taken self.new.outputs.items) }
-        ensures refused { OnErr result ((node_view self.new.node.state ≡ node_view self.old.node.state)
-            × (outputs_view O.taken self.new.outputs.items ≡ outputs_view O.taken self.old.outputs.items)) }
+        ensures refused { OnErr result (station_view self.new ≡ station_view self.old) }
         ensures step { IfOk result (λ reply. IsRelease round (next_release round (station_view self.old)) (station_view self.old) reply (station_view self.new)) }
     {
         let node = &self.node;

@@ -1,11 +1,9 @@
 // A station's jobs: they are granted, and what came of them comes back.
 ghost use Rattle.std.specs.Prelude.{◌≡◌, true, IfOk, OnErr, Some, option_map};
 ghost use Rattle.kahn_net.specs.Syntax.{network_of};
-
 ghost use Rattle.node.specs.NodeView.{node_view};
 ghost use Rattle.node.specs.JobView.{job_view};
 ghost use Rattle.node.specs.Choosing.{next_job};
-
 ghost use Rattle.world.specs.OutputView.{outputs_view};
 ghost use Rattle.world.specs.Covered.{AreCoveredSince};
 ghost use Rattle.world.specs.Turns.{count_grant, turns_granted};
@@ -57,7 +55,7 @@ impl<C: StableCell, O: Outlet> Station<C, O> {
         ensures same { (self.new.net ≡ self.old.net) × (self.new.inputs ≡ self.old.inputs) × (self.new.node.number ≡ self.old.node.number) }
         ensures cell { self.new.node.cell ≡ self.old.node.cell }
         ensures covered { AreCoveredSince C.moment C.left_since self.old.node.cell self.new.node.cell (outputs_view O.taken self.new.outputs.items) }
-        ensures refused { OnErr result (node_view self.new.node.state ≡ node_view self.old.node.state) }
+        ensures refused { OnErr result (station_view self.new ≡ station_view self.old) }
         ensures step { IfOk result (λ reply. IsGrant round (next_job (network_of self.old.net.value.program) self.old.inputs.value (node_view self.old.node.state))
             (station_view self.old) reply (station_view self.new)) }
     {
@@ -71,7 +69,7 @@ impl<C: StableCell, O: Outlet> Station<C, O> {
         ensures same { (self.new.net ≡ self.old.net) × (self.new.inputs ≡ self.old.inputs) × (self.new.node.number ≡ self.old.node.number) }
         ensures cell { self.new.node.cell ≡ self.old.node.cell }
         ensures covered { AreCoveredSince C.moment C.left_since self.old.node.cell self.new.node.cell (outputs_view O.taken self.new.outputs.items) }
-        ensures refused { OnErr result (node_view self.new.node.state ≡ node_view self.old.node.state) }
+        ensures refused { OnErr result (station_view self.new ≡ station_view self.old) }
         ensures step { IfOk result (λ reply. IsInstalled done.now (station_view self.old) reply (station_view self.new)) }
     {
         match self.node.install(alloc, &self.net.program.channels, done) {

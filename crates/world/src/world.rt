@@ -1,13 +1,9 @@
 //! A world, and its events.
 ghost use Rattle.std.specs.Prelude.{◌≡◌, map, IfOk, IfErr, OnErr};
-ghost use Rattle.kahn_net.specs.Syntax.{network_of};
-ghost use Rattle.node.specs.NodeView.{node_view};
-ghost use Rattle.world.specs.OutputView.{outputs_view};
-ghost use Rattle.world.specs.Headline.{AreApproximated};
-ghost use Rattle.world.specs.Pairs.{Pairs, Every, HasGrown};
-ghost use Rattle.world.specs.Replies.{LeavesCells};
+ghost use Rattle.std.specs.List.{AllByRecursion, AllZip};
+ghost use Rattle.world.specs.Replies.{LeavesCells, TakesMemory};
 ghost use Rattle.world.specs.Steps.{event_node, is_done_with, are_done_with, round_after, IsAct, IsStep};
-ghost use Rattle.world.specs.WorldView.{station_view, world_view, rooms, IsCellUnchanged};
+ghost use Rattle.world.specs.WorldView.{station_view, world_view, rooms, IsApproximated, IsCellUnchanged, IsGrown, IsOfSame};
 
 use crate::event::{Event, Refused, Reply};
 use crate::station::Station;
@@ -45,13 +41,16 @@ fn act_at<C: StableCell, O: Outlet>(
     round: u64,
     event: &Event,
 ) -> Result<Reply, AllocError>
-    ensures grown { Pairs stations.old.items stations.new.items (λ old new. HasGrown C.moment C.left_since old.node.cell new.node.cell
-        (outputs_view O.taken old.outputs.items) (outputs_view O.taken new.outputs.items)) }
-    ensures same { Pairs stations.old.items stations.new.items (λ old new. (new.net ≡ old.net) × (new.inputs ≡ old.inputs)) }
-    ensures refused { OnErr result (Pairs stations.old.items stations.new.items (λ old new. (node_view new.node.state ≡ node_view old.node.state)
-        × (outputs_view O.taken new.outputs.items ≡ outputs_view O.taken old.outputs.items))) }
-    ensures step { IfOk result (λ reply. IsAct number (rooms stations.old.items) round event.now (map station_view stations.old.items) reply (map station_view stations.new.items)) }
-    ensures unchanged { LeavesCells result → Pairs stations.old.items stations.new.items IsCellUnchanged }
+    ensures grown { AllZip IsGrown stations.old.items stations.new.items }
+    ensures same { AllZip IsOfSame stations.old.items stations.new.items }
+    ensures refused { OnErr result
+        ((map station_view stations.new.items ≡ map station_view stations.old.items)
+        × TakesMemory event.now) }
+    ensures step { IfOk result
+        (λ reply. IsAct number (rooms stations.old.items) round event.now
+        (map station_view stations.old.items) reply (map station_view stations.new.items)) }
+    ensures unchanged { LeavesCells result
+        → AllZip IsCellUnchanged stations.old.items stations.new.items }
 {
     if number >= stations.len() {
         return Ok(Reply::NotDue);
@@ -105,22 +104,24 @@ impl<C: StableCell, O: Outlet> World<C, O> {
     /// One event. An event that can't happen now, or whose node isn't of this world, is answered by `NotDue`. Refuses
     /// for want of memory alone (1), with the event, and then nothing is changed.
     pub fn apply(&mut self, alloc: Global, event: Event) -> Result<Reply, Refused>
-        // Each stream that has left begins with what had left before; whatever a crash of a node at any moment of the event
-        // leaves covers all that has left; and no event both lets an item leave and writes a record.
-        ensures grown { Pairs self.old.stations.items self.new.stations.items (λ old new. HasGrown C.moment C.left_since old.node.cell new.node.cell
-            (outputs_view O.taken old.outputs.items) (outputs_view O.taken new.outputs.items)) }
+        // Each stream that has left begins with what had left before; whatever a crash of a node at any moment of the
+        // event leaves covers all that has left; and no event both lets an item leave and writes a record.
+        ensures grown { AllZip IsGrown self.old.stations.items self.new.stations.items }
         // Each stream that has left is a prefix of its channel's history in one approximation on the inputs.
-        ensures prefix { Every self.new.stations.items (λ station. AreApproximated (network_of station.net.value.program) station.inputs.value
-            (outputs_view O.taken station.outputs.items)) }
+        ensures prefix { AllByRecursion IsApproximated self.new.stations.items }
         // The network and its inputs stay.
-        ensures same { Pairs self.old.stations.items self.new.stations.items (λ old new. (new.net ≡ old.net) × (new.inputs ≡ old.inputs)) }
-        ensures refused { OnErr result (Pairs self.old.stations.items self.new.stations.items (λ old new. (node_view new.node.state ≡ node_view old.node.state)
-            × (outputs_view O.taken new.outputs.items ≡ outputs_view O.taken old.outputs.items))) }
+        ensures same { AllZip IsOfSame self.old.stations.items self.new.stations.items }
         // It is a step of the world: what is answered, and what is there afterwards.
-        ensures step { IfOk result (λ reply. IsStep (rooms self.old.stations.items) event (world_view self.old.stations.items self.old.round) reply
+        ensures step { IfOk result (λ reply. IsStep (rooms self.old.stations.items) event
+            (world_view self.old.stations.items self.old.round) reply
             (world_view self.new.stations.items self.new.round)) }
-        ensures unchanged { LeavesCells result → Pairs self.old.stations.items self.new.stations.items IsCellUnchanged }
-        ensures same_round { OnErr result (self.new.round ≡ self.old.round) }
+        // What it doesn't touch stays as it was: the cells where no record was put, and all of it at a refusal.
+        ensures unchanged { LeavesCells result
+            → AllZip IsCellUnchanged self.old.stations.items self.new.stations.items }
+        ensures refused { OnErr result (world_view self.new.stations.items self.new.round
+            ≡ world_view self.old.stations.items self.old.round) }
+        // An event that takes no memory isn't refused.
+        ensures memory { OnErr result (TakesMemory event) }
         ensures handed_back { IfErr result (λ refused. refused.event ≡ event) }
     {
         let number = usize::from(node_of(&event));

@@ -1,10 +1,11 @@
-use Rattle.std.proofs.Common.{◌≡◌, List, [], sym, subst}
+use Rattle.std.proofs.Common.{List, sym, subst}
 use Rattle.outlet.specs.declared.list.ListOutlet.{ListOutlet}
-use Rattle.world.specs.Pairs.{Every}
+use Rattle.std.specs.List.{AllByRecursion}
+use Rattle.world.specs.OpeningWorld.{IsUnused}
 use Rattle.world.specs.PairLaws.{every_more}
 use Rattle.world.specs.declared.output.Output.{Output}
 use Rattle.world.proofs.opening.add_output.Goals as goal
 
 pub returns-in_ok-push-clause-empty : goal.returns-in_ok-push-clause-empty
 returns-in_ok-push-clause-empty c =
-    subst (λ (outputs : List (Output ListOutlet)). Every outputs (λ output. output.outlet ≡ [])) (sym c.in_ok-push.ensures.items) (every_more (λ (output : Output ListOutlet). output.outlet ≡ []) _ _ c.requires c.new.ensures)
+    subst (λ (outputs : List (Output ListOutlet)). AllByRecursion (IsUnused (λ taken. taken)) outputs) (sym c.in_ok-push.ensures.items) (every_more (IsUnused (λ taken. taken)) _ _ c.requires c.new.ensures)

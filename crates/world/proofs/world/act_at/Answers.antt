@@ -1,11 +1,10 @@
-use Rattle.std.proofs.Common.{◌≡◌, refl, inl, rules}
-use Rattle.world.specs.OutputView.{outputs_view}
+use Rattle.std.proofs.Common.{refl, inl, rules, arith}
 use Rattle.world.specs.declared.station.Station.{Station}
 use Rattle.node.specs.NodeView.{node_view}
-use Rattle.world.specs.PairLaws.{pairs_refl, pairs_set, on_err_map}
+use Rattle.world.specs.PairLaws.{pairs_refl, pairs_set}
 use Rattle.world.proofs.Soundness.{covered_still}
 use Rattle.world.proofs.Leaving.{begins_same}
-use Rattle.world.proofs.Views.{acted, cell_stays}
+use Rattle.world.proofs.Views.{acted, cell_stays, refused_at}
 use Rattle.world.specs.WorldView.{station_view}
 use Rattle.world.proofs.world.act_at.Goals as goal
 
@@ -13,6 +12,7 @@ pub returns-then-number-len-clause-grown : goal.returns-then-number-len-clause-g
 returns-then-number-len-clause-grown g c =
     let C = g.C.StableCell in
     pairs_refl _ (λ station. record {
+      later = omega arith;
       begins = begins_same _;
       covered = covered_still _ _ _ C.moment C.left_since C.may_leave (node_view station.node.state) station.node.cell station.sound g.met.C.StableCell.only_now station.node.durable;
       apart = inl refl;
@@ -25,6 +25,7 @@ pub returns-clause-grown : goal.returns-clause-grown
 returns-clause-grown g c =
     let C = g.C.StableCell in
     pairs_set _ (λ station. record {
+      later = omega arith;
       begins = begins_same _;
       covered = covered_still _ _ _ C.moment C.left_since C.may_leave (node_view station.node.state) station.node.cell station.sound g.met.C.StableCell.only_now station.node.durable;
       apart = inl refl;
@@ -35,11 +36,7 @@ returns-clause-same g c = pairs_set _ (λ station. (refl, refl)) _ _ c.index_mut
 
 pub returns-clause-refused : goal.returns-clause-refused
 returns-clause-refused g c =
-    let was = c.index_mut.result.now in
-    let now = c.act.new.self in
-    on_err_map {P = (node_view now.node.state ≡ node_view was.node.state) × (outputs_view g.O.Outlet.taken now.outputs.items ≡ outputs_view g.O.Outlet.taken was.outputs.items)} _ c.act.ensures.refused (λ same.
-    pairs_set (λ (old new : Station g.row.C.Denot g.row.O.Denot g.C.StableCell g.O.Outlet). (node_view new.node.state ≡ node_view old.node.state) × (outputs_view g.O.Outlet.taken new.outputs.items ≡ outputs_view g.O.Outlet.taken old.outputs.items))
-    (λ station. (refl, refl)) c.args.stations.now.items c.args.number was _ (search rules) c.index_mut.ensures.value (same.0, same.1))
+    refused_at station_view _ c.args.stations.now.items c.args.number c.index_mut.result.now _ c.act.result (search rules) c.index_mut.ensures.value c.act.ensures.refused
 
 pub returns-then-number-len-clause-unchanged : goal.returns-then-number-len-clause-unchanged
 returns-then-number-len-clause-unchanged g c = λ h. pairs_refl _ cell_stays _

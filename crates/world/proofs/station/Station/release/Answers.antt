@@ -8,13 +8,14 @@ use Rattle.kahn_net.specs.Syntax.{network_of}
 use Rattle.node.specs.NodeView.{node_view}
 use Rattle.world.specs.OutputView.{OutputView, output_view, outputs_view}
 use Rattle.world.specs.Growing.{EachBegins}
+use Rattle.world.specs.PairLaws.{on_err_map}
 use Rattle.world.proofs.Soundness.{covered_same}
-use Rattle.world.proofs.Leaving.{seen_at, seen_set, next_there, sound_after, begins_after, same_after}
-use Rattle.world.specs.StationView.{outlet_view, outlet_views}
+use Rattle.world.proofs.Leaving.{seen_at, seen_set, next_there, sound_after, begins_after}
+use Rattle.world.specs.StationView.{OutletView, outlet_view, outlet_views}
 use Rattle.world.specs.Steps.{first_waiting, IsRelease}
 use Rattle.world.specs.WorldView.{station_view}
 use Rattle.world.specs.declared.event.Reply.TheVariants as reply
-use Rattle.world.proofs.Views.{outlet_at, outlet_set, none_waits, release_step}
+use Rattle.world.proofs.Views.{outlet_at, outlet_set, none_waits, release_refused, release_step}
 use Rattle.world.proofs.station.Station.release.Goals as goal
 
 pub returns-then-not-node-clause-covered : goal.returns-then-not-node-clause-covered
@@ -50,7 +51,7 @@ invariant_of-self-2 g c =
     let made = c.release_at.ensures in
     let set = seen_set taken was.outputs.items c.in-Some.j c.release_at.new.output in
     let now = sound_after (network_of was.net.value.program) was.inputs.value (node_view was.node.state) (node_view c.release_at.new.node.state) _ c.in-Some.j (output_view taken x) (output_view taken c.release_at.new.output) was.sound was.node.in_order there more
-    made.channel made.length made.begins made.history c.release_at.result made.trimmed made.refused in
+    made.channel made.length made.begins made.history c.release_at.result made.trimmed (on_err_map c.release_at.result made.refused (λ same. (same.0, ap (λ (o : OutletView). o.taken) same.1))) in
     record {
       fits = was.fits;
       sound = subst (λ (l : List OutputView). IsSound (network_of was.net.value.program) was.inputs.value (node_view c.release_at.new.node.state) l) (sym set) now;
@@ -82,24 +83,24 @@ returns-clause-covered g c =
     let set = seen_set taken was.outputs.items c.in-Some.j c.release_at.new.output in
     let C = g.C.StableCell in
     let now = sound_after (network_of was.net.value.program) was.inputs.value (node_view was.node.state) (node_view c.release_at.new.node.state) _ c.in-Some.j (output_view taken x) (output_view taken c.release_at.new.output) was.sound was.node.in_order there more
-    made.channel made.length made.begins made.history c.release_at.result made.trimmed made.refused in
+    made.channel made.length made.begins made.history c.release_at.result made.trimmed (on_err_map c.release_at.result made.refused (λ same. (same.0, ap (λ (o : OutletView). o.taken) same.1))) in
     subst (λ (l : List OutputView). (left : Option RecordView) → C.left_since c.release_at.new.node.cell (C.moment was.node.cell) left → AreCovered left l) (sym set)
     (covered_same _ _ _ C.moment C.left_since C.may_leave (node_view c.release_at.new.node.state) was.node.cell _ made.same.0 now g.met.C.StableCell.only_now
     (λ left might. c.release_at.new.node.durable left (subst (λ (cell : g.row.C.Denot). C.may_leave cell left) (sym made.same.0) might)))
 
 pub returns-clause-refused : goal.returns-clause-refused
 returns-clause-refused g c =
-    let was = c.args.self.now in
+    let was = station_view c.args.self.now in
     let taken = g.O.Outlet.taken in
+    let failures = g.O.Outlet.failures in
     let x = c.index_mut.result.now in
-    let within = subst (λ (l : List (Output g.row.O.Denot)). c.in-Some.j < length l) c.deref.ensures.value c.in-Some.ensures.within in
-    let there = seen_at taken was.outputs.items c.in-Some.j x within c.index_mut.ensures.value in
-    let more = c.in-Some.ensures.waiting (output_view taken x) (subst (λ (l : List (Output g.row.O.Denot)). slice_get (outputs_view taken l) c.in-Some.j ≡ Some (output_view taken x)) (sym c.deref.ensures.value) there) in
+    let j = c.in-Some.j in
+    let within = subst (λ (l : List (Output g.row.O.Denot)). j < length l) c.deref.ensures.value c.in-Some.ensures.within in
     let made = c.release_at.ensures in
-    let set = seen_set taken was.outputs.items c.in-Some.j c.release_at.new.output in
-    subst (λ (l : List OutputView). OnErr c.release_at.result ((node_view c.release_at.new.node.state ≡ node_view was.node.state) × (l ≡ outputs_view taken was.outputs.items))) (sym set)
-    (same_after (network_of was.net.value.program) was.inputs.value (node_view was.node.state) (node_view c.release_at.new.node.state) _ c.in-Some.j (output_view taken x) (output_view taken c.release_at.new.output) was.sound was.node.in_order there more
-    made.channel c.release_at.result made.refused)
+    let now = c.release_at.new in
+    release_refused c.args.round j was (outlet_view taken failures x) (outlet_view taken failures now.output) (node_view now.node.state) (g.C.StableCell.failure_count now.node.cell) now.node.number _ c.release_at.result
+    (outlet_at taken failures c.args.self.now.outputs.items j x within c.index_mut.ensures.value)
+    made.same.1 (ap g.C.StableCell.failure_count made.same.0) (outlet_set taken failures c.args.self.now.outputs.items j now.output) made.refused
 
 pub returns-in_default-clause-step : goal.returns-in_default-clause-step
 returns-in_default-clause-step g c =

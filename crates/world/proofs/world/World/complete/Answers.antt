@@ -3,7 +3,8 @@ use Rattle.kahn_net.specs.Syntax.{network_of}
 use Rattle.node.specs.NodeView.{node_view}
 use Rattle.world.specs.OutputView.{outputs_view}
 use Rattle.world.specs.QuietLaws.{quiet_is_whole}
-use Rattle.world.proofs.Quieting.{every_map, every_past}
+use Rattle.world.specs.PairLaws.{every_map}
+use Rattle.world.proofs.Quieting.{every_past}
 use Rattle.world.proofs.world.World.complete.Goals as goal
 
 pub returns-clause-whole : goal.returns-clause-whole

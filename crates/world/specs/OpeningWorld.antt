@@ -1,0 +1,28 @@
+-- A world before its first event.
+use Rattle.std.specs.Prelude.{◌≡◌, ℕ, ℤ, List, [], ◌∷◌, map, None}
+use Rattle.kahn_net.specs.Syntax.{Network}
+use Rattle.node.specs.Opening.{opening_node}
+use Rattle.world.specs.StationView.{OutletView, StationView}
+use Rattle.world.specs.Steps.{WorldView}
+use Rattle.world.specs.Turns.{no_turns}
+use Rattle.world.specs.declared.output.Output.{Output}
+
+-- the outlet is as it was given, and has failed in no round
+abbrev pub opening_outlet : OutletView → OutletView
+opening_outlet outlet = record { channel = outlet.channel; taken = outlet.taken; failed = None; failures = outlet.failures }
+
+-- the one station of a network on one node, with these inputs and outlets; its device has failed so often before
+abbrev pub opening_station : Network → List (List ℤ) → ℕ → List OutletView → StationView
+opening_station net inputs failures outlets = record { net = net; inputs = inputs; number = 0; node = opening_node net 1; failures = failures; outlets = outlets; turns = no_turns 0 }
+
+-- the world of that station alone, with outlets as they were given
+abbrev pub opening_world : Network → List (List ℤ) → ℕ → List OutletView → WorldView
+opening_world net inputs failures outlets = record { stations = opening_station net inputs failures (map opening_outlet outlets) ∷ []; round = 0 }
+
+-- an output of which no failure is remembered
+abbrev pub fresh : {O : Type 0} → Output O → Output O
+fresh output = record { channel = output.channel; outlet = output.outlet; failed = None }
+
+-- its outlet took nothing
+abbrev pub IsUnused : {O : Type 0} → (O → List ℤ) → Output O → Type 0
+IsUnused taken output = taken output.outlet ≡ []
