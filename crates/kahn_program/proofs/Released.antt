@@ -19,9 +19,9 @@ use Rattle.world.specs.Released.{taken_or, released_of}
 use Rattle.kahn_net.specs.declared.program.Port.{Port}
 use Rattle.kahn_net.specs.declared.program.Port.TheVariants.{Outside, Process}
 use Rattle.node.specs.NodeView.{node_view}
-use Rattle.world.specs.Pairs.{Pairs, Every}
+use Rattle.std.specs.List.{AllByRecursion, AllZip}
 use Rattle.world.specs.PairLaws.{pairs_refl, pairs_then}
-use Rattle.world.specs.WorldView.{station_view, IsOfSame}
+use Rattle.world.specs.WorldView.{station_view, IsOfSame, IsWhole}
 use Rattle.world.specs.declared.output.Output.{Output}
 use Rattle.world.specs.declared.station.Station.{Station}
 use Rattle.node.specs.declared.cell.StableCell.{Ghosts as CellWords}
@@ -32,6 +32,9 @@ use Rattle.kahn_program.specs.Readings.{IsNetOf, AreInputsOf}
 use Rattle.kahn_program.specs.Statuses.{status_of_run}
 use Rattle.kahn_program.specs.Runs.{released_streams, IsRun, IsReport, IsReported, HasWritten}
 use Rattle.kahn_program.specs.declared.failure.Failure.{Failure}
+use Rattle.std.specs.Prelude.{IfErr}
+use Rattle.kahn_program.specs.Readings.{IsRunFailure, of_memory}
+use Rattle.kahn_program.specs.declared.failure.Failure.TheVariants.{NoMemory}
 
 -- The outlet of a channel
 
@@ -136,10 +139,10 @@ streams_next f channels k d before now whole within so_far added =
 
 -- Stations of the same network and inputs
 
-pub same_then : {C O : Type 0} {cell : CellWords C} {outlet : OutletWords O} (xs ys zs : List (Station C O cell outlet)) → Pairs xs ys IsOfSame → Pairs ys zs IsOfSame → Pairs xs zs IsOfSame
+pub same_then : {C O : Type 0} {cell : CellWords C} {outlet : OutletWords O} (xs ys zs : List (Station C O cell outlet)) → AllZip IsOfSame xs ys → AllZip IsOfSame ys zs → AllZip IsOfSame xs zs
 same_then xs ys zs p q = pairs_then IsOfSame IsOfSame IsOfSame (λ x y z a b. (b.0 ∙ a.0, b.1 ∙ a.1)) xs ys zs p q
 
-pub same_still : {C O : Type 0} {cell : CellWords C} {outlet : OutletWords O} (xs : List (Station C O cell outlet)) → Pairs xs xs IsOfSame
+pub same_still : {C O : Type 0} {cell : CellWords C} {outlet : OutletWords O} (xs : List (Station C O cell outlet)) → AllZip IsOfSame xs xs
 same_still xs = pairs_refl IsOfSame (λ x. (refl, refl)) xs
 
 -- as many streams as outputs
@@ -163,8 +166,8 @@ one_run {C} {O} {cell} {outlet} complete station whole =
     whole
 
 pub world_run : {C O : Type 0} {cell : CellWords C} {outlet : OutletWords O} (net : Network) (inputs : List (List ℤ)) (first now : List (Station C O cell outlet)) (complete : Bool) → length first ≡ 1
-    → Every first (λ (station : Station C O cell outlet). (network_of station.net.value.program ≡ net) × (station.inputs.value ≡ inputs)) → Pairs first now IsOfSame
-    → (IsTrue complete → Every now (λ (station : Station C O cell outlet). quiet.AreWhole (network_of station.net.value.program) station.inputs.value (outputs_view outlet.taken station.outputs.items)))
+    → AllByRecursion (λ (station : Station C O cell outlet). (network_of station.net.value.program ≡ net) × (station.inputs.value ≡ inputs)) first → AllZip IsOfSame first now
+    → (IsTrue complete → AllByRecursion IsWhole now)
     → IsRun net inputs (released_streams net (map station_view now)) complete
 world_run net inputs [] now complete one of same whole = absurd (cc)
 world_run net inputs (s ∷ t ∷ first) now complete one of same whole = absurd (cc)
@@ -176,10 +179,6 @@ world_run {C} {O} {cell} {outlet} net inputs (s ∷ []) (t ∷ []) complete one 
     subst (λ (n : Network). IsRun n inputs (released_streams n (station_view t ∷ [])) complete) program
     (subst (λ (i : List (List ℤ)). IsRun (network_of t.net.value.program) i (released_streams (network_of t.net.value.program) (station_view t ∷ [])) complete) items
     (one_run complete t (λ done. (whole done).0)))
-
-pub every_map : {A : Type 0} (P Q : A → Type 0) → ((x : A) → P x → Q x) → (xs : List A) → Every xs P → Every xs Q
-every_map P Q f [] all = tt
-every_map P Q f (x ∷ xs) all = (f x all.0, every_map P Q f xs all.1)
 
 -- The report of a run
 
@@ -217,3 +216,8 @@ written_report net_bytes input_bytes before after text complete status of (inr c
     let same : complete ≡ whole = one_status complete whole (sym came ∙ is) in
     subst (HasWritten net_bytes input_bytes before after) same
     ∣ (text, of, writes (λ failed. not_failed complete (sym came ∙ failed))) ∣₁
+
+-- a run itself ends without a report for want of memory alone
+pub failed_run : {T : Type 0} (net_bytes input_bytes : Option (List ℕ)) (result : Result T Failure) → IfErr result (λ failure. failure ≡ NoMemory) → IfErr result (IsRunFailure net_bytes input_bytes)
+failed_run net_bytes input_bytes (Ok value) err = tt
+failed_run net_bytes input_bytes (Err failure) err = of_memory err

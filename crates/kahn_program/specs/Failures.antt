@@ -1,5 +1,5 @@
 -- What the program prints on standard error where it ends without a report, and its exit status.
-use Rattle.std.specs.Prelude.{ℕ, List, ◌++◌, codes}
+use Rattle.std.specs.Prelude.{ℕ, List, [], ◌∷◌, ◌++◌, codes}
 use Rattle.std.specs.Fmt.{decimal}
 use Rattle.kahn_program.specs.declared.failure.Source.{Source}
 use Rattle.kahn_program.specs.declared.failure.Source.TheVariants.{Net, Inputs}
@@ -17,6 +17,10 @@ failure_text (NotText source) = source_text source ++ codes ": not text"
 failure_text (Unreadable source) = source_text source ++ codes ": cannot be read"
 failure_text NoMemory = codes "no memory"
 failure_text (Other number) = codes "refusal " ++ decimal number
+
+-- and the line feed behind it
+abbrev pub failure_line : Failure → List ℕ
+failure_line failure = failure_text failure ++ 10 ∷ []
 
 -- 2 for a text that is refused, 1 for all else
 abbrev pub status_of : Failure → ℕ

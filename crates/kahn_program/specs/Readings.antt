@@ -1,5 +1,6 @@
 -- What the texts that a reader gives stand for, and why one is refused.
 use Rattle.std.specs.Prelude.{◌≡◌, ◌⊎◌, ℕ, ℤ, List, Option, Some, None, IfSome, IsUtf8}
+use Rattle.std.specs.Io.KnownBytes.{Appends}
 use Rattle.net_text.specs.Faults as text
 use Rattle.net_text.specs.Grammar.{IsTextOf}
 use Rattle.net_text.specs.InputLines.{IsInputsText, IsInputsFault}
@@ -18,6 +19,7 @@ use Rattle.net_check.specs.declared.fault.NetFault.TheVariants as fault
 use Rattle.net_check.specs.declared.net.Net.{Net}
 use Rattle.kahn_program.specs.declared.failure.Failure.{Failure}
 use Rattle.kahn_program.specs.declared.failure.Failure.TheVariants.{Line, Whole, NotText, Unreadable, NoMemory, Other}
+use Rattle.kahn_program.specs.Failures.{failure_line, status_of}
 use Rattle.kahn_program.specs.declared.failure.Source.{Source}
 use Rattle.kahn_program.specs.declared.failure.Source.TheVariants as source
 
@@ -103,3 +105,15 @@ pub data IsNetFailure : Option (List ℕ) → Failure → Type 0 where
 pub data IsInputsFailure : Net → Option (List ℕ) → Failure → Type 0 where
   inputs_unread : {net : Net} {known : Option (List ℕ)} {failure : Failure} → IsReadFailure source.Inputs known failure → IsInputsFailure net known failure
   inputs_refused : {net : Net} {known : Option (List ℕ)} {failure : Failure} → IfSome known (λ bytes. IsInputsTextFailure net bytes failure) → IsInputsFailure net known failure
+
+-- Why a run on readers with these bytes, where they are known, ends without a report: the network's reader, then that of the inputs for the
+-- network that it describes; or for want of memory.
+pub data IsRunFailure : Option (List ℕ) → Option (List ℕ) → Failure → Type 0 where
+  of_net : {net_bytes input_bytes : Option (List ℕ)} {failure : Failure} → IsNetFailure net_bytes failure → IsRunFailure net_bytes input_bytes failure
+  of_inputs : {net_bytes input_bytes : Option (List ℕ)} {failure : Failure} (net : Net) → IfSome net_bytes (λ bytes. IsNetOf bytes net) → IsInputsFailure net input_bytes failure → IsRunFailure net_bytes input_bytes failure
+  of_memory : {net_bytes input_bytes : Option (List ℕ)} {failure : Failure} → failure ≡ NoMemory → IsRunFailure net_bytes input_bytes failure
+
+-- the line of such a failure was written; its status is this one
+abbrev pub HasTold : Option (List ℕ) → Option (List ℕ) → Option (List ℕ) → Option (List ℕ) → ℕ → Type 0
+HasTold net_bytes input_bytes before after status =
+    ∥ ((failure : Failure) × IsRunFailure net_bytes input_bytes failure × (status ≡ status_of failure) × Appends before after (failure_line failure)) ∥₁

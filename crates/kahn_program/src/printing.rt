@@ -2,7 +2,7 @@
 
 ghost use Rattle.std.specs.Prelude.{◌≡◌, ◌≢◌, ◌⊎◌};
 ghost use Rattle.std.specs.Io.KnownBytes.{Appends};
-ghost use Rattle.kahn_program.specs.Failures.{status_of};
+ghost use Rattle.kahn_program.specs.Failures.{failure_line, status_of};
 ghost use Rattle.kahn_program.specs.Statuses.{status_of_run};
 
 use crate::failure::Failure;
@@ -21,10 +21,15 @@ pub fn print_report<W: Write>(report: &[u8], complete: bool, out: &mut W) -> u8
     if complete { 0 } else { 3 }
 }
 
-/// Writes the line of a failure, and gives its exit status. A write that fails changes no status.
+/// Writes the line of a failure, and gives its exit status: 1 where the line can't be written.
 pub fn print_failure<W: Write>(failure: Failure, err: &mut W) -> u8
-    ensures { result ≡ status_of failure }
+    ensures status { (result ≡ 1) ⊎ (result ≡ status_of failure) }
+    // Unless the status is 1, the line was written.
+    ensures written { result ≢ 1
+        → Appends (W.contents err.old) (W.contents err.new) (failure_line failure) }
 {
-    let _ = writeln!(err, "{failure}");
+    if writeln!(err, "{failure}").is_err() {
+        return 1;
+    }
     failure.status()
 }

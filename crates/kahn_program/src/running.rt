@@ -1,6 +1,7 @@
 //! The program behind its words.
 
-ghost use Rattle.std.specs.Prelude.{◌≡◌, ◌≤◌, Bool, IfOk, option_and_then};
+ghost use Rattle.std.specs.Prelude.{◌≡◌, ◌≤◌, Bool, IfErr, IfOk, option_and_then};
+ghost use Rattle.kahn_program.specs.Readings.{HasTold, IsRunFailure};
 ghost use Rattle.kahn_program.specs.Runs.{IsReported, HasWritten};
 ghost use Rattle.kahn_program.specs.Statuses.{status_of_run};
 
@@ -18,7 +19,11 @@ fn report_of_readers<N: Read + Drop, I: Read + Drop>(
     net: Option<N>,
     inputs: Option<I>,
 ) -> Result<(Vec<u8>, bool), Failure>
-    ensures { IfOk result (λ report. IsReported (option_and_then N.remaining net) (option_and_then I.remaining inputs) report.0.items report.1) }
+    ensures ok { IfOk result
+        (λ report. IsReported (option_and_then N.remaining net) (option_and_then I.remaining inputs)
+        report.0.items report.1) }
+    ensures err { IfErr result
+        (IsRunFailure (option_and_then N.remaining net) (option_and_then I.remaining inputs)) }
 {
     let net = read_net(alloc, net)?;
     let inputs = read_inputs(alloc, inputs, &net)?;
@@ -27,7 +32,7 @@ fn report_of_readers<N: Read + Drop, I: Read + Drop>(
 
 /// Runs the network of one reader on the inputs of the other; no reader stands for a file that can't be opened.
 /// Writes the whole report to `out`, or the line of a failure to `err`, and gives the exit status: 0 where the run
-/// is complete, 3 where it isn't, 2 where a text is refused, 1 for any other failure.
+/// is complete, 3 where it isn't, 2 where a text is refused, 1 for any other failure, as where a write fails.
 pub fn run<N: Read + Drop, I: Read + Drop, W: Write, E: Write>(
     alloc: Global,
     net: Option<N>,
@@ -40,8 +45,12 @@ pub fn run<N: Read + Drop, I: Read + Drop, W: Write, E: Write>(
     // describes, on the inputs that the other gives: each stream a prefix of its history in one approximation, and where
     // the status is 0 whole, in the least solution.
     ensures written { (complete : Bool) → result ≡ status_of_run complete
-        → HasWritten (option_and_then N.remaining net) (option_and_then I.remaining inputs) (W.contents out.old) (W.contents out.new) complete }
-    // Where a text is refused, nothing is written to `out`.
+        → HasWritten (option_and_then N.remaining net) (option_and_then I.remaining inputs)
+        (W.contents out.old) (W.contents out.new) complete }
+    // Where the status is 2, a text has the fault of which the line is written to `err`, and nothing is written to `out`.
+    ensures told { result ≡ 2
+        → HasTold (option_and_then N.remaining net) (option_and_then I.remaining inputs)
+        (E.contents err.old) (E.contents err.new) result }
     ensures refused { result ≡ 2 → out.new ≡ out.old }
     // Where the run comes to a report, nothing is written to `err`.
     ensures complete { result ≡ 0 → err.new ≡ err.old }

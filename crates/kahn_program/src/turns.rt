@@ -1,10 +1,10 @@
 //! A network's run, and its report.
 
-ghost use Rattle.std.specs.Prelude.{◌≡◌, ◌≤◌, ◌++◌, ◌∷◌, [], if◌then◌else◌, length, map, IfOk, OnOk};
+ghost use Rattle.std.specs.Prelude.{◌≡◌, ◌≤◌, ◌++◌, ◌∷◌, [], if◌then◌else◌, length, map, IfErr, IfOk, OnOk};
 ghost use Rattle.kahn_net.specs.Fits.{Fits};
 ghost use Rattle.kahn_net.specs.Nodes.{IsOnOneNode};
 ghost use Rattle.kahn_net.specs.Syntax.{network_of};
-ghost use Rattle.world.specs.Pairs.{Pairs};
+ghost use Rattle.std.specs.List.{AllZip};
 ghost use Rattle.world.specs.Released.{released_of};
 ghost use Rattle.world.specs.Sound.{goes_outside, output_channels};
 ghost use Rattle.world.specs.WorldView.{station_view, IsOfSame};
@@ -15,9 +15,9 @@ use crate::failure::Failure;
 use crate::reporting::{Stream, report};
 use kahn_net::{Channel, Port};
 use net_check::{Inputs, Net};
-use record::{Image, Record};
 use node::{CellFault, MemCell};
 use outlet::ListOutlet;
+use record::{Image, Record};
 use std::alloc::{AllocError, Global};
 use std::sync::Arc;
 use world::{Event, Reply, World, list_outputs};
@@ -46,7 +46,9 @@ fn empty_cell(alloc: Global) -> MemCell {
 }
 
 /// A failure of a cell.
-fn cell_failure(fault: CellFault) -> Failure {
+fn cell_failure(fault: CellFault) -> Failure
+    ensures { fault ≡ CellFault.NoMemory → result ≡ Failure.NoMemory }
+{
     match fault {
         CellFault::NoMemory => Failure::NoMemory,
         CellFault::Device | CellFault::TooLarge | CellFault::Reopen => Failure::Other {
@@ -57,7 +59,8 @@ fn cell_failure(fault: CellFault) -> Failure {
 
 /// The event that is next. A job that it grants is run and comes back at once.
 fn take_turn(alloc: Global, world: &mut World<MemCell, ListOutlet>) -> Result<(), Failure>
-    ensures same { Pairs world.old.stations.items world.new.stations.items IsOfSame }
+    ensures same { AllZip IsOfSame world.old.stations.items world.new.stations.items }
+    ensures err { IfErr result (λ failure. failure ≡ Failure.NoMemory) }
 {
     let event = world.pick(NODE);
     match world.apply(alloc, event) {
@@ -77,7 +80,8 @@ fn take_turn(alloc: Global, world: &mut World<MemCell, ListOutlet>) -> Result<()
 
 /// Takes turns until nothing is left to do, or the rounds are over.
 fn take_turns(alloc: Global, world: &mut World<MemCell, ListOutlet>) -> Result<(), Failure>
-    ensures same { Pairs world.old.stations.items world.new.stations.items IsOfSame }
+    ensures same { AllZip IsOfSame world.old.stations.items world.new.stations.items }
+    ensures err { IfErr result (λ failure. failure ≡ Failure.NoMemory) }
 {
     for _ in 0..u64::MAX {
         if world.complete() || world.round() >= ROUNDS {
@@ -126,7 +130,9 @@ fn streams<'a>(
 pub fn report_of_run(alloc: Global, net: Net, inputs: Inputs) -> Result<(Vec<u8>, bool), Failure>
     requires fitting { Fits (network_of net.program) inputs }
     requires one_node { IsOnOneNode (network_of net.program) }
-    ensures { IfOk result (λ report. IsReport net inputs report.0.items report.1) }
+    ensures ok { IfOk result (λ report. IsReport net inputs report.0.items report.1) }
+    // Nothing but memory can be missing.
+    ensures err { IfErr result (λ failure. failure ≡ Failure.NoMemory) }
 {
     let Ok(outputs) = list_outputs(alloc, &net) else {
         return Err(Failure::NoMemory);

@@ -1,11 +1,12 @@
-use Rattle.std.proofs.Common.{◌≡◌, ℕ, ℤ, List, length, map, sym, ap, ◌∙◌}
+use Rattle.std.proofs.Common.{refl, ◌≡◌, ℕ, ℤ, List, length, map, sym, ap, ◌∙◌}
 use Rattle.kahn_net.specs.Syntax.{network_of}
 use Rattle.net_check.specs.declared.net.Net.{Net}
-
 use Rattle.world.specs.Released.{released_of}
 use Rattle.world.specs.WorldView.{station_view}
 use Rattle.kahn_program.specs.Report.{output_count, report_text}
-use Rattle.kahn_program.proofs.Released.{counted_streams, every_map, world_run, reported}
+use Rattle.kahn_program.proofs.Released.{counted_streams, world_run, reported}
+use Rattle.world.specs.PairLaws.{every_map}
+use Rattle.kahn_program.proofs.Cells.{only_memory}
 use Rattle.kahn_program.proofs.turns.report_of_run.Goals as goal
 
 pub report-requires : goal.report-requires
@@ -15,15 +16,15 @@ report-requires c =
     ∙ (counted_streams f 0 c.deref-2.result.now
     ∙ ap output_count (c.deref-2.ensures.value ∙ ap (λ (n : Net). n.program.channels.items) (c.deref.ensures ∙ sym c.deref-3.ensures)))
 
-pub returns-in-Ok-report : goal.returns-in-Ok-report
-returns-in-Ok-report c =
+pub returns-in-Ok-report-clause-ok : goal.returns-in-Ok-report-clause-ok
+returns-in-Ok-report-clause-ok c =
     let net = c.args.net in
     let now = c.take_turns.new.world.stations.items in
     let first = c.in-Ok-new-3.world.stations.items in
     let shared = c.in-Ok-try_clone.ensures ∙ c.in-Ok-new.ensures.ok in
     let seen : c.deref-3.result.now ≡ net = c.deref-3.ensures ∙ c.in-Ok-new.ensures.ok in
     let run = world_run (network_of net.program) c.args.inputs first now c.complete-complete.result c.in-Ok-new-3.ensures.one
-    (every_map _ _ (λ station of. (ap (λ a. network_of a.value.program) of.0 ∙ ap (λ (n : Net). network_of n.program) shared, ap (λ a. a.value) of.1 ∙ c.in-Ok-new-2.ensures.ok)) first c.in-Ok-new-3.ensures.opening)
+    (every_map _ _ (λ station of. (ap (λ a. network_of a.value.program) of.0 ∙ ap (λ (n : Net). network_of n.program) shared, ap (λ a. a.value) of.1 ∙ c.in-Ok-new-2.ensures.ok)) first c.in-Ok-new-3.ensures.same)
     c.take_turns.ensures.same c.complete-complete.ensures.whole in
     reported net c.args.inputs c.deref-2.result.now c.in-Ok-streams.streams.items (map station_view now) c.in-Ok-report.bytes.items c.complete-complete.result
     (c.deref-2.ensures.value ∙ ap (λ (n : Net). n.program.channels.items) (c.deref.ensures ∙ c.in-Ok-new.ensures.ok))
@@ -31,3 +32,7 @@ returns-in-Ok-report c =
     (c.in-Ok-report.ensures ∙ (ap (λ (n : Net). report_text n.program.channels.items n.channel_names.items c.deref-4.result.now c.complete-complete.result) seen
     ∙ ap (λ (l : List (List ℤ)). report_text net.program.channels.items net.channel_names.items l c.complete-complete.result) c.deref-4.ensures.value))
     run
+
+pub returns-in-Err-clause-err : goal.returns-in-Err-clause-err
+returns-in-Err-clause-err c =
+    c.cell_failure.ensures (only_memory c.in-Err.fault _ refl c.in-Err.ensures.too_large c.in-Err.ensures.device c.in-Err.ensures.reopen)

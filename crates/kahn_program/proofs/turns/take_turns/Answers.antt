@@ -4,8 +4,8 @@ use Rattle.kahn_program.proofs.turns.take_turns.Goals as goal
 pub loop-init : goal.loop-init
 loop-init c = same_still _
 
-pub returns-in_err-take_turn : goal.returns-in_err-take_turn
-returns-in_err-take_turn c = record { same = same_then _ _ _ c.loop.invariant c.take_turn.ensures.same }
+pub returns-in_err-take_turn-clause-same : goal.returns-in_err-take_turn-clause-same
+returns-in_err-take_turn-clause-same c = same_then _ _ _ c.loop.invariant c.take_turn.ensures.same
 
 pub loop-preserved : goal.loop-preserved
 loop-preserved c = same_then _ _ _ c.loop.invariant c.take_turn.ensures.same
