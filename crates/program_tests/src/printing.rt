@@ -84,7 +84,8 @@ fn failures_that_are_written(rt: HostRuntime) -> Result<(), Fail> {
             left: 3,
             is_flushable: true,
         };
-        assert_eq!(rt; print_failure(failure, &mut err), status);
+        // Where the line can't be written the status is 1.
+        assert_eq!(rt; print_failure(failure, &mut err), 1);
     }
     Ok(())
 }

@@ -5,8 +5,8 @@ ghost use Rattle.std.proofs.Common.{refl, inl};
 ghost use Rattle.node.specs.MemCell.{value_of, may_leave_of, moment_of, left_since_of, only_kept};
 ghost use Rattle.node.specs.Starting.{is_none};
 
-use record::Record;
 use node::{CellFault, MemCell, StableCell};
+use record::Record;
 
 /// A cell in memory, as over a device that fails at one of its puts and writes nothing then.
 #[derive(Drop)]

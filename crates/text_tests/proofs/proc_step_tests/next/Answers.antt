@@ -1,7 +1,7 @@
 use Rattle.std.proofs.Common.{◌<◌, length, arith}
 use Rattle.std.proofs.lemmas.Grind.{common_steps}
 use Rattle.kahn_net.specs.Laws.Valid.{valid_at}
-use Rattle.text_checks.proofs.proc_step_tests.next.Goals as goal
+use Rattle.text_tests.proofs.proc_step_tests.next.Goals as goal
 
 pub next_act-requires : goal.next_act-requires
 next_act-requires c =

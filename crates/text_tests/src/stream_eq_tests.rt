@@ -3,9 +3,9 @@
 ghost use Rattle.std.specs.Prelude.{◌≡◌, pos, negsuc, [], ◌∷◌, ◌++◌};
 ghost use Rattle.kahn_net.specs.Approximations.{approximation, Belongs, IsReached};
 ghost use Rattle.kahn_net.specs.Processes.{At, StandsAt};
-ghost use Rattle.text_checks.specs.Examples.{summing_code, sum_net, sum_inputs, sum_solution};
-ghost use Rattle.text_checks.specs.Examples.{at_the_end, pair_net, pair_inputs, one_two, tens};
-ghost use Rattle.text_checks.specs.Examples.{cycle_after, zeros, ones, zero_one};
+ghost use Rattle.text_tests.specs.Examples.{summing_code, sum_net, sum_inputs, sum_solution};
+ghost use Rattle.text_tests.specs.Examples.{at_the_end, pair_net, pair_inputs, one_two, tens};
+ghost use Rattle.text_tests.specs.Examples.{cycle_after, zeros, ones, zero_one};
 
 use crate::asserting::{same, same_at, same_items, same_items_at};
 use kahn_net::History;

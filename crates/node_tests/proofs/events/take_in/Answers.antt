@@ -1,7 +1,7 @@
 use Rattle.std.proofs.Common.{List, sym, subst, ◌∙◌}
 use Rattle.kahn_net.specs.declared.program.Channel.{Channel}
 use Rattle.node.specs.Installing.{ImageTakes}
-use Rattle.run_checks.proofs.node_tests.take_in.Goals as goal
+use Rattle.node_tests.proofs.events.take_in.Goals as goal
 
 pub install-requires : goal.install-requires
 install-requires c = λ out.

@@ -8,13 +8,13 @@ ghost use Rattle.node.specs.Granting.{is_process};
 ghost use Rattle.record.specs.Changes.{LogTakes};
 ghost use Rattle.node.specs.Installing.{taken_from, put_on, EndTakes, ImageTakes};
 
-use kahn_net::{Channel, History, Place, Port, ProcState};
+use kahn_net::{Channel, History, MAX_COUNT, Place, Port, ProcState};
 use net_check::{Inputs, Net, bind, check};
 use net_text::{parse, parse_inputs};
-use record::{Decision, End, Image, Record, SavedEnd, SavedProcess, Tentative};
-use node::{CellFault, LAST_NUMBER, MemCell, NodeState, StableCell};
-use retained::{Log, MAX_LOG_ITEMS};
+use node::{CellFault, MemCell, NodeState, StableCell};
 use proc_step::{Done, Job};
+use record::{Decision, End, Image, Record, SavedEnd, SavedProcess, Tentative};
+use retained::{Log, MAX_LOG_ITEMS};
 use std::alloc::Global;
 use std::sync::Arc;
 use std::test::Fail;
@@ -203,40 +203,6 @@ fn a_record_put_and_got_back(rt: HostRuntime) -> Result<(), Fail> {
     Ok(())
 }
 
-// The sample, with what is to be different.
-fn other_epoch(alloc: Global) -> Result<Record, Fail> {
-    let mut other = sample(alloc)?;
-    other.epoch = 13;
-    Ok(other)
-}
-
-fn other_ends(alloc: Global) -> Result<Record, Fail> {
-    let mut other = sample(alloc)?;
-    other.permanent = tentative_image(alloc)?;
-    Ok(other)
-}
-
-fn no_decision(alloc: Global) -> Result<Record, Fail> {
-    let mut other = sample(alloc)?;
-    other.decision = None;
-    Ok(other)
-}
-
-// Whether the sample that was put and got back is the same as this record.
-fn is_got_back(alloc: Global, other: Record) -> Result<bool, Fail> {
-    Ok(put_and_got_back(alloc)?.is_same(&other))
-}
-
-#[test]
-fn which_records_are_the_same(rt: HostRuntime) -> Result<(), Fail> {
-    let alloc = rt.alloc();
-    assert_eq!(rt; is_got_back(alloc, sample(alloc)?)?, true);
-    assert_eq!(rt; is_got_back(alloc, other_epoch(alloc)?)?, false);
-    assert_eq!(rt; is_got_back(alloc, other_ends(alloc)?)?, false);
-    assert_eq!(rt; is_got_back(alloc, no_decision(alloc)?)?, false);
-    Ok(())
-}
-
 #[test]
 fn a_record_taken_out_of_its_cell(rt: HostRuntime) -> Result<(), Fail> {
     let cell = MemCell::new(rt.alloc(), sample(rt.alloc())?);
@@ -388,7 +354,7 @@ fn received_at(end: &End) -> u64
 fn log_fits(log: &Log, count: usize) -> bool
     ensures { IsTrue result → ¬ (Overfills log.now count) }
 {
-    count <= MAX_LOG_ITEMS - log.len() && count as u64 <= LAST_NUMBER - log.end()
+    count <= MAX_LOG_ITEMS - log.len() && count as u64 <= MAX_COUNT - log.end()
 }
 
 fn put_fits(end: &End, count: usize) -> bool
@@ -407,9 +373,7 @@ fn end_fits(channels: &[Channel], done: &Done, saved: &SavedEnd) -> bool
     let process = done.job.process;
     let taken = count_taken(channels, process, &done.taken, saved.channel) as u64;
     let put = items_put(channels, process, &done.sent, saved.channel).len();
-    taken <= LAST_NUMBER
-        && received_at(&saved.end) <= LAST_NUMBER - taken
-        && put_fits(&saved.end, put)
+    taken <= MAX_COUNT && received_at(&saved.end) <= MAX_COUNT - taken && put_fits(&saved.end, put)
 }
 
 fn image_fits(channels: &[Channel], done: &Done, image: &Image) -> bool
@@ -567,11 +531,11 @@ fn a_put_waits_for_room(rt: HostRuntime) -> Result<(), Fail> {
     let alloc = rt.alloc();
     let net = sum_net(alloc)?;
     let inputs = items_in(alloc, &net, "i: 5 -2 4")?;
-    let full = Log::starting_at(alloc, LAST_NUMBER);
+    let full = Log::starting_at(alloc, MAX_COUNT);
     let mut node = sum_node(alloc, Place::At(1), 0, full)?;
     assert!(rt; !node.has_job(&net, &inputs));
     assert!(rt; node.grant(alloc, &net, &inputs)?.is_none());
-    let one_place = Log::starting_at(alloc, LAST_NUMBER - 1);
+    let one_place = Log::starting_at(alloc, MAX_COUNT - 1);
     let mut node = sum_node(alloc, Place::At(1), 0, one_place)?;
     let job = granted(alloc, &mut node, &net, &inputs)?;
     assert_eq!(rt; job.room.as_slice(), [0, 1].as_slice());

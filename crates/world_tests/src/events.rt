@@ -1,24 +1,22 @@
 //! The events of a world, one by one, on the running sum of 1 2 3. What each event answers is what its own line in `Event` and
 //! `Reply` says; what leaves is 1, 1 + 2 and 1 + 2 + 3.
 
-mod weak_cell;
-mod weak_outlet;
-
 ghost use Rattle.std.specs.Prelude.{◌≡◌, IfOk, IsTrue, [], map};
 ghost use Rattle.kahn_net.specs.Fits.{Fits};
 ghost use Rattle.kahn_net.specs.Nodes.{IsOnOneNode};
 ghost use Rattle.kahn_net.specs.Syntax.{network_of};
 ghost use Rattle.world.specs.Sound.{output_channels};
-ghost use Rattle.world.specs.Pairs.{Every};
+ghost use Rattle.std.specs.List.{AllByRecursion};
+ghost use Rattle.world.specs.OpeningWorld.{IsUnused};
 
-use crate::world_tests::weak_cell::WeakCell;
-use crate::world_tests::weak_outlet::WeakOutlet;
+use crate::weak_cell::WeakCell;
+use crate::weak_outlet::WeakOutlet;
 use net_check::{Inputs, Net, bind, check};
 use net_text::{parse, parse_inputs};
-use record::{Image, Record};
 use node::{CellFault, MemCell, StableCell};
 use outlet::{ListOutlet, Outlet};
 use proc_step::Done;
+use record::{Image, Record};
 use std::alloc::Global;
 use std::process::Abort;
 use std::sync::Arc;
@@ -86,7 +84,8 @@ fn weak_outputs(
     takes_it: bool,
 ) -> Result<Vec<Output<WeakOutlet>>, Fail>
     ensures listed { IfOk result (λ outputs. map (λ output. output.channel) outputs.items ≡ output_channels 0 (network_of net.now.program).channels) }
-    ensures empty { IfOk result (λ outputs. Every outputs.items (λ output. output.outlet.items.items ≡ [])) }
+    ensures empty { IfOk result
+        (λ outputs. AllByRecursion (IsUnused (λ outlet. outlet.items.items)) outputs.items) }
 {
     let outputs = list_outputs(alloc, net)?;
     let mut weak = Vec::new(alloc);

@@ -1,10 +1,5 @@
 //! Reports and failures, byte for byte.
 
-mod printing;
-mod reading;
-mod running;
-mod words;
-
 use kahn_program::{Failure, Source, Stream, count_outputs, report};
 use net_check::{Net, check};
 use net_text::parse;

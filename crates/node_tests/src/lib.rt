@@ -1,0 +1,6 @@
+//! The tests of nodes and their records. They stand here since a crate with tests is proved twice, with them
+//! and without.
+#![tactic(auto)]
+
+#[cfg(test)]
+mod events;
