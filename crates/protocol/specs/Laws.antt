@@ -1,0 +1,141 @@
+-- The theorems: of one node by itself, of each step, and of every run of steps from the opening world.
+use Rattle.std.specs.Prelude.{◌≡◌, ◌≢◌, ◌⊎◌, ℕ, ◌≤◌, ◌<◌, Bool, true, false, Option, None, List}
+use Rattle.protocol.specs.Images.{Image, AtMost, Net, IsCross, IsLocal, IsOutput}
+use Rattle.protocol.specs.Records.{Record, Holds, effective}
+use Rattle.protocol.specs.Moves.{Move}
+use Rattle.protocol.specs.Nodes.{Live, Node}
+use Rattle.protocol.specs.Packets.{Packet, Ask, Ended}
+use Rattle.protocol.specs.Worlds.{World, node_of, IsLive, InFlight, opening, MaySend, Step, Run, Reachable, Alone}
+use Rattle.protocol.specs.Line.{Sound, Covers, NotBehind, Over, AtMoment, line_with, NoOrphan}
+use Rattle.protocol.specs.Invariant.{NodeOk, Says, Consistent}
+
+-- one node
+
+abbrev pub NodeOpens : Type 0
+NodeOpens = (net : Net) (k : ℕ) → NodeOk net k (node_of opening k)
+
+abbrev pub NodeStaysOk : Type 0
+NodeStaysOk = (net : Net) (k : ℕ) (a b : Node) (nodes : List Node) → NodeOk net k a → Alone net k a nodes b → NodeOk net k b
+
+-- of a node's permanent image: each local channel is sound, and each outlet's next item is in the log or still to be put
+pub record PermanentOk (net : Net) (k : ℕ) (a : Node) : Type 0 where
+  pub no_orphan : (c : ℕ) → IsLocal net c k → a.record_of.permanent.received c ≤ a.record_of.permanent.sent c
+  pub nothing_lost : (c : ℕ) → IsLocal net c k → a.record_of.permanent.base c ≤ a.record_of.permanent.received c
+  pub outputs : (c : ℕ) → IsOutput net c k → a.record_of.permanent.base c ≤ a.outlets c
+  pub covers : (c : ℕ) → IsOutput net c k → a.outlets c ≤ a.record_of.permanent.sent c
+
+abbrev pub NodeIsSound : Type 0
+NodeIsSound = (net : Net) (k : ℕ) (a : Node) → NodeOk net k a → PermanentOk net k a
+
+abbrev pub NodeNeverFallsBack : Type 0
+NodeNeverFallsBack = (net : Net) (k : ℕ) (a b : Node) (nodes : List Node) → NodeOk net k a → Alone net k a nodes b
+    → AtMost a.record_of.permanent b.record_of.permanent × ((c : ℕ) → a.outlets c ≤ b.outlets c)
+
+-- steps
+
+abbrev pub Opens : Type 0
+Opens = (net : Net) → Consistent net opening
+
+abbrev pub StaysConsistent : Type 0
+StaysConsistent = (net : Net) (w v : World) → Consistent net w → Step net w v → Consistent net v
+
+abbrev pub IsTrueWhenSent : Type 0
+IsTrueWhenSent = (net : Net) (w : World) (packet : Packet) → Consistent net w → MaySend net w packet → Says net w packet
+
+abbrev pub StaysTrue : Type 0
+StaysTrue = (net : Net) (w v : World) (worlds : List World) (packet : Packet) → Consistent net w → Run net w worlds v → Says net w packet → Says net v packet
+
+-- at most one node's record differs, by at most one write
+pub record AtMostOneMove (w v : World) : Type 0 where
+  pub node : ℕ
+  pub others : (j : ℕ) → j ≢ node → v.records j ≡ w.records j
+  pub move : (v.records node ≡ w.records node) ⊎ Move (w.records node) (v.records node)
+  -- no step both writes a record and appends to an outlet
+  pub either : (v.records ≡ w.records) ⊎ (v.outlets ≡ w.outlets)
+
+abbrev pub MovesAtMostOnce : Type 0
+MovesAtMostOnce = (net : Net) (w v : World) → Step net w v → AtMostOneMove w v
+
+-- runs
+
+abbrev pub IsConsistent : Type 0
+IsConsistent = (net : Net) (w : World) → Reachable net w → Consistent net w
+
+-- the line is sound at every moment of every step
+abbrev pub LineIsSound : Type 0
+LineIsSound = (net : Net) (w v : World) (records : ℕ → Record) (outlets : ℕ → ℕ) → Reachable net w → Step net w v → AtMoment w v records outlets
+    → Sound net (effective records) outlets
+
+-- and it covers what was released
+abbrev pub LineCovers : Type 0
+LineCovers = (net : Net) (w v : World) (records : ℕ → Record) (outlets : ℕ → ℕ) → Reachable net w → Step net w v → AtMoment w v records outlets
+    → Covers net records outlets
+
+-- no line that is possible at a later moment is behind
+abbrev pub LineNeverFallsBack : Type 0
+LineNeverFallsBack = (net : Net) (w u v : World) (worlds : List World) (records : ℕ → Record) (outlets : ℕ → ℕ) → Reachable net w → Run net w worlds u → Step net u v → AtMoment u v records outlets
+    → NotBehind w.records records × ((c : ℕ) → w.outlets c ≤ outlets c)
+
+-- an instance becomes committed only while every node that its decision names holds it
+abbrev pub CommitsWhileHeld : Type 0
+CommitsWhileHeld = (net : Net) (w v : World) (x n p : ℕ) → Reachable net w → Step net w v
+    → (w.records x).decided n ≡ false → (v.records x).decided n ≡ true → (v.records x).named n p ≡ true
+    → (i : Image) × Holds (w.records p) x n i × Holds (v.records p) x n i
+
+-- a committed instance that a node holds stays so, until the image is permanent there
+abbrev pub StaysCommitted : Type 0
+StaysCommitted = (net : Net) (w v : World) (x n p : ℕ) (i : Image) → Reachable net w → Step net w v
+    → Holds (w.records p) x n i → (w.records x).decided n ≡ true
+    → (Holds (v.records p) x n i × ((v.records x).decided n ≡ true)) ⊎ (((v.records p).tentative ≡ None) × ((v.records p).permanent ≡ i))
+
+-- whoever holds a committed instance is named by its decision
+abbrev pub HoldersAreNamed : Type 0
+HoldersAreNamed = (net : Net) (w : World) (x n p : ℕ) (i : Image) → Reachable net w
+    → Holds (w.records p) x n i → (w.records x).decided n ≡ true → (p ≢ x) × ((w.records x).named n p ≡ true)
+
+abbrev pub EndedIsOver : Type 0
+EndedIsOver = (net : Net) (w : World) (x p n : ℕ) → Reachable net w → MaySend net w (Ended x p n) ⊎ InFlight w (Ended x p n) → Over w x n
+
+abbrev pub StaysOver : Type 0
+StaysOver = (net : Net) (w v : World) (worlds : List World) (x n : ℕ) → Reachable net w → Run net w worlds v → Over w x n → Over v x n
+
+-- a permanent image stays, or is replaced by one held for an instance that wasn't over
+abbrev pub OverStaysOut : Type 0
+OverStaysOut = (net : Net) (w v : World) (k : ℕ) → Reachable net w → Step net w v
+    → ((v.records k).permanent ≡ (w.records k).permanent)
+    ⊎ ((x : ℕ) × (n : ℕ) × Holds (w.records k) x n (v.records k).permanent × (Over w x n → ⊥))
+
+-- Of an instance for which answers are collected: in the line in which its initiator takes its image, and of the takers a part that leaves one out, there is an orphan.
+abbrev pub NoSmallerSet : Type 0
+NoSmallerSet = (net : Net) (w : World) (x p : ℕ) (live : Live) (part : ℕ → Bool) → Reachable net w → IsLive w x live
+    → part x ≡ true → live.takes p ≡ true → part p ≡ false → NoOrphan net (line_with w.records part) → ⊥
+
+-- While the instance is live, its initiator or one of its takers received this many items of the channel in its tentative image.
+pub record Wanted (net : Net) (w : World) (x n c m : ℕ) : Type 0 where
+  pub live : Live
+  pub is : IsLive w x live
+  pub number : live.number ≡ n
+  pub by : ℕ
+  pub to : net.consumer c ≡ Option.Some by
+  pub image : Image
+  pub held : Holds (w.records by) x n image
+  pub one_of : (by ≡ x) ⊎ (live.takes by ≡ true)
+  pub received : m ≡ image.received c
+
+abbrev pub AsksForNeeds : Type 0
+AsksForNeeds = (net : Net) (w : World) (x n c m : ℕ) → Reachable net w → MaySend net w (Ask x n c m) → Wanted net w x n c m
+
+-- the Ask that made node p take an image of another's instance: p's permanent image hadn't put so many, and its new one has
+pub record Needed (net : Net) (w v : World) (p x n : ℕ) (i : Image) : Type 0 where
+  pub channel : ℕ
+  pub count : ℕ
+  pub to : ℕ
+  pub cross : IsCross net channel p to
+  pub asked : InFlight w (Ask x n channel count)
+  pub above : (w.records p).permanent.sent channel < count
+  pub within : count ≤ i.sent channel
+  pub wanted : (live : Live) → IsLive w x live → live.number ≡ n → Wanted net w x n channel count
+
+abbrev pub TakesWhereNeeded : Type 0
+TakesWhereNeeded = (net : Net) (w v : World) (p x n : ℕ) (i : Image) → Reachable net w → Step net w v → p ≢ x
+    → Holds (v.records p) x n i → Holds (w.records p) x n i ⊎ Needed net w v p x n i
