@@ -1,2 +1,17 @@
 pub mod Basics
 pub mod OneNode
+pub mod Grows
+pub mod Quiet
+pub mod Frames
+pub mod Going
+pub mod Settling
+pub mod Taking
+pub mod Confirming
+pub mod Deciding
+pub mod Hearing
+pub mod Sending
+pub mod OneHears
+pub mod Logs
+pub mod Stepping
+pub mod Moving
+pub mod Theorems

@@ -1,9 +1,10 @@
 -- What one node keeps in each of the steps that it makes by itself.
 use Rattle.std.proofs.Common.{◌≡◌, ◌⊎◌, inl, inr, ℕ, ◌<◌, ◌≤◌, true, Option, Some, None, List, [], ◌∷◌, refl, sym, ap, ◌∙◌, subst, arith}
+use Rattle.std.specs.Prelude.{◌≢◌}
 use Rattle.protocol.specs.Images.{Image, AtMost, Net, IsLocal, IsOutput}
 use Rattle.protocol.specs.Records.{Holds}
 use Rattle.protocol.specs.Moves.{Takes, Drops}
-use Rattle.protocol.specs.Nodes.{Live, Mode, Running, current_of, live_of, Node, SameRecord, Works, Trims, Unneeded, Got, Released, Releases, NodeStep, Work, Trim, Release, Roll_back, Crash, Restore, Forget, Doubt, Start, Give_up, Conclude}
+use Rattle.protocol.specs.Nodes.{Live, Mode, Running, current_of, live_of, Node, SameRecord, Works, Trims, Unneeded, Got, Released, Releases, Forgets, Starts, GivesUp, Concludes, NodeStep, Work, Trim, Release, Roll_back, Crash, Restore, Forget, Doubt, Start, Give_up, Conclude}
 use Rattle.protocol.specs.Worlds.{Alone}
 use Rattle.protocol.specs.Invariant.{IsImageOf, Permanent, Held, Current, NodeOk}
 use Rattle.protocol.specs.Laws.{PermanentOk}
@@ -204,6 +205,12 @@ pub record ImageGoes (k : ℕ) (a b : Node) (x n : ℕ) (image : Image) : Type 0
   pub current : (j : Image) → current_of b.mode ≡ Some j → (current_of a.mode ≡ Some j) ⊎ (j ≡ a.record_of.permanent)
   pub none_live : (live : Live) → live_of b.mode ≡ Some live → ⊥
 
+-- each image of b was one of a
+pub image_was_there : (k : ℕ) (a b : Node) (x n : ℕ) (image : Image) → ImageGoes k a b x n image → (i : Image) → IsImageOf b i → IsImageOf a i
+image_was_there k a b x n image s i (Permanent same) = Permanent (sym s.drops.permanent ∙ same)
+image_was_there k a b x n image s i (Held y m held) = absurd (some_not_none s.drops.free held)
+image_was_there k a b x n image s i (Current now) = elim (s.current i now) [ inl old ↦ Current old | inr is ↦ Permanent (sym is) ]
+
 pub image_goes_ok : (net : Net) (k : ℕ) (a b : Node) (x n : ℕ) (image : Image) → NodeOk net k a → ImageGoes k a b x n image → NodeOk net k b
 image_goes_ok net k a b x n image ok s = record {
   tentative = λ y m i held. absurd (some_not_none s.drops.free held);
@@ -212,15 +219,10 @@ image_goes_ok net k a b x n image ok s = record {
   used = rw (s.drops.highest, s.drops.decided) ok.used;
   older = λ m j i held now. absurd (some_not_none s.drops.free held);
   own = λ live now. absurd (s.none_live live now);
-  local = λ c i is image_of. ok.local c i is (was i image_of);
-  output = λ c i is image_of. rw (s.outlets) (ok.output c i is (was i image_of));
+  local = λ c i is image_of. ok.local c i is (image_was_there k a b x n image s i image_of);
+  output = λ c i is image_of. rw (s.outlets) (ok.output c i is (image_was_there k a b x n image s i image_of));
   covered = λ c is. rw (s.outlets, s.drops.permanent) (ok.covered c is);
 }
-  where
-    was : (i : Image) → IsImageOf b i → IsImageOf a i
-    was i (Permanent same) = Permanent (sym s.drops.permanent ∙ same)
-    was i (Held y m held) = absurd (some_not_none s.drops.free held)
-    was i (Current now) = elim (s.current i now) [ inl old ↦ Current old | inr is ↦ Permanent (sym is) ]
 
 -- the tentative image becomes permanent
 pub record BecomesPermanent (k : ℕ) (a b : Node) (x n : ℕ) (image : Image) : Type 0 where
@@ -233,6 +235,12 @@ pub record BecomesPermanent (k : ℕ) (a b : Node) (x n : ℕ) (image : Image) :
   pub current : (j : Image) → current_of b.mode ≡ Some j → (current_of a.mode ≡ Some j) ⊎ (j ≡ image)
   pub none_live : (live : Live) → live_of b.mode ≡ Some live → ⊥
 
+-- each image of b was one of a
+pub permanent_was_there : (k : ℕ) (a b : Node) (x n : ℕ) (image : Image) → BecomesPermanent k a b x n image → (i : Image) → IsImageOf b i → IsImageOf a i
+permanent_was_there k a b x n image s i (Permanent same) = let e = sym s.permanent ∙ same in Held x n (rw (← e) s.held)
+permanent_was_there k a b x n image s i (Held y m held) = absurd (some_not_none s.free held)
+permanent_was_there k a b x n image s i (Current now) = elim (s.current i now) [ inl old ↦ Current old | inr is ↦ Held x n (rw is s.held) ]
+
 pub becomes_permanent_ok : (net : Net) (k : ℕ) (a b : Node) (x n : ℕ) (image : Image) → NodeOk net k a → BecomesPermanent k a b x n image → NodeOk net k b
 becomes_permanent_ok net k a b x n image ok s = record {
   tentative = λ y m i held. absurd (some_not_none s.free held);
@@ -241,15 +249,10 @@ becomes_permanent_ok net k a b x n image ok s = record {
   used = λ m now. rw (s.highest) (s.decided m now);
   older = λ m j i held now. absurd (some_not_none s.free held);
   own = λ live now. absurd (s.none_live live now);
-  local = λ c i is image_of. ok.local c i is (was i image_of);
-  output = λ c i is image_of. rw (s.outlets) (ok.output c i is (was i image_of));
+  local = λ c i is image_of. ok.local c i is (permanent_was_there k a b x n image s i image_of);
+  output = λ c i is image_of. rw (s.outlets) (ok.output c i is (permanent_was_there k a b x n image s i image_of));
   covered = λ c is. rw (s.outlets, s.permanent) (let one = ok.covered c is in let two = ((ok.tentative x n image s.held).1 c).2 in omega arith);
 }
-  where
-    was : (i : Image) → IsImageOf b i → IsImageOf a i
-    was i (Permanent same) = let e = sym s.permanent ∙ same in Held x n (rw (← e) s.held)
-    was i (Held y m held) = absurd (some_not_none s.free held)
-    was i (Current now) = elim (s.current i now) [ inl old ↦ Current old | inr is ↦ Held x n (rw is s.held) ]
 
 -- the current image becomes a tentative one
 pub record CurrentIsTaken (k : ℕ) (a b : Node) (x n : ℕ) (image : Image) : Type 0 where
@@ -259,6 +262,12 @@ pub record CurrentIsTaken (k : ℕ) (a b : Node) (x n : ℕ) (image : Image) : T
   pub outlets : b.outlets ≡ a.outlets
   pub own : (live : Live) → live_of b.mode ≡ Some live → (i : Image) × Holds b.record_of k live.number i
 
+-- each image of b was one of a
+pub taken_was_there : (k : ℕ) (a b : Node) (x n : ℕ) (image : Image) → CurrentIsTaken k a b x n image → (i : Image) → IsImageOf b i → IsImageOf a i
+taken_was_there k a b x n image s i (Permanent same) = Permanent (sym s.takes.permanent ∙ same)
+taken_was_there k a b x n image s i (Held y m held) = Current (rw (same_image b.record_of y m x n i image held s.takes.holds) s.running)
+taken_was_there k a b x n image s i (Current now) = Current (rw (one_inside now s.still) s.running)
+
 pub current_is_taken_ok : (net : Net) (k : ℕ) (a b : Node) (x n : ℕ) (image : Image) → NodeOk net k a → CurrentIsTaken k a b x n image → NodeOk net k b
 current_is_taken_ok net k a b x n image ok s = record {
   tentative = λ y m i held. let of = held_now y m i held in rw (of.0, of.1, of.2, s.takes.permanent) (s.takes.highest, ok.current image s.running);
@@ -267,8 +276,8 @@ current_is_taken_ok net k a b x n image ok s = record {
   used = λ m now. let one = ok.used m (rw (s.takes.decided) at now) in let two = highest_grows k in omega arith;
   older = λ m j i held now. older m j (held_now k m i held).0 (held_now k m i held).1 (rw (s.takes.decided) at now);
   own = s.own;
-  local = λ c i is image_of. ok.local c i is (was i image_of);
-  output = λ c i is image_of. rw (s.outlets) (ok.output c i is (was i image_of));
+  local = λ c i is image_of. ok.local c i is (taken_was_there k a b x n image s i image_of);
+  output = λ c i is image_of. rw (s.outlets) (ok.output c i is (taken_was_there k a b x n image s i image_of));
   covered = λ c is. rw (s.outlets, s.takes.permanent) (ok.covered c is);
 }
   where
@@ -284,43 +293,38 @@ current_is_taken_ok net k a b x n image ok s = record {
     older : (m j : ℕ) → k ≡ x → m ≡ n → a.record_of.decided j ≡ true → j < m
     older m j own is now = let one = ok.used j now in let two : a.record_of.highest k < n = rw own s.takes.new in omega arith
 
-    was : (i : Image) → IsImageOf b i → IsImageOf a i
-    was i (Permanent same) = Permanent (sym s.takes.permanent ∙ same)
-    was i (Held y m held) = Current (rw ((held_now y m i held).2) s.running)
-    was i (Current now) = Current (rw (one_inside now s.still) s.running)
-
 no_live_in : (m : Mode) (i : Image) → m ≡ Running i None → (live : Live) → live_of m ≡ Some live → ⊥
 no_live_in m i now live is = some_not_none refl (live_is m i None live now is)
 
--- each step that a node makes by itself
-pub node_step_ok : (net : Net) (k : ℕ) (a b : Node) → NodeOk net k a → NodeStep net k a b → NodeOk net k b
-node_step_ok net k a b ok (Work before later live s) = works_ok net k a b before later live ok s
-node_step_ok net k a b ok (Trim c to before later live bound s) = trims_ok net k a b c to before later live ok s (unneeded_local net k a before c to bound) (unneeded_output net k a before c to bound)
-node_step_ok net k a b ok (Release c current live s) = releases_ok net k a b c current live ok s
-node_step_ok net k a b ok (Roll_back current live s) = restores_ok net k a b ok s.same s.free s.now
-node_step_ok net k a b ok (Crash s) = stops_ok net k a b ok s.same (ap current_of s.now) (ap live_of s.now)
-node_step_ok net k a b ok (Restore s) = restores_ok net k a b ok s.same s.free s.now
-node_step_ok net k a b ok (Forget x n image s) = image_goes_ok net k a b x n image ok (record {
+-- the four steps that write a record, each as its kind
+
+pub forget_goes : (k : ℕ) (a b : Node) (x n : ℕ) (image : Image) → Forgets k a b x n image → ImageGoes k a b x n image
+forget_goes k a b x n image s = record {
   drops = s.drops;
   outlets = s.outlets;
   current = λ j is. inr (current_is b.mode a.record_of.permanent j None s.now is);
   none_live = no_live_in b.mode a.record_of.permanent s.now;
-})
-node_step_ok net k a b ok (Doubt x n image s) = stops_ok net k a b ok s.same (ap current_of s.now) (ap live_of s.now)
-node_step_ok net k a b ok (Start current live s) = current_is_taken_ok net k a b k live.number current ok (record {
+}
+
+pub give_up_goes : (k : ℕ) (a b : Node) (current image : Image) (live : Live) → GivesUp k a b current image live → ImageGoes k a b k live.number image
+give_up_goes k a b current image live s = record {
+  drops = s.drops;
+  outlets = s.outlets;
+  current = λ j is. inl (ap current_of s.was ∙ sym (ap current_of s.now) ∙ is);
+  none_live = no_live_in b.mode current s.now;
+}
+
+pub start_takes : (net : Net) (k : ℕ) (a b : Node) (current : Image) (live : Live) → Starts net k a b current live → CurrentIsTaken k a b k live.number current
+start_takes net k a b current live s = record {
   takes = s.takes;
   running = ap current_of s.was;
   still = ap current_of s.now;
   outlets = s.outlets;
   own = λ l is. let e = one_inside is (ap live_of s.now) in (current, rw e s.takes.holds);
-})
-node_step_ok net k a b ok (Give_up current image live s) = image_goes_ok net k a b k live.number image ok (record {
-  drops = s.drops;
-  outlets = s.outlets;
-  current = λ j is. inl (ap current_of s.was ∙ sym (ap current_of s.now) ∙ is);
-  none_live = no_live_in b.mode current s.now;
-})
-node_step_ok net k a b ok (Conclude current image live s) = becomes_permanent_ok net k a b k live.number image ok (record {
+}
+
+pub conclude_permanent : (net : Net) (k : ℕ) (a b : Node) (current image : Image) (live : Live) → NodeOk net k a → Concludes k a b current image live → BecomesPermanent k a b k live.number image
+conclude_permanent net k a b current image live ok s = record {
   held = s.decides.held;
   permanent = s.decides.permanent;
   free = s.decides.free;
@@ -332,7 +336,21 @@ node_step_ok net k a b ok (Conclude current image live s) = becomes_permanent_ok
   outlets = s.outlets;
   current = λ j is. inl (ap current_of s.was ∙ sym (ap current_of s.now) ∙ is);
   none_live = no_live_in b.mode current s.now;
-})
+}
+
+-- each step that a node makes by itself
+pub node_step_ok : (net : Net) (k : ℕ) (a b : Node) → NodeOk net k a → NodeStep net k a b → NodeOk net k b
+node_step_ok net k a b ok (Work before later live s) = works_ok net k a b before later live ok s
+node_step_ok net k a b ok (Trim c to before later live bound s) = trims_ok net k a b c to before later live ok s (unneeded_local net k a before c to bound) (unneeded_output net k a before c to bound)
+node_step_ok net k a b ok (Release c current live s) = releases_ok net k a b c current live ok s
+node_step_ok net k a b ok (Roll_back current live s) = restores_ok net k a b ok s.same s.free s.now
+node_step_ok net k a b ok (Crash s) = stops_ok net k a b ok s.same (ap current_of s.now) (ap live_of s.now)
+node_step_ok net k a b ok (Restore s) = restores_ok net k a b ok s.same s.free s.now
+node_step_ok net k a b ok (Forget x n image s) = image_goes_ok net k a b x n image ok (forget_goes k a b x n image s)
+node_step_ok net k a b ok (Doubt x n image s) = stops_ok net k a b ok s.same (ap current_of s.now) (ap live_of s.now)
+node_step_ok net k a b ok (Start current live s) = current_is_taken_ok net k a b k live.number current ok (start_takes net k a b current live s)
+node_step_ok net k a b ok (Give_up current image live s) = image_goes_ok net k a b k live.number image ok (give_up_goes k a b current image live s)
+node_step_ok net k a b ok (Conclude current image live s) = becomes_permanent_ok net k a b k live.number image ok (conclude_permanent net k a b current image live ok s)
 
 -- the permanent image and the outlets only grow
 pub node_step_grows : (net : Net) (k : ℕ) (a b : Node) → NodeOk net k a → NodeStep net k a b → AtMost a.record_of.permanent b.record_of.permanent × ((c : ℕ) → a.outlets c ≤ b.outlets c)
@@ -353,6 +371,23 @@ node_step_grows net k a b ok (Doubt x n image s) = rw (s.same.record_of, s.same.
 node_step_grows net k a b ok (Start current live s) = rw (s.takes.permanent, s.outlets) (at_most_itself a.record_of.permanent, λ c. omega arith)
 node_step_grows net k a b ok (Give_up current image live s) = rw (s.drops.permanent, s.outlets) (at_most_itself a.record_of.permanent, λ c. omega arith)
 node_step_grows net k a b ok (Conclude current image live s) = rw (s.decides.permanent, s.outlets) ((ok.tentative k live.number image s.decides.held).1, λ c. omega arith)
+
+-- and no other node's outlet changes
+pub node_step_outlets : (net : Net) (k : ℕ) (a b : Node) → NodeStep net k a b → (c j : ℕ) → j ≢ k → IsOutput net c j → b.outlets c ≡ a.outlets c
+node_step_outlets net k a b (Work before later live s) c j other is = ap (λ (f : ℕ → ℕ). f c) s.same.outlets
+node_step_outlets net k a b (Trim d to before later live bound s) c j other is = ap (λ (f : ℕ → ℕ). f c) s.same.outlets
+node_step_outlets net k a b (Release d current live s) c j other is = elim (same_or_other c d) [
+  | inl this ↦ absurd (other (one_inside (rw this at is.from) s.output.from))
+  | inr differs ↦ s.others c differs
+]
+node_step_outlets net k a b (Roll_back current live s) c j other is = ap (λ (f : ℕ → ℕ). f c) s.same.outlets
+node_step_outlets net k a b (Crash s) c j other is = ap (λ (f : ℕ → ℕ). f c) s.same.outlets
+node_step_outlets net k a b (Restore s) c j other is = ap (λ (f : ℕ → ℕ). f c) s.same.outlets
+node_step_outlets net k a b (Forget x n image s) c j other is = ap (λ (f : ℕ → ℕ). f c) s.outlets
+node_step_outlets net k a b (Doubt x n image s) c j other is = ap (λ (f : ℕ → ℕ). f c) s.same.outlets
+node_step_outlets net k a b (Start current live s) c j other is = ap (λ (f : ℕ → ℕ). f c) s.outlets
+node_step_outlets net k a b (Give_up current image live s) c j other is = ap (λ (f : ℕ → ℕ). f c) s.outlets
+node_step_outlets net k a b (Conclude current image live s) c j other is = ap (λ (f : ℕ → ℕ). f c) s.outlets
 
 pub node_stays_ok : (net : Net) (k : ℕ) (a b : Node) (nodes : List Node) → NodeOk net k a → Alone net k a nodes b → NodeOk net k b
 node_stays_ok net k a b [] ok same = rw (← same) ok

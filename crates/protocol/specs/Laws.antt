@@ -105,10 +105,17 @@ OverStaysOut = (net : Net) (w v : World) (k : ℕ) → Reachable net w → Step 
     → ((v.records k).permanent ≡ (w.records k).permanent)
     ⊎ ((x : ℕ) × (n : ℕ) × Holds (w.records k) x n (v.records k).permanent × (Over w x n → ⊥))
 
--- Of an instance for which answers are collected: in the line in which its initiator takes its image, and of the takers a part that leaves one out, there is an orphan.
+-- While its initiator collects answers for an instance: in the line in which the initiator takes its image,
+-- and of the takers a part that leaves one out, there is an orphan.
 abbrev pub NoSmallerSet : Type 0
 NoSmallerSet = (net : Net) (w : World) (x p : ℕ) (live : Live) (part : ℕ → Bool) → Reachable net w → IsLive w x live
     → part x ≡ true → live.takes p ≡ true → part p ≡ false → NoOrphan net (line_with w.records part) → ⊥
+
+-- So it is when it decides, with those whom its decision names.
+abbrev pub NoSmallerDecision : Type 0
+NoSmallerDecision = (net : Net) (w v : World) (x n p : ℕ) (part : ℕ → Bool) → Reachable net w → Step net w v
+    → (w.records x).decided n ≡ false → (v.records x).decided n ≡ true → (v.records x).named n p ≡ true
+    → part x ≡ true → part p ≡ false → NoOrphan net (line_with w.records part) → ⊥
 
 -- While the instance is live, its initiator or one of its takers received this many items of the channel in its tentative image.
 pub record Wanted (net : Net) (w : World) (x n c m : ℕ) : Type 0 where
@@ -122,8 +129,17 @@ pub record Wanted (net : Net) (w : World) (x n c m : ℕ) : Type 0 where
   pub one_of : (by ≡ x) ⊎ (live.takes by ≡ true)
   pub received : m ≡ image.received c
 
+-- so it was at some world on the way
+pub record WantedBefore (net : Net) (w : World) (x n c m : ℕ) : Type 0 where
+  pub world : World
+  pub reached : Reachable net world
+  pub worlds : List World
+  pub since : Run net world worlds w
+  pub wanted : Wanted net world x n c m
+
+-- whatever is asked for was received by an image of the instance
 abbrev pub AsksForNeeds : Type 0
-AsksForNeeds = (net : Net) (w : World) (x n c m : ℕ) → Reachable net w → MaySend net w (Ask x n c m) → Wanted net w x n c m
+AsksForNeeds = (net : Net) (w : World) (x n c m : ℕ) → Reachable net w → InFlight w (Ask x n c m) → WantedBefore net w x n c m
 
 -- the Ask that made node p take an image of another's instance: p's permanent image hadn't put so many, and its new one has
 pub record Needed (net : Net) (w v : World) (p x n : ℕ) (i : Image) : Type 0 where
@@ -136,6 +152,7 @@ pub record Needed (net : Net) (w v : World) (p x n : ℕ) (i : Image) : Type 0 w
   pub within : count ≤ i.sent channel
   pub wanted : (live : Live) → IsLive w x live → live.number ≡ n → Wanted net w x n channel count
 
+-- a node takes an image of another's instance only where that one is needed
 abbrev pub TakesWhereNeeded : Type 0
 TakesWhereNeeded = (net : Net) (w v : World) (p x n : ℕ) (i : Image) → Reachable net w → Step net w v → p ≢ x
     → Holds (v.records p) x n i → Holds (w.records p) x n i ⊎ Needed net w v p x n i

@@ -2,5 +2,9 @@
 #![tactic(auto)]
 
 mod one_node;
+mod runs;
+mod steps;
 
 pub use one_node::{node_law, node_line_law, node_opening_law, node_sound_law};
+pub use runs::every_run_law;
+pub use steps::{consistency_law, move_law, packet_law};

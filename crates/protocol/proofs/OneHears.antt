@@ -1,0 +1,98 @@
+-- What one node keeps when a packet comes to it.
+use Rattle.std.proofs.Common.{◌≡◌, ◌⊎◌, inl, inr, ℕ, true, Some, refl, sym, ap, ◌∙◌}
+use Rattle.std.specs.Prelude.{◌≢◌}
+use Rattle.protocol.specs.Images.{Image, Net}
+use Rattle.protocol.specs.Records.{Holds}
+use Rattle.protocol.specs.Nodes.{Live, Mode, Down, In_doubt, Running, current_of, live_of, Node, SameRecord}
+use Rattle.protocol.specs.Packets.{Packet, Kept, Ask, Took, Covered, Query, Commit, Ended, Settled, after_verdict, HearsAsk, HearsCommit, HearsEnded, HearsSettled, Hears}
+use Rattle.protocol.specs.Invariant.{IsImageOf, Permanent, Held, Current, NodeOk}
+use Rattle.protocol.proofs.Basics.{same_or_other, some_not_none, one_inside, same_initiator}
+use Rattle.protocol.proofs.OneNode.{images_stay_ok, trims_ok, ImageGoes, image_goes_ok, BecomesPermanent, becomes_permanent_ok, CurrentIsTaken, current_is_taken_ok}
+
+-- a verdict starts nothing, and a node that was in doubt then runs on its permanent image
+pub live_after : (m : Mode) (i : Image) (live : Live) → live_of (after_verdict m i) ≡ Some live → live_of m ≡ Some live
+live_after Down i live is = absurd (some_not_none refl is)
+live_after In_doubt i live is = absurd (some_not_none refl is)
+live_after (Running current o) i live is = is
+
+pub current_after : (m : Mode) (i j : Image) → current_of (after_verdict m i) ≡ Some j → (current_of m ≡ Some j) ⊎ (j ≡ i)
+current_after Down i j is = absurd (some_not_none refl is)
+current_after In_doubt i j is = inr (one_inside is refl)
+current_after (Running current o) i j is = inl is
+
+-- a node that holds another's image has nothing live
+pub none_live : (net : Net) (k : ℕ) (a : Node) (x n : ℕ) (i : Image) → NodeOk net k a → k ≢ x → Holds a.record_of x n i → (live : Live) → live_of a.mode ≡ Some live → ⊥
+none_live net k a x n i ok other held live is = let own = ok.own live is in other (same_initiator a.record_of k live.number x n own.0 i own.1 held)
+
+pub commit_permanent : (net : Net) (k : ℕ) (a b : Node) (x n : ℕ) → NodeOk net k a → (s : HearsCommit k a b x n) → BecomesPermanent k a b x n s.image
+commit_permanent net k a b x n ok s = record {
+  held = s.settles.held;
+  permanent = s.settles.permanent;
+  free = s.settles.free;
+  highest = s.settles.highest;
+  decided = λ m now. ok.used m (rw (s.settles.decided) at now);
+  outlets = s.outlets;
+  current = λ j now. elim (current_after a.mode b.record_of.permanent j (rw (s.mode) at now)) [ inl old ↦ inl old | inr is ↦ inr (is ∙ s.settles.permanent) ];
+  none_live = λ live now. none_live net k a x n s.image ok s.other s.settles.held live (live_after a.mode b.record_of.permanent live (rw (s.mode) at now));
+}
+
+pub ended_goes : (net : Net) (k : ℕ) (a b : Node) (x n : ℕ) → NodeOk net k a → (s : HearsEnded k a b x n) → ImageGoes k a b x n s.image
+ended_goes net k a b x n ok s = record {
+  drops = s.drops;
+  outlets = s.outlets;
+  current = λ j now. elim (current_after a.mode b.record_of.permanent j (rw (s.mode) at now)) [ inl old ↦ inl old | inr is ↦ inr (is ∙ s.drops.permanent) ];
+  none_live = λ live now. none_live net k a x n s.image ok s.other s.drops.held live (live_after a.mode b.record_of.permanent live (rw (s.mode) at now));
+}
+
+pub ask_takes : (net : Net) (k : ℕ) (a b : Node) (x n c m : ℕ) → NodeOk net k a → (s : HearsAsk net k a b x n c m) → CurrentIsTaken k a b x n s.current
+ask_takes net k a b x n c m ok s = record {
+  takes = s.takes;
+  running = ap current_of s.running;
+  still = ap current_of s.mode ∙ ap current_of s.running;
+  outlets = s.outlets;
+  own = λ live now. let own = ok.own live (sym (ap live_of s.mode) ∙ now) in absurd (some_not_none s.takes.free own.1);
+}
+
+confirms_ok : (net : Net) (k : ℕ) (a b : Node) (p n : ℕ) → NodeOk net k a → HearsSettled a b p n → NodeOk net k b
+confirms_ok net k a b p n ok s = record {
+  tentative = λ x m i held. rw (s.confirms.highest, s.confirms.permanent) (ok.tentative x m i (sym s.confirms.tentative ∙ held));
+  current = λ i now. rw (s.confirms.permanent) (ok.current i (sym (ap current_of s.mode) ∙ now));
+  latest = λ x m i j held now. ok.latest x m i j (sym s.confirms.tentative ∙ held) (sym (ap current_of s.mode) ∙ now);
+  used = λ m now. rw (s.confirms.highest) (ok.used m (before m now));
+  older = λ m j i held now. ok.older m j i (sym s.confirms.tentative ∙ held) (before j now);
+  own = λ live now. let own = ok.own live (sym (ap live_of s.mode) ∙ now) in (own.0, s.confirms.tentative ∙ own.1);
+  local = λ c i is image. ok.local c i is (was i image);
+  output = λ c i is image. rw (s.outlets) (ok.output c i is (was i image));
+  covered = λ c is. rw (s.outlets, s.confirms.permanent) (ok.covered c is);
+}
+  where
+    before : (m : ℕ) → b.record_of.decided m ≡ true → a.record_of.decided m ≡ true
+    before m now = elim (same_or_other m n) [ inl this ↦ rw this (s.confirms.less (rw this at now)) | inr other ↦ sym (s.confirms.others m other).0 ∙ now ]
+
+    was : (i : Image) → IsImageOf b i → IsImageOf a i
+    was i (Permanent same) = Permanent (sym s.confirms.permanent ∙ same)
+    was i (Held x m held) = Held x m (sym s.confirms.tentative ∙ held)
+    was i (Current now) = Current (sym (ap current_of s.mode) ∙ now)
+
+-- the live instance has another state, and its number
+answer_ok : (net : Net) (k : ℕ) (a b : Node) (current : Image) (before later : Live) → NodeOk net k a → SameRecord a b → a.mode ≡ Running current (Some before) → b.mode ≡ Running current (Some later)
+    → later.number ≡ before.number → NodeOk net k b
+answer_ok net k a b current before later ok same was now number = images_stay_ok net k a b ok same (ap current_of now ∙ sym (ap current_of was)) own
+  where
+    own : (live : Live) → live_of b.mode ≡ Some live → (i : Image) × Holds a.record_of k live.number i
+    own live is =
+        let this : live ≡ later = one_inside is (ap live_of now) in
+        let old = ok.own before (ap live_of was) in
+        (old.0, rw (this, number) old.1)
+
+pub hears_ok : (net : Net) (k : ℕ) (packet : Packet) (a b : Node) → NodeOk net k a → Hears net k packet a b → NodeOk net k b
+hears_ok net k (Kept c m) a b ok s = trims_ok net k a b c m s.before s.later s.live ok s.trims
+    (λ is. absurd (s.cross.apart (one_inside is.to s.cross.to)))
+    (λ is. absurd (some_not_none is.to s.cross.to))
+hears_ok net k (Ask x n c m) a b ok s = current_is_taken_ok net k a b x n s.current ok (ask_takes net k a b x n c m ok s)
+hears_ok net k (Took x n c m needs) a b ok s = answer_ok net k a b s.1.current s.1.before s.1.later ok s.1.same s.1.was s.1.now s.1.number_same
+hears_ok net k (Covered x n c m) a b ok s = answer_ok net k a b s.1.current s.1.before s.1.later ok s.1.same s.1.was s.1.now s.1.number_same
+hears_ok net k (Query p x n) a b ok s = absurd s
+hears_ok net k (Commit x p n) a b ok s = becomes_permanent_ok net k a b x n s.1.image ok (commit_permanent net k a b x n ok s.1)
+hears_ok net k (Ended x p n) a b ok s = image_goes_ok net k a b x n s.1.image ok (ended_goes net k a b x n ok s.1)
+hears_ok net k (Settled p x n) a b ok s = confirms_ok net k a b p n ok s.1

@@ -1,0 +1,23 @@
+//! Laws of each step.
+
+ghost use Rattle.protocol.specs.Laws.{Opens, StaysConsistent, IsConsistent, IsTrueWhenSent};
+ghost use Rattle.protocol.specs.Laws.{StaysTrue, MovesAtMostOnce};
+
+/// The opening world is consistent, each step keeps it so, and with it every run.
+pub fn consistency_law()
+    ensures opening { Opens }
+    ensures step { StaysConsistent }
+    ensures run { IsConsistent }
+{}
+
+/// What a packet says is true when it is sent, and stays true whatever comes later, so that it may be
+/// lost, repeated, delayed or overtaken.
+pub fn packet_law()
+    ensures sent { IsTrueWhenSent }
+    ensures later { StaysTrue }
+{}
+
+/// A step writes at most one node's record, by one move, and not where it appends to an outlet.
+pub fn move_law()
+    ensures { MovesAtMostOnce }
+{}
