@@ -55,7 +55,7 @@ live_stays net w v x own live on ok = record {
       let was = on.none_new p i other held in
       let ask = ok.holders p i other was in
       record { channel = ask.channel; to = ask.to; count = ask.count; answer = ask.answer; cross = ask.cross; asked = ask.asked; above = rw ((on.holders p i was).1) ask.above };
-  witnessed = λ c m answer asked. let was = ok.witnessed c m answer asked in (was.0, was.1, was.2, was.3, was.4, (on.holders was.1 was.2 was.5).0, was.6);
+  witnessed = λ c m answer asked. let was = ok.witnessed c m answer asked in (was.0, was.1, was.2, was.3, was.4, (on.holders was.1 was.2 was.5).0, was.6, was.7);
   needed = λ p takes. let held = (ok.takers p takes).1 in need_stays net w v x live p held.0 on held.1 (ok.needed p takes);
 }
 

@@ -7,7 +7,7 @@ use Rattle.protocol.specs.Nodes.{Answer, Live}
 use Rattle.protocol.specs.Packets.{Packet, Kept, Ask, Took, Covered, Query, Commit, Ended, Settled}
 use Rattle.protocol.specs.Worlds.{World, IsLive}
 use Rattle.protocol.specs.Line.{NotBehind, Over}
-use Rattle.protocol.specs.Invariant.{AskSays, TookWhileLive, TookSays, CommitSays, SettledSays, Says}
+use Rattle.protocol.specs.Invariant.{AskSays, CoveredSays, TookWhileLive, TookSays, CommitSays, SettledSays, Says}
 use Rattle.protocol.specs.Laws.{Needed}
 use Rattle.protocol.proofs.Basics.{false_true, either}
 
@@ -74,10 +74,20 @@ ask_stays net w v g x n c m p q cross says = record {
     closed (inl before) = rises (says.closed before)
     closed (inr now) = let ask = says.asked now.live now.is now.number in rises (now.met c p q m ask.0 cross ask.1)
 
+covered_stays : (net : Net) (w v : World) → Grows net w v → (x n c m p : ℕ) → CoveredSays w x n c m p → CoveredSays v x n c m p
+covered_stays net w v g x n c m p says = record {
+  used = let one = says.used in let two = g.highest x x in omega arith;
+  asked = λ live is number. still live number (g.live x live is);
+  put = let one = says.put in let two = (g.permanent p c).2 in omega arith;
+}
+  where
+    still : (live : Live) → live.number ≡ n → StillLive w v x live ⊎ ((w.records x).highest x < live.number) → (answer : Answer) × (live.asks c ≡ Some (m, answer))
+    still live number (inl old) = let was = says.asked old.live old.is (old.number ∙ number) in old.asks c m was.0 was.1
+    still live number (inr new) = let one = says.used in absurd (omega arith)
+
 took_stays : (net : Net) (w v : World) → ((p x : ℕ) → (w.records p).highest x ≤ (w.records x).highest x) → Grows net w v
     → (x n c m p : ℕ) (needs : ℕ → Option ℕ) → TookSays net w x n c m p needs → TookSays net v x n c m p needs
 took_stays net w v used g x n c m p needs says = record {
-  other = says.other;
   seen = let one = says.seen in let two = g.highest p x in omega arith;
   while_live = λ live is number. still live number (g.live x live is);
 }
@@ -87,8 +97,9 @@ took_stays net w v used g x n c m p needs says = record {
     still live number (inl old) =
         let was = says.while_live old.live old.is (old.number ∙ number) in
         let ask = old.asks c m was.answer was.asked in
-        let on = old.holders p was.image says.other (subst (λ (j : ℕ). Holds (w.records p) x j was.image) (sym number) was.held) in
+        let on = old.holders p was.image was.other (subst (λ (j : ℕ). Holds (w.records p) x j was.image) (sym number) was.held) in
         record {
+          other = was.other;
           answer = ask.0;
           asked = ask.1;
           image = was.image;
@@ -141,7 +152,7 @@ pub stays_true : (net : Net) (w v : World) → ((p x : ℕ) → (w.records p).hi
 stays_true net w v used g (Kept c m) says = λ p q cross. let one = says p q cross in let two = (g.permanent q c).0 in omega arith
 stays_true net w v used g (Ask x n c m) says = λ p q cross. ask_stays net w v g x n c m p q cross (says p q cross)
 stays_true net w v used g (Took x n c m needs) says = λ p q cross. took_stays net w v used g x n c m p needs (says p q cross)
-stays_true net w v used g (Covered x n c m) says = λ p q cross. let one = says p q cross in let two = (g.permanent p c).2 in omega arith
+stays_true net w v used g (Covered x n c m) says = λ p q cross. covered_stays net w v g x n c m p (says p q cross)
 stays_true net w v used g (Query p x n) says = let one = g.highest p x in omega arith
 stays_true net w v used g (Commit x p n) says = commit_stays net w v g x p n says
 stays_true net w v used g (Ended x p n) says = over_stays net w v g x n says

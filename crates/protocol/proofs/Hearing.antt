@@ -10,24 +10,24 @@ use Rattle.protocol.specs.Invariant.{NeedOf, LiveOk, TookWhileLive}
 use Rattle.protocol.proofs.Basics.{same_or_other, one_inside, same_image}
 
 -- the question on this channel of which a count is known
-same_count : {o : Option (ℕ × Answer)} → (m j : ℕ) (one two : Answer) → o ≡ Some (m, one) → o ≡ Some (j, two) → m ≡ j
+pub same_count : {o : Option (ℕ × Answer)} → (m j : ℕ) (one two : Answer) → o ≡ Some (m, one) → o ≡ Some (j, two) → m ≡ j
 same_count m j one two first second = ap (λ (pair : ℕ × Answer). pair.0) (one_inside first second)
 
 same_answer : {o : Option (ℕ × Answer)} → (m j : ℕ) (one two : Answer) → o ≡ Some (m, one) → o ≡ Some (j, two) → one ≡ two
 same_answer m j one two first second = ap (λ (pair : ℕ × Answer). pair.1) (one_inside first second)
 
-module _ (net : Net) (w v : World) (k n c m : ℕ) (own : Image) (s : HearsCovered k (node_of w k) (node_of v k) n c m)
-    (put : (p q : ℕ) → IsCross net c p q → m ≤ (w.records p).permanent.sent c) (ok : LiveOk net w.records k own s.before) where
+module _ (net : Net) (w v : World) (k n c : ℕ) (own : Image) (s : HearsCovered (node_of w k) (node_of v k) n c)
+    (put : (p q : ℕ) → IsCross net c p q → s.count ≤ (w.records p).permanent.sent c) (ok : LiveOk net w.records k own s.before) where
   pub covered_asks : (d j : ℕ) (answer : Answer) → s.before.asks d ≡ Some (j, answer) → (next : Answer) × (s.later.asks d ≡ Some (j, next))
   covered_asks d j answer asked = elim (same_or_other d c) [
     | inr other ↦ (answer, s.others d other ∙ asked)
-    | inl this ↦ let count = same_count m j Awaited answer s.asked (rw this at asked) in (By_covered, rw (this, ← count) s.answered)
+    | inl this ↦ let count = same_count s.count j Awaited answer s.asked (rw this at asked) in (By_covered, rw (this, ← count) s.answered)
   ]
 
   asked_before : (d j : ℕ) (answer : Answer) → s.later.asks d ≡ Some (j, answer) → (first : Answer) × (s.before.asks d ≡ Some (j, first))
   asked_before d j answer asked = elim (same_or_other d c) [
     | inr other ↦ (answer, sym (s.others d other) ∙ asked)
-    | inl this ↦ let count = same_count m j By_covered answer s.answered (rw this at asked) in (Awaited, rw (this, ← count) s.asked)
+    | inl this ↦ let count = same_count s.count j By_covered answer s.answered (rw this at asked) in (Awaited, rw (this, ← count) s.asked)
   ]
 
   covered_one_of : (q : ℕ) → (q ≡ k) ⊎ (s.before.takes q ≡ true) → (q ≡ k) ⊎ (s.later.takes q ≡ true)
@@ -48,11 +48,11 @@ module _ (net : Net) (w v : World) (k n c m : ℕ) (own : Image) (s : HearsCover
       | inr ask ↦ inr (ask.0, covered_asks d (i.received d) ask.1.0 ask.1.1)
     ];
     took = λ d p q j cross asked. elim (same_or_other d c) [
-      | inl this ↦ let wrong = same_answer m j By_covered By_took s.answered (rw this at asked) in absurd (cc wrong)
+      | inl this ↦ let wrong = same_answer s.count j By_covered By_took s.answered (rw this at asked) in absurd (cc wrong)
       | inr other ↦ let was = ok.took d p q j cross (sym (s.others d other) ∙ asked) in (rw (s.takes) was.0, rw (s.number_same) was.1)
     ];
     covered = λ d p q j cross asked. elim (same_or_other d c) [
-      | inl this ↦ let count = same_count m j By_covered By_covered s.answered (rw this at asked) in let one = put p q (rw this at cross) in rw this (omega arith)
+      | inl this ↦ let count = same_count s.count j By_covered By_covered s.answered (rw this at asked) in let one = put p q (rw this at cross) in rw this (omega arith)
       | inr other ↦ ok.covered d p q j cross (sym (s.others d other) ∙ asked)
     ];
     holders = λ p i other held.
@@ -62,7 +62,7 @@ module _ (net : Net) (w v : World) (k n c m : ℕ) (own : Image) (s : HearsCover
     witnessed = λ d j answer asked.
         let first = asked_before d j answer asked in
         let was = ok.witnessed d j first.0 first.1 in
-        (was.0, was.1, was.2, was.3, covered_one_of was.1 was.4, covered_held was.1 was.2 was.5, was.6);
+        (was.0, was.1, was.2, was.3, covered_one_of was.1 was.4, covered_held was.1 was.2 was.5, was.6, was.7);
     needed = λ p takes. let need = ok.needed p (rw (s.takes) at takes) in record {
       channel = need.channel;
       by = need.by;
@@ -74,12 +74,12 @@ module _ (net : Net) (w v : World) (k n c m : ℕ) (own : Image) (s : HearsCover
     };
   }
 
-module _ (net : Net) (w v : World) (k n c m : ℕ) (needs : ℕ → Option ℕ) (own : Image) (s : HearsTook net k (node_of w k) (node_of v k) n c m needs)
-    (other : s.from ≢ k) (told : TookWhileLive net w k s.before.number c m s.from needs s.before) (ok : LiveOk net w.records k own s.before) where
+module _ (net : Net) (w v : World) (k n c : ℕ) (needs : ℕ → Option ℕ) (own : Image) (s : HearsTook net k (node_of w k) (node_of v k) n c needs)
+    (told : TookWhileLive net w k s.before.number c s.count s.from needs s.before) (ok : LiveOk net w.records k own s.before) where
   pub took_asks : (d j : ℕ) (answer : Answer) → s.before.asks d ≡ Some (j, answer) → (next : Answer) × (s.later.asks d ≡ Some (j, next))
   took_asks d j answer asked = elim (same_or_other d c) [
     | inr differs ↦ (answer, s.asks_kept d j answer differs asked)
-    | inl this ↦ let count = same_count m j s.asked.0 answer s.asked.1 (rw this at asked) in (By_took, rw (this, ← count) s.answered)
+    | inl this ↦ let count = same_count s.count j s.answer answer s.asked (rw this at asked) in (By_took, rw (this, ← count) s.answered)
   ]
 
   takes_still : (p : ℕ) → s.before.takes p ≡ true → s.later.takes p ≡ true
@@ -103,18 +103,18 @@ module _ (net : Net) (w v : World) (k n c m : ℕ) (needs : ℕ → Option ℕ) 
 
   -- each question is one from before, or a need of the new taker
   witnessed : (d j : ℕ) (answer : Answer) → s.later.asks d ≡ Some (j, answer)
-      → (p : ℕ) × (q : ℕ) × (i : Image) × IsCross net d p q × ((q ≡ k) ⊎ (s.later.takes q ≡ true)) × Holds (w.records q) k s.later.number i × (j ≡ i.received d)
+      → (p : ℕ) × (q : ℕ) × (i : Image) × IsCross net d p q × ((q ≡ k) ⊎ (s.later.takes q ≡ true)) × Holds (w.records q) k s.later.number i × (j ≡ i.received d) × (p ≢ k)
   witnessed d j answer asked = go (same_or_other d c)
     where
       old : (e l : ℕ) (first : Answer) → s.before.asks e ≡ Some (l, first)
-          → (p : ℕ) × (q : ℕ) × (i : Image) × IsCross net e p q × ((q ≡ k) ⊎ (s.later.takes q ≡ true)) × Holds (w.records q) k s.later.number i × (l ≡ i.received e)
-      old e l first was_asked = let was = ok.witnessed e l first was_asked in (was.0, was.1, was.2, was.3, one_of was.1 was.4, held_still was.1 was.2 was.5, was.6)
+          → (p : ℕ) × (q : ℕ) × (i : Image) × IsCross net e p q × ((q ≡ k) ⊎ (s.later.takes q ≡ true)) × Holds (w.records q) k s.later.number i × (l ≡ i.received e) × (p ≢ k)
+      old e l first was_asked = let was = ok.witnessed e l first was_asked in (was.0, was.1, was.2, was.3, one_of was.1 was.4, held_still was.1 was.2 was.5, was.6, was.7)
 
-      go : (d ≡ c) ⊎ (d ≢ c) → (p : ℕ) × (q : ℕ) × (i : Image) × IsCross net d p q × ((q ≡ k) ⊎ (s.later.takes q ≡ true)) × Holds (w.records q) k s.later.number i × (j ≡ i.received d)
-      go (inl this) = let count = same_count m j By_took answer s.answered (rw this at asked) in old d j s.asked.0 (rw (this, ← count) s.asked.1)
+      go : (d ≡ c) ⊎ (d ≢ c) → (p : ℕ) × (q : ℕ) × (i : Image) × IsCross net d p q × ((q ≡ k) ⊎ (s.later.takes q ≡ true)) × Holds (w.records q) k s.later.number i × (j ≡ i.received d) × (p ≢ k)
+      go (inl this) = let count = same_count s.count j By_took answer s.answered (rw this at asked) in old d j s.answer (rw (this, ← count) s.asked)
       go (inr differs) = elim (s.asks_new d j answer differs asked) [
         | inl before ↦ old d j answer before
-        | inr new ↦ let need = told.needs_of.only d j new.0 in (need.0, s.from, told.image, need.1, inr s.takes, held_still s.from told.image told.held, need.2)
+        | inr new ↦ let need = told.needs_of.only d j new.0 in (need.0, s.from, told.image, need.1, inr s.takes, held_still s.from told.image told.held, need.2, λ is. new.2 (need.1.from ∙ ap Some is))
       ]
 
   -- a need of the new taker is asked for with its own count
@@ -154,7 +154,7 @@ module _ (net : Net) (w v : World) (k n c m : ℕ) (needs : ℕ → Option ℕ) 
         | inr new ↦ let wrong = new.1 in absurd (cc wrong)
       ]
       go (inl this) =
-          let count = same_count m j By_took By_took s.answered (rw this at asked) in
+          let count = same_count s.count j By_took By_took s.answered (rw this at asked) in
           let node : a ≡ s.from = one_inside (rw this at cross.from) s.cross.from in (
             rw node s.takes,
             λ i held.
@@ -164,7 +164,7 @@ module _ (net : Net) (w v : World) (k n c m : ℕ) (needs : ℕ → Option ℕ) 
 
   covered : (d a b j : ℕ) → IsCross net d a b → s.later.asks d ≡ Some (j, By_covered) → j ≤ (w.records a).permanent.sent d
   covered d a b j cross asked = elim (same_or_other d c) [
-    | inl this ↦ let wrong = same_answer m j By_took By_covered s.answered (rw this at asked) in absurd (cc wrong)
+    | inl this ↦ let wrong = same_answer s.count j By_took By_covered s.answered (rw this at asked) in absurd (cc wrong)
     | inr differs ↦ elim (s.asks_new d j By_covered differs asked) [ inl before ↦ ok.covered d a b j cross before | inr new ↦ let wrong = new.1 in absurd (cc wrong) ]
   ]
 
@@ -187,7 +187,7 @@ module _ (net : Net) (w v : World) (k n c m : ℕ) (needs : ℕ → Option ℕ) 
       }
 
       new : ((q : ℕ) → s.before.takes q ≡ true → s.later.place q < s.later.place s.from) → NeedOf net w.records k s.later s.from
-      new last = let was = ok.witnessed c m s.asked.0 s.asked.1 in record {
+      new last = let was = ok.witnessed c s.count s.answer s.asked in record {
         channel = c;
         by = was.1;
         image = was.2;
@@ -207,7 +207,7 @@ module _ (net : Net) (w v : World) (k n c m : ℕ) (needs : ℕ → Option ℕ) 
     undecided = rw (s.number_same) ok.undecided;
     takers = λ p takes. elim (takes_before p takes) [
       | inl before ↦ let was = ok.takers p before in (was.0, (was.1.0, held_still p was.1.0 was.1.1))
-      | inr this ↦ rw this (other, (told.image, held_still s.from told.image told.held))
+      | inr this ↦ rw this (told.other, (told.image, held_still s.from told.image told.held))
     ];
     needs = λ d p cross above. let ask = ok.needs d p cross above in took_asks d (own.received d) ask.0 ask.1;
     takers_needs = takers_needs;

@@ -7,7 +7,7 @@ use Rattle.protocol.specs.Worlds.{World, node_of}
 use Rattle.protocol.specs.Invariant.{IsImageOf, Permanent, Held, Current, NodeOk}
 use Rattle.protocol.proofs.Basics.{same_or_other, some_not_none, one_inside, current_is}
 use Rattle.protocol.proofs.OneNode.{image_was_there, permanent_was_there, taken_was_there, forget_goes, give_up_goes, start_takes, conclude_permanent}
-use Rattle.protocol.proofs.OneHears.{commit_permanent, ended_goes, ask_takes}
+use Rattle.protocol.proofs.OneHears.{Free, commit_permanent, ended_goes, ask_takes}
 
 -- an image of the node before, whose logs to other nodes reached no further back
 pub record Reaches (net : Net) (k : ℕ) (a : Node) (i : Image) : Type 0 where
@@ -80,9 +80,9 @@ module _ (net : Net) (w : World) (k : ℕ) (b : Node) (ok : NodeOk net k (node_o
   pub step_bounded : NodeStep net k (node_of w k) b → (i : Image) → IsImageOf b i → Bounded net k w i
   step_bounded s i is = bounded i (step_reaches net k (node_of w k) b ok s i is)
 
-  pub hears_bounded : (packet : Packet) → ((c m : ℕ) → packet ≡ Kept c m → (q : ℕ) → IsCross net c k q → m ≤ (w.records q).permanent.received c)
+  pub hears_bounded : (packet : Packet) → Free packet (node_of w k) → ((c m : ℕ) → packet ≡ Kept c m → (q : ℕ) → IsCross net c k q → m ≤ (w.records q).permanent.received c)
       → Hears net k packet (node_of w k) b → (i : Image) → IsImageOf b i → Bounded net k w i
-  hears_bounded (Kept c m) says s = with_bound
+  hears_bounded (Kept c m) free says s = with_bound
     where
       before : Bounded net k w s.before
       before = logs s.before (Current (ap current_of s.trims.was))
@@ -96,10 +96,10 @@ module _ (net : Net) (w : World) (k : ℕ) (b : Node) (ok : NodeOk net k (node_o
           | inr other ↦ let one = s.trims.others d other in let two = before.base d q cross in omega arith
         ]);
       }
-  hears_bounded (Ask x n c m) says s = λ i is. logs i (taken_was_there k (node_of w k) b x n s.current (ask_takes net k (node_of w k) b x n c m ok s) i is)
-  hears_bounded (Took x n c m needs) says s = λ i is. bounded i (as_before net k (node_of w k) b s.1.same.record_of (ap current_of s.1.now ∙ sym (ap current_of s.1.was)) i is)
-  hears_bounded (Covered x n c m) says s = λ i is. bounded i (as_before net k (node_of w k) b s.1.same.record_of (ap current_of s.1.now ∙ sym (ap current_of s.1.was)) i is)
-  hears_bounded (Query p x n) says s = absurd s
-  hears_bounded (Commit x p n) says s = λ i is. logs i (permanent_was_there k (node_of w k) b x n s.1.image (commit_permanent net k (node_of w k) b x n ok s.1) i is)
-  hears_bounded (Ended x p n) says s = λ i is. logs i (image_was_there k (node_of w k) b x n s.1.image (ended_goes net k (node_of w k) b x n ok s.1) i is)
-  hears_bounded (Settled p x n) says s = λ i is. logs i (settled_was_there (node_of w k) b s.1.confirms.permanent s.1.confirms.tentative s.1.mode i is)
+  hears_bounded (Ask x n c m) free says s = λ i is. logs i (taken_was_there k (node_of w k) b x n s.current (ask_takes net k (node_of w k) b x n c m ok s) i is)
+  hears_bounded (Took x n c m needs) free says s = λ i is. bounded i (as_before net k (node_of w k) b s.1.same.record_of (ap current_of s.1.now ∙ sym (ap current_of s.1.was)) i is)
+  hears_bounded (Covered x n c m) free says s = λ i is. bounded i (as_before net k (node_of w k) b s.1.same.record_of (ap current_of s.1.now ∙ sym (ap current_of s.1.was)) i is)
+  hears_bounded (Query p x n) free says s = absurd s
+  hears_bounded (Commit x p n) free says s = λ i is. logs i (permanent_was_there k (node_of w k) b x n s.1.image (commit_permanent net k (node_of w k) b x n ok free s.1) i is)
+  hears_bounded (Ended x p n) free says s = λ i is. logs i (image_was_there k (node_of w k) b x n s.1.image (ended_goes k (node_of w k) b x n free s.1) i is)
+  hears_bounded (Settled p x n) free says s = λ i is. logs i (settled_was_there (node_of w k) b s.1.confirms.permanent s.1.confirms.tentative s.1.mode i is)

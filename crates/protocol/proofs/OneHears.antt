@@ -1,12 +1,11 @@
 -- What one node keeps when a packet comes to it.
 use Rattle.std.proofs.Common.{◌≡◌, ◌⊎◌, inl, inr, ℕ, true, Some, refl, sym, ap, ◌∙◌}
-use Rattle.std.specs.Prelude.{◌≢◌}
 use Rattle.protocol.specs.Images.{Image, Net}
 use Rattle.protocol.specs.Records.{Holds}
 use Rattle.protocol.specs.Nodes.{Live, Mode, Down, In_doubt, Running, current_of, live_of, Node, SameRecord}
 use Rattle.protocol.specs.Packets.{Packet, Kept, Ask, Took, Covered, Query, Commit, Ended, Settled, after_verdict, HearsAsk, HearsCommit, HearsEnded, HearsSettled, Hears}
 use Rattle.protocol.specs.Invariant.{IsImageOf, Permanent, Held, Current, NodeOk}
-use Rattle.protocol.proofs.Basics.{same_or_other, some_not_none, one_inside, same_initiator}
+use Rattle.protocol.proofs.Basics.{same_or_other, some_not_none, one_inside}
 use Rattle.protocol.proofs.OneNode.{images_stay_ok, trims_ok, ImageGoes, image_goes_ok, BecomesPermanent, becomes_permanent_ok, CurrentIsTaken, current_is_taken_ok}
 
 -- a verdict starts nothing, and a node that was in doubt then runs on its permanent image
@@ -20,12 +19,12 @@ current_after Down i j is = absurd (some_not_none refl is)
 current_after In_doubt i j is = inr (one_inside is refl)
 current_after (Running current o) i j is = inl is
 
--- a node that holds another's image has nothing live
-pub none_live : (net : Net) (k : ℕ) (a : Node) (x n : ℕ) (i : Image) → NodeOk net k a → k ≢ x → Holds a.record_of x n i → (live : Live) → live_of a.mode ≡ Some live → ⊥
-none_live net k a x n i ok other held live is = let own = ok.own live is in other (same_initiator a.record_of k live.number x n own.0 i own.1 held)
+-- nothing is live at a node that holds an image of this instance
+abbrev pub NothingLive : Node → ℕ → ℕ → Type 0
+NothingLive a x n = (i : Image) → Holds a.record_of x n i → (live : Live) → live_of a.mode ≡ Some live → ⊥
 
-pub commit_permanent : (net : Net) (k : ℕ) (a b : Node) (x n : ℕ) → NodeOk net k a → (s : HearsCommit k a b x n) → BecomesPermanent k a b x n s.image
-commit_permanent net k a b x n ok s = record {
+pub commit_permanent : (net : Net) (k : ℕ) (a b : Node) (x n : ℕ) → NodeOk net k a → NothingLive a x n → (s : HearsCommit a b x n) → BecomesPermanent k a b x n s.image
+commit_permanent net k a b x n ok free s = record {
   held = s.settles.held;
   permanent = s.settles.permanent;
   free = s.settles.free;
@@ -33,15 +32,15 @@ commit_permanent net k a b x n ok s = record {
   decided = λ m now. ok.used m (rw (s.settles.decided) at now);
   outlets = s.outlets;
   current = λ j now. elim (current_after a.mode b.record_of.permanent j (rw (s.mode) at now)) [ inl old ↦ inl old | inr is ↦ inr (is ∙ s.settles.permanent) ];
-  none_live = λ live now. none_live net k a x n s.image ok s.other s.settles.held live (live_after a.mode b.record_of.permanent live (rw (s.mode) at now));
+  none_live = λ live now. free s.image s.settles.held live (live_after a.mode b.record_of.permanent live (rw (s.mode) at now));
 }
 
-pub ended_goes : (net : Net) (k : ℕ) (a b : Node) (x n : ℕ) → NodeOk net k a → (s : HearsEnded k a b x n) → ImageGoes k a b x n s.image
-ended_goes net k a b x n ok s = record {
+pub ended_goes : (k : ℕ) (a b : Node) (x n : ℕ) → NothingLive a x n → (s : HearsEnded a b x n) → ImageGoes k a b x n s.image
+ended_goes k a b x n free s = record {
   drops = s.drops;
   outlets = s.outlets;
   current = λ j now. elim (current_after a.mode b.record_of.permanent j (rw (s.mode) at now)) [ inl old ↦ inl old | inr is ↦ inr (is ∙ s.drops.permanent) ];
-  none_live = λ live now. none_live net k a x n s.image ok s.other s.drops.held live (live_after a.mode b.record_of.permanent live (rw (s.mode) at now));
+  none_live = λ live now. free s.image s.drops.held live (live_after a.mode b.record_of.permanent live (rw (s.mode) at now));
 }
 
 pub ask_takes : (net : Net) (k : ℕ) (a b : Node) (x n c m : ℕ) → NodeOk net k a → (s : HearsAsk net k a b x n c m) → CurrentIsTaken k a b x n s.current
@@ -85,14 +84,20 @@ answer_ok net k a b current before later ok same was now number = images_stay_ok
         let old = ok.own before (ap live_of was) in
         (old.0, rw (this, number) old.1)
 
-pub hears_ok : (net : Net) (k : ℕ) (packet : Packet) (a b : Node) → NodeOk net k a → Hears net k packet a b → NodeOk net k b
-hears_ok net k (Kept c m) a b ok s = trims_ok net k a b c m s.before s.later s.live ok s.trims
+-- what a verdict that comes has to bring
+abbrev pub Free : Packet → Node → Type 0
+Free (Commit x p n) a = NothingLive a x n
+Free (Ended x p n) a = NothingLive a x n
+Free packet a = Unit {0}
+
+pub hears_ok : (net : Net) (k : ℕ) (packet : Packet) (a b : Node) → NodeOk net k a → Free packet a → Hears net k packet a b → NodeOk net k b
+hears_ok net k (Kept c m) a b ok free s = trims_ok net k a b c m s.before s.later s.live ok s.trims
     (λ is. absurd (s.cross.apart (one_inside is.to s.cross.to)))
     (λ is. absurd (some_not_none is.to s.cross.to))
-hears_ok net k (Ask x n c m) a b ok s = current_is_taken_ok net k a b x n s.current ok (ask_takes net k a b x n c m ok s)
-hears_ok net k (Took x n c m needs) a b ok s = answer_ok net k a b s.1.current s.1.before s.1.later ok s.1.same s.1.was s.1.now s.1.number_same
-hears_ok net k (Covered x n c m) a b ok s = answer_ok net k a b s.1.current s.1.before s.1.later ok s.1.same s.1.was s.1.now s.1.number_same
-hears_ok net k (Query p x n) a b ok s = absurd s
-hears_ok net k (Commit x p n) a b ok s = becomes_permanent_ok net k a b x n s.1.image ok (commit_permanent net k a b x n ok s.1)
-hears_ok net k (Ended x p n) a b ok s = image_goes_ok net k a b x n s.1.image ok (ended_goes net k a b x n ok s.1)
-hears_ok net k (Settled p x n) a b ok s = confirms_ok net k a b p n ok s.1
+hears_ok net k (Ask x n c m) a b ok free s = current_is_taken_ok net k a b x n s.current ok (ask_takes net k a b x n c m ok s)
+hears_ok net k (Took x n c m needs) a b ok free s = answer_ok net k a b s.1.current s.1.before s.1.later ok s.1.same s.1.was s.1.now s.1.number_same
+hears_ok net k (Covered x n c m) a b ok free s = answer_ok net k a b s.1.current s.1.before s.1.later ok s.1.same s.1.was s.1.now s.1.number_same
+hears_ok net k (Query p x n) a b ok free s = absurd s
+hears_ok net k (Commit x p n) a b ok free s = becomes_permanent_ok net k a b x n s.1.image ok (commit_permanent net k a b x n ok free s.1)
+hears_ok net k (Ended x p n) a b ok free s = image_goes_ok net k a b x n s.1.image ok (ended_goes k a b x n free s.1)
+hears_ok net k (Settled p x n) a b ok free s = confirms_ok net k a b p n ok s.1

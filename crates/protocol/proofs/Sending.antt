@@ -1,5 +1,5 @@
 -- What a node sends is true when it is sent.
-use Rattle.std.proofs.Common.{inl, inr, ℕ, ◌≤◌, Option, sym, ◌∙◌, arith}
+use Rattle.std.proofs.Common.{◌≡◌, inl, inr, ℕ, ◌≤◌, Option, sym, ◌∙◌, arith}
 use Rattle.protocol.specs.Images.{Image, Net, IsCross}
 use Rattle.protocol.specs.Records.{Holds}
 use Rattle.protocol.specs.Nodes.{Awaited}
@@ -25,11 +25,13 @@ module _ (net : Net) (w : World) (ok : Consistent net w) where
 
   took_says : (x n c m : ℕ) (needs : ℕ → Option ℕ) → SendsTook net w x n c m needs → (p q : ℕ) → IsCross net c p q → TookSays net w x n c m p needs
   took_says x n c m needs s p q cross = rw (one_inside cross.from s.cross.from) (record {
-    other = s.other;
     seen = seen s.node x n s.image s.held;
     while_live = λ live is number.
         let ask = (ok.packets (Ask x n c m) s.asked s.node s.to s.cross).asked live is number in
-        record { answer = ask.0; asked = ask.1; image = s.image; held = s.held; above = s.above; within = s.within; needs_of = s.needs_of };
+        let one = ok.agreed.live x live is in
+        let was = one.1.witnessed c m ask.0 ask.1 in
+        let from : was.0 ≡ s.node = one_inside was.3.from s.cross.from in
+        record { other = rw from at was.7; answer = ask.0; asked = ask.1; image = s.image; held = s.held; above = s.above; within = s.within; needs_of = s.needs_of };
   })
 
   commit_says : (x p n : ℕ) → SendsCommit w x p n → CommitSays w x p n
@@ -48,7 +50,7 @@ pub is_true_when_sent : (net : Net) (w : World) (packet : Packet) → Consistent
 is_true_when_sent net w (Kept c m) ok s = kept_says net w ok c m s
 is_true_when_sent net w (Ask x n c m) ok s = λ p q cross. ask_says net w ok x n c m s p
 is_true_when_sent net w (Took x n c m needs) ok s = took_says net w ok x n c m needs s
-is_true_when_sent net w (Covered x n c m) ok s = λ p q cross. let same = one_inside cross.from s.from in rw same s.put
+is_true_when_sent net w (Covered x n c m) ok s = λ p q cross. let ask = ok.packets (Ask x n c m) s.asked p q cross in let same = one_inside cross.from s.from in record { used = ask.used; asked = ask.asked; put = rw same s.put }
 is_true_when_sent net w (Query p x n) ok s = seen net w ok p x n s.image s.held
 is_true_when_sent net w (Commit x p n) ok s = commit_says net w ok x p n s
 is_true_when_sent net w (Ended x p n) ok s = record { used = s.used; undecided = s.undecided; closed = s.closed }

@@ -5,15 +5,15 @@ use Rattle.std.specs.Prelude.{◌≢◌}
 use Rattle.protocol.specs.Images.{Image, Net, IsCross, IsOutput}
 use Rattle.protocol.specs.Records.{Holds}
 use Rattle.protocol.specs.Moves.{Drops}
-use Rattle.protocol.specs.Nodes.{Live, Mode, Running, live_of, Node, NodeStep, Work, Trim, Release, Roll_back, Crash, Restore, Forget, Doubt, Start, Give_up, Conclude}
+use Rattle.protocol.specs.Nodes.{Awaited, Live, Mode, Running, live_of, Node, NodeStep, Work, Trim, Release, Roll_back, Crash, Restore, Forget, Doubt, Start, Give_up, Conclude}
 use Rattle.protocol.specs.Packets.{Packet, Kept, Ask, Took, Covered, Query, Commit, Ended, Settled, HearsAsk, HearsTook, HearsCovered, HearsCommit, HearsEnded, HearsSettled, Hears}
 use Rattle.protocol.specs.Worlds.{World, node_of, IsLive, InFlight, OnlyAt, Sends, Step, Acts, Comes, Send}
 use Rattle.protocol.specs.Line.{Over}
-use Rattle.protocol.specs.Invariant.{IsImageOf, Permanent, Held, Current, NodeOk, LiveOk, Agreed, AskSays, TookWhileLive, TookSays, CommitSays, SettledSays, Says, Consistent}
+use Rattle.protocol.specs.Invariant.{IsImageOf, Permanent, Held, Current, NodeOk, LiveOk, Agreed, AskSays, CoveredSays, TookWhileLive, TookSays, CommitSays, SettledSays, Says, Consistent}
 use Rattle.protocol.specs.Laws.{Wanted, Needed}
-use Rattle.protocol.proofs.Basics.{either, same_or_other, some_not_none, live_is}
+use Rattle.protocol.proofs.Basics.{false_true, either, same_or_other, some_not_none, same_initiator, same_number, live_is}
 use Rattle.protocol.proofs.OneNode.{record_stays_ok, current_fits, node_step_ok, node_step_grows, node_step_outlets}
-use Rattle.protocol.proofs.OneHears.{live_after, hears_ok}
+use Rattle.protocol.proofs.OneHears.{NothingLive, Free, live_after, hears_ok}
 use Rattle.protocol.proofs.Grows.{Grows, stays_true}
 use Rattle.protocol.proofs.Frames.{everywhere}
 use Rattle.protocol.proofs.Quiet.{Quiet, quiet_grows, quiet_agrees, hears_grows, hears_agrees}
@@ -25,7 +25,7 @@ use Rattle.protocol.proofs.Settling as settling
 use Rattle.protocol.proofs.Taking.{start_grows, start_agrees, ask_grows, ask_agrees}
 use Rattle.protocol.proofs.Confirming.{confirms_grows, confirms_agrees}
 use Rattle.protocol.proofs.Deciding.{decides_grows, decides_agrees}
-use Rattle.protocol.proofs.Hearing.{covered_asks, covered_live_ok, took_asks, took_live_ok}
+use Rattle.protocol.proofs.Hearing.{same_count, covered_asks, covered_live_ok, took_asks, took_live_ok}
 use Rattle.protocol.proofs.Logs.{Bounded, step_bounded, hears_bounded}
 use Rattle.protocol.proofs.Sending.{is_true_when_sent}
 
@@ -159,9 +159,9 @@ answered net w v k current before later ok at same was now number asks fine = re
       others = λ y live other is. rw (at.modes y other) at is;
     }
 
-took : (net : Net) (w v : World) (k n c m : ℕ) (needs : ℕ → Option ℕ) → Agreed net w → OnlyAt w v k → (s : HearsTook net k (node_of w k) (node_of v k) n c m needs) → TookSays net w k n c m s.from needs → Advances net w v
+took : (net : Net) (w v : World) (k n c m : ℕ) (needs : ℕ → Option ℕ) → Agreed net w → OnlyAt w v k → (s : HearsTook net k (node_of w k) (node_of v k) n c needs) → TookSays net w k n c m s.from needs → Advances net w v
 took net w v k n c m needs ok at s says = answered net w v k s.current s.before s.later ok at s.same.record_of s.was s.now s.number_same
-    (took_asks net w v k n c m needs own s says.other told own_ok) fine
+    (took_asks net w v k n c needs own s told own_ok) fine
   where
     before : IsLive w k s.before
     before = ap live_of s.was
@@ -172,20 +172,31 @@ took net w v k n c m needs ok at s says = answered net w v k s.current s.before 
     own_ok : LiveOk net w.records k own s.before
     own_ok = (ok.live k s.before before).1
 
-    told : TookWhileLive net w k s.before.number c m s.from needs s.before
-    told = subst (λ (j : ℕ). TookWhileLive net w k j c m s.from needs s.before) (sym s.number) (says.while_live s.before before s.number)
+    says_m : TookWhileLive net w k s.before.number c m s.from needs s.before
+    says_m = subst (λ (j : ℕ). TookWhileLive net w k j c m s.from needs s.before) (sym s.number) (says.while_live s.before before s.number)
+
+    told : TookWhileLive net w k s.before.number c s.count s.from needs s.before
+    told = subst (λ (j : ℕ). TookWhileLive net w k s.before.number c j s.from needs s.before) (same_count m s.count says_m.answer s.answer says_m.asked s.asked) says_m
 
     fine : (i : Image) → LiveOk net w.records k i s.before → LiveOk net w.records k i s.later
-    fine i is = took_live_ok net w v k n c m needs i s says.other told is
+    fine i is = took_live_ok net w v k n c needs i s told is
 
-covered : (net : Net) (w v : World) (k n c m : ℕ) → Agreed net w → OnlyAt w v k → (s : HearsCovered k (node_of w k) (node_of v k) n c m) → ((p q : ℕ) → IsCross net c p q → m ≤ (w.records p).permanent.sent c) → Advances net w v
-covered net w v k n c m ok at s put = answered net w v k s.current s.before s.later ok at s.same.record_of s.was s.now s.number_same
-    (covered_asks net w v k n c m (ok.live k s.before before).0 s put (ok.live k s.before before).1) (λ i is. covered_live_ok net w v k n c m i s put is)
+covered : (net : Net) (w v : World) (k n c m : ℕ) → Agreed net w → OnlyAt w v k → (s : HearsCovered (node_of w k) (node_of v k) n c) → ((p q : ℕ) → IsCross net c p q → CoveredSays w k n c m p) → Advances net w v
+covered net w v k n c m ok at s says = answered net w v k s.current s.before s.later ok at s.same.record_of s.was s.now s.number_same
+    (covered_asks net w v k n c (ok.live k s.before before).0 s put (ok.live k s.before before).1) (λ i is. covered_live_ok net w v k n c i s put is)
   where
     before : IsLive w k s.before
     before = ap live_of s.was
 
-committed : (net : Net) (w v : World) (k x n : ℕ) → Consistent net w → OnlyAt w v k → (s : HearsCommit k (node_of w k) (node_of v k) x n) → CommitSays w x k n → Advances net w v
+    put : (p q : ℕ) → IsCross net c p q → s.count ≤ (w.records p).permanent.sent c
+    put p q cross =
+        let told = says p q cross in
+        let ask = told.asked s.before before s.number in
+        let count = same_count m s.count ask.0 Awaited ask.1 s.asked in
+        let one = told.put in
+        omega arith
+
+committed : (net : Net) (w v : World) (k x n : ℕ) → Consistent net w → OnlyAt w v k → (s : HearsCommit (node_of w k) (node_of v k) x n) → CommitSays w x k n → Advances net w v
 committed net w v k x n ok at s says = record { grows = confirmed_grows net w v k x n s.image ok.agreed c; agreed = confirmed_agrees net w v k x n s.image ok.agreed c }
   where
     c : settling.Confirmed w v k x n s.image
@@ -197,7 +208,7 @@ committed net w v k x n ok at s says = record { grows = confirmed_grows net w v 
       live = live_before w v k at (λ live is. live_after (w.modes k) (v.records k).permanent live (sym (ap live_of s.mode) ∙ is));
     }
 
-ended : (net : Net) (w v : World) (k x n : ℕ) → Agreed net w → OnlyAt w v k → HearsEnded k (node_of w k) (node_of v k) x n → Over w x n → Advances net w v
+ended : (net : Net) (w v : World) (k x n : ℕ) → Agreed net w → OnlyAt w v k → HearsEnded (node_of w k) (node_of v k) x n → Over w x n → Advances net w v
 ended net w v k x n ok at s over = record { grows = leaves_grows net w v k x n s.image ok l; agreed = leaves_agrees net w v k x n s.image ok l }
   where
     before : (y : ℕ) (live : Live) → IsLive v y live → IsLive w y live
@@ -219,7 +230,7 @@ comes : (net : Net) (w v : World) (k : ℕ) (packet : Packet) → Consistent net
 comes net w v k (Kept c m) ok at flight s = quietly net w v k ok.agreed at s.trims.same.record_of (λ l is. ap live_of s.trims.was ∙ live_is (v.modes k) s.later s.live l s.trims.now is)
 comes net w v k (Ask x n c m) ok at flight s = asked net w v k x n c m ok at flight s
 comes net w v k (Took x n c m needs) ok at flight s = took net w v k n c m needs ok.agreed at s.1 (subst (λ (y : ℕ). TookSays net w y n c m s.1.from needs) s.0 (ok.packets (Took x n c m needs) flight s.1.from s.1.to s.1.cross))
-comes net w v k (Covered x n c m) ok at flight s = covered net w v k n c m ok.agreed at s.1 (ok.packets (Covered x n c m) flight)
+comes net w v k (Covered x n c m) ok at flight s = covered net w v k n c m ok.agreed at s.1 (λ p q cross. subst (λ (y : ℕ). CoveredSays w y n c m p) s.0 (ok.packets (Covered x n c m) flight p q cross))
 comes net w v k (Query p x n) ok at flight s = absurd s
 comes net w v k (Commit x p n) ok at flight s = committed net w v k x n ok at s.1 (subst (λ (j : ℕ). CommitSays w x j n) s.0 (ok.packets (Commit x p n) flight))
 comes net w v k (Ended x p n) ok at flight s = ended net w v k x n ok.agreed at s.1 (ok.packets (Ended x p n) flight)
@@ -289,15 +300,42 @@ kept_says net w k packet says c m this q cross = told k q cross
     told : Says net w (Kept c m)
     told = rw this at says
 
+-- a node that holds an image of a committed instance, or of one that is over, has nothing live
+committed_free : (net : Net) (w : World) (k x n : ℕ) → Agreed net w → CommitSays w x k n → NothingLive (node_of w k) x n
+committed_free net w k x n ok says i held live is =
+    let own = (ok.live k live is).1 in
+    let this = same_initiator (w.records k) k live.number x n (ok.live k live is).0 i own.held held in
+    let number = same_number (w.records k) k live.number x n (ok.live k live is).0 i own.held held in
+    false_true (sym own.undecided ∙ (rw (← this, ← number) at (says.held i held).0))
+
+over_free : (net : Net) (w : World) (k x n : ℕ) → Agreed net w → Over w x n → NothingLive (node_of w k) x n
+over_free net w k x n ok over i held live is =
+    let own = (ok.live k live is).1 in
+    let this = same_initiator (w.records k) k live.number x n (ok.live k live is).0 i own.held held in
+    over.closed live (rw this at is) (same_number (w.records k) k live.number x n (ok.live k live is).0 i own.held held)
+
+verdict_free : (net : Net) (w : World) (k : ℕ) (packet : Packet) (a b : Node) → Agreed net w → Says net w packet → Hears net k packet a b → Free packet (node_of w k)
+verdict_free net w k (Kept c m) a b ok says s = tt
+verdict_free net w k (Ask x n c m) a b ok says s = tt
+verdict_free net w k (Took x n c m needs) a b ok says s = tt
+verdict_free net w k (Covered x n c m) a b ok says s = tt
+verdict_free net w k (Query p x n) a b ok says s = tt
+verdict_free net w k (Commit x p n) a b ok says s = committed_free net w k x n ok (subst (λ (j : ℕ). CommitSays w x j n) s.0 says)
+verdict_free net w k (Ended x p n) a b ok says s = over_free net w k x n ok says
+verdict_free net w k (Settled p x n) a b ok says s = tt
+
 pub step_consistent : (net : Net) (w v : World) → Consistent net w → Step net w v → Consistent net v
 step_consistent net w v ok (Acts k at s) = consistent_at net w v k ok at (acts net w v k ok at s) (node_step_ok net k (node_of w k) (node_of v k) (ok.nodes k) s)
     (step_bounded net w k (node_of v k) (ok.nodes k) (logs_at net w k ok) s) (node_step_grows net k (node_of w k) (node_of v k) (ok.nodes k) s).1 (node_step_outlets net k (node_of w k) (node_of v k) s)
-step_consistent net w v ok (Comes k packet flight at s) = consistent_at net w v k ok at (comes net w v k packet ok at flight s) (hears_ok net k packet (node_of w k) (node_of v k) (ok.nodes k) s)
-    (hears_bounded net w k (node_of v k) (ok.nodes k) (logs_at net w k ok) packet (kept_says net w k packet (ok.packets packet flight)) s)
+step_consistent net w v ok (Comes k packet flight at s) = consistent_at net w v k ok at (comes net w v k packet ok at flight s) (hears_ok net k packet (node_of w k) (node_of v k) (ok.nodes k) free s)
+    (hears_bounded net w k (node_of v k) (ok.nodes k) (logs_at net w k ok) packet free (kept_says net w k packet (ok.packets packet flight)) s)
     (λ c. let e = ap (λ (f : ℕ → ℕ). f c) same in omega arith) (λ c j other is. ap (λ (f : ℕ → ℕ). f c) same)
   where
     same : v.outlets ≡ w.outlets
     same = hears_outlets net k packet (node_of w k) (node_of v k) s
+
+    free : Free packet (node_of w k)
+    free = verdict_free net w k packet (node_of w k) (node_of v k) ok.agreed (ok.packets packet flight) s
 step_consistent net w v ok (Send s) = record {
   nodes = λ j. rw (s.records, s.modes, s.outlets) (ok.nodes j);
   agreed = (sends net w v ok.agreed s).agreed;

@@ -126,7 +126,7 @@ module _ (net : Net) (w v : World) (k x n : ℕ) (image : Image) (ok : Agreed ne
     took = λ c p q m cross asked. let was = o.took c p q m cross asked in (was.0, λ i held. was.1 i (taker_was p i was.0 held));
     covered = λ c p q m cross asked. rw (permanent p) (o.covered c p q m cross asked);
     holders = λ p i other held. asked_for p i other (held_now p y live.number i held);
-    witnessed = λ c m answer asked. let was = o.witnessed c m answer asked in (was.0, was.1, was.2, was.3, was.4, holds_on was.1 y live.number was.2 was.5, was.6);
+    witnessed = λ c m answer asked. let was = o.witnessed c m answer asked in (was.0, was.1, was.2, was.3, was.4, holds_on was.1 y live.number was.2 was.5, was.6, was.7);
     needed = λ p takes. let need = o.needed p takes in record {
       channel = need.channel;
       by = need.by;
@@ -197,7 +197,7 @@ module _ (net : Net) (w v : World) (x : ℕ) (image : Image) (start : Live) (ok 
     took = λ c p q m cross asked. let one = (asks.only c m By_took asked).3 in absurd (cc one);
     covered = λ c p q m cross asked. let one = (asks.only c m By_covered asked).3 in absurd (cc one);
     holders = λ p i other held. absurd (nobody_holds p i other held);
-    witnessed = λ c m answer asked. let one = asks.only c m answer asked in (one.0, x, image, one.1, inl refl, takes.holds, one.2);
+    witnessed = λ c m answer asked. let one = asks.only c m answer asked in (one.0, x, image, one.1, inl refl, takes.holds, one.2, one.1.apart);
     needed = λ p is. absurd (nobody p is);
   }
 

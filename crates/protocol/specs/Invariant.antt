@@ -60,9 +60,9 @@ pub record LiveOk (net : Net) (records : ℕ → Record) (x : ℕ) (own : Image)
   pub covered : (c p q m : ℕ) → IsCross net c p q → live.asks c ≡ Some (m, By_covered) → m ≤ (records p).permanent.sent c
   -- whoever else holds an image of the instance was asked for it
   pub holders : (p : ℕ) (i : Image) → p ≢ x → Holds (records p) x live.number i → Unmet net records live p
-  -- each count asked for was received by the initiator's image or a taker's
+  -- each count asked for, of another node, was received by the initiator's image or a taker's
   pub witnessed : (c m : ℕ) (answer : Answer) → live.asks c ≡ Some (m, answer)
-      → (p : ℕ) × (q : ℕ) × (i : Image) × IsCross net c p q × ((q ≡ x) ⊎ (live.takes q ≡ true)) × Holds (records q) x live.number i × (m ≡ i.received c)
+      → (p : ℕ) × (q : ℕ) × (i : Image) × IsCross net c p q × ((q ≡ x) ⊎ (live.takes q ≡ true)) × Holds (records q) x live.number i × (m ≡ i.received c) × (p ≢ x)
   pub needed : (p : ℕ) → live.takes p ≡ true → NeedOf net records x live p
 
 -- Of the records of two nodes.
@@ -83,6 +83,7 @@ pub record AskSays (w : World) (x n c m p : ℕ) : Type 0 where
   pub closed : (w.records x).decided n ≡ true → (n ≤ (w.records p).highest x) ⊎ (m ≤ (w.records p).permanent.sent c)
 
 pub record TookWhileLive (net : Net) (w : World) (x n c m p : ℕ) (needs : ℕ → Option ℕ) (live : Live) : Type 0 where
+  pub other : p ≢ x
   pub answer : Answer
   pub asked : live.asks c ≡ Some (m, answer)
   pub image : Image
@@ -92,9 +93,13 @@ pub record TookWhileLive (net : Net) (w : World) (x n c m p : ℕ) (needs : ℕ 
   pub needs_of : AreNeeds net p (w.records p).permanent image needs
 
 pub record TookSays (net : Net) (w : World) (x n c m p : ℕ) (needs : ℕ → Option ℕ) : Type 0 where
-  pub other : p ≢ x
   pub seen : n ≤ (w.records p).highest x
   pub while_live : (live : Live) → IsLive w x live → live.number ≡ n → TookWhileLive net w x n c m p needs live
+
+pub record CoveredSays (w : World) (x n c m p : ℕ) : Type 0 where
+  pub used : n ≤ (w.records x).highest x
+  pub asked : (live : Live) → IsLive w x live → live.number ≡ n → (answer : Answer) × (live.asks c ≡ Some (m, answer))
+  pub put : m ≤ (w.records p).permanent.sent c
 
 pub record CommitSays (w : World) (x p n : ℕ) : Type 0 where
   pub seen : n ≤ (w.records p).highest x
@@ -109,7 +114,7 @@ abbrev pub Says : Net → World → Packet → Type 0
 Says net w (Kept c m) = (p q : ℕ) → IsCross net c p q → m ≤ (w.records q).permanent.received c
 Says net w (Ask x n c m) = (p q : ℕ) → IsCross net c p q → AskSays w x n c m p
 Says net w (Took x n c m needs) = (p q : ℕ) → IsCross net c p q → TookSays net w x n c m p needs
-Says net w (Covered x n c m) = (p q : ℕ) → IsCross net c p q → m ≤ (w.records p).permanent.sent c
+Says net w (Covered x n c m) = (p q : ℕ) → IsCross net c p q → CoveredSays w x n c m p
 Says net w (Query p x n) = n ≤ (w.records p).highest x
 Says net w (Commit x p n) = CommitSays w x p n
 Says net w (Ended x p n) = Over w x n

@@ -32,6 +32,7 @@ after_verdict Down permanent = Down
 after_verdict In_doubt permanent = Running permanent None
 after_verdict (Running current live) permanent = Running current live
 
+-- What a log held for the channel's consumer goes.
 pub record HearsKept (net : Net) (k : ℕ) (a b : Node) (c m : ℕ) : Type 0 where
   pub to : ℕ
   pub cross : IsCross net c k to
@@ -45,7 +46,6 @@ pub record HearsKept (net : Net) (k : ℕ) (a b : Node) (c m : ℕ) : Type 0 whe
 pub record HearsAsk (net : Net) (k : ℕ) (a b : Node) (x n c m : ℕ) : Type 0 where
   pub to : ℕ
   pub cross : IsCross net c k to
-  pub other : k ≢ x
   pub current : Image
   pub live : Option Live
   pub running : a.mode ≡ Running current live
@@ -57,7 +57,7 @@ pub record HearsAsk (net : Net) (k : ℕ) (a b : Node) (x n c m : ℕ) : Type 0 
 
 -- The initiator learns that a node took part: that is the last of its takers where it wasn't one, and
 -- each of its needs is compared with the initiator's own image or asked for.
-pub record HearsTook (net : Net) (k : ℕ) (a b : Node) (n c m : ℕ) (needs : ℕ → Option ℕ) : Type 0 where
+pub record HearsTook (net : Net) (k : ℕ) (a b : Node) (n c : ℕ) (needs : ℕ → Option ℕ) : Type 0 where
   pub from : ℕ
   pub to : ℕ
   pub cross : IsCross net c from to
@@ -71,17 +71,20 @@ pub record HearsTook (net : Net) (k : ℕ) (a b : Node) (n c m : ℕ) (needs : �
   pub held : Holds a.record_of k n own
   pub number : before.number ≡ n
   pub number_same : later.number ≡ before.number
-  pub asked : (answer : Answer) × (before.asks c ≡ Some (m, answer))
-  pub answered : later.asks c ≡ Some (m, By_took)
+  pub count : ℕ
+  pub answer : Answer
+  pub asked : before.asks c ≡ Some (count, answer)
+  pub answered : later.asks c ≡ Some (count, By_took)
   pub asks_kept : (d j : ℕ) (answer : Answer) → d ≢ c → before.asks d ≡ Some (j, answer) → later.asks d ≡ Some (j, answer)
-  pub asks_new : (d j : ℕ) (answer : Answer) → d ≢ c → later.asks d ≡ Some (j, answer) → (before.asks d ≡ Some (j, answer)) ⊎ ((needs d ≡ Some j) × (answer ≡ Awaited))
+  pub asks_new : (d j : ℕ) (answer : Answer) → d ≢ c → later.asks d ≡ Some (j, answer) → (before.asks d ≡ Some (j, answer)) ⊎ ((needs d ≡ Some j) × (answer ≡ Awaited) × (net.producer d ≢ Some k))
   pub met : (d r j : ℕ) → IsCross net d r from → needs d ≡ Some j → ((r ≡ k) × (j ≤ own.sent d)) ⊎ ((r ≢ k) × (i : ℕ) × (answer : Answer) × (later.asks d ≡ Some (i, answer)))
   pub takes : later.takes from ≡ true
   pub takes_others : (p : ℕ) → p ≢ from → later.takes p ≡ before.takes p
   pub places : (p : ℕ) → before.takes p ≡ true → later.place p ≡ before.place p
   pub last : (before.takes from ≡ true) ⊎ ((p : ℕ) → before.takes p ≡ true → later.place p < later.place from)
 
-pub record HearsCovered (k : ℕ) (a b : Node) (n c m : ℕ) : Type 0 where
+-- The initiator learns that what it asked for was put for good.
+pub record HearsCovered (a b : Node) (n c : ℕ) : Type 0 where
   pub current : Image
   pub before : Live
   pub later : Live
@@ -90,28 +93,30 @@ pub record HearsCovered (k : ℕ) (a b : Node) (n c m : ℕ) : Type 0 where
   pub now : b.mode ≡ Running current (Some later)
   pub number : before.number ≡ n
   pub number_same : later.number ≡ before.number
-  pub asked : before.asks c ≡ Some (m, Awaited)
-  pub answered : later.asks c ≡ Some (m, By_covered)
+  pub count : ℕ
+  pub asked : before.asks c ≡ Some (count, Awaited)
+  pub answered : later.asks c ≡ Some (count, By_covered)
   pub others : (d : ℕ) → d ≢ c → later.asks d ≡ before.asks d
   pub takes : later.takes ≡ before.takes
   pub place : later.place ≡ before.place
 
-pub record HearsCommit (k : ℕ) (a b : Node) (x n : ℕ) : Type 0 where
+-- A node that holds the image makes it permanent.
+pub record HearsCommit (a b : Node) (x n : ℕ) : Type 0 where
   pub image : Image
-  pub other : k ≢ x
   pub up : a.mode ≢ Down
   pub settles : Settles a.record_of b.record_of x n image
   pub mode : b.mode ≡ after_verdict a.mode b.record_of.permanent
   pub outlets : b.outlets ≡ a.outlets
 
-pub record HearsEnded (k : ℕ) (a b : Node) (x n : ℕ) : Type 0 where
+-- A node that holds the image drops it.
+pub record HearsEnded (a b : Node) (x n : ℕ) : Type 0 where
   pub image : Image
-  pub other : k ≢ x
   pub up : a.mode ≢ Down
   pub drops : Drops a.record_of b.record_of x n image
   pub mode : b.mode ≡ after_verdict a.mode b.record_of.permanent
   pub outlets : b.outlets ≡ a.outlets
 
+-- The initiator learns that a node made its image permanent.
 pub record HearsSettled (a b : Node) (p n : ℕ) : Type 0 where
   pub up : a.mode ≢ Down
   pub confirms : Confirms a.record_of b.record_of n p
@@ -122,9 +127,9 @@ pub record HearsSettled (a b : Node) (p n : ℕ) : Type 0 where
 abbrev pub Hears : Net → ℕ → Packet → Node → Node → Type 0
 Hears net k (Kept c m) a b = HearsKept net k a b c m
 Hears net k (Ask x n c m) a b = HearsAsk net k a b x n c m
-Hears net k (Took x n c m needs) a b = (x ≡ k) × HearsTook net k a b n c m needs
-Hears net k (Covered x n c m) a b = (x ≡ k) × HearsCovered k a b n c m
+Hears net k (Took x n c m needs) a b = (x ≡ k) × HearsTook net k a b n c needs
+Hears net k (Covered x n c m) a b = (x ≡ k) × HearsCovered a b n c
 Hears net k (Query p x n) a b = ⊥
-Hears net k (Commit x p n) a b = (p ≡ k) × HearsCommit k a b x n
-Hears net k (Ended x p n) a b = (p ≡ k) × HearsEnded k a b x n
+Hears net k (Commit x p n) a b = (p ≡ k) × HearsCommit a b x n
+Hears net k (Ended x p n) a b = (p ≡ k) × HearsEnded a b x n
 Hears net k (Settled p x n) a b = (x ≡ k) × HearsSettled a b p n

@@ -42,7 +42,6 @@ pub record SendsTook (net : Net) (w : World) (x n c m : ℕ) (needs : ℕ → Op
   pub to : ℕ
   pub image : Image
   pub cross : IsCross net c node to
-  pub other : node ≢ x
   pub up : w.modes node ≢ Down
   pub asked : InFlight w (Ask x n c m)
   pub held : Holds (w.records node) x n image
