@@ -76,13 +76,13 @@ abbrev pub LineNeverFallsBack : Type 0
 LineNeverFallsBack = (net : Net) (w u v : World) (worlds : List World) (records : ℕ → Record) (outlets : ℕ → ℕ) → Reachable net w → Run net w worlds u → Step net u v → AtMoment u v records outlets
     → NotBehind w.records records × ((c : ℕ) → w.outlets c ≤ outlets c)
 
--- an instance becomes committed only while every node that its decision names holds it
+-- a decision is written only while all whom it names hold the instance
 abbrev pub CommitsWhileHeld : Type 0
 CommitsWhileHeld = (net : Net) (w v : World) (x n p : ℕ) → Reachable net w → Step net w v
     → (w.records x).decided n ≡ false → (v.records x).decided n ≡ true → (v.records x).named n p ≡ true
     → (i : Image) × Holds (w.records p) x n i × Holds (v.records p) x n i
 
--- a committed instance that a node holds stays so, until the image is permanent there
+-- the image of a committed instance stays where it is, and committed, until it is permanent there
 abbrev pub StaysCommitted : Type 0
 StaysCommitted = (net : Net) (w v : World) (x n p : ℕ) (i : Image) → Reachable net w → Step net w v
     → Holds (w.records p) x n i → (w.records x).decided n ≡ true
@@ -156,3 +156,7 @@ pub record Needed (net : Net) (w v : World) (p x n : ℕ) (i : Image) : Type 0 w
 abbrev pub TakesWhereNeeded : Type 0
 TakesWhereNeeded = (net : Net) (w v : World) (p x n : ℕ) (i : Image) → Reachable net w → Step net w v → p ≢ x
     → Holds (v.records p) x n i → Holds (w.records p) x n i ⊎ Needed net w v p x n i
+
+-- some run reaches a decision that names another node
+abbrev pub ReachesADecision : Type 0
+ReachesADecision = (net : Net) × (w : World) × (x : ℕ) × (n : ℕ) × (p : ℕ) × Reachable net w × ((w.records x).decided n ≡ true) × ((w.records x).named n p ≡ true) × (p ≢ x)

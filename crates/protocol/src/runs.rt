@@ -4,6 +4,7 @@ ghost use Rattle.protocol.specs.Laws.{LineIsSound, LineCovers, LineNeverFallsBac
 ghost use Rattle.protocol.specs.Laws.{CommitsWhileHeld, StaysCommitted, HoldersAreNamed};
 ghost use Rattle.protocol.specs.Laws.{EndedIsOver, StaysOver, OverStaysOut};
 ghost use Rattle.protocol.specs.Laws.{NoSmallerSet, NoSmallerDecision, AsksForNeeds, TakesWhereNeeded};
+ghost use Rattle.protocol.specs.Laws.{ReachesADecision};
 
 /// After every run of steps, at every moment of the step after it:
 ///
@@ -32,4 +33,9 @@ pub fn every_run_law()
     ensures no_smaller_decision { NoSmallerDecision }
     ensures asks_for_needs { AsksForNeeds }
     ensures takes_where_needed { TakesWhereNeeded }
+{}
+
+/// A run does reach a decision that names another node: the steps don't rule each other out.
+pub fn reaches_a_decision()
+    ensures { ReachesADecision }
 {}
