@@ -151,7 +151,7 @@ opens = rw (fun_ext all_new, fun_ext all_idle) refl
 
 puts : Step net w0 w1
 puts = Acts 1 (at_1 new_record new_record new_record idle idle (Running put None) nothing_sent) (Work blank put None (record {
-  same = record { record_of = refl; outlets = refl };
+  same = record { disk = refl; outlets = refl };
   was = refl;
   now = refl;
   received = λ c. omega arith;
@@ -162,7 +162,7 @@ puts = Acts 1 (at_1 new_record new_record new_record idle idle (Running put None
 
 gets : Step net w1 w2
 gets = Acts 0 (at_0 new_record new_record new_record idle (Running got None) (Running put None) nothing_sent) (Work blank got None (record {
-  same = record { record_of = refl; outlets = refl };
+  same = record { disk = refl; outlets = refl };
   was = refl;
   now = refl;
   received = λ c. omega arith;
@@ -258,7 +258,7 @@ hears = Comes 0 took (0, refl) (at_0 (taken got) (taken got) (taken put) (Runnin
     own = got;
     before = waiting;
     later = ready;
-    same = record { record_of = refl; outlets = refl };
+    same = record { disk = refl; outlets = refl };
     was = refl;
     now = refl;
     held = refl;

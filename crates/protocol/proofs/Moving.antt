@@ -11,28 +11,28 @@ use Rattle.protocol.proofs.Stepping.{records_stay}
 
 -- the record stays, or is written once while the outlets stay
 Once : Node → Node → Type 0
-Once a b = (b.record_of ≡ a.record_of) ⊎ (Move a.record_of b.record_of × (b.outlets ≡ a.outlets))
+Once a b = (b.disk ≡ a.disk) ⊎ (Move a.disk b.disk × (b.outlets ≡ a.outlets))
 
 step_once : (net : Net) (k : ℕ) (a b : Node) → NodeStep net k a b → Once a b
 unfolding Once
-step_once net k a b (Work before later live s) = inl s.same.record_of
-step_once net k a b (Trim c to before later live bound s) = inl s.same.record_of
-step_once net k a b (Release c current live s) = inl s.record_of
-step_once net k a b (Roll_back current live s) = inl s.same.record_of
-step_once net k a b (Crash s) = inl s.same.record_of
-step_once net k a b (Restore s) = inl s.same.record_of
+step_once net k a b (Work before later live s) = inl s.same.disk
+step_once net k a b (Trim c to before later live bound s) = inl s.same.disk
+step_once net k a b (Release c current live s) = inl s.disk
+step_once net k a b (Roll_back current live s) = inl s.same.disk
+step_once net k a b (Crash s) = inl s.same.disk
+step_once net k a b (Restore s) = inl s.same.disk
 step_once net k a b (Forget x n image s) = inr (Drop x n image s.drops, s.outlets)
-step_once net k a b (Doubt x n image s) = inl s.same.record_of
+step_once net k a b (Doubt x n image s) = inl s.same.disk
 step_once net k a b (Start current live s) = inr (Take k live.number current s.takes, s.outlets)
 step_once net k a b (Give_up current image live s) = inr (Drop k live.number image s.drops, s.outlets)
 step_once net k a b (Conclude current image live s) = inr (Decide k live.number image live.takes s.decides, s.outlets)
 
 hears_once : (net : Net) (k : ℕ) (packet : Packet) (a b : Node) → Hears net k packet a b → Once a b
 unfolding Once
-hears_once net k (Kept c m) a b s = inl s.trims.same.record_of
+hears_once net k (Kept c m) a b s = inl s.trims.same.disk
 hears_once net k (Ask x n c m) a b s = inr (Take x n s.current s.takes, s.outlets)
-hears_once net k (Took x n c m needs) a b s = inl s.1.same.record_of
-hears_once net k (Covered x n c m) a b s = inl s.1.same.record_of
+hears_once net k (Took x n c m needs) a b s = inl s.1.same.disk
+hears_once net k (Covered x n c m) a b s = inl s.1.same.disk
 hears_once net k (Query p x n) a b s = absurd s
 hears_once net k (Commit x p n) a b s = inr (Settle x n s.1.image s.1.settles, s.1.outlets)
 hears_once net k (Ended x p n) a b s = inr (Drop x n s.1.image s.1.drops, s.1.outlets)

@@ -1,11 +1,12 @@
 -- What one node keeps when a packet comes to it.
 use Rattle.std.proofs.Common.{◌≡◌, ◌⊎◌, inl, inr, ℕ, true, Some, refl, sym, ap, ◌∙◌}
+use Rattle.std.specs.Prelude.{◌≢◌}
 use Rattle.protocol.specs.Images.{Image, Net}
 use Rattle.protocol.specs.Records.{Holds}
-use Rattle.protocol.specs.Nodes.{Live, Mode, Down, In_doubt, Running, current_of, live_of, Node, SameRecord}
-use Rattle.protocol.specs.Packets.{Packet, Kept, Ask, Took, Covered, Query, Commit, Ended, Settled, after_verdict, HearsAsk, HearsCommit, HearsEnded, HearsSettled, Hears}
+use Rattle.protocol.specs.Nodes.{Live, Mode, Down, In_doubt, Running, current_of, live_of, Node, Unwritten}
+use Rattle.protocol.specs.Packets.{Packet, Kept, Ask, Took, Covered, Query, Commit, Ended, Settled, after_verdict, HearsAsk, HearsCommit, HearsEnded, HearsSettled, Hears, IsByOther}
 use Rattle.protocol.specs.Invariant.{IsImageOf, Permanent, Held, Current, NodeOk}
-use Rattle.protocol.proofs.Basics.{same_or_other, some_not_none, one_inside}
+use Rattle.protocol.proofs.Basics.{same_or_other, some_not_none, one_inside, same_initiator}
 use Rattle.protocol.proofs.OneNode.{images_stay_ok, trims_ok, ImageGoes, image_goes_ok, BecomesPermanent, becomes_permanent_ok, CurrentIsTaken, current_is_taken_ok}
 
 -- a verdict starts nothing, and a node that was in doubt then runs on its permanent image
@@ -21,7 +22,7 @@ current_after (Running current o) i j is = inl is
 
 -- nothing is live at a node that holds an image of this instance
 abbrev pub NothingLive : Node → ℕ → ℕ → Type 0
-NothingLive a x n = (i : Image) → Holds a.record_of x n i → (live : Live) → live_of a.mode ≡ Some live → ⊥
+NothingLive a x n = (i : Image) → Holds a.disk x n i → (live : Live) → live_of a.mode ≡ Some live → ⊥
 
 pub commit_permanent : (net : Net) (k : ℕ) (a b : Node) (x n : ℕ) → NodeOk net k a → NothingLive a x n → (s : HearsCommit a b x n) → BecomesPermanent k a b x n s.image
 commit_permanent net k a b x n ok free s = record {
@@ -31,16 +32,16 @@ commit_permanent net k a b x n ok free s = record {
   highest = s.settles.highest;
   decided = λ m now. ok.used m (rw (s.settles.decided) at now);
   outlets = s.outlets;
-  current = λ j now. elim (current_after a.mode b.record_of.permanent j (rw (s.mode) at now)) [ inl old ↦ inl old | inr is ↦ inr (is ∙ s.settles.permanent) ];
-  none_live = λ live now. free s.image s.settles.held live (live_after a.mode b.record_of.permanent live (rw (s.mode) at now));
+  current = λ j now. elim (current_after a.mode b.disk.permanent j (rw (s.mode) at now)) [ inl old ↦ inl old | inr is ↦ inr (is ∙ s.settles.permanent) ];
+  none_live = λ live now. free s.image s.settles.held live (live_after a.mode b.disk.permanent live (rw (s.mode) at now));
 }
 
 pub ended_goes : (k : ℕ) (a b : Node) (x n : ℕ) → NothingLive a x n → (s : HearsEnded a b x n) → ImageGoes k a b x n s.image
 ended_goes k a b x n free s = record {
   drops = s.drops;
   outlets = s.outlets;
-  current = λ j now. elim (current_after a.mode b.record_of.permanent j (rw (s.mode) at now)) [ inl old ↦ inl old | inr is ↦ inr (is ∙ s.drops.permanent) ];
-  none_live = λ live now. free s.image s.drops.held live (live_after a.mode b.record_of.permanent live (rw (s.mode) at now));
+  current = λ j now. elim (current_after a.mode b.disk.permanent j (rw (s.mode) at now)) [ inl old ↦ inl old | inr is ↦ inr (is ∙ s.drops.permanent) ];
+  none_live = λ live now. free s.image s.drops.held live (live_after a.mode b.disk.permanent live (rw (s.mode) at now));
 }
 
 pub ask_takes : (net : Net) (k : ℕ) (a b : Node) (x n c m : ℕ) → NodeOk net k a → (s : HearsAsk net k a b x n c m) → CurrentIsTaken k a b x n s.current
@@ -65,7 +66,7 @@ confirms_ok net k a b p n ok s = record {
   covered = λ c is. rw (s.outlets, s.confirms.permanent) (ok.covered c is);
 }
   where
-    before : (m : ℕ) → b.record_of.decided m ≡ true → a.record_of.decided m ≡ true
+    before : (m : ℕ) → b.disk.decided m ≡ true → a.disk.decided m ≡ true
     before m now = elim (same_or_other m n) [ inl this ↦ rw this (s.confirms.less (rw this at now)) | inr other ↦ sym (s.confirms.others m other).0 ∙ now ]
 
     was : (i : Image) → IsImageOf b i → IsImageOf a i
@@ -74,11 +75,11 @@ confirms_ok net k a b p n ok s = record {
     was i (Current now) = Current (sym (ap current_of s.mode) ∙ now)
 
 -- the live instance has another state, and its number
-answer_ok : (net : Net) (k : ℕ) (a b : Node) (current : Image) (before later : Live) → NodeOk net k a → SameRecord a b → a.mode ≡ Running current (Some before) → b.mode ≡ Running current (Some later)
+answer_ok : (net : Net) (k : ℕ) (a b : Node) (current : Image) (before later : Live) → NodeOk net k a → Unwritten a b → a.mode ≡ Running current (Some before) → b.mode ≡ Running current (Some later)
     → later.number ≡ before.number → NodeOk net k b
 answer_ok net k a b current before later ok same was now number = images_stay_ok net k a b ok same (ap current_of now ∙ sym (ap current_of was)) own
   where
-    own : (live : Live) → live_of b.mode ≡ Some live → (i : Image) × Holds a.record_of k live.number i
+    own : (live : Live) → live_of b.mode ≡ Some live → (i : Image) × Holds a.disk k live.number i
     own live is =
         let this : live ≡ later = one_inside is (ap live_of now) in
         let old = ok.own before (ap live_of was) in
@@ -101,3 +102,17 @@ hears_ok net k (Query p x n) a b ok free s = absurd s
 hears_ok net k (Commit x p n) a b ok free s = becomes_permanent_ok net k a b x n s.1.image ok (commit_permanent net k a b x n ok free s.1)
 hears_ok net k (Ended x p n) a b ok free s = image_goes_ok net k a b x n s.1.image ok (ended_goes k a b x n free s.1)
 hears_ok net k (Settled p x n) a b ok free s = confirms_ok net k a b p n ok s.1
+
+-- a node that holds an image of another's instance has nothing live
+free_by_other : (net : Net) (k x n : ℕ) (a : Node) → NodeOk net k a → k ≢ x → NothingLive a x n
+free_by_other net k x n a ok other i held live is = let own = ok.own live is in other (same_initiator a.disk k live.number x n own.0 i own.1 held)
+
+pub node_hears_ok : (net : Net) (k : ℕ) (packet : Packet) (a b : Node) → NodeOk net k a → IsByOther k packet → Hears net k packet a b → NodeOk net k b
+node_hears_ok net k (Kept c m) a b ok other s = hears_ok net k (Kept c m) a b ok tt s
+node_hears_ok net k (Ask x n c m) a b ok other s = hears_ok net k (Ask x n c m) a b ok tt s
+node_hears_ok net k (Took x n c m needs) a b ok other s = hears_ok net k (Took x n c m needs) a b ok tt s
+node_hears_ok net k (Covered x n c m) a b ok other s = hears_ok net k (Covered x n c m) a b ok tt s
+node_hears_ok net k (Query p x n) a b ok other s = absurd s
+node_hears_ok net k (Commit x p n) a b ok other s = hears_ok net k (Commit x p n) a b ok (free_by_other net k x n a ok other) s
+node_hears_ok net k (Ended x p n) a b ok other s = hears_ok net k (Ended x p n) a b ok (free_by_other net k x n a ok other) s
+node_hears_ok net k (Settled p x n) a b ok other s = hears_ok net k (Settled p x n) a b ok tt s

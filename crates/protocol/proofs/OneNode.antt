@@ -4,48 +4,48 @@ use Rattle.std.specs.Prelude.{◌≢◌}
 use Rattle.protocol.specs.Images.{Image, AtMost, Net, IsLocal, IsOutput}
 use Rattle.protocol.specs.Records.{Holds}
 use Rattle.protocol.specs.Moves.{Takes, Drops}
-use Rattle.protocol.specs.Nodes.{Live, Mode, Running, current_of, live_of, Node, SameRecord, Works, Trims, Unneeded, Got, Released, Releases, Forgets, Starts, GivesUp, Concludes, NodeStep, Work, Trim, Release, Roll_back, Crash, Restore, Forget, Doubt, Start, Give_up, Conclude}
+use Rattle.protocol.specs.Nodes.{Live, Mode, Running, current_of, live_of, Node, Unwritten, Works, Trims, Unneeded, Got, Released, Releases, Forgets, Starts, GivesUp, Concludes, NodeStep, Work, Trim, Release, Roll_back, Crash, Restore, Forget, Doubt, Start, Give_up, Conclude}
 use Rattle.protocol.specs.Worlds.{Alone}
 use Rattle.protocol.specs.Invariant.{IsImageOf, Permanent, Held, Current, NodeOk}
-use Rattle.protocol.specs.Laws.{PermanentOk}
+use Rattle.protocol.specs.Laws.{CanRestart}
 use Rattle.protocol.proofs.Basics.{same_or_other, at_most_itself, at_most_next, some_not_none, one_inside, same_initiator, same_number, same_image, current_is, live_is}
 
 -- the image can be node b's current one, over the record of a
 pub record Fits (net : Net) (k : ℕ) (a b : Node) (j : Image) : Type 0 where
-  pub after : AtMost a.record_of.permanent j
-  pub latest : (x n : ℕ) (i : Image) → Holds a.record_of x n i → AtMost i j
+  pub after : AtMost a.disk.permanent j
+  pub latest : (x n : ℕ) (i : Image) → Holds a.disk x n i → AtMost i j
   pub local : (c : ℕ) → IsLocal net c k → (j.base c ≤ j.received c) × (j.received c ≤ j.sent c)
   pub output : (c : ℕ) → IsOutput net c k → j.base c ≤ b.outlets c
 
 -- the record stays, and what is current in the end fits
 pub record RecordStays (net : Net) (k : ℕ) (a b : Node) : Type 0 where
-  pub record_of : b.record_of ≡ a.record_of
+  pub disk : b.disk ≡ a.disk
   pub outlets : (c : ℕ) → a.outlets c ≤ b.outlets c
-  pub covered : (c : ℕ) → IsOutput net c k → b.outlets c ≤ a.record_of.permanent.sent c
+  pub covered : (c : ℕ) → IsOutput net c k → b.outlets c ≤ a.disk.permanent.sent c
   pub current : (j : Image) → current_of b.mode ≡ Some j → Fits net k a b j
-  pub own : (live : Live) → live_of b.mode ≡ Some live → (i : Image) × Holds a.record_of k live.number i
+  pub own : (live : Live) → live_of b.mode ≡ Some live → (i : Image) × Holds a.disk k live.number i
 
 pub record_stays_ok : (net : Net) (k : ℕ) (a b : Node) → NodeOk net k a → RecordStays net k a b → NodeOk net k b
 record_stays_ok net k a b ok s = record {
-  tentative = rw (s.record_of) ok.tentative;
-  current = λ i now. rw (s.record_of) (s.current i now).after;
-  latest = λ x n i j held now. (s.current j now).latest x n i (rw (s.record_of) at held);
-  used = rw (s.record_of) ok.used;
-  older = rw (s.record_of) ok.older;
-  own = λ live now. rw (s.record_of) (s.own live now);
+  tentative = rw (s.disk) ok.tentative;
+  current = λ i now. rw (s.disk) (s.current i now).after;
+  latest = λ x n i j held now. (s.current j now).latest x n i (rw (s.disk) at held);
+  used = rw (s.disk) ok.used;
+  older = rw (s.disk) ok.older;
+  own = λ live now. rw (s.disk) (s.own live now);
   local = local;
   output = output;
-  covered = λ c is. rw (s.record_of) (s.covered c is);
+  covered = λ c is. rw (s.disk) (s.covered c is);
 }
   where
     local : (c : ℕ) (i : Image) → IsLocal net c k → IsImageOf b i → (i.base c ≤ i.received c) × (i.received c ≤ i.sent c)
-    local c i is (Permanent same) = ok.local c i is (Permanent (rw (s.record_of) at same))
-    local c i is (Held x n held) = ok.local c i is (Held x n (rw (s.record_of) at held))
+    local c i is (Permanent same) = ok.local c i is (Permanent (rw (s.disk) at same))
+    local c i is (Held x n held) = ok.local c i is (Held x n (rw (s.disk) at held))
     local c i is (Current now) = (s.current i now).local c is
 
     output : (c : ℕ) (i : Image) → IsOutput net c k → IsImageOf b i → i.base c ≤ b.outlets c
-    output c i is (Permanent same) = let one = ok.output c i is (Permanent (rw (s.record_of) at same)) in let two = s.outlets c in omega arith
-    output c i is (Held x n held) = let one = ok.output c i is (Held x n (rw (s.record_of) at held)) in let two = s.outlets c in omega arith
+    output c i is (Permanent same) = let one = ok.output c i is (Permanent (rw (s.disk) at same)) in let two = s.outlets c in omega arith
+    output c i is (Held x n held) = let one = ok.output c i is (Held x n (rw (s.disk) at held)) in let two = s.outlets c in omega arith
     output c i is (Current now) = (s.current i now).output c is
 
 -- the current image fits, and so does the permanent one of a node that holds no other
@@ -57,25 +57,25 @@ current_fits net k a b j ok outlets now = record {
   output = λ c is. let one = ok.output c j is (Current now) in let two = outlets c in omega arith;
 }
 
-pub permanent_fits : (net : Net) (k : ℕ) (a b : Node) → NodeOk net k a → ((c : ℕ) → a.outlets c ≤ b.outlets c) → a.record_of.tentative ≡ None → Fits net k a b a.record_of.permanent
+pub permanent_fits : (net : Net) (k : ℕ) (a b : Node) → NodeOk net k a → ((c : ℕ) → a.outlets c ≤ b.outlets c) → a.disk.tentative ≡ None → Fits net k a b a.disk.permanent
 permanent_fits net k a b ok outlets free = record {
-  after = at_most_itself a.record_of.permanent;
+  after = at_most_itself a.disk.permanent;
   latest = λ x n i held. absurd (some_not_none free held);
-  local = λ c is. ok.local c a.record_of.permanent is (Permanent refl);
-  output = λ c is. let one = ok.output c a.record_of.permanent is (Permanent refl) in let two = outlets c in omega arith;
+  local = λ c is. ok.local c a.disk.permanent is (Permanent refl);
+  output = λ c is. let one = ok.output c a.disk.permanent is (Permanent refl) in let two = outlets c in omega arith;
 }
 
 same_outlets : (a b : Node) → b.outlets ≡ a.outlets → (c : ℕ) → a.outlets c ≤ b.outlets c
 same_outlets a b same c = let e = ap (λ (f : ℕ → ℕ). f c) same in omega arith
 
-covers_still : (net : Net) (k : ℕ) (a b : Node) → NodeOk net k a → b.outlets ≡ a.outlets → (c : ℕ) → IsOutput net c k → b.outlets c ≤ a.record_of.permanent.sent c
+covers_still : (net : Net) (k : ℕ) (a b : Node) → NodeOk net k a → b.outlets ≡ a.outlets → (c : ℕ) → IsOutput net c k → b.outlets c ≤ a.disk.permanent.sent c
 covers_still net k a b ok same c is = let e = ap (λ (f : ℕ → ℕ). f c) same in let one = ok.covered c is in omega arith
 
 -- the images and the record stay, and a live instance keeps its number
-pub images_stay_ok : (net : Net) (k : ℕ) (a b : Node) → NodeOk net k a → SameRecord a b → current_of b.mode ≡ current_of a.mode
-    → ((live : Live) → live_of b.mode ≡ Some live → (i : Image) × Holds a.record_of k live.number i) → NodeOk net k b
+pub images_stay_ok : (net : Net) (k : ℕ) (a b : Node) → NodeOk net k a → Unwritten a b → current_of b.mode ≡ current_of a.mode
+    → ((live : Live) → live_of b.mode ≡ Some live → (i : Image) × Holds a.disk k live.number i) → NodeOk net k b
 images_stay_ok net k a b ok same current own = record_stays_ok net k a b ok (record {
-  record_of = same.record_of;
+  disk = same.disk;
   outlets = same_outlets a b same.outlets;
   covered = covers_still net k a b ok same.outlets;
   current = λ j now. current_fits net k a b j ok (same_outlets a b same.outlets) (sym current ∙ now);
@@ -83,19 +83,19 @@ images_stay_ok net k a b ok same current own = record_stays_ok net k a b ok (rec
 })
 
 -- the permanent image becomes current, and nothing is live
-pub restores_ok : (net : Net) (k : ℕ) (a b : Node) → NodeOk net k a → SameRecord a b → a.record_of.tentative ≡ None → b.mode ≡ Running a.record_of.permanent None → NodeOk net k b
+pub restores_ok : (net : Net) (k : ℕ) (a b : Node) → NodeOk net k a → Unwritten a b → a.disk.tentative ≡ None → b.mode ≡ Running a.disk.permanent None → NodeOk net k b
 restores_ok net k a b ok same free now = record_stays_ok net k a b ok (record {
-  record_of = same.record_of;
+  disk = same.disk;
   outlets = same_outlets a b same.outlets;
   covered = covers_still net k a b ok same.outlets;
-  current = λ j is. let e = current_is b.mode a.record_of.permanent j None now is in rw e (permanent_fits net k a b ok (same_outlets a b same.outlets) free);
-  own = λ live is. absurd (some_not_none refl (live_is b.mode a.record_of.permanent None live now is));
+  current = λ j is. let e = current_is b.mode a.disk.permanent j None now is in rw e (permanent_fits net k a b ok (same_outlets a b same.outlets) free);
+  own = λ live is. absurd (some_not_none refl (live_is b.mode a.disk.permanent None live now is));
 })
 
 -- nothing is current and nothing is live
-pub stops_ok : (net : Net) (k : ℕ) (a b : Node) → NodeOk net k a → SameRecord a b → current_of b.mode ≡ None → live_of b.mode ≡ None → NodeOk net k b
+pub stops_ok : (net : Net) (k : ℕ) (a b : Node) → NodeOk net k a → Unwritten a b → current_of b.mode ≡ None → live_of b.mode ≡ None → NodeOk net k b
 stops_ok net k a b ok same current live = record_stays_ok net k a b ok (record {
-  record_of = same.record_of;
+  disk = same.disk;
   outlets = same_outlets a b same.outlets;
   covered = covers_still net k a b ok same.outlets;
   current = λ j is. absurd (some_not_none current is);
@@ -104,7 +104,7 @@ stops_ok net k a b ok same current live = record_stays_ok net k a b ok (record {
 
 pub works_ok : (net : Net) (k : ℕ) (a b : Node) (before later : Image) (live : Option Live) → NodeOk net k a → Works net k a b before later live → NodeOk net k b
 works_ok net k a b before later live ok s = record_stays_ok net k a b ok (record {
-  record_of = s.same.record_of;
+  disk = s.same.disk;
   outlets = same_outlets a b s.same.outlets;
   covered = covers_still net k a b ok s.same.outlets;
   current = λ j is. let e = current_is b.mode later j live s.now is in rw e fits;
@@ -119,7 +119,7 @@ works_ok net k a b before later live ok s = record_stays_ok net k a b ok (record
 
     fits : Fits net k a b later
     fits = record {
-      after = at_most_next a.record_of.permanent before later old.after rises;
+      after = at_most_next a.disk.permanent before later old.after rises;
       latest = λ x n i held. at_most_next i before later (old.latest x n i held) rises;
       local = λ c is. let e = ap (λ (f : ℕ → ℕ). f c) s.base in let one = (old.local c is).0 in let two = s.received c in (omega arith, s.local c is);
       output = λ c is. let e = ap (λ (f : ℕ → ℕ). f c) s.base in let one = old.output c is in omega arith;
@@ -129,7 +129,7 @@ works_ok net k a b before later live ok s = record_stays_ok net k a b ok (record
 pub trims_ok : (net : Net) (k : ℕ) (a b : Node) (c to : ℕ) (before later : Image) (live : Option Live) → NodeOk net k a → Trims a b c to before later live
     → (IsLocal net c k → to ≤ before.received c) → (IsOutput net c k → to ≤ a.outlets c) → NodeOk net k b
 trims_ok net k a b c to before later live ok s local output = record_stays_ok net k a b ok (record {
-  record_of = s.same.record_of;
+  disk = s.same.disk;
   outlets = same_outlets a b s.same.outlets;
   covered = covers_still net k a b ok s.same.outlets;
   current = λ j is. let e = current_is b.mode later j live s.now is in rw e fits;
@@ -153,7 +153,7 @@ trims_ok net k a b c to before later live ok s local output = record_stays_ok ne
 
     fits : Fits net k a b later
     fits = record {
-      after = at_most_next a.record_of.permanent before later old.after rises;
+      after = at_most_next a.disk.permanent before later old.after rises;
       latest = λ x n i held. at_most_next i before later (old.latest x n i held) rises;
       local = λ d is.
           let one = ap (λ (f : ℕ → ℕ). f d) s.received in
@@ -173,7 +173,7 @@ trims_ok net k a b c to before later live ok s local output = record_stays_ok ne
 
 releases_ok : (net : Net) (k : ℕ) (a b : Node) (c : ℕ) (current : Image) (live : Option Live) → NodeOk net k a → Releases net k a b c current live → NodeOk net k b
 releases_ok net k a b c current live ok s = record_stays_ok net k a b ok (record {
-  record_of = s.record_of;
+  disk = s.disk;
   outlets = grows;
   covered = λ d is. elim (same_or_other d c) [
     | inl at_c ↦ rw at_c (let one = s.longer in let two = s.covered in omega arith)
@@ -200,9 +200,9 @@ unneeded_output net k a current c to (Released output le) is = le
 
 -- the tentative image goes
 pub record ImageGoes (k : ℕ) (a b : Node) (x n : ℕ) (image : Image) : Type 0 where
-  pub drops : Drops a.record_of b.record_of x n image
+  pub drops : Drops a.disk b.disk x n image
   pub outlets : b.outlets ≡ a.outlets
-  pub current : (j : Image) → current_of b.mode ≡ Some j → (current_of a.mode ≡ Some j) ⊎ (j ≡ a.record_of.permanent)
+  pub current : (j : Image) → current_of b.mode ≡ Some j → (current_of a.mode ≡ Some j) ⊎ (j ≡ a.disk.permanent)
   pub none_live : (live : Live) → live_of b.mode ≡ Some live → ⊥
 
 -- each image of b was one of a
@@ -214,7 +214,7 @@ image_was_there k a b x n image s i (Current now) = elim (s.current i now) [ inl
 pub image_goes_ok : (net : Net) (k : ℕ) (a b : Node) (x n : ℕ) (image : Image) → NodeOk net k a → ImageGoes k a b x n image → NodeOk net k b
 image_goes_ok net k a b x n image ok s = record {
   tentative = λ y m i held. absurd (some_not_none s.drops.free held);
-  current = λ i now. rw (s.drops.permanent) (elim (s.current i now) [ inl old ↦ ok.current i old | inr is ↦ rw is (at_most_itself a.record_of.permanent) ]);
+  current = λ i now. rw (s.drops.permanent) (elim (s.current i now) [ inl old ↦ ok.current i old | inr is ↦ rw is (at_most_itself a.disk.permanent) ]);
   latest = λ y m i j held now. absurd (some_not_none s.drops.free held);
   used = rw (s.drops.highest, s.drops.decided) ok.used;
   older = λ m j i held now. absurd (some_not_none s.drops.free held);
@@ -226,11 +226,11 @@ image_goes_ok net k a b x n image ok s = record {
 
 -- the tentative image becomes permanent
 pub record BecomesPermanent (k : ℕ) (a b : Node) (x n : ℕ) (image : Image) : Type 0 where
-  pub held : Holds a.record_of x n image
-  pub permanent : b.record_of.permanent ≡ image
-  pub free : b.record_of.tentative ≡ None
-  pub highest : b.record_of.highest ≡ a.record_of.highest
-  pub decided : (m : ℕ) → b.record_of.decided m ≡ true → m ≤ a.record_of.highest k
+  pub held : Holds a.disk x n image
+  pub permanent : b.disk.permanent ≡ image
+  pub free : b.disk.tentative ≡ None
+  pub highest : b.disk.highest ≡ a.disk.highest
+  pub decided : (m : ℕ) → b.disk.decided m ≡ true → m ≤ a.disk.highest k
   pub outlets : b.outlets ≡ a.outlets
   pub current : (j : Image) → current_of b.mode ≡ Some j → (current_of a.mode ≡ Some j) ⊎ (j ≡ image)
   pub none_live : (live : Live) → live_of b.mode ≡ Some live → ⊥
@@ -256,16 +256,16 @@ becomes_permanent_ok net k a b x n image ok s = record {
 
 -- the current image becomes a tentative one
 pub record CurrentIsTaken (k : ℕ) (a b : Node) (x n : ℕ) (image : Image) : Type 0 where
-  pub takes : Takes a.record_of b.record_of x n image
+  pub takes : Takes a.disk b.disk x n image
   pub running : current_of a.mode ≡ Some image
   pub still : current_of b.mode ≡ Some image
   pub outlets : b.outlets ≡ a.outlets
-  pub own : (live : Live) → live_of b.mode ≡ Some live → (i : Image) × Holds b.record_of k live.number i
+  pub own : (live : Live) → live_of b.mode ≡ Some live → (i : Image) × Holds b.disk k live.number i
 
 -- each image of b was one of a
 pub taken_was_there : (k : ℕ) (a b : Node) (x n : ℕ) (image : Image) → CurrentIsTaken k a b x n image → (i : Image) → IsImageOf b i → IsImageOf a i
 taken_was_there k a b x n image s i (Permanent same) = Permanent (sym s.takes.permanent ∙ same)
-taken_was_there k a b x n image s i (Held y m held) = Current (rw (same_image b.record_of y m x n i image held s.takes.holds) s.running)
+taken_was_there k a b x n image s i (Held y m held) = Current (rw (same_image b.disk y m x n i image held s.takes.holds) s.running)
 taken_was_there k a b x n image s i (Current now) = Current (rw (one_inside now s.still) s.running)
 
 pub current_is_taken_ok : (net : Net) (k : ℕ) (a b : Node) (x n : ℕ) (image : Image) → NodeOk net k a → CurrentIsTaken k a b x n image → NodeOk net k b
@@ -281,17 +281,17 @@ current_is_taken_ok net k a b x n image ok s = record {
   covered = λ c is. rw (s.outlets, s.takes.permanent) (ok.covered c is);
 }
   where
-    held_now : (y m : ℕ) (i : Image) → Holds b.record_of y m i → (y ≡ x) × (m ≡ n) × (i ≡ image)
-    held_now y m i held = (same_initiator b.record_of y m x n i image held s.takes.holds, same_number b.record_of y m x n i image held s.takes.holds, same_image b.record_of y m x n i image held s.takes.holds)
+    held_now : (y m : ℕ) (i : Image) → Holds b.disk y m i → (y ≡ x) × (m ≡ n) × (i ≡ image)
+    held_now y m i held = (same_initiator b.disk y m x n i image held s.takes.holds, same_number b.disk y m x n i image held s.takes.holds, same_image b.disk y m x n i image held s.takes.holds)
 
-    highest_grows : (y : ℕ) → a.record_of.highest y ≤ b.record_of.highest y
+    highest_grows : (y : ℕ) → a.disk.highest y ≤ b.disk.highest y
     highest_grows y = elim (same_or_other y x) [
       | inl is ↦ rw is (let one = s.takes.new in let two = s.takes.highest in omega arith)
       | inr other ↦ let same = s.takes.others y other in omega arith
     ]
 
-    older : (m j : ℕ) → k ≡ x → m ≡ n → a.record_of.decided j ≡ true → j < m
-    older m j own is now = let one = ok.used j now in let two : a.record_of.highest k < n = rw own s.takes.new in omega arith
+    older : (m j : ℕ) → k ≡ x → m ≡ n → a.disk.decided j ≡ true → j < m
+    older m j own is now = let one = ok.used j now in let two : a.disk.highest k < n = rw own s.takes.new in omega arith
 
 no_live_in : (m : Mode) (i : Image) → m ≡ Running i None → (live : Live) → live_of m ≡ Some live → ⊥
 no_live_in m i now live is = some_not_none refl (live_is m i None live now is)
@@ -302,8 +302,8 @@ pub forget_goes : (k : ℕ) (a b : Node) (x n : ℕ) (image : Image) → Forgets
 forget_goes k a b x n image s = record {
   drops = s.drops;
   outlets = s.outlets;
-  current = λ j is. inr (current_is b.mode a.record_of.permanent j None s.now is);
-  none_live = no_live_in b.mode a.record_of.permanent s.now;
+  current = λ j is. inr (current_is b.mode a.disk.permanent j None s.now is);
+  none_live = no_live_in b.mode a.disk.permanent s.now;
 }
 
 pub give_up_goes : (k : ℕ) (a b : Node) (current image : Image) (live : Live) → GivesUp k a b current image live → ImageGoes k a b k live.number image
@@ -353,23 +353,23 @@ node_step_ok net k a b ok (Give_up current image live s) = image_goes_ok net k a
 node_step_ok net k a b ok (Conclude current image live s) = becomes_permanent_ok net k a b k live.number image ok (conclude_permanent net k a b current image live ok s)
 
 -- the permanent image and the outlets only grow
-pub node_step_grows : (net : Net) (k : ℕ) (a b : Node) → NodeOk net k a → NodeStep net k a b → AtMost a.record_of.permanent b.record_of.permanent × ((c : ℕ) → a.outlets c ≤ b.outlets c)
-node_step_grows net k a b ok (Work before later live s) = rw (s.same.record_of, s.same.outlets) (at_most_itself a.record_of.permanent, λ c. omega arith)
-node_step_grows net k a b ok (Trim c to before later live bound s) = rw (s.same.record_of, s.same.outlets) (at_most_itself a.record_of.permanent, λ d. omega arith)
+pub node_step_grows : (net : Net) (k : ℕ) (a b : Node) → NodeOk net k a → NodeStep net k a b → AtMost a.disk.permanent b.disk.permanent × ((c : ℕ) → a.outlets c ≤ b.outlets c)
+node_step_grows net k a b ok (Work before later live s) = rw (s.same.disk, s.same.outlets) (at_most_itself a.disk.permanent, λ c. omega arith)
+node_step_grows net k a b ok (Trim c to before later live bound s) = rw (s.same.disk, s.same.outlets) (at_most_itself a.disk.permanent, λ d. omega arith)
 node_step_grows net k a b ok (Release c current live s) = (
-  rw (s.record_of) (at_most_itself a.record_of.permanent),
+  rw (s.disk) (at_most_itself a.disk.permanent),
   λ d. elim (same_or_other d c) [
     | inl at_c ↦ rw at_c (let one = s.longer in omega arith)
     | inr other ↦ let one = s.others d other in omega arith
   ],
 )
-node_step_grows net k a b ok (Roll_back current live s) = rw (s.same.record_of, s.same.outlets) (at_most_itself a.record_of.permanent, λ c. omega arith)
-node_step_grows net k a b ok (Crash s) = rw (s.same.record_of, s.same.outlets) (at_most_itself a.record_of.permanent, λ c. omega arith)
-node_step_grows net k a b ok (Restore s) = rw (s.same.record_of, s.same.outlets) (at_most_itself a.record_of.permanent, λ c. omega arith)
-node_step_grows net k a b ok (Forget x n image s) = rw (s.drops.permanent, s.outlets) (at_most_itself a.record_of.permanent, λ c. omega arith)
-node_step_grows net k a b ok (Doubt x n image s) = rw (s.same.record_of, s.same.outlets) (at_most_itself a.record_of.permanent, λ c. omega arith)
-node_step_grows net k a b ok (Start current live s) = rw (s.takes.permanent, s.outlets) (at_most_itself a.record_of.permanent, λ c. omega arith)
-node_step_grows net k a b ok (Give_up current image live s) = rw (s.drops.permanent, s.outlets) (at_most_itself a.record_of.permanent, λ c. omega arith)
+node_step_grows net k a b ok (Roll_back current live s) = rw (s.same.disk, s.same.outlets) (at_most_itself a.disk.permanent, λ c. omega arith)
+node_step_grows net k a b ok (Crash s) = rw (s.same.disk, s.same.outlets) (at_most_itself a.disk.permanent, λ c. omega arith)
+node_step_grows net k a b ok (Restore s) = rw (s.same.disk, s.same.outlets) (at_most_itself a.disk.permanent, λ c. omega arith)
+node_step_grows net k a b ok (Forget x n image s) = rw (s.drops.permanent, s.outlets) (at_most_itself a.disk.permanent, λ c. omega arith)
+node_step_grows net k a b ok (Doubt x n image s) = rw (s.same.disk, s.same.outlets) (at_most_itself a.disk.permanent, λ c. omega arith)
+node_step_grows net k a b ok (Start current live s) = rw (s.takes.permanent, s.outlets) (at_most_itself a.disk.permanent, λ c. omega arith)
+node_step_grows net k a b ok (Give_up current image live s) = rw (s.drops.permanent, s.outlets) (at_most_itself a.disk.permanent, λ c. omega arith)
 node_step_grows net k a b ok (Conclude current image live s) = rw (s.decides.permanent, s.outlets) ((ok.tentative k live.number image s.decides.held).1, λ c. omega arith)
 
 -- and no other node's outlet changes
@@ -393,17 +393,18 @@ pub node_stays_ok : (net : Net) (k : ℕ) (a b : Node) (nodes : List Node) → N
 node_stays_ok net k a b [] ok same = rw (← same) ok
 node_stays_ok net k a b (c ∷ nodes) ok run = node_stays_ok net k c b nodes (node_step_ok net k a c ok run.0) run.1
 
-pub node_never_falls_back : (net : Net) (k : ℕ) (a b : Node) (nodes : List Node) → NodeOk net k a → Alone net k a nodes b → AtMost a.record_of.permanent b.record_of.permanent × ((c : ℕ) → a.outlets c ≤ b.outlets c)
-node_never_falls_back net k a b [] ok same = rw (← same) (at_most_itself a.record_of.permanent, λ c. omega arith)
+pub node_never_falls_back : (net : Net) (k : ℕ) (a b : Node) (nodes : List Node) → NodeOk net k a → Alone net k a nodes b → AtMost a.disk.permanent b.disk.permanent × ((c : ℕ) → a.outlets c ≤ b.outlets c)
+node_never_falls_back net k a b [] ok same = rw (← same) (at_most_itself a.disk.permanent, λ c. omega arith)
 node_never_falls_back net k a b (c ∷ nodes) ok run =
     let one = node_step_grows net k a c ok run.0 in
     let two = node_never_falls_back net k c b nodes (node_step_ok net k a c ok run.0) run.1 in
-    (at_most_next a.record_of.permanent c.record_of.permanent b.record_of.permanent one.0 two.0, λ d. let three = one.1 d in let four = two.1 d in omega arith)
+    (at_most_next a.disk.permanent c.disk.permanent b.disk.permanent one.0 two.0, λ d. let three = one.1 d in let four = two.1 d in omega arith)
 
-pub node_is_sound : (net : Net) (k : ℕ) (a : Node) → NodeOk net k a → PermanentOk net k a
+pub node_is_sound : (net : Net) (k : ℕ) (a : Node) → NodeOk net k a → CanRestart net k a
 node_is_sound net k a ok = record {
-  no_orphan = λ c is. (ok.local c a.record_of.permanent is (Permanent refl)).1;
-  nothing_lost = λ c is. (ok.local c a.record_of.permanent is (Permanent refl)).0;
-  outputs = λ c is. ok.output c a.record_of.permanent is (Permanent refl);
+  no_orphan = λ c is. (ok.local c a.disk.permanent is (Permanent refl)).1;
+  nothing_lost = λ c is. (ok.local c a.disk.permanent is (Permanent refl)).0;
+  outputs = λ c is. ok.output c a.disk.permanent is (Permanent refl);
   covers = ok.covered;
+  in_log = λ c i is now. (ok.output c i is (Current now), (ok.current i now c).2);
 }

@@ -15,7 +15,7 @@ pub record Quiet (w v : World) : Type 0 where
   pub live : (y : ℕ) (live : Live) → IsLive v y live → IsLive w y live
 
 -- the questions of one live instance alone change, and none goes
-pub record Hears (w v : World) (x : ℕ) (before later : Live) : Type 0 where
+pub record Learns (w v : World) (x : ℕ) (before later : Live) : Type 0 where
   pub records : v.records ≡ w.records
   pub was : IsLive w x before
   pub now : IsLive v x later
@@ -55,7 +55,7 @@ quiet_agrees net w v ok s = record {
   live = λ x live is. let one = ok.live x live (s.live x live is) in (one.0, rw (s.records) one.1);
 }
 
-pub hears_grows : (net : Net) (w v : World) (x : ℕ) (before later : Live) → Hears w v x before later → Grows net w v
+pub hears_grows : (net : Net) (w v : World) (x : ℕ) (before later : Live) → Learns w v x before later → Grows net w v
 hears_grows net w v x before later s = grows_by net w v s.records (λ y now is. elim (same_or_other y x) [
   | inl this ↦ let same : now ≡ later = one_inside (rw this at is) s.now in record {
     live = before;
@@ -73,7 +73,7 @@ hears_grows net w v x before later s = grows_by net w v s.records (λ y now is. 
   }
 ])
 
-pub hears_agrees : (net : Net) (w v : World) (x : ℕ) (own : Image) (before later : Live) → Agreed net w → Hears w v x before later → LiveOk net w.records x own later → Agreed net v
+pub hears_agrees : (net : Net) (w v : World) (x : ℕ) (own : Image) (before later : Live) → Agreed net w → Learns w v x before later → LiveOk net w.records x own later → Agreed net v
 hears_agrees net w v x own before later ok s fine = record {
   highest = rw (s.records) ok.highest;
   named = rw (s.records) ok.named;

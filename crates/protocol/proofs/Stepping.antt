@@ -71,14 +71,14 @@ forgets net w v k n image ok node at drops none = record { grows = leaves_grows 
     }
 
 acts : (net : Net) (w v : World) (k : ℕ) → Consistent net w → OnlyAt w v k → NodeStep net k (node_of w k) (node_of v k) → Advances net w v
-acts net w v k ok at (Work before later live s) = quietly net w v k ok.agreed at s.same.record_of (λ l is. ap live_of s.was ∙ live_is (v.modes k) later live l s.now is)
-acts net w v k ok at (Trim c to before later live bound s) = quietly net w v k ok.agreed at s.same.record_of (λ l is. ap live_of s.was ∙ live_is (v.modes k) later live l s.now is)
-acts net w v k ok at (Release c current live s) = quietly net w v k ok.agreed at s.record_of (λ l is. sym (ap live_of s.mode) ∙ is)
-acts net w v k ok at (Roll_back current live s) = quietly net w v k ok.agreed at s.same.record_of (λ l is. absurd (some_not_none (ap live_of s.now) is))
-acts net w v k ok at (Crash s) = quietly net w v k ok.agreed at s.same.record_of (λ l is. absurd (some_not_none (ap live_of s.now) is))
-acts net w v k ok at (Restore s) = quietly net w v k ok.agreed at s.same.record_of (λ l is. absurd (some_not_none (ap live_of s.now) is))
+acts net w v k ok at (Work before later live s) = quietly net w v k ok.agreed at s.same.disk (λ l is. ap live_of s.was ∙ live_is (v.modes k) later live l s.now is)
+acts net w v k ok at (Trim c to before later live bound s) = quietly net w v k ok.agreed at s.same.disk (λ l is. ap live_of s.was ∙ live_is (v.modes k) later live l s.now is)
+acts net w v k ok at (Release c current live s) = quietly net w v k ok.agreed at s.disk (λ l is. sym (ap live_of s.mode) ∙ is)
+acts net w v k ok at (Roll_back current live s) = quietly net w v k ok.agreed at s.same.disk (λ l is. absurd (some_not_none (ap live_of s.now) is))
+acts net w v k ok at (Crash s) = quietly net w v k ok.agreed at s.same.disk (λ l is. absurd (some_not_none (ap live_of s.now) is))
+acts net w v k ok at (Restore s) = quietly net w v k ok.agreed at s.same.disk (λ l is. absurd (some_not_none (ap live_of s.now) is))
 acts net w v k ok at (Forget x n image s) = forgets net w v k n image ok.agreed (ok.nodes k) at (subst (λ (y : ℕ). Drops (w.records k) (v.records k) y n image) s.own s.drops) (ap live_of s.now)
-acts net w v k ok at (Doubt x n image s) = quietly net w v k ok.agreed at s.same.record_of (λ l is. absurd (some_not_none (ap live_of s.now) is))
+acts net w v k ok at (Doubt x n image s) = quietly net w v k ok.agreed at s.same.disk (λ l is. absurd (some_not_none (ap live_of s.now) is))
 acts net w v k ok at (Start current live s) = record {
   grows = start_grows net w v k current live ok.agreed ok.nodes at.records s.takes s.asks s.nobody (ap live_of s.now) others;
   agreed = start_agrees net w v k current live ok.agreed ok.nodes at.records s.takes s.asks s.nobody (ap live_of s.now) others;
@@ -149,7 +149,7 @@ answered net w v k current before later ok at same was now number asks fine = re
   agreed = let one = ok.live k before (ap live_of was) in hears_agrees net w v k one.0 before later ok s (fine one.0 one.1);
 }
   where
-    s : quiet.Hears w v k before later
+    s : quiet.Learns w v k before later
     s = record {
       records = records_stay w v k at same;
       was = ap live_of was;
@@ -160,7 +160,7 @@ answered net w v k current before later ok at same was now number asks fine = re
     }
 
 took : (net : Net) (w v : World) (k n c m : ℕ) (needs : ℕ → Option ℕ) → Agreed net w → OnlyAt w v k → (s : HearsTook net k (node_of w k) (node_of v k) n c needs) → TookSays net w k n c m s.from needs → Advances net w v
-took net w v k n c m needs ok at s says = answered net w v k s.current s.before s.later ok at s.same.record_of s.was s.now s.number_same
+took net w v k n c m needs ok at s says = answered net w v k s.current s.before s.later ok at s.same.disk s.was s.now s.number_same
     (took_asks net w v k n c needs own s told own_ok) fine
   where
     before : IsLive w k s.before
@@ -182,7 +182,7 @@ took net w v k n c m needs ok at s says = answered net w v k s.current s.before 
     fine i is = took_live_ok net w v k n c needs i s told is
 
 covered : (net : Net) (w v : World) (k n c m : ℕ) → Agreed net w → OnlyAt w v k → (s : HearsCovered (node_of w k) (node_of v k) n c) → ((p q : ℕ) → IsCross net c p q → CoveredSays w k n c m p) → Advances net w v
-covered net w v k n c m ok at s says = answered net w v k s.current s.before s.later ok at s.same.record_of s.was s.now s.number_same
+covered net w v k n c m ok at s says = answered net w v k s.current s.before s.later ok at s.same.disk s.was s.now s.number_same
     (covered_asks net w v k n c (ok.live k s.before before).0 s put (ok.live k s.before before).1) (λ i is. covered_live_ok net w v k n c i s put is)
   where
     before : IsLive w k s.before
@@ -227,7 +227,7 @@ settled net w v k p n ok at s says = record {
     same = live_before w v k at (λ live is. sym (ap live_of s.mode) ∙ is)
 
 comes : (net : Net) (w v : World) (k : ℕ) (packet : Packet) → Consistent net w → OnlyAt w v k → InFlight w packet → Hears net k packet (node_of w k) (node_of v k) → Advances net w v
-comes net w v k (Kept c m) ok at flight s = quietly net w v k ok.agreed at s.trims.same.record_of (λ l is. ap live_of s.trims.was ∙ live_is (v.modes k) s.later s.live l s.trims.now is)
+comes net w v k (Kept c m) ok at flight s = quietly net w v k ok.agreed at s.trims.same.disk (λ l is. ap live_of s.trims.was ∙ live_is (v.modes k) s.later s.live l s.trims.now is)
 comes net w v k (Ask x n c m) ok at flight s = asked net w v k x n c m ok at flight s
 comes net w v k (Took x n c m needs) ok at flight s = took net w v k n c m needs ok.agreed at s.1 (subst (λ (y : ℕ). TookSays net w y n c m s.1.from needs) s.0 (ok.packets (Took x n c m needs) flight s.1.from s.1.to s.1.cross))
 comes net w v k (Covered x n c m) ok at flight s = covered net w v k n c m ok.agreed at s.1 (λ p q cross. subst (λ (y : ℕ). CoveredSays w y n c m p) s.0 (ok.packets (Covered x n c m) flight p q cross))
@@ -251,7 +251,7 @@ advances net w v ok (Send s) = sends net w v ok.agreed s
 other_ok : (net : Net) (w v : World) (k : ℕ) → Consistent net w → OnlyAt w v k → ((c : ℕ) → w.outlets c ≤ v.outlets c) → ((c j : ℕ) → j ≢ k → IsOutput net c j → v.outlets c ≡ w.outlets c)
     → (j : ℕ) → j ≢ k → NodeOk net j (node_of v j)
 other_ok net w v k ok at grows outlets j other = record_stays_ok net j (node_of w j) (node_of v j) (ok.nodes j) (record {
-  record_of = at.records j other;
+  disk = at.records j other;
   outlets = grows;
   covered = λ c is. let same = outlets c j other is in let one = (ok.nodes j).covered c is in omega arith;
   current = λ i now. current_fits net j (node_of w j) (node_of v j) i (ok.nodes j) grows (rw (at.modes j other) at now);

@@ -280,6 +280,10 @@ run_one_more net start w u (first ∷ worlds) run step = (run.0, run_one_more ne
 reachable_next : (net : Net) (w u : World) → Reachable net w → Step net w u → Reachable net u
 reachable_next net w u reachable step = (one_more reachable.0 u, run_one_more net opening w u reachable.0 reachable.1 step)
 
+pub runs_on : (net : Net) (w v : World) (worlds : List World) → Reachable net w → Run net w worlds v → Reachable net v
+runs_on net w v [] reachable run = rw (← run) reachable
+runs_on net w v (u ∷ worlds) reachable run = runs_on net u v worlds (reachable_next net w u reachable run.0) run.1
+
 -- an Ask in flight was so before the run, or was sent on the way
 asked_on_the_way : (net : Net) (w v : World) (worlds : List World) (x n c m : ℕ) → Reachable net w → Run net w worlds v → InFlight v (Ask x n c m) → InFlight w (Ask x n c m) ⊎ WantedBefore net v x n c m
 asked_on_the_way net w v [] x n c m reachable run flight = inl (rw run flight)

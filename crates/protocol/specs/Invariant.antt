@@ -9,22 +9,22 @@ use Rattle.protocol.specs.Line.{NoOrphan, Over}
 
 -- the three images that a node may have
 pub data IsImageOf (a : Node) (i : Image) : Type 0 where
-  Permanent : a.record_of.permanent ≡ i → IsImageOf a i
-  Held : (x n : ℕ) → Holds a.record_of x n i → IsImageOf a i
+  Permanent : a.disk.permanent ≡ i → IsImageOf a i
+  Held : (x n : ℕ) → Holds a.disk x n i → IsImageOf a i
   Current : current_of a.mode ≡ Some i → IsImageOf a i
 
 -- What node k keeps whatever the others do: its images are in order, its logs reach what was released
 -- and no further, and its own instances are numbered upwards.
 pub record NodeOk (net : Net) (k : ℕ) (a : Node) : Type 0 where
-  pub tentative : (x n : ℕ) (i : Image) → Holds a.record_of x n i → (a.record_of.highest x ≡ n) × AtMost a.record_of.permanent i
-  pub current : (i : Image) → current_of a.mode ≡ Some i → AtMost a.record_of.permanent i
-  pub latest : (x n : ℕ) (i j : Image) → Holds a.record_of x n i → current_of a.mode ≡ Some j → AtMost i j
-  pub used : (n : ℕ) → a.record_of.decided n ≡ true → n ≤ a.record_of.highest k
-  pub older : (m n : ℕ) (i : Image) → Holds a.record_of k m i → a.record_of.decided n ≡ true → n < m
-  pub own : (live : Live) → live_of a.mode ≡ Some live → (i : Image) × Holds a.record_of k live.number i
+  pub tentative : (x n : ℕ) (i : Image) → Holds a.disk x n i → (a.disk.highest x ≡ n) × AtMost a.disk.permanent i
+  pub current : (i : Image) → current_of a.mode ≡ Some i → AtMost a.disk.permanent i
+  pub latest : (x n : ℕ) (i j : Image) → Holds a.disk x n i → current_of a.mode ≡ Some j → AtMost i j
+  pub used : (n : ℕ) → a.disk.decided n ≡ true → n ≤ a.disk.highest k
+  pub older : (m n : ℕ) (i : Image) → Holds a.disk k m i → a.disk.decided n ≡ true → n < m
+  pub own : (live : Live) → live_of a.mode ≡ Some live → (i : Image) × Holds a.disk k live.number i
   pub local : (c : ℕ) (i : Image) → IsLocal net c k → IsImageOf a i → (i.base c ≤ i.received c) × (i.received c ≤ i.sent c)
   pub output : (c : ℕ) (i : Image) → IsOutput net c k → IsImageOf a i → i.base c ≤ a.outlets c
-  pub covered : (c : ℕ) → IsOutput net c k → a.outlets c ≤ a.record_of.permanent.sent c
+  pub covered : (c : ℕ) → IsOutput net c k → a.outlets c ≤ a.disk.permanent.sent c
 
 -- Why a taker had to: a channel of which the initiator's image, or an earlier taker's, received more than
 -- the taker's permanent image put.

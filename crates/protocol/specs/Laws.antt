@@ -1,10 +1,10 @@
 -- The theorems: of one node by itself, of each step, and of every run of steps from the opening world.
-use Rattle.std.specs.Prelude.{◌≡◌, ◌≢◌, ◌⊎◌, ℕ, ◌≤◌, ◌<◌, Bool, true, false, Option, None, List}
+use Rattle.std.specs.Prelude.{◌≡◌, ◌≢◌, ◌⊎◌, ℕ, ◌≤◌, ◌<◌, Bool, true, false, Some, None, List}
 use Rattle.protocol.specs.Images.{Image, AtMost, Net, IsCross, IsLocal, IsOutput}
 use Rattle.protocol.specs.Records.{Record, Holds, effective}
 use Rattle.protocol.specs.Moves.{Move}
-use Rattle.protocol.specs.Nodes.{Live, Node}
-use Rattle.protocol.specs.Packets.{Packet, Ask, Ended}
+use Rattle.protocol.specs.Nodes.{Live, current_of, Node}
+use Rattle.protocol.specs.Packets.{Packet, Ask, Ended, Hears, IsByOther}
 use Rattle.protocol.specs.Worlds.{World, node_of, IsLive, InFlight, opening, MaySend, Step, Run, Reachable, Alone}
 use Rattle.protocol.specs.Line.{Sound, Covers, NotBehind, Over, AtMoment, line_with, NoOrphan}
 use Rattle.protocol.specs.Invariant.{NodeOk, Says, Consistent}
@@ -14,22 +14,28 @@ use Rattle.protocol.specs.Invariant.{NodeOk, Says, Consistent}
 abbrev pub NodeOpens : Type 0
 NodeOpens = (net : Net) (k : ℕ) → NodeOk net k (node_of opening k)
 
+-- whatever steps it makes by itself
 abbrev pub NodeStaysOk : Type 0
 NodeStaysOk = (net : Net) (k : ℕ) (a b : Node) (nodes : List Node) → NodeOk net k a → Alone net k a nodes b → NodeOk net k b
 
--- of a node's permanent image: each local channel is sound, and each outlet's next item is in the log or still to be put
-pub record PermanentOk (net : Net) (k : ℕ) (a : Node) : Type 0 where
-  pub no_orphan : (c : ℕ) → IsLocal net c k → a.record_of.permanent.received c ≤ a.record_of.permanent.sent c
-  pub nothing_lost : (c : ℕ) → IsLocal net c k → a.record_of.permanent.base c ≤ a.record_of.permanent.received c
-  pub outputs : (c : ℕ) → IsOutput net c k → a.record_of.permanent.base c ≤ a.outlets c
-  pub covers : (c : ℕ) → IsOutput net c k → a.outlets c ≤ a.record_of.permanent.sent c
+-- and when a packet comes, where a verdict is on another's instance
+abbrev pub NodeHearsOk : Type 0
+NodeHearsOk = (net : Net) (k : ℕ) (packet : Packet) (a b : Node) → NodeOk net k a → IsByOther k packet → Hears net k packet a b → NodeOk net k b
+
+-- The node can restart from its permanent image, and its current log has what is still to be released of that.
+pub record CanRestart (net : Net) (k : ℕ) (a : Node) : Type 0 where
+  pub no_orphan : (c : ℕ) → IsLocal net c k → a.disk.permanent.received c ≤ a.disk.permanent.sent c
+  pub nothing_lost : (c : ℕ) → IsLocal net c k → a.disk.permanent.base c ≤ a.disk.permanent.received c
+  pub outputs : (c : ℕ) → IsOutput net c k → a.disk.permanent.base c ≤ a.outlets c
+  pub covers : (c : ℕ) → IsOutput net c k → a.outlets c ≤ a.disk.permanent.sent c
+  pub in_log : (c : ℕ) (i : Image) → IsOutput net c k → current_of a.mode ≡ Some i → (i.base c ≤ a.outlets c) × (a.disk.permanent.sent c ≤ i.sent c)
 
 abbrev pub NodeIsSound : Type 0
-NodeIsSound = (net : Net) (k : ℕ) (a : Node) → NodeOk net k a → PermanentOk net k a
+NodeIsSound = (net : Net) (k : ℕ) (a : Node) → NodeOk net k a → CanRestart net k a
 
 abbrev pub NodeNeverFallsBack : Type 0
 NodeNeverFallsBack = (net : Net) (k : ℕ) (a b : Node) (nodes : List Node) → NodeOk net k a → Alone net k a nodes b
-    → AtMost a.record_of.permanent b.record_of.permanent × ((c : ℕ) → a.outlets c ≤ b.outlets c)
+    → AtMost a.disk.permanent b.disk.permanent × ((c : ℕ) → a.outlets c ≤ b.outlets c)
 
 -- steps
 
@@ -57,6 +63,10 @@ abbrev pub MovesAtMostOnce : Type 0
 MovesAtMostOnce = (net : Net) (w v : World) → Step net w v → AtMostOneMove w v
 
 -- runs
+
+-- each step, and each run, leads from a reachable world to another
+abbrev pub RunsOn : Type 0
+RunsOn = (net : Net) (w v : World) (worlds : List World) → Reachable net w → Run net w worlds v → Reachable net v
 
 abbrev pub IsConsistent : Type 0
 IsConsistent = (net : Net) (w : World) → Reachable net w → Consistent net w
@@ -123,7 +133,7 @@ pub record Wanted (net : Net) (w : World) (x n c m : ℕ) : Type 0 where
   pub is : IsLive w x live
   pub number : live.number ≡ n
   pub by : ℕ
-  pub to : net.consumer c ≡ Option.Some by
+  pub to : net.consumer c ≡ Some by
   pub image : Image
   pub held : Holds (w.records by) x n image
   pub one_of : (by ≡ x) ⊎ (live.takes by ≡ true)

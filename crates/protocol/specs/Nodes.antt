@@ -38,20 +38,20 @@ live_of Down = None
 live_of In_doubt = None
 live_of (Running current live) = live
 
--- a node with its record, what it does, and how many items each outlet has
+-- a node with the record on its disk, its mode, and how many items each outlet has
 pub record Node : Type 0 where
-  pub record_of : Record
+  pub disk : Record
   pub mode : Mode
   pub outlets : ℕ → ℕ
 
--- what stays on the disk and outside
-pub record SameRecord (a b : Node) : Type 0 where
-  pub record_of : b.record_of ≡ a.record_of
+-- Nothing is written: neither the record nor an outlet.
+pub record Unwritten (a b : Node) : Type 0 where
+  pub disk : b.disk ≡ a.disk
   pub outlets : b.outlets ≡ a.outlets
 
 -- Processes get and put items.
 pub record Works (net : Net) (k : ℕ) (a b : Node) (before later : Image) (live : Option Live) : Type 0 where
-  pub same : SameRecord a b
+  pub same : Unwritten a b
   pub was : a.mode ≡ Running before live
   pub now : b.mode ≡ Running later live
   pub received : (c : ℕ) → before.received c ≤ later.received c
@@ -61,7 +61,7 @@ pub record Works (net : Net) (k : ℕ) (a b : Node) (before later : Image) (live
 
 -- The log of one channel loses what comes before a position.
 pub record Trims (a b : Node) (c to : ℕ) (before later : Image) (live : Option Live) : Type 0 where
-  pub same : SameRecord a b
+  pub same : Unwritten a b
   pub was : a.mode ≡ Running before live
   pub now : b.mode ≡ Running later live
   pub rises : before.base c ≤ to
@@ -80,44 +80,44 @@ pub data Unneeded (net : Net) (k : ℕ) (a : Node) (current : Image) (c to : ℕ
 pub record Releases (net : Net) (k : ℕ) (a b : Node) (c : ℕ) (current : Image) (live : Option Live) : Type 0 where
   pub output : IsOutput net c k
   pub running : a.mode ≡ Running current live
-  pub covered : a.outlets c < a.record_of.permanent.sent c
+  pub covered : a.outlets c < a.disk.permanent.sent c
   pub longer : b.outlets c ≡ a.outlets c + 1
   pub others : (d : ℕ) → d ≢ c → b.outlets d ≡ a.outlets d
   pub mode : b.mode ≡ a.mode
-  pub record_of : b.record_of ≡ a.record_of
+  pub disk : b.disk ≡ a.disk
 
 -- A node that holds no tentative image goes back to its permanent one.
 pub record RollsBack (a b : Node) (current : Image) (live : Option Live) : Type 0 where
-  pub same : SameRecord a b
+  pub same : Unwritten a b
   pub was : a.mode ≡ Running current live
-  pub free : a.record_of.tentative ≡ None
-  pub now : b.mode ≡ Running a.record_of.permanent None
+  pub free : a.disk.tentative ≡ None
+  pub now : b.mode ≡ Running a.disk.permanent None
 
 pub record Crashes (a b : Node) : Type 0 where
-  pub same : SameRecord a b
+  pub same : Unwritten a b
   pub now : b.mode ≡ Down
 
 -- A node comes up with no tentative image, and restores the permanent one.
 pub record Restores (a b : Node) : Type 0 where
-  pub same : SameRecord a b
+  pub same : Unwritten a b
   pub was : a.mode ≡ Down
-  pub free : a.record_of.tentative ≡ None
-  pub now : b.mode ≡ Running a.record_of.permanent None
+  pub free : a.disk.tentative ≡ None
+  pub now : b.mode ≡ Running a.disk.permanent None
 
 -- A node comes up with an image of an instance of its own, drops that, and restores the permanent one.
 pub record Forgets (k : ℕ) (a b : Node) (x n : ℕ) (image : Image) : Type 0 where
   pub own : x ≡ k
-  pub drops : Drops a.record_of b.record_of x n image
+  pub drops : Drops a.disk b.disk x n image
   pub was : a.mode ≡ Down
-  pub now : b.mode ≡ Running a.record_of.permanent None
+  pub now : b.mode ≡ Running a.disk.permanent None
   pub outlets : b.outlets ≡ a.outlets
 
 -- A node comes up with an image of another's instance, and keeps it.
 pub record Doubts (k : ℕ) (a b : Node) (x n : ℕ) (image : Image) : Type 0 where
-  pub same : SameRecord a b
+  pub same : Unwritten a b
   pub was : a.mode ≡ Down
   pub other : x ≢ k
-  pub held : Holds a.record_of x n image
+  pub held : Holds a.disk x n image
   pub now : b.mode ≡ In_doubt
 
 -- What is asked for an image: on each channel from another node of which it received more than the
@@ -129,9 +129,9 @@ pub record AsksNeeds (net : Net) (k : ℕ) (permanent image : Image) (asks : ℕ
 -- A node that holds nothing takes its current image for a new instance of its own, and asks for its needs.
 pub record Starts (net : Net) (k : ℕ) (a b : Node) (current : Image) (live : Live) : Type 0 where
   pub was : a.mode ≡ Running current None
-  pub number : live.number ≡ a.record_of.highest k + 1
-  pub takes : Takes a.record_of b.record_of k live.number current
-  pub asks : AsksNeeds net k a.record_of.permanent current live.asks
+  pub number : live.number ≡ a.disk.highest k + 1
+  pub takes : Takes a.disk b.disk k live.number current
+  pub asks : AsksNeeds net k a.disk.permanent current live.asks
   pub nobody : (p : ℕ) → live.takes p ≢ true
   pub now : b.mode ≡ Running current (Some live)
   pub outlets : b.outlets ≡ a.outlets
@@ -139,7 +139,7 @@ pub record Starts (net : Net) (k : ℕ) (a b : Node) (current : Image) (live : L
 -- The initiator drops its image, and asks no more.
 pub record GivesUp (k : ℕ) (a b : Node) (current image : Image) (live : Live) : Type 0 where
   pub was : a.mode ≡ Running current (Some live)
-  pub drops : Drops a.record_of b.record_of k live.number image
+  pub drops : Drops a.disk b.disk k live.number image
   pub now : b.mode ≡ Running current None
   pub outlets : b.outlets ≡ a.outlets
 
@@ -147,7 +147,7 @@ pub record GivesUp (k : ℕ) (a b : Node) (current image : Image) (live : Live) 
 pub record Concludes (k : ℕ) (a b : Node) (current image : Image) (live : Live) : Type 0 where
   pub was : a.mode ≡ Running current (Some live)
   pub answered : AllAnswered live
-  pub decides : Decides a.record_of b.record_of k live.number image live.takes
+  pub decides : Decides a.disk b.disk k live.number image live.takes
   pub now : b.mode ≡ Running current None
   pub outlets : b.outlets ≡ a.outlets
 

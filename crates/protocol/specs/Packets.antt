@@ -3,7 +3,7 @@ use Rattle.std.specs.Prelude.{◌≡◌, ◌≢◌, ◌⊎◌, ℕ, ◌≤◌, �
 use Rattle.protocol.specs.Images.{Image, Net, IsCross}
 use Rattle.protocol.specs.Records.{Holds}
 use Rattle.protocol.specs.Moves.{Takes, Settles, Drops, Confirms}
-use Rattle.protocol.specs.Nodes.{Answer, Awaited, By_took, By_covered, Live, Mode, Down, In_doubt, Running, Node, SameRecord, Trims}
+use Rattle.protocol.specs.Nodes.{Answer, Awaited, By_took, By_covered, Live, Mode, Down, In_doubt, Running, Node, Unwritten, Trims}
 
 pub data Packet : Type 0 where
   -- the channel's consumer got so many items for good
@@ -49,9 +49,9 @@ pub record HearsAsk (net : Net) (k : ℕ) (a b : Node) (x n c m : ℕ) : Type 0 
   pub current : Image
   pub live : Option Live
   pub running : a.mode ≡ Running current live
-  pub above : a.record_of.permanent.sent c < m
+  pub above : a.disk.permanent.sent c < m
   pub within : m ≤ current.sent c
-  pub takes : Takes a.record_of b.record_of x n current
+  pub takes : Takes a.disk b.disk x n current
   pub mode : b.mode ≡ a.mode
   pub outlets : b.outlets ≡ a.outlets
 
@@ -65,10 +65,10 @@ pub record HearsTook (net : Net) (k : ℕ) (a b : Node) (n c : ℕ) (needs : ℕ
   pub own : Image
   pub before : Live
   pub later : Live
-  pub same : SameRecord a b
+  pub same : Unwritten a b
   pub was : a.mode ≡ Running current (Some before)
   pub now : b.mode ≡ Running current (Some later)
-  pub held : Holds a.record_of k n own
+  pub held : Holds a.disk k n own
   pub number : before.number ≡ n
   pub number_same : later.number ≡ before.number
   pub count : ℕ
@@ -88,7 +88,7 @@ pub record HearsCovered (a b : Node) (n c : ℕ) : Type 0 where
   pub current : Image
   pub before : Live
   pub later : Live
-  pub same : SameRecord a b
+  pub same : Unwritten a b
   pub was : a.mode ≡ Running current (Some before)
   pub now : b.mode ≡ Running current (Some later)
   pub number : before.number ≡ n
@@ -104,22 +104,22 @@ pub record HearsCovered (a b : Node) (n c : ℕ) : Type 0 where
 pub record HearsCommit (a b : Node) (x n : ℕ) : Type 0 where
   pub image : Image
   pub up : a.mode ≢ Down
-  pub settles : Settles a.record_of b.record_of x n image
-  pub mode : b.mode ≡ after_verdict a.mode b.record_of.permanent
+  pub settles : Settles a.disk b.disk x n image
+  pub mode : b.mode ≡ after_verdict a.mode b.disk.permanent
   pub outlets : b.outlets ≡ a.outlets
 
 -- A node that holds the image drops it.
 pub record HearsEnded (a b : Node) (x n : ℕ) : Type 0 where
   pub image : Image
   pub up : a.mode ≢ Down
-  pub drops : Drops a.record_of b.record_of x n image
-  pub mode : b.mode ≡ after_verdict a.mode b.record_of.permanent
+  pub drops : Drops a.disk b.disk x n image
+  pub mode : b.mode ≡ after_verdict a.mode b.disk.permanent
   pub outlets : b.outlets ≡ a.outlets
 
 -- The initiator learns that a node made its image permanent.
 pub record HearsSettled (a b : Node) (p n : ℕ) : Type 0 where
   pub up : a.mode ≢ Down
-  pub confirms : Confirms a.record_of b.record_of n p
+  pub confirms : Confirms a.disk b.disk n p
   pub mode : b.mode ≡ a.mode
   pub outlets : b.outlets ≡ a.outlets
 
@@ -133,3 +133,9 @@ Hears net k (Query p x n) a b = ⊥
 Hears net k (Commit x p n) a b = (p ≡ k) × HearsCommit a b x n
 Hears net k (Ended x p n) a b = (p ≡ k) × HearsEnded a b x n
 Hears net k (Settled p x n) a b = (x ≡ k) × HearsSettled a b p n
+
+-- a verdict on an instance that isn't node k's own
+abbrev pub IsByOther : ℕ → Packet → Type 0
+IsByOther k (Commit x p n) = k ≢ x
+IsByOther k (Ended x p n) = k ≢ x
+IsByOther k packet = Unit {0}

@@ -13,7 +13,7 @@ pub record World : Type 0 where
   pub flight : ℕ → Option Packet
 
 abbrev pub node_of : World → ℕ → Node
-node_of w k = record { record_of = w.records k; mode = w.modes k; outlets = w.outlets }
+node_of w k = record { disk = w.records k; mode = w.modes k; outlets = w.outlets }
 
 abbrev pub IsLive : World → ℕ → Live → Type 0
 IsLive w x live = live_of (w.modes x) ≡ Some live

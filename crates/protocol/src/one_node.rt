@@ -1,23 +1,32 @@
-//! Laws of one node by itself.
+//! Laws of one node.
 
-ghost use Rattle.protocol.specs.Laws.{NodeOpens, NodeStaysOk, NodeIsSound, NodeNeverFallsBack};
+ghost use Rattle.protocol.specs.Laws.{NodeOpens, NodeStaysOk, NodeHearsOk};
+ghost use Rattle.protocol.specs.Laws.{NodeIsSound, NodeNeverFallsBack};
 
 /// A node of the opening world is in order.
 pub fn node_opening_law()
     ensures { NodeOpens }
 {}
 
-/// Whatever steps a node makes by itself, it stays in order.
+/// Whatever steps a node makes by itself, it stays in order: it works, trims a log, releases an item,
+/// rolls back, crashes, recovers, starts an instance, gives up or decides.
 pub fn node_law()
     ensures { NodeStaysOk }
 {}
 
-/// A node in order has a permanent image from which it can restart.
+/// A packet that comes leaves a node in order too. A verdict has to be on another's instance.
+pub fn node_packet_law()
+    ensures { NodeHearsOk }
+{}
+
+/// A node in order can restart from its permanent image: on its local channels nothing is an orphan
+/// and nothing is lost, and what was released is covered, while the rest stands in the log or is still
+/// to be put.
 pub fn node_sound_law()
     ensures { NodeIsSound }
 {}
 
-/// No step that a node makes by itself takes anything from its permanent image or from an outlet.
+/// No step that a node makes by itself lowers a count of its permanent image, or shortens an outlet.
 pub fn node_line_law()
     ensures { NodeNeverFallsBack }
 {}

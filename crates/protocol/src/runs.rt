@@ -36,6 +36,6 @@ pub fn every_run_law()
 {}
 
 /// A run does reach a decision that names another node: the steps don't rule each other out.
-pub fn reaches_a_decision()
+pub fn reachable_decision_law()
     ensures { ReachesADecision }
 {}

@@ -1,13 +1,15 @@
 //! Laws of each step.
 
-ghost use Rattle.protocol.specs.Laws.{Opens, StaysConsistent, IsConsistent, IsTrueWhenSent};
-ghost use Rattle.protocol.specs.Laws.{StaysTrue, MovesAtMostOnce};
+ghost use Rattle.protocol.specs.Laws.{Opens, StaysConsistent, IsConsistent, RunsOn};
+ghost use Rattle.protocol.specs.Laws.{IsTrueWhenSent, StaysTrue, MovesAtMostOnce};
 
-/// The opening world is consistent, each step keeps it so, and with it every run.
+/// The opening world is consistent, and each step keeps it so. Each run leads from a reachable world
+/// to a reachable one, and those are consistent.
 pub fn consistency_law()
     ensures opening { Opens }
     ensures step { StaysConsistent }
-    ensures run { IsConsistent }
+    ensures run { RunsOn }
+    ensures reachable { IsConsistent }
 {}
 
 /// What a packet says is true when it is sent, and stays true whatever comes later, so that it may be
