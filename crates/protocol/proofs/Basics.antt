@@ -4,7 +4,7 @@ use Rattle.std.specs.Prelude.{◌≢◌}
 use Rattle.std.proofs.lemmas.Bool.Decides.{eqb_tells}
 use Rattle.protocol.specs.Images.{Image, AtMost}
 use Rattle.protocol.specs.Records.{Tentative, Record, Holds, effective}
-use Rattle.protocol.specs.Nodes.{Live, Mode, Running, current_of, live_of}
+use Rattle.protocol.specs.Nodes.{Live, Mode, In_doubt, Running, current_of, live_of}
 
 pub false_true : false ≡ true → ⊥
 false_true e = cc e
@@ -59,6 +59,9 @@ current_is m i j live running now = one_inside now (ap current_of running)
 
 pub live_is : (m : Mode) (i : Image) (o : Option Live) (live : Live) → m ≡ Running i o → live_of m ≡ Some live → o ≡ Some live
 live_is m i o live running now = sym (ap live_of running) ∙ now
+
+pub not_in_doubt : (m : Mode) (i : Image) (live : Option Live) → m ≡ Running i live → m ≢ In_doubt
+not_in_doubt m i live running doubt = some_not_none (ap current_of doubt) (ap current_of running)
 
 -- the effective image
 

@@ -24,6 +24,20 @@ after_permanent net w nodes k = go (w.records k).tentative refl
       | inr never ↦ rw (effective_open w.records k t.initiator t.number t.image held never) (at_most_itself (w.records k).permanent)
     ]
 
+-- an own image isn't effective, since what its node decided is older
+pub own_is_not_effective : (net : Net) (w : World) (k : ℕ) → NodeOk net k (node_of w k) → ((x n : ℕ) (i : Image) → Holds (w.records k) x n i → x ≡ k) → effective w.records k ≡ (w.records k).permanent
+own_is_not_effective net w k ok own = go (w.records k).tentative refl
+  where
+    go : (o : Option Tentative) → (w.records k).tentative ≡ o → effective w.records k ≡ (w.records k).permanent
+    go None free = effective_free w.records k free
+    go (Some t) held = elim (either ((w.records t.initiator).decided t.number)) [
+      | inr never ↦ effective_open w.records k t.initiator t.number t.image held never
+      | inl now ↦
+          let this = own t.initiator t.number t.image held in
+          let one = ok.older t.number t.number t.image (subst (λ (x : ℕ). Holds (w.records k) x t.number t.image) this held) (subst (λ (x : ℕ). (w.records x).decided t.number ≡ true) this now) in
+          absurd (omega arith)
+    ]
+
 -- what the decision means to a node
 data Part (w v : World) (x : ℕ) (own : Image) (live : Live) (k : ℕ) : Type 0 where
   Initiator : k ≡ x → effective v.records k ≡ own → effective w.records k ≡ (w.records k).permanent → Part w v x own live k

@@ -1,13 +1,13 @@
 -- What one node keeps when a packet comes to it.
-use Rattle.std.proofs.Common.{◌≡◌, ◌⊎◌, inl, inr, ℕ, true, Some, refl, sym, ap, ◌∙◌}
+use Rattle.std.proofs.Common.{◌≡◌, None, ◌⊎◌, inl, inr, ℕ, true, Some, refl, sym, ap, ◌∙◌}
 use Rattle.std.specs.Prelude.{◌≢◌}
 use Rattle.protocol.specs.Images.{Image, Net}
 use Rattle.protocol.specs.Records.{Holds}
 use Rattle.protocol.specs.Nodes.{Live, Mode, Down, In_doubt, Running, current_of, live_of, Node, Unwritten}
 use Rattle.protocol.specs.Packets.{Packet, Kept, Ask, Took, Covered, Query, Commit, Ended, Settled, after_verdict, HearsAsk, HearsCommit, HearsEnded, HearsSettled, Hears, IsByOther}
 use Rattle.protocol.specs.Invariant.{IsImageOf, Permanent, Held, Current, NodeOk}
-use Rattle.protocol.proofs.Basics.{same_or_other, some_not_none, one_inside, same_initiator}
-use Rattle.protocol.proofs.OneNode.{images_stay_ok, trims_ok, ImageGoes, image_goes_ok, BecomesPermanent, becomes_permanent_ok, CurrentIsTaken, current_is_taken_ok}
+use Rattle.protocol.proofs.Basics.{not_in_doubt, same_or_other, some_not_none, one_inside, same_initiator}
+use Rattle.protocol.proofs.OneNode.{down_not_doubt, images_stay_ok, trims_ok, ImageGoes, image_goes_ok, BecomesPermanent, becomes_permanent_ok, CurrentIsTaken, current_is_taken_ok}
 
 -- a verdict starts nothing, and a node that was in doubt then runs on its permanent image
 pub live_after : (m : Mode) (i : Image) (live : Live) → live_of (after_verdict m i) ≡ Some live → live_of m ≡ Some live
@@ -24,6 +24,11 @@ current_after (Running current o) i j is = inl is
 abbrev pub NothingLive : Node → ℕ → ℕ → Type 0
 NothingLive a x n = (i : Image) → Holds a.disk x n i → (live : Live) → live_of a.mode ≡ Some live → ⊥
 
+pub verdict_known : (m : Mode) (i : Image) → after_verdict m i ≢ In_doubt
+verdict_known Down i same = down_not_doubt same
+verdict_known In_doubt i same = not_in_doubt (Running i None) i None refl same
+verdict_known (Running current o) i same = not_in_doubt (Running current o) current o refl same
+
 pub commit_permanent : (net : Net) (k : ℕ) (a b : Node) (x n : ℕ) → NodeOk net k a → NothingLive a x n → (s : HearsCommit a b x n) → BecomesPermanent k a b x n s.image
 commit_permanent net k a b x n ok free s = record {
   held = s.settles.held;
@@ -34,6 +39,7 @@ commit_permanent net k a b x n ok free s = record {
   outlets = s.outlets;
   current = λ j now. elim (current_after a.mode b.disk.permanent j (rw (s.mode) at now)) [ inl old ↦ inl old | inr is ↦ inr (is ∙ s.settles.permanent) ];
   none_live = λ live now. free s.image s.settles.held live (live_after a.mode b.disk.permanent live (rw (s.mode) at now));
+  known = λ now. verdict_known a.mode b.disk.permanent (sym s.mode ∙ now);
 }
 
 pub ended_goes : (k : ℕ) (a b : Node) (x n : ℕ) → NothingLive a x n → (s : HearsEnded a b x n) → ImageGoes k a b x n s.image
@@ -42,6 +48,7 @@ ended_goes k a b x n free s = record {
   outlets = s.outlets;
   current = λ j now. elim (current_after a.mode b.disk.permanent j (rw (s.mode) at now)) [ inl old ↦ inl old | inr is ↦ inr (is ∙ s.drops.permanent) ];
   none_live = λ live now. free s.image s.drops.held live (live_after a.mode b.disk.permanent live (rw (s.mode) at now));
+  known = λ now. verdict_known a.mode b.disk.permanent (sym s.mode ∙ now);
 }
 
 pub ask_takes : (net : Net) (k : ℕ) (a b : Node) (x n c m : ℕ) → NodeOk net k a → (s : HearsAsk net k a b x n c m) → CurrentIsTaken k a b x n s.current
@@ -64,6 +71,8 @@ confirms_ok net k a b p n ok s = record {
   local = λ c i is image. ok.local c i is (was i image);
   output = λ c i is image. rw (s.outlets) (ok.output c i is (was i image));
   covered = λ c is. rw (s.outlets, s.confirms.permanent) (ok.covered c is);
+  log = λ c i image. ok.log c i (was i image);
+  doubt = λ now. let in_doubt = ok.doubt (sym s.mode ∙ now) in (in_doubt.0, in_doubt.1, in_doubt.2, in_doubt.3, s.confirms.tentative ∙ in_doubt.4);
 }
   where
     before : (m : ℕ) → b.disk.decided m ≡ true → a.disk.decided m ≡ true
@@ -77,7 +86,7 @@ confirms_ok net k a b p n ok s = record {
 -- the live instance has another state, and its number
 answer_ok : (net : Net) (k : ℕ) (a b : Node) (current : Image) (before later : Live) → NodeOk net k a → Unwritten a b → a.mode ≡ Running current (Some before) → b.mode ≡ Running current (Some later)
     → later.number ≡ before.number → NodeOk net k b
-answer_ok net k a b current before later ok same was now number = images_stay_ok net k a b ok same (ap current_of now ∙ sym (ap current_of was)) own
+answer_ok net k a b current before later ok same was now number = images_stay_ok net k a b ok same (ap current_of now ∙ sym (ap current_of was)) own (not_in_doubt b.mode current (Some later) now)
   where
     own : (live : Live) → live_of b.mode ≡ Some live → (i : Image) × Holds a.disk k live.number i
     own live is =

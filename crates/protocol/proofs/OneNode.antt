@@ -1,14 +1,14 @@
 -- What one node keeps in each of the steps that it makes by itself.
-use Rattle.std.proofs.Common.{◌≡◌, ◌⊎◌, inl, inr, ℕ, ◌<◌, ◌≤◌, true, Option, Some, None, List, [], ◌∷◌, refl, sym, ap, ◌∙◌, subst, arith}
+use Rattle.std.proofs.Common.{◌≡◌, ◌⊎◌, inl, inr, ℕ, ◌<◌, ◌≤◌, Bool, true, false, Option, Some, None, List, [], ◌∷◌, refl, sym, ap, ◌∙◌, subst, arith}
 use Rattle.std.specs.Prelude.{◌≢◌}
 use Rattle.protocol.specs.Images.{Image, AtMost, Net, IsLocal, IsOutput}
 use Rattle.protocol.specs.Records.{Holds}
 use Rattle.protocol.specs.Moves.{Takes, Drops}
-use Rattle.protocol.specs.Nodes.{Live, Mode, Running, current_of, live_of, Node, Unwritten, Works, Trims, Unneeded, Got, Released, Releases, Forgets, Starts, GivesUp, Concludes, NodeStep, Work, Trim, Release, Roll_back, Crash, Restore, Forget, Doubt, Start, Give_up, Conclude}
+use Rattle.protocol.specs.Nodes.{Live, Mode, Down, In_doubt, Running, current_of, live_of, Node, Unwritten, Works, Trims, Unneeded, Got, Released, Releases, Forgets, Starts, GivesUp, Concludes, NodeStep, Work, Trim, Release, Roll_back, Crash, Restore, Forget, Doubt, Start, Give_up, Conclude}
 use Rattle.protocol.specs.Worlds.{Alone}
 use Rattle.protocol.specs.Invariant.{IsImageOf, Permanent, Held, Current, NodeOk}
 use Rattle.protocol.specs.Laws.{CanRestart}
-use Rattle.protocol.proofs.Basics.{same_or_other, at_most_itself, at_most_next, some_not_none, one_inside, same_initiator, same_number, same_image, current_is, live_is}
+use Rattle.protocol.proofs.Basics.{false_true, not_in_doubt, same_or_other, at_most_itself, at_most_next, some_not_none, one_inside, same_initiator, same_number, same_image, current_is, live_is}
 
 -- the image can be node b's current one, over the record of a
 pub record Fits (net : Net) (k : ℕ) (a b : Node) (j : Image) : Type 0 where
@@ -16,6 +16,7 @@ pub record Fits (net : Net) (k : ℕ) (a b : Node) (j : Image) : Type 0 where
   pub latest : (x n : ℕ) (i : Image) → Holds a.disk x n i → AtMost i j
   pub local : (c : ℕ) → IsLocal net c k → (j.base c ≤ j.received c) × (j.received c ≤ j.sent c)
   pub output : (c : ℕ) → IsOutput net c k → j.base c ≤ b.outlets c
+  pub log : (c : ℕ) → j.base c ≤ j.sent c
 
 -- the record stays, and what is current in the end fits
 pub record RecordStays (net : Net) (k : ℕ) (a b : Node) : Type 0 where
@@ -24,6 +25,7 @@ pub record RecordStays (net : Net) (k : ℕ) (a b : Node) : Type 0 where
   pub covered : (c : ℕ) → IsOutput net c k → b.outlets c ≤ a.disk.permanent.sent c
   pub current : (j : Image) → current_of b.mode ≡ Some j → Fits net k a b j
   pub own : (live : Live) → live_of b.mode ≡ Some live → (i : Image) × Holds a.disk k live.number i
+  pub doubt : b.mode ≡ In_doubt → (x : ℕ) × (n : ℕ) × (i : Image) × (x ≢ k) × Holds a.disk x n i
 
 pub record_stays_ok : (net : Net) (k : ℕ) (a b : Node) → NodeOk net k a → RecordStays net k a b → NodeOk net k b
 record_stays_ok net k a b ok s = record {
@@ -36,8 +38,15 @@ record_stays_ok net k a b ok s = record {
   local = local;
   output = output;
   covered = λ c is. rw (s.disk) (s.covered c is);
+  log = log;
+  doubt = λ now. rw (s.disk) (s.doubt now);
 }
   where
+    log : (c : ℕ) (i : Image) → IsImageOf b i → i.base c ≤ i.sent c
+    log c i (Permanent same) = ok.log c i (Permanent (rw (s.disk) at same))
+    log c i (Held x n held) = ok.log c i (Held x n (rw (s.disk) at held))
+    log c i (Current now) = (s.current i now).log c
+
     local : (c : ℕ) (i : Image) → IsLocal net c k → IsImageOf b i → (i.base c ≤ i.received c) × (i.received c ≤ i.sent c)
     local c i is (Permanent same) = ok.local c i is (Permanent (rw (s.disk) at same))
     local c i is (Held x n held) = ok.local c i is (Held x n (rw (s.disk) at held))
@@ -55,6 +64,7 @@ current_fits net k a b j ok outlets now = record {
   latest = λ x n i held. ok.latest x n i j held now;
   local = λ c is. ok.local c j is (Current now);
   output = λ c is. let one = ok.output c j is (Current now) in let two = outlets c in omega arith;
+  log = λ c. ok.log c j (Current now);
 }
 
 pub permanent_fits : (net : Net) (k : ℕ) (a b : Node) → NodeOk net k a → ((c : ℕ) → a.outlets c ≤ b.outlets c) → a.disk.tentative ≡ None → Fits net k a b a.disk.permanent
@@ -63,6 +73,7 @@ permanent_fits net k a b ok outlets free = record {
   latest = λ x n i held. absurd (some_not_none free held);
   local = λ c is. ok.local c a.disk.permanent is (Permanent refl);
   output = λ c is. let one = ok.output c a.disk.permanent is (Permanent refl) in let two = outlets c in omega arith;
+  log = λ c. ok.log c a.disk.permanent (Permanent refl);
 }
 
 same_outlets : (a b : Node) → b.outlets ≡ a.outlets → (c : ℕ) → a.outlets c ≤ b.outlets c
@@ -73,13 +84,14 @@ covers_still net k a b ok same c is = let e = ap (λ (f : ℕ → ℕ). f c) sam
 
 -- the images and the record stay, and a live instance keeps its number
 pub images_stay_ok : (net : Net) (k : ℕ) (a b : Node) → NodeOk net k a → Unwritten a b → current_of b.mode ≡ current_of a.mode
-    → ((live : Live) → live_of b.mode ≡ Some live → (i : Image) × Holds a.disk k live.number i) → NodeOk net k b
-images_stay_ok net k a b ok same current own = record_stays_ok net k a b ok (record {
+    → ((live : Live) → live_of b.mode ≡ Some live → (i : Image) × Holds a.disk k live.number i) → b.mode ≢ In_doubt → NodeOk net k b
+images_stay_ok net k a b ok same current own known = record_stays_ok net k a b ok (record {
   disk = same.disk;
   outlets = same_outlets a b same.outlets;
   covered = covers_still net k a b ok same.outlets;
   current = λ j now. current_fits net k a b j ok (same_outlets a b same.outlets) (sym current ∙ now);
   own = own;
+  doubt = λ now. absurd (known now);
 })
 
 -- the permanent image becomes current, and nothing is live
@@ -90,16 +102,19 @@ restores_ok net k a b ok same free now = record_stays_ok net k a b ok (record {
   covered = covers_still net k a b ok same.outlets;
   current = λ j is. let e = current_is b.mode a.disk.permanent j None now is in rw e (permanent_fits net k a b ok (same_outlets a b same.outlets) free);
   own = λ live is. absurd (some_not_none refl (live_is b.mode a.disk.permanent None live now is));
+  doubt = λ in_doubt. absurd (not_in_doubt b.mode a.disk.permanent None now in_doubt);
 })
 
 -- nothing is current and nothing is live
-pub stops_ok : (net : Net) (k : ℕ) (a b : Node) → NodeOk net k a → Unwritten a b → current_of b.mode ≡ None → live_of b.mode ≡ None → NodeOk net k b
-stops_ok net k a b ok same current live = record_stays_ok net k a b ok (record {
+pub stops_ok : (net : Net) (k : ℕ) (a b : Node) → NodeOk net k a → Unwritten a b → current_of b.mode ≡ None → live_of b.mode ≡ None
+    → (b.mode ≡ In_doubt → (x : ℕ) × (n : ℕ) × (i : Image) × (x ≢ k) × Holds a.disk x n i) → NodeOk net k b
+stops_ok net k a b ok same current live doubt = record_stays_ok net k a b ok (record {
   disk = same.disk;
   outlets = same_outlets a b same.outlets;
   covered = covers_still net k a b ok same.outlets;
   current = λ j is. absurd (some_not_none current is);
   own = λ l is. absurd (some_not_none live is);
+  doubt = doubt;
 })
 
 pub works_ok : (net : Net) (k : ℕ) (a b : Node) (before later : Image) (live : Option Live) → NodeOk net k a → Works net k a b before later live → NodeOk net k b
@@ -109,6 +124,7 @@ works_ok net k a b before later live ok s = record_stays_ok net k a b ok (record
   covered = covers_still net k a b ok s.same.outlets;
   current = λ j is. let e = current_is b.mode later j live s.now is in rw e fits;
   own = λ l is. ok.own l (ap live_of s.was ∙ live_is b.mode later live l s.now is);
+  doubt = λ in_doubt. absurd (not_in_doubt b.mode later live s.now in_doubt);
 })
   where
     old : Fits net k a b before
@@ -123,6 +139,7 @@ works_ok net k a b before later live ok s = record_stays_ok net k a b ok (record
       latest = λ x n i held. at_most_next i before later (old.latest x n i held) rises;
       local = λ c is. let e = ap (λ (f : ℕ → ℕ). f c) s.base in let one = (old.local c is).0 in let two = s.received c in (omega arith, s.local c is);
       output = λ c is. let e = ap (λ (f : ℕ → ℕ). f c) s.base in let one = old.output c is in omega arith;
+      log = λ c. let e = ap (λ (f : ℕ → ℕ). f c) s.base in let one = old.log c in let two = s.sent c in omega arith;
     }
 
 -- a log is trimmed, if of a local channel to what was got, and if of an output to what was released
@@ -134,6 +151,7 @@ trims_ok net k a b c to before later live ok s local output = record_stays_ok ne
   covered = covers_still net k a b ok s.same.outlets;
   current = λ j is. let e = current_is b.mode later j live s.now is in rw e fits;
   own = λ l is. ok.own l (ap live_of s.was ∙ live_is b.mode later live l s.now is);
+  doubt = λ in_doubt. absurd (not_in_doubt b.mode later live s.now in_doubt);
 })
   where
     old : Fits net k a b before
@@ -169,6 +187,10 @@ trims_ok net k a b c to before later live ok s local output = record_stays_ok ne
         | inl at_c ↦ let four = s.base in let five = output (subst (λ (e : ℕ). IsOutput net e k) at_c is) in let six = ap (λ (f : ℕ → ℕ). f c) s.same.outlets in rw at_c (omega arith)
         | inr other ↦ let four = s.others d other in let five = old.output d is in omega arith
       ];
+      log = λ d. let one = ap (λ (f : ℕ → ℕ). f d) s.sent in elim (same_or_other d c) [
+        | inl at_c ↦ rw at_c (let two = ap (λ (f : ℕ → ℕ). f c) s.sent in let four = s.base in let five = s.within in omega arith)
+        | inr other ↦ let four = s.others d other in let five = old.log d in omega arith
+      ];
     }
 
 releases_ok : (net : Net) (k : ℕ) (a b : Node) (c : ℕ) (current : Image) (live : Option Live) → NodeOk net k a → Releases net k a b c current live → NodeOk net k b
@@ -181,6 +203,7 @@ releases_ok net k a b c current live ok s = record_stays_ok net k a b ok (record
   ];
   current = λ j now. current_fits net k a b j ok grows (sym (ap current_of s.mode) ∙ now);
   own = λ l now. ok.own l (sym (ap live_of s.mode) ∙ now);
+  doubt = λ in_doubt. absurd (not_in_doubt a.mode current live s.running (sym s.mode ∙ in_doubt));
 })
   where
     grows : (d : ℕ) → a.outlets d ≤ b.outlets d
@@ -204,6 +227,7 @@ pub record ImageGoes (k : ℕ) (a b : Node) (x n : ℕ) (image : Image) : Type 0
   pub outlets : b.outlets ≡ a.outlets
   pub current : (j : Image) → current_of b.mode ≡ Some j → (current_of a.mode ≡ Some j) ⊎ (j ≡ a.disk.permanent)
   pub none_live : (live : Live) → live_of b.mode ≡ Some live → ⊥
+  pub known : b.mode ≢ In_doubt
 
 -- each image of b was one of a
 pub image_was_there : (k : ℕ) (a b : Node) (x n : ℕ) (image : Image) → ImageGoes k a b x n image → (i : Image) → IsImageOf b i → IsImageOf a i
@@ -222,6 +246,8 @@ image_goes_ok net k a b x n image ok s = record {
   local = λ c i is image_of. ok.local c i is (image_was_there k a b x n image s i image_of);
   output = λ c i is image_of. rw (s.outlets) (ok.output c i is (image_was_there k a b x n image s i image_of));
   covered = λ c is. rw (s.outlets, s.drops.permanent) (ok.covered c is);
+  log = λ c i image_of. ok.log c i (image_was_there k a b x n image s i image_of);
+  doubt = λ now. absurd (s.known now);
 }
 
 -- the tentative image becomes permanent
@@ -234,6 +260,7 @@ pub record BecomesPermanent (k : ℕ) (a b : Node) (x n : ℕ) (image : Image) :
   pub outlets : b.outlets ≡ a.outlets
   pub current : (j : Image) → current_of b.mode ≡ Some j → (current_of a.mode ≡ Some j) ⊎ (j ≡ image)
   pub none_live : (live : Live) → live_of b.mode ≡ Some live → ⊥
+  pub known : b.mode ≢ In_doubt
 
 -- each image of b was one of a
 pub permanent_was_there : (k : ℕ) (a b : Node) (x n : ℕ) (image : Image) → BecomesPermanent k a b x n image → (i : Image) → IsImageOf b i → IsImageOf a i
@@ -252,6 +279,8 @@ becomes_permanent_ok net k a b x n image ok s = record {
   local = λ c i is image_of. ok.local c i is (permanent_was_there k a b x n image s i image_of);
   output = λ c i is image_of. rw (s.outlets) (ok.output c i is (permanent_was_there k a b x n image s i image_of));
   covered = λ c is. rw (s.outlets, s.permanent) (let one = ok.covered c is in let two = ((ok.tentative x n image s.held).1 c).2 in omega arith);
+  log = λ c i image_of. ok.log c i (permanent_was_there k a b x n image s i image_of);
+  doubt = λ now. absurd (s.known now);
 }
 
 -- the current image becomes a tentative one
@@ -279,6 +308,8 @@ current_is_taken_ok net k a b x n image ok s = record {
   local = λ c i is image_of. ok.local c i is (taken_was_there k a b x n image s i image_of);
   output = λ c i is image_of. rw (s.outlets) (ok.output c i is (taken_was_there k a b x n image s i image_of));
   covered = λ c is. rw (s.outlets, s.takes.permanent) (ok.covered c is);
+  log = λ c i image_of. ok.log c i (taken_was_there k a b x n image s i image_of);
+  doubt = λ now. absurd (some_not_none (ap current_of now) s.still);
 }
   where
     held_now : (y m : ℕ) (i : Image) → Holds b.disk y m i → (y ≡ x) × (m ≡ n) × (i ≡ image)
@@ -304,6 +335,7 @@ forget_goes k a b x n image s = record {
   outlets = s.outlets;
   current = λ j is. inr (current_is b.mode a.disk.permanent j None s.now is);
   none_live = no_live_in b.mode a.disk.permanent s.now;
+  known = not_in_doubt b.mode a.disk.permanent None s.now;
 }
 
 pub give_up_goes : (k : ℕ) (a b : Node) (current image : Image) (live : Live) → GivesUp k a b current image live → ImageGoes k a b k live.number image
@@ -312,6 +344,7 @@ give_up_goes k a b current image live s = record {
   outlets = s.outlets;
   current = λ j is. inl (ap current_of s.was ∙ sym (ap current_of s.now) ∙ is);
   none_live = no_live_in b.mode current s.now;
+  known = not_in_doubt b.mode current None s.now;
 }
 
 pub start_takes : (net : Net) (k : ℕ) (a b : Node) (current : Image) (live : Live) → Starts net k a b current live → CurrentIsTaken k a b k live.number current
@@ -336,7 +369,15 @@ conclude_permanent net k a b current image live ok s = record {
   outlets = s.outlets;
   current = λ j is. inl (ap current_of s.was ∙ sym (ap current_of s.now) ∙ is);
   none_live = no_live_in b.mode current s.now;
+  known = not_in_doubt b.mode current None s.now;
 }
+
+pub down_not_doubt : Down ≢ In_doubt
+down_not_doubt same = false_true (ap is_doubt same)
+  where
+    is_doubt : Mode → Bool
+    is_doubt In_doubt = true
+    is_doubt m = false
 
 -- each step that a node makes by itself
 pub node_step_ok : (net : Net) (k : ℕ) (a b : Node) → NodeOk net k a → NodeStep net k a b → NodeOk net k b
@@ -344,10 +385,10 @@ node_step_ok net k a b ok (Work before later live s) = works_ok net k a b before
 node_step_ok net k a b ok (Trim c to before later live bound s) = trims_ok net k a b c to before later live ok s (unneeded_local net k a before c to bound) (unneeded_output net k a before c to bound)
 node_step_ok net k a b ok (Release c current live s) = releases_ok net k a b c current live ok s
 node_step_ok net k a b ok (Roll_back current live s) = restores_ok net k a b ok s.same s.free s.now
-node_step_ok net k a b ok (Crash s) = stops_ok net k a b ok s.same (ap current_of s.now) (ap live_of s.now)
+node_step_ok net k a b ok (Crash s) = stops_ok net k a b ok s.same (ap current_of s.now) (ap live_of s.now) (λ now. absurd (down_not_doubt (sym s.now ∙ now)))
 node_step_ok net k a b ok (Restore s) = restores_ok net k a b ok s.same s.free s.now
 node_step_ok net k a b ok (Forget x n image s) = image_goes_ok net k a b x n image ok (forget_goes k a b x n image s)
-node_step_ok net k a b ok (Doubt x n image s) = stops_ok net k a b ok s.same (ap current_of s.now) (ap live_of s.now)
+node_step_ok net k a b ok (Doubt x n image s) = stops_ok net k a b ok s.same (ap current_of s.now) (ap live_of s.now) (λ now. (x, n, image, s.other, s.held))
 node_step_ok net k a b ok (Start current live s) = current_is_taken_ok net k a b k live.number current ok (start_takes net k a b current live s)
 node_step_ok net k a b ok (Give_up current image live s) = image_goes_ok net k a b k live.number image ok (give_up_goes k a b current image live s)
 node_step_ok net k a b ok (Conclude current image live s) = becomes_permanent_ok net k a b k live.number image ok (conclude_permanent net k a b current image live ok s)

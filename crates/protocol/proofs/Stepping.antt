@@ -256,6 +256,7 @@ other_ok net w v k ok at grows outlets j other = record_stays_ok net j (node_of 
   covered = λ c is. let same = outlets c j other is in let one = (ok.nodes j).covered c is in omega arith;
   current = λ i now. current_fits net j (node_of w j) (node_of v j) i (ok.nodes j) grows (rw (at.modes j other) at now);
   own = λ live is. (ok.nodes j).own live (rw (at.modes j other) at is);
+  doubt = λ now. (ok.nodes j).doubt (rw (at.modes j other) at now);
 })
 
 -- the images of another node are those that it had

@@ -9,7 +9,7 @@ use Rattle.protocol.specs.Worlds.{World, node_of, IsLive, InFlight, opening, May
 use Rattle.protocol.specs.Line.{Sound, Covers, NotBehind, Over, AtMoment, line_with, NoOrphan}
 use Rattle.protocol.specs.Invariant.{IsImageOf, Permanent, Held, Current, NeedOf, LiveOk, Says, Consistent}
 use Rattle.protocol.specs.Laws.{AtMostOneMove, Wanted, WantedBefore, Needed}
-use Rattle.protocol.proofs.Basics.{false_true, either, same_or_other, at_most_itself, at_most_next, some_not_none, one_inside, effective_free, effective_committed, effective_open}
+use Rattle.protocol.proofs.Basics.{not_in_doubt, false_true, either, same_or_other, at_most_itself, at_most_next, some_not_none, one_inside, effective_free, effective_committed, effective_open}
 use Rattle.protocol.proofs.OneNode.{node_step_grows}
 use Rattle.protocol.proofs.Grows.{Grows, Fate, Stays, Settles, Goes, over_stays, stays_true}
 use Rattle.protocol.proofs.Deciding.{after_permanent}
@@ -35,6 +35,8 @@ opens net = record {
     local = λ c i is image. rw (← opening_image k i image) (omega arith, omega arith);
     output = λ c i is image. rw (← opening_image k i image) (omega arith);
     covered = λ c is. omega arith;
+    log = λ c i image. rw (← opening_image k i image) (omega arith);
+    doubt = λ now. absurd (not_in_doubt (opening.modes k) blank None refl now);
   };
   agreed = record {
     highest = λ p x. omega arith;

@@ -2,7 +2,7 @@
 use Rattle.std.specs.Prelude.{◌≡◌, ◌≢◌, ◌⊎◌, ℕ, ◌≤◌, ◌<◌, true, false, Option, Some}
 use Rattle.protocol.specs.Images.{Image, AtMost, Net, IsCross, IsLocal, IsOutput}
 use Rattle.protocol.specs.Records.{Record, Holds, effective}
-use Rattle.protocol.specs.Nodes.{Answer, By_took, By_covered, Live, current_of, live_of, Node}
+use Rattle.protocol.specs.Nodes.{Answer, By_took, By_covered, Live, In_doubt, current_of, live_of, Node}
 use Rattle.protocol.specs.Packets.{Packet, Kept, Ask, Took, Covered, Query, Commit, Ended, Settled, AreNeeds}
 use Rattle.protocol.specs.Worlds.{World, node_of, IsLive, InFlight}
 use Rattle.protocol.specs.Line.{NoOrphan, Over}
@@ -13,8 +13,8 @@ pub data IsImageOf (a : Node) (i : Image) : Type 0 where
   Held : (x n : ℕ) → Holds a.disk x n i → IsImageOf a i
   Current : current_of a.mode ≡ Some i → IsImageOf a i
 
--- What node k keeps whatever the others do: its images are in order, its logs reach what was released
--- and no further, and its own instances are numbered upwards.
+-- What node k keeps whatever the others do: its images are in order, its logs of outputs begin no later
+-- than what was released ends, its own instances are numbered upwards, and in doubt it holds another's image.
 pub record NodeOk (net : Net) (k : ℕ) (a : Node) : Type 0 where
   pub tentative : (x n : ℕ) (i : Image) → Holds a.disk x n i → (a.disk.highest x ≡ n) × AtMost a.disk.permanent i
   pub current : (i : Image) → current_of a.mode ≡ Some i → AtMost a.disk.permanent i
@@ -25,6 +25,8 @@ pub record NodeOk (net : Net) (k : ℕ) (a : Node) : Type 0 where
   pub local : (c : ℕ) (i : Image) → IsLocal net c k → IsImageOf a i → (i.base c ≤ i.received c) × (i.received c ≤ i.sent c)
   pub output : (c : ℕ) (i : Image) → IsOutput net c k → IsImageOf a i → i.base c ≤ a.outlets c
   pub covered : (c : ℕ) → IsOutput net c k → a.outlets c ≤ a.disk.permanent.sent c
+  pub log : (c : ℕ) (i : Image) → IsImageOf a i → i.base c ≤ i.sent c
+  pub doubt : a.mode ≡ In_doubt → (x : ℕ) × (n : ℕ) × (i : Image) × (x ≢ k) × Holds a.disk x n i
 
 -- Why a taker had to: a channel of which the initiator's image, or an earlier taker's, received more than
 -- the taker's permanent image put.

@@ -33,6 +33,11 @@ pub record CanRestart (net : Net) (k : ℕ) (a : Node) : Type 0 where
 abbrev pub NodeIsSound : Type 0
 NodeIsSound = (net : Net) (k : ℕ) (a : Node) → NodeOk net k a → CanRestart net k a
 
+-- The line has its permanent image, while it holds no image of another's instance: its own is never effective.
+abbrev pub OwnIsNotEffective : Type 0
+OwnIsNotEffective = (net : Net) (w : World) (k : ℕ) → NodeOk net k (node_of w k) → ((x n : ℕ) (i : Image) → Holds (w.records k) x n i → x ≡ k)
+    → effective w.records k ≡ (w.records k).permanent
+
 abbrev pub NodeNeverFallsBack : Type 0
 NodeNeverFallsBack = (net : Net) (k : ℕ) (a b : Node) (nodes : List Node) → NodeOk net k a → Alone net k a nodes b
     → AtMost a.disk.permanent b.disk.permanent × ((c : ℕ) → a.outlets c ≤ b.outlets c)

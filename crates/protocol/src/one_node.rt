@@ -1,7 +1,7 @@
 //! Laws of one node.
 
 ghost use Rattle.protocol.specs.Laws.{NodeOpens, NodeStaysOk, NodeHearsOk};
-ghost use Rattle.protocol.specs.Laws.{NodeIsSound, NodeNeverFallsBack};
+ghost use Rattle.protocol.specs.Laws.{NodeIsSound, OwnIsNotEffective, NodeNeverFallsBack};
 
 /// A node of the opening world is in order.
 pub fn node_opening_law()
@@ -20,10 +20,11 @@ pub fn node_packet_law()
 {}
 
 /// A node in order can restart from its permanent image: on its local channels nothing is an orphan
-/// and nothing is lost, and what was released is covered, while the rest stands in the log or is still
-/// to be put.
+/// and nothing is lost, what was released is covered, and the rest of what it has put stands in the
+/// current log. That image is the node's part of the recovery line, unless it holds another's image.
 pub fn node_sound_law()
-    ensures { NodeIsSound }
+    ensures restarts { NodeIsSound }
+    ensures in_line { OwnIsNotEffective }
 {}
 
 /// No step that a node makes by itself lowers a count of its permanent image, or shortens an outlet.
