@@ -233,6 +233,9 @@ orphan_below net records x own live part ok initiator sound (suc bound) p below 
       | inr outside ↦ let earlier = taker.1 in again need.by (omega arith) taker.0 outside
     ]
 
+pub takers_are_needed : (net : Net) (w : World) (x p : ℕ) (live : Live) → Reachable net w → IsLive w x live → live.takes p ≡ true → NeedOf net w.records x live p
+takers_are_needed net w x p live reachable is takes = ((is_consistent net w reachable).agreed.live x live is).1.needed p takes
+
 pub no_smaller_set : (net : Net) (w : World) (x p : ℕ) (live : Live) (part : ℕ → Bool) → Reachable net w → IsLive w x live → part x ≡ true → live.takes p ≡ true → part p ≡ false → NoOrphan net (line_with w.records part) → ⊥
 no_smaller_set net w x p live part reachable is initiator takes left sound =
     let one = (is_consistent net w reachable).agreed.live x live is in

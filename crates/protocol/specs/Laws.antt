@@ -7,7 +7,7 @@ use Rattle.protocol.specs.Nodes.{Live, current_of, Node}
 use Rattle.protocol.specs.Packets.{Packet, Ask, Ended, Hears, IsByOther}
 use Rattle.protocol.specs.Worlds.{World, node_of, IsLive, InFlight, opening, MaySend, Step, Run, Reachable, Alone}
 use Rattle.protocol.specs.Line.{Sound, Covers, NotBehind, Over, AtMoment, line_with, NoOrphan}
-use Rattle.protocol.specs.Invariant.{NodeOk, Says, Consistent}
+use Rattle.protocol.specs.Invariant.{NodeOk, NeedOf, Says, Consistent}
 
 -- one node
 
@@ -119,6 +119,11 @@ abbrev pub OverStaysOut : Type 0
 OverStaysOut = (net : Net) (w v : World) (k : ℕ) → Reachable net w → Step net w v
     → ((v.records k).permanent ≡ (w.records k).permanent)
     ⊎ ((x : ℕ) × (n : ℕ) × Holds (w.records k) x n (v.records k).permanent × (Over w x n → ⊥))
+
+-- Each taker has a channel of which the initiator's image, or that of a taker whose Took came earlier,
+-- received more than the taker's permanent image has put.
+abbrev pub TakersAreNeeded : Type 0
+TakersAreNeeded = (net : Net) (w : World) (x p : ℕ) (live : Live) → Reachable net w → IsLive w x live → live.takes p ≡ true → NeedOf net w.records x live p
 
 -- While its initiator collects answers for an instance: in the line in which the initiator takes its image,
 -- and of the takers a part that leaves one out, there is an orphan.

@@ -3,8 +3,8 @@
 ghost use Rattle.protocol.specs.Laws.{LineIsSound, LineCovers, LineNeverFallsBack};
 ghost use Rattle.protocol.specs.Laws.{CommitsWhileHeld, StaysCommitted, HoldersAreNamed};
 ghost use Rattle.protocol.specs.Laws.{EndedIsOver, StaysOver, OverStaysOut};
-ghost use Rattle.protocol.specs.Laws.{NoSmallerSet, NoSmallerDecision, AsksForNeeds, TakesWhereNeeded};
-ghost use Rattle.protocol.specs.Laws.{ReachesADecision};
+ghost use Rattle.protocol.specs.Laws.{TakersAreNeeded, NoSmallerSet, NoSmallerDecision};
+ghost use Rattle.protocol.specs.Laws.{AsksForNeeds, TakesWhereNeeded, ReachesADecision};
 
 /// After every run of steps, at every moment of the step after it:
 ///
@@ -16,9 +16,10 @@ ghost use Rattle.protocol.specs.Laws.{ReachesADecision};
 ///   holds its image it stays committed, until that image is permanent there. Whoever holds it is named.
 /// - Ended is answered only for an instance that is over, what is over stays over, and no image becomes
 ///   permanent whose instance was over.
-/// - No smaller set of takers would do: without one of them the line would have an orphan. What is asked
-///   for was received by an image of the instance, and a node takes an image only for such an Ask, which
-///   its permanent image doesn't meet.
+/// - No smaller set of takers would do: each is needed by the initiator or by an earlier one, and
+///   without one of them the line would have an orphan. What is asked for was received by an image of
+///   the instance, and a node takes an image only for such an Ask, which its permanent image doesn't
+///   meet.
 pub fn every_run_law()
     ensures line_is_sound { LineIsSound }
     ensures line_covers { LineCovers }
@@ -29,6 +30,7 @@ pub fn every_run_law()
     ensures ended_is_over { EndedIsOver }
     ensures stays_over { StaysOver }
     ensures over_stays_out { OverStaysOut }
+    ensures takers_are_needed { TakersAreNeeded }
     ensures no_smaller_set { NoSmallerSet }
     ensures no_smaller_decision { NoSmallerDecision }
     ensures asks_for_needs { AsksForNeeds }

@@ -1,4 +1,4 @@
-use Rattle.protocol.proofs.Theorems.{line_is_sound, line_covers, line_never_falls_back, commits_while_held, stays_committed, holders_are_named, ended_is_over, stays_over, over_stays_out, no_smaller_set, no_smaller_decision, asks_for_needs, takes_where_needed}
+use Rattle.protocol.proofs.Theorems.{line_is_sound, line_covers, line_never_falls_back, commits_while_held, stays_committed, holders_are_named, ended_is_over, stays_over, over_stays_out, takers_are_needed, no_smaller_set, no_smaller_decision, asks_for_needs, takes_where_needed}
 use Rattle.protocol.proofs.runs.every_run_law.Goals as goal
 
 pub returns-clause-line_is_sound : goal.returns-clause-line_is_sound
@@ -27,6 +27,9 @@ returns-clause-stays_over c = stays_over
 
 pub returns-clause-over_stays_out : goal.returns-clause-over_stays_out
 returns-clause-over_stays_out c = over_stays_out
+
+pub returns-clause-takers_are_needed : goal.returns-clause-takers_are_needed
+returns-clause-takers_are_needed c = takers_are_needed
 
 pub returns-clause-no_smaller_set : goal.returns-clause-no_smaller_set
 returns-clause-no_smaller_set c = no_smaller_set
