@@ -1,8 +1,9 @@
-//! The coordination of checkpoints, as an abstract machine of records, packets and steps, and the laws
-//! of every run of it. The functions do nothing: that their contracts are proved is what they are for.
+//! The coordination of checkpoints, as an abstract machine of records, packets and steps, and the
+//! laws of every run of it. The functions do nothing: that their contracts are proved is what they
+//! are for.
 //!
-//! The idea, in which only those nodes take part in a checkpoint that have to, is that of Koo and Toueg,
-//! "Checkpointing and rollback-recovery for distributed systems" (1987).
+//! The idea, in which only those nodes take part in a checkpoint that have to, is that of Koo and
+//! Toueg, "Checkpointing and rollback-recovery for distributed systems" (1987).
 #![tactic(auto)]
 
 mod one_node;

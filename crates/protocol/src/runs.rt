@@ -12,14 +12,15 @@ ghost use Rattle.protocol.specs.Laws.{AsksForNeeds, TakesWhereNeeded, ReachesADe
 ///   still to be received or released stands in a log.
 /// - It covers what was released, and so do the permanent images.
 /// - It never falls back: no line that is possible later has a lower count.
-/// - An instance becomes committed only while all whom its decision names hold it. As long as a node
-///   holds its image it stays committed, until that image is permanent there. Whoever holds it is named.
-/// - Ended is answered only for an instance that is over, what is over stays over, and no image becomes
-///   permanent whose instance was over.
+/// - An instance becomes committed only while all whom its decision names hold it. As long as a
+///   node holds its image it stays committed, until that image is permanent there. Whoever holds
+///   it is named.
+/// - Ended is answered only for an instance that is over, what is over stays over, and no image
+///   becomes permanent whose instance was over.
 /// - No smaller set of takers would do: each is needed by the initiator or by an earlier one, and
-///   without one of them the line would have an orphan. What is asked for was received by an image of
-///   the instance, and a node takes an image only for such an Ask, which its permanent image doesn't
-///   meet.
+///   without one of them the line would have an orphan. What is asked for was received by an image
+///   of the instance, and a node takes an image only for such an Ask, which its permanent image
+///   doesn't meet.
 pub fn every_run_law()
     ensures line_is_sound { LineIsSound }
     ensures line_covers { LineCovers }

@@ -3,8 +3,8 @@
 ghost use Rattle.protocol.specs.Laws.{Opens, StaysConsistent, IsConsistent, RunsOn};
 ghost use Rattle.protocol.specs.Laws.{IsTrueWhenSent, StaysTrue, MovesAtMostOnce};
 
-/// The opening world is consistent, and each step keeps it so. Each run leads from a reachable world
-/// to a reachable one, and those are consistent.
+/// The opening world is consistent, and each step keeps it so. Each run leads from a reachable
+/// world to a reachable one, and those are consistent.
 pub fn consistency_law()
     ensures opening { Opens }
     ensures step { StaysConsistent }
@@ -12,8 +12,8 @@ pub fn consistency_law()
     ensures reachable { IsConsistent }
 {}
 
-/// What a packet says is true when it is sent, and stays true whatever comes later, so that it may be
-/// lost, repeated, delayed or overtaken.
+/// What a packet says is true when it is sent, and stays true whatever comes later, so that it may
+/// be lost, repeated, delayed or overtaken.
 pub fn packet_law()
     ensures sent { IsTrueWhenSent }
     ensures later { StaysTrue }
