@@ -2,10 +2,12 @@
 //! network. A text is a table of its parts, each with its line.
 
 use crate::asserting::{same, same_at, same_items};
-use kahn_net::{Channel, Expr, History, Port, Statement, is_same_process};
+use kahn_net::{Channel, Expr, History, Operator, Port, Statement, is_same_process};
 use net_check::{Net, NetFault, bind, check, fits};
-use kahn_net::Operator;
-use net_text::{ChannelText, Declaration, ExprText, InputLine, LinkText, LoopText, Name, NetText, NodeText, ProcessText, RawInputs, Role, StatementText, VariableText, parse};
+use net_text::{
+    ChannelText, Declaration, ExprText, InputLine, LinkText, LoopText, Name, NetText, NodeText,
+    ProcessText, RawInputs, Role, StatementText, VariableText, parse,
+};
 use std::alloc::{AllocError, Global};
 use std::process::Abort;
 use std::test::Fail;

@@ -2,7 +2,11 @@
 
 use crate::asserting::{same, same_at, same_items_at};
 use kahn_net::Operator;
-use net_text::{ChannelText, Declaration, ExprText, Keyword, LONGEST_TEXT, LinkText, NetText, ProcessText, Role, StatementText, Symbol, TextFault, Token, TokenKind, VariableText, parse, parse_inputs, tokens};
+use net_text::{
+    ChannelText, Declaration, ExprText, Keyword, LONGEST_TEXT, LinkText, NetText, ProcessText,
+    Role, StatementText, Symbol, TextFault, Token, TokenKind, VariableText, parse, parse_inputs,
+    tokens,
+};
 use std::process::Abort;
 use std::test::Fail;
 

@@ -8,10 +8,12 @@ ghost use Rattle.text_tests.specs.Examples.{at_the_end, pair_net, pair_inputs, o
 ghost use Rattle.text_tests.specs.Examples.{cycle_after, zeros, ones, zero_one};
 
 use crate::asserting::{same, same_at, same_items, same_items_at};
-use kahn_net::History;
+use kahn_net::{History, Operator};
 use net_check::{Net, NetFault, bind, check};
-use kahn_net::Operator;
-use net_text::{ChannelText, Declaration, ExprText, InputLine, LinkText, LoopText, Name, NetText, NodeText, ProcessText, RawInputs, Role, StatementText, VariableText};
+use net_text::{
+    ChannelText, Declaration, ExprText, InputLine, LinkText, LoopText, Name, NetText, NodeText,
+    ProcessText, RawInputs, Role, StatementText, VariableText,
+};
 use std::alloc::{AllocError, Global};
 use std::test::Fail;
 use stream_eq::{Fault, Histories, approx, is_solution};
