@@ -3,7 +3,7 @@
 use crate::asserting::{same, same_at, same_items_at};
 use kahn_net::Operator;
 use net_text::{
-    ChannelText, Declaration, ExprText, Keyword, LONGEST_TEXT, LinkText, NetText, ProcessText,
+    ChannelText, Declaration, ExprText, Keyword, LinkText, MAX_TEXT_BYTES, NetText, ProcessText,
     Role, StatementText, Symbol, TextFault, Token, TokenKind, VariableText, parse, parse_inputs,
     tokens,
 };
@@ -227,7 +227,7 @@ fn tokens_are_the_longest(rt: HostRuntime) -> Result<(), Fail> {
 #[test]
 fn an_overlong_text_is_refused_first(rt: HostRuntime) -> Result<(), Fail> {
     let mut text = String::from_str(rt.alloc(), "$")?;
-    for _ in 0..LONGEST_TEXT {
+    for _ in 0..MAX_TEXT_BYTES {
         text.push_str("\n")?;
     }
     same(&rt, &refusal(parse(rt.alloc(), &text)), &(5, 1), "parsed");
