@@ -1,4 +1,4 @@
-mod History
+mod Resting
 mod Slices
 mod Walks
 mod Installs

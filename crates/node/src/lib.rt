@@ -14,7 +14,6 @@ mod installing;
 mod memory;
 mod node;
 mod opening;
-mod past;
 mod putting;
 mod record;
 mod releasing;

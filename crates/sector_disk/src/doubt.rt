@@ -1,4 +1,4 @@
-// The sectors that were written since the last sync.
+//! The sectors that were written since the last sync.
 ghost use Rattle.std.specs.Prelude.{◌≡◌, ℕ, ◌+◌, ◌<◌, ◌≤◌, false, replicate, length, IfOk};
 ghost use Rattle.std.proofs.Common.{get_or};
 ghost use Rattle.sector_disk.specs.Doubt.{marked, NoneInDoubt};
