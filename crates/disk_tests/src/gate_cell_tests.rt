@@ -42,6 +42,16 @@ fn arm(cell: &mut TestCell, call: u64, fill: u8) -> Result<(), AllocError> {
     cell.arm(ArmedFault { call, fill })
 }
 
+// A put that is stopped by this fault.
+fn stop_put(cell: &mut TestCell, new: &[u8], fault: ArmedFault) -> Result<(), Fail> {
+    cell.recount();
+    cell.arm(fault)?;
+    match cell.put(new) {
+        Err(CellFault::Device) => Ok(()),
+        _ => Err("not stopped".into()),
+    }
+}
+
 // What is found after a `put` that was stopped, a crash and an open.
 fn found_after_stop(
     alloc: Global,
@@ -50,14 +60,19 @@ fn found_after_stop(
     fault: ArmedFault,
 ) -> Result<u8, Fail> {
     let mut cell = cell;
-    cell.recount();
-    cell.arm(fault)?;
-    if cell.put(new) != Err(CellFault::Device) {
-        return Err("not stopped".into());
-    }
+    stop_put(&mut cell, new, fault)?;
     let mut disk = cell.close();
     disk.crash(None);
     only_byte(&mut opened(alloc, disk)?)
+}
+
+// The same of one cell, which crashes and is opened again in its place.
+fn found_in_place(alloc: Global, fault: ArmedFault) -> Result<u8, Fail> {
+    let mut cell = formatted(alloc, 5, b"A")?;
+    stop_put(&mut cell, b"B", fault)?;
+    cell.crash(None);
+    cell.reopen()?;
+    only_byte(&mut cell)
 }
 
 #[test]
@@ -83,6 +98,16 @@ fn a_put_stopped_at_each_device_call(rt: HostRuntime) -> Result<(), Fail> {
     ] {
         let cell = formatted(alloc, 5, b"A")?;
         let found = found_after_stop(alloc, cell, b"B", ArmedFault { call, fill })?;
+        same_at(&rt, &found, &wanted, &(call, fill));
+    }
+    Ok(())
+}
+
+#[test]
+fn a_cell_that_crashes_and_comes_back(rt: HostRuntime) -> Result<(), Fail> {
+    let alloc = rt.alloc();
+    for (call, fill, wanted) in [(2, 255, b'A'), (3, 254, b'A'), (3, 1, b'B'), (4, 255, b'B')] {
+        let found = found_in_place(alloc, ArmedFault { call, fill })?;
         same_at(&rt, &found, &wanted, &(call, fill));
     }
     Ok(())
@@ -142,6 +167,7 @@ fn sizes(rt: HostRuntime) -> Result<(), Fail> {
         (4101, 1_048_576, 1_048_577),
     ] {
         let mut cell = formatted(alloc, sectors, b"")?;
+        same_at(&rt, &cell.room(), &room, &sectors);
         let refused = put_of(alloc, &mut cell, more)?;
         same_at(&rt, &refused, &Err(CellFault::TooLarge), &sectors);
         same_at(&rt, &put_of(alloc, &mut cell, room)?, &Ok(()), &sectors);
@@ -150,11 +176,15 @@ fn sizes(rt: HostRuntime) -> Result<(), Fail> {
     Ok(())
 }
 
-// The number of the refusal of a format.
-fn refusal_of_format(alloc: Global, disk: MemDisk, value: &[u8]) -> Result<u8, Fail> {
+// The refusal of a format, and the disk that it hands back.
+fn refusal_of_format(
+    alloc: Global,
+    disk: MemDisk,
+    value: &[u8],
+) -> Result<(CellFault, MemDisk), Fail> {
     match GateCell::format(alloc, disk, value) {
         Ok(_) => Err("formatted".into()),
-        Err(fault) => Ok(fault.number()),
+        Err(refusal) => Ok(refusal),
     }
 }
 
@@ -169,16 +199,37 @@ fn refusal_of_open(alloc: Global, disk: MemDisk) -> Result<(CellFault, MemDisk),
 #[test]
 fn nothing_formatted_or_opened(rt: HostRuntime) -> Result<(), Fail> {
     let alloc = rt.alloc();
-    let number = refusal_of_format(alloc, MemDisk::new(alloc, 3)?, &[7; 505])?;
-    same(&rt, &number, &22, "505 bytes on 3 sectors");
+    let (fault, disk) = refusal_of_format(alloc, MemDisk::new(alloc, 3)?, &[7; 505])?;
+    same(&rt, &fault.number(), &22, "505 bytes on 3 sectors");
+    same(&rt, &disk.calls(), &0, "calls for 505 bytes");
     for sectors in [0, 1, 2] {
-        let number = refusal_of_format(alloc, MemDisk::new(alloc, sectors)?, b"")?;
-        same_at(&rt, &number, &22, &sectors);
+        let (fault, disk) = refusal_of_format(alloc, MemDisk::new(alloc, sectors)?, b"")?;
+        same_at(&rt, &fault.number(), &22, &sectors);
+        same_at(&rt, &disk.calls(), &0, &sectors);
         let (fault, disk) = refusal_of_open(alloc, MemDisk::new(alloc, sectors)?)?;
         same_at(&rt, &fault.number(), &22, &sectors);
         same_at(&rt, &disk.calls(), &0, &sectors);
     }
     Ok(())
+}
+
+#[test]
+fn a_format_that_fails_hands_the_disk_back(rt: HostRuntime) -> Result<(), Fail> {
+    let alloc = rt.alloc();
+    let mut disk = MemDisk::new(alloc, 3)?;
+    disk.arm(ArmedFault { call: 2, fill: 0 })?;
+    let (fault, disk) = refusal_of_format(alloc, disk, b"A")?;
+    same(&rt, &fault, &CellFault::Device, "the first format");
+    same(&rt, &disk.calls(), &2, "calls of the first format");
+    same(&rt, &disk.failures(), &1, "failures");
+    match GateCell::format(alloc, disk, b"A") {
+        Ok(cell) => {
+            let mut cell = cell;
+            same(&rt, &only_byte(&mut cell)?, &b'A', "the second format");
+            Ok(())
+        }
+        Err(_) => Err("the second format failed".into()),
+    }
 }
 
 // A cell that holds B in area 1 and had A in area 0, and then this first byte of the gate.
@@ -256,6 +307,24 @@ fn after_a_failure_it_has_to_be_opened(rt: HostRuntime) -> Result<(), Fail> {
     same(&rt, &disk.calls(), &3, "calls of both opens");
     let found = only_byte(&mut opened(alloc, disk)?)?;
     same(&rt, &found, &b'A', "the third open");
+    Ok(())
+}
+
+#[test]
+fn a_reopening_that_fails(rt: HostRuntime) -> Result<(), Fail> {
+    let alloc = rt.alloc();
+    let mut cell = formatted(alloc, 3, b"A")?;
+    cell.crash(Some(9));
+    same(&rt, &refusal_of_get(&mut cell), &Some(23), "a get after the crash");
+    puts(&rt, &mut cell, b"B", Err(CellFault::Reopen));
+    arm(&mut cell, 2, 0)?;
+    same(&rt, &cell.reopen(), &Err(CellFault::Device), "the first reopen");
+    same(&rt, &refusal_of_get(&mut cell), &Some(23), "a get after it");
+    same(&rt, &cell.reopen(), &Ok(()), "the second reopen");
+    same(&rt, &only_byte(&mut cell)?, &b'A', "the value");
+    // A ready cell may be opened again too.
+    same(&rt, &cell.reopen(), &Ok(()), "the third reopen");
+    same(&rt, &cell.close().calls(), &9, "calls in all");
     Ok(())
 }
 

@@ -78,6 +78,20 @@ fn refusals_and_their_numbers(rt: HostRuntime) -> Result<(), Fail> {
 }
 
 #[test]
+fn a_refused_read_leaves_the_bytes(rt: HostRuntime) -> Result<(), Fail> {
+    let mut disk = MemDisk::new(rt.alloc(), 1)?;
+    arm(&mut disk, 1, 0)?;
+    let mut bytes = [7; SECTOR_BYTES];
+    reads(&rt, &mut disk, 1, &mut bytes, Err(DiskFault::Range));
+    same(&rt, &(bytes == [7; SECTOR_BYTES]), &true, "out of range");
+    reads(&rt, &mut disk, 0, &mut bytes, Err(DiskFault::Device));
+    same(&rt, &(bytes == [7; SECTOR_BYTES]), &true, "at a failure");
+    reads(&rt, &mut disk, 0, &mut bytes, Ok(()));
+    same(&rt, &(bytes == [0; SECTOR_BYTES]), &true, "at last");
+    Ok(())
+}
+
+#[test]
 fn a_crash_fills_what_is_in_doubt(rt: HostRuntime) -> Result<(), Fail> {
     let mut disk = MemDisk::new(rt.alloc(), 4)?;
     writes(&rt, &mut disk, 0, &[7; 2048], Ok(()));

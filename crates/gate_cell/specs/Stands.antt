@@ -1,9 +1,9 @@
 -- The contents of a disk, and the values for which they stand.
-use Rattle.std.specs.Prelude.{◌≡◌, ℕ, ◌≤◌, ◌<◌, if◌then◌else◌, List, Option, Some, None, IsSome}
+use Rattle.std.specs.Prelude.{◌≡◌, ℕ, ◌≤◌, if◌then◌else◌, List, Option, Some, None, IsSome}
 use Rattle.sector_disk.specs.Clock.{LeavesOnly}
 use Rattle.sector_disk.specs.Disk.{IsQuiet}
 use Rattle.std.proofs.Common.{refl, sym, ◌∙◌, ap, subst}
-use Rattle.std.proofs.lemmas.Bool.{le-leb, lt-leb}
+use Rattle.std.proofs.lemmas.Bool.{le-leb}
 use Rattle.gate_cell.specs.Layout.{room_on, length_in, value_in, in_area, named, stands_for, value_on, IsSettled}
 
 -- a crash of this disk now may leave what stands for this
@@ -29,9 +29,6 @@ stands_for_one size may_leave stands left might = subst IsSome (sym (stands migh
 
 pub in_area_fits : (size : ℕ) (bytes : List ℕ) → length_in bytes ≤ room_on size → in_area size bytes ≡ Some (value_in bytes)
 in_area_fits size bytes le = ap (λ b. if b then Some (value_in bytes) else None) (le-leb (length_in bytes) (room_on size) le)
-
-pub in_area_none : (size : ℕ) (bytes : List ℕ) → room_on size < length_in bytes → in_area size bytes ≡ None
-in_area_none size bytes lt = ap (λ b. if b then Some (value_in bytes) else None) (lt-leb (length_in bytes) (room_on size) lt)
 
 -- a settled disk stands for its value
 pub settled_value : (seen : List ℕ) (may_leave : List ℕ → Type 0) (size active value_len : ℕ) → IsSettled seen may_leave size active value_len → stands_for size seen ≡ Some (value_on size seen)

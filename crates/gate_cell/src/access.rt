@@ -39,7 +39,8 @@ pub fn write_through<D: Disk>(disk: &mut D, first: usize, bytes: &[u8]) -> Resul
         (SameOutside (SECTOR_BYTES * first) (length bytes.now) (D.content disk.old)) }
     ensures setup { SameSetup D.sector_count D.armed disk.old disk.new }
     ensures cause { HasDeviceCause (D.failure_count disk.old) (D.failure_count disk.new) result }
-    ensures calls { OnOk result (D.call_count disk.new ≡ count_after_calls 2 (D.call_count disk.old)) }
+    ensures calls { OnOk result
+        (D.call_count disk.new ≡ count_after_calls 2 (D.call_count disk.old)) }
     ensures stopped { OnErr result (HasStopped D.call_count D.failed_call 2 disk.old disk.new) }
 {
     disk.write(first, bytes).map_err(|_| CellFault::Device)?;
@@ -83,17 +84,19 @@ pub struct Found {
 pub fn find_value<D: Disk>(disk: &mut D) -> Result<Found, CellFault>
     requires { 3 ≤ D.sector_count disk.old }
     ensures active { IfOk result (λ found. get_or (D.content disk.old) 0 0 % 2 ≡ found.active) }
-    ensures long { IfOk result
-        (λ found. length_in (named (D.sector_count disk.old) (D.content disk.old)) ≡ found.value_len) }
+    ensures long { IfOk result (λ found.
+        length_in (named (D.sector_count disk.old) (D.content disk.old)) ≡ found.value_len) }
     ensures durable { OnOk result (Only (D.content disk.new) (D.may_leave disk.new)) }
     ensures looks { Looks D.content D.may_leave D.moment D.left_since disk.old disk.new }
     ensures setup { SameSetup D.sector_count D.armed disk.old disk.new }
     ensures cause { HasDeviceCause (D.failure_count disk.old) (D.failure_count disk.new) result }
-    ensures calls { OnOk result (D.call_count disk.new ≡ count_after_calls 3 (D.call_count disk.old)) }
+    ensures calls { OnOk result
+        (D.call_count disk.new ≡ count_after_calls 3 (D.call_count disk.old)) }
     ensures stopped { OnErr result (HasStopped D.call_count D.failed_call 3 disk.old disk.new) }
 
     // Where it got past its first call, nothing is in doubt, though it was refused.
-    ensures settled { OnErr result ((D.call_count disk.new ≡ count_after_calls 1 (D.call_count disk.old))
+    ensures settled { OnErr result
+        ((D.call_count disk.new ≡ count_after_calls 1 (D.call_count disk.old))
         ⊎ Only (D.content disk.new) (D.may_leave disk.new)) }
 {
     make_sure(disk)?;

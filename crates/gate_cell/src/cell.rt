@@ -67,8 +67,8 @@ pub trait StableCell: Drop {
 
         ensures too_large { IsErrOf result CellFault.TooLarge
             ↔ (IsTrue (is_ready self.old) × (capacity self.old < length new.now)) }
-        ensures unchanged { (IsErrOf result CellFault.NoMemory ⊎ IsErrOf result CellFault.TooLarge ⊎ IsErrOf result CellFault.Reopen)
-            → self.new ≡ self.old }
+        ensures unchanged { (IsErrOf result CellFault.NoMemory ⊎ IsErrOf result CellFault.TooLarge
+            ⊎ IsErrOf result CellFault.Reopen) → self.new ≡ self.old }
         ensures cause { HasCause (failure_count self.old) (failure_count self.new)
             (is_ready self.old) (is_ready self.new) result };
 

@@ -4,8 +4,8 @@ ghost use Rattle.sector_disk.specs.Clock.{Only, LeavesOnly};
 ghost use Rattle.sector_disk.specs.Disk.{SameSetup};
 ghost use Rattle.gate_cell.specs.Calls.{HasStopped, count_after_calls};
 ghost use Rattle.gate_cell.specs.CellFault.{HasCause, HasDeviceCause};
-ghost use Rattle.gate_cell.specs.Layout.{room_on, value_on, other_area, HoldsNoValue, HasNoRoom, IsGate, IsSettled};
-ghost use Rattle.gate_cell.specs.Stands.{MayStand, StoodSince, AlwaysStands, Looks, only_value, stands_for_one};
+ghost use Rattle.gate_cell.specs.Layout.{other_area, HoldsNoValue, HasNoRoom, IsGate, IsSettled};
+ghost use Rattle.gate_cell.specs.Stands.{AlwaysStands, Looks, only_value, stands_for_one};
 ghost use Rattle.gate_cell.specs.declared.fault.CellFault.TheVariants.{NoMemory, Device, TooLarge, Reopen};
 
 use crate::access::{find_value, look, make_sure, write_sectors, write_through};
@@ -34,20 +34,21 @@ pub struct GateCell<D: Disk> {
 }
 
 impl<D: Disk> GateCell<D> {
-    ghost use Rattle.gate_cell.specs.GateCell.{Opens, IsFormatted, disk_in};
+    ghost use Rattle.gate_cell.specs.GateCell.{disk_in, failures_of, calls_of, IsDurable, IsOpened, IsFormatted};
 
     /// Makes a cell with this value: it lies in area 0, under a gate of zeros. No device call is counted after it.
     ///
     /// Refuses with `NoMemory` (1), `Device` (20), and with `TooLarge` (22) where the disk has fewer than 3 sectors or the
     /// value doesn't fit. A refusal hands the disk back: as it was, but where the device failed.
     pub fn format(alloc: Global, disk: D, value: &[u8]) -> Result<GateCell<D>, (CellFault, D)>
-        ensures formatted { IfOk result (IsFormatted D.content D.sector_count D.call_count value.now) }
+        ensures formatted { IfOk result (IsFormatted value.now) }
         ensures setup { IfOk result (λ cell. SameSetup D.sector_count D.armed disk (disk_in cell)) }
         ensures setup_err { IfErr result (λ e. SameSetup D.sector_count D.armed disk e.1) }
 
         // It refuses where the device failed, and stops there, or where there is no room or no memory.
-        ensures failures { IfOk result (λ cell. D.failure_count (disk_in cell) ≡ D.failure_count disk) }
-        ensures device { IfErr result (λ e. e.0 ≡ Device → D.failure_count disk < D.failure_count e.1) }
+        ensures failures { IfOk result (λ cell. failures_of cell ≡ D.failure_count disk) }
+        ensures device { IfErr result
+            (λ e. e.0 ≡ Device → D.failure_count disk < D.failure_count e.1) }
         ensures stopped { IfErr result
             (λ e. e.0 ≡ Device → HasStopped D.call_count D.failed_call 3 disk e.1) }
         ensures no_room { IfErr result
@@ -91,29 +92,33 @@ impl<D: Disk> GateCell<D> {
     /// Refuses with `Device` (20), and with `TooLarge` (22) where the disk has fewer than 3 sectors or the length in
     /// the area doesn't fit. A refusal hands the disk back.
     pub fn open(alloc: Global, disk: D) -> Result<GateCell<D>, (CellFault, D)>
-        ensures opens { IfOk result (λ cell. Opens D.content D.sector_count disk cell) }
+        ensures opens { IfOk result (IsOpened disk) }
         ensures looks { IfOk result
             (λ cell. Looks D.content D.may_leave D.moment D.left_since disk (disk_in cell)) }
-        ensures looks_err { IfErr result (λ e. Looks D.content D.may_leave D.moment D.left_since disk e.1) }
+        ensures looks_err { IfErr result
+            (λ e. Looks D.content D.may_leave D.moment D.left_since disk e.1) }
         ensures setup { IfOk result (λ cell. SameSetup D.sector_count D.armed disk (disk_in cell)) }
         ensures setup_err { IfErr result (λ e. SameSetup D.sector_count D.armed disk e.1) }
 
         // Three device calls; none on a disk that is too small. It stops where one fails.
-        ensures calls { IfOk result (λ cell. D.call_count (disk_in cell)
-            ≡ count_after_calls 3 (D.call_count disk)) }
+        ensures calls { IfOk result
+            (λ cell. calls_of cell ≡ count_after_calls 3 (D.call_count disk)) }
         ensures stopped { IfErr result
             (λ e. e.0 ≡ Device → HasStopped D.call_count D.failed_call 3 disk e.1) }
-        ensures no_call { D.sector_count disk < 3 → IfErr result (λ e. (e.0 ≡ TooLarge) × (e.1 ≡ disk)) }
+        ensures no_call { D.sector_count disk < 3
+            → IfErr result (λ e. (e.0 ≡ TooLarge) × (e.1 ≡ disk)) }
 
         // The first is the sync: where it made another call, nothing is in doubt, though it refused.
         ensures settled { 3 ≤ D.sector_count disk → IfErr result
-            (λ e. (D.call_count e.1 ≡ count_after_calls 1 (D.call_count disk)) ⊎ Only (D.content e.1) (D.may_leave e.1)) }
+            (λ e. (D.call_count e.1 ≡ count_after_calls 1 (D.call_count disk))
+            ⊎ IsDurable D.content D.may_leave e.1) }
 
         // It refuses where the device failed, or where there is no value.
-        ensures cause { IfErr result (λ e. ((e.0 ≡ Device) × (D.failure_count disk < D.failure_count e.1))
+        ensures cause { IfErr result
+            (λ e. ((e.0 ≡ Device) × (D.failure_count disk < D.failure_count e.1))
             ⊎ ((e.0 ≡ TooLarge) × (D.failure_count e.1 ≡ D.failure_count disk)
             × HoldsNoValue (D.sector_count disk) (D.content disk))) }
-        ensures failures { IfOk result (λ cell. D.failure_count (disk_in cell) ≡ D.failure_count disk) }
+        ensures failures { IfOk result (λ cell. failures_of cell ≡ D.failure_count disk) }
     {
         let mut disk = disk;
         let sectors = disk.sectors();
@@ -152,21 +157,21 @@ impl<D: Disk> GateCell<D> {
 }
 
 impl<D: Disk> StableCell for GateCell<D> {
-    ghost use Rattle.gate_cell.specs.GateCell.{disk_in, HoldsFrame};
+    ghost use Rattle.gate_cell.specs.GateCell.{disk_in, value_of, is_ready_of, capacity_of, failures_of, moment_of, may_leave_of, left_since_of, content_of, calls_of, IsDurable, HoldsFrame};
 
-    ghost value = { λ g. value_on (D.sector_count g.disk) (D.content g.disk) };
+    ghost value = { value_of };
 
-    ghost is_ready = { λ g. g.ready };
+    ghost is_ready = { is_ready_of };
 
-    ghost capacity = { λ g. room_on (D.sector_count g.disk) };
+    ghost capacity = { capacity_of };
 
-    ghost failure_count = { λ g. D.failure_count g.disk };
+    ghost failure_count = { failures_of };
 
-    ghost moment = { λ g. D.moment g.disk };
+    ghost moment = { moment_of };
 
-    ghost may_leave = { λ g. MayStand D.may_leave D.sector_count g.disk };
+    ghost may_leave = { may_leave_of };
 
-    ghost left_since = { λ g. StoodSince D.left_since D.sector_count g.disk };
+    ghost left_since = { left_since_of };
 
     ghost settled = { λ g ready. only_value (D.content g.disk) (D.may_leave g.disk) (D.sector_count g.disk) g.active g.value_len (g.settled ready) };
 
@@ -183,21 +188,20 @@ impl<D: Disk> StableCell for GateCell<D> {
     }
 
     fn get(&mut self) -> Result<Vec<u8>, CellFault>
-        ensures value { IfOk result (λ bytes. bytes.items ≡ ⟦<Self as StableCell>⟧.value self.old) }
-        ensures any_moment { LeavesOnly ⟦<Self as StableCell>⟧.moment ⟦<Self as StableCell>⟧.left_since
-            self.old self.new (⟦<Self as StableCell>⟧.may_leave self.old) }
-        ensures same_value { ⟦<Self as StableCell>⟧.value self.new ≡ ⟦<Self as StableCell>⟧.value self.old }
-        ensures same_room { ⟦<Self as StableCell>⟧.capacity self.new ≡ ⟦<Self as StableCell>⟧.capacity self.old }
+        ensures value { IfOk result (λ bytes. bytes.items ≡ value_of self.old) }
+        ensures any_moment { LeavesOnly moment_of left_since_of self.old self.new
+            (may_leave_of self.old) }
+        ensures same_value { value_of self.new ≡ value_of self.old }
+        ensures same_room { capacity_of self.new ≡ capacity_of self.old }
         ensures too_large { ¬ (IsErrOf result CellFault.TooLarge) }
         ensures unchanged { (IsErrOf result CellFault.NoMemory ⊎ IsErrOf result CellFault.Reopen)
             → self.new ≡ self.old }
-        ensures cause { HasCause
-            (⟦<Self as StableCell>⟧.failure_count self.old) (⟦<Self as StableCell>⟧.failure_count self.new)
-            (⟦<Self as StableCell>⟧.is_ready self.old) (⟦<Self as StableCell>⟧.is_ready self.new) result }
+        ensures cause { HasCause (failures_of self.old) (failures_of self.new)
+            (is_ready_of self.old) (is_ready_of self.new) result }
 
         // One device call, of the sectors that the value needs.
-        ensures calls { IfOk result (λ bytes. D.call_count (disk_in self.new)
-            ≡ count_after_calls 1 (D.call_count (disk_in self.old))) }
+        ensures calls { IfOk result
+            (λ bytes. calls_of self.new ≡ count_after_calls 1 (calls_of self.old)) }
         ensures stopped { IsErrOf result CellFault.Device
             → HasStopped D.call_count D.failed_call 1 (disk_in self.old) (disk_in self.new) }
         ensures setup { SameSetup D.sector_count D.armed (disk_in self.old) (disk_in self.new) }
@@ -214,24 +218,23 @@ impl<D: Disk> StableCell for GateCell<D> {
     }
 
     fn put(&mut self, new: &[u8]) -> Result<(), CellFault>
-        ensures ok { OnOk result (⟦<Self as StableCell>⟧.value self.new ≡ new.now) }
-        ensures any_moment { LeavesOnly ⟦<Self as StableCell>⟧.moment ⟦<Self as StableCell>⟧.left_since
-            self.old self.new (λ left. ⟦<Self as StableCell>⟧.may_leave self.old left ⊎ (left ≡ Some new.now)) }
-        ensures same_room { ⟦<Self as StableCell>⟧.capacity self.new ≡ ⟦<Self as StableCell>⟧.capacity self.old }
+        ensures ok { OnOk result (value_of self.new ≡ new.now) }
+        ensures any_moment { LeavesOnly moment_of left_since_of self.old self.new
+            (λ left. may_leave_of self.old left ⊎ (left ≡ Some new.now)) }
+        ensures same_room { capacity_of self.new ≡ capacity_of self.old }
         ensures too_large { IsErrOf result CellFault.TooLarge
-            ↔ (IsTrue (⟦<Self as StableCell>⟧.is_ready self.old) × (⟦<Self as StableCell>⟧.capacity self.old < length new.now)) }
-        ensures unchanged { (IsErrOf result CellFault.NoMemory ⊎ IsErrOf result CellFault.TooLarge ⊎ IsErrOf result CellFault.Reopen)
-            → self.new ≡ self.old }
-        ensures cause { HasCause
-            (⟦<Self as StableCell>⟧.failure_count self.old) (⟦<Self as StableCell>⟧.failure_count self.new)
-            (⟦<Self as StableCell>⟧.is_ready self.old) (⟦<Self as StableCell>⟧.is_ready self.new) result }
+            ↔ (IsTrue (is_ready_of self.old) × (capacity_of self.old < length new.now)) }
+        ensures unchanged { (IsErrOf result CellFault.NoMemory ⊎ IsErrOf result CellFault.TooLarge
+            ⊎ IsErrOf result CellFault.Reopen) → self.new ≡ self.old }
+        ensures cause { HasCause (failures_of self.old) (failures_of self.new)
+            (is_ready_of self.old) (is_ready_of self.new) result }
 
         // Four device calls, after which the gate names the other area, in which the value is framed.
-        ensures calls { OnOk result (D.call_count (disk_in self.new)
-            ≡ count_after_calls 4 (D.call_count (disk_in self.old))) }
-        ensures gate { OnOk result (IsGate (other_area (D.content (disk_in self.old))) (D.content (disk_in self.new))) }
+        ensures calls { OnOk result (calls_of self.new ≡ count_after_calls 4 (calls_of self.old)) }
+        ensures gate { OnOk result
+            (IsGate (other_area (content_of self.old)) (content_of self.new)) }
         ensures frame { OnOk result
-            (HoldsFrame new.now (D.sector_count (disk_in self.new)) (D.content (disk_in self.new))) }
+            (HoldsFrame new.now (D.sector_count (disk_in self.new)) (content_of self.new)) }
         ensures stopped { IsErrOf result CellFault.Device
             → HasStopped D.call_count D.failed_call 4 (disk_in self.old) (disk_in self.new) }
         ensures setup { SameSetup D.sector_count D.armed (disk_in self.old) (disk_in self.new) }
@@ -255,18 +258,17 @@ impl<D: Disk> StableCell for GateCell<D> {
     }
 
     fn crash(&mut self, fill: Option<u8>)
-        ensures left { ⟦<Self as StableCell>⟧.may_leave self.old (Some (⟦<Self as StableCell>⟧.value self.new)) }
-        ensures settled { Only (Some (⟦<Self as StableCell>⟧.value self.new)) (⟦<Self as StableCell>⟧.may_leave self.new) }
-        ensures any_moment { LeavesOnly ⟦<Self as StableCell>⟧.moment ⟦<Self as StableCell>⟧.left_since
-            self.old self.new (⟦<Self as StableCell>⟧.may_leave self.old) }
-        ensures same_room { ⟦<Self as StableCell>⟧.capacity self.new ≡ ⟦<Self as StableCell>⟧.capacity self.old }
-        ensures down { ⟦<Self as StableCell>⟧.is_ready self.new ≡ false }
-        ensures failures { ⟦<Self as StableCell>⟧.failure_count self.new
-            ≡ ⟦<Self as StableCell>⟧.failure_count self.old }
+        ensures left { may_leave_of self.old (Some (value_of self.new)) }
+        ensures settled { Only (Some (value_of self.new)) (may_leave_of self.new) }
+        ensures any_moment { LeavesOnly moment_of left_since_of self.old self.new
+            (may_leave_of self.old) }
+        ensures same_room { capacity_of self.new ≡ capacity_of self.old }
+        ensures down { is_ready_of self.new ≡ false }
+        ensures failures { failures_of self.new ≡ failures_of self.old }
 
         // The disk crashes: no device call. What it then holds is one of the contents that it might leave.
-        ensures disk { D.may_leave (disk_in self.old) (D.content (disk_in self.new)) }
-        ensures calls { D.call_count (disk_in self.new) ≡ D.call_count (disk_in self.old) }
+        ensures disk { D.may_leave (disk_in self.old) (content_of self.new) }
+        ensures calls { calls_of self.new ≡ calls_of self.old }
         ensures setup { SameSetup D.sector_count D.armed (disk_in self.old) (disk_in self.new) }
     {
         self.ready = false;
@@ -274,24 +276,23 @@ impl<D: Disk> StableCell for GateCell<D> {
     }
 
     fn reopen(&mut self) -> Result<(), CellFault>
-        ensures ready { OnOk result (IsTrue (⟦<Self as StableCell>⟧.is_ready self.new)) }
-        ensures not_ready { OnErr result (⟦<Self as StableCell>⟧.is_ready self.new ≡ false) }
-        ensures same_value { ⟦<Self as StableCell>⟧.value self.new ≡ ⟦<Self as StableCell>⟧.value self.old }
-        ensures any_moment { LeavesOnly ⟦<Self as StableCell>⟧.moment ⟦<Self as StableCell>⟧.left_since
-            self.old self.new (⟦<Self as StableCell>⟧.may_leave self.old) }
-        ensures same_room { ⟦<Self as StableCell>⟧.capacity self.new ≡ ⟦<Self as StableCell>⟧.capacity self.old }
-        ensures cause { HasDeviceCause
-            (⟦<Self as StableCell>⟧.failure_count self.old) (⟦<Self as StableCell>⟧.failure_count self.new) result }
+        ensures ready { OnOk result (IsTrue (is_ready_of self.new)) }
+        ensures not_ready { OnErr result (is_ready_of self.new ≡ false) }
+        ensures same_value { value_of self.new ≡ value_of self.old }
+        ensures any_moment { LeavesOnly moment_of left_since_of self.old self.new
+            (may_leave_of self.old) }
+        ensures same_room { capacity_of self.new ≡ capacity_of self.old }
+        ensures cause { HasDeviceCause (failures_of self.old) (failures_of self.new) result }
 
         // Three device calls, as those of `open`.
-        ensures calls { OnOk result (D.call_count (disk_in self.new)
-            ≡ count_after_calls 3 (D.call_count (disk_in self.old))) }
-        ensures looks { Looks D.content D.may_leave D.moment D.left_since (disk_in self.old) (disk_in self.new) }
+        ensures calls { OnOk result (calls_of self.new ≡ count_after_calls 3 (calls_of self.old)) }
+        ensures looks { Looks D.content D.may_leave D.moment D.left_since
+            (disk_in self.old) (disk_in self.new) }
         ensures stopped { OnErr result
             (HasStopped D.call_count D.failed_call 3 (disk_in self.old) (disk_in self.new)) }
         ensures settled { OnErr result
-            ((D.call_count (disk_in self.new) ≡ count_after_calls 1 (D.call_count (disk_in self.old)))
-            ⊎ Only (D.content (disk_in self.new)) (D.may_leave (disk_in self.new))) }
+            ((calls_of self.new ≡ count_after_calls 1 (calls_of self.old))
+            ⊎ IsDurable D.content D.may_leave (disk_in self.new)) }
         ensures setup { SameSetup D.sector_count D.armed (disk_in self.old) (disk_in self.new) }
     {
         self.ready = false;
@@ -303,35 +304,32 @@ impl<D: Disk> StableCell for GateCell<D> {
     }
 
     fn arm(&mut self, fault: ArmedFault) -> Result<(), AllocError>
-        ensures same_value { ⟦<Self as StableCell>⟧.value self.new ≡ ⟦<Self as StableCell>⟧.value self.old }
-        ensures any_moment { LeavesOnly ⟦<Self as StableCell>⟧.moment ⟦<Self as StableCell>⟧.left_since
-            self.old self.new (⟦<Self as StableCell>⟧.may_leave self.old) }
-        ensures same_room { ⟦<Self as StableCell>⟧.capacity self.new ≡ ⟦<Self as StableCell>⟧.capacity self.old }
-        ensures same_readiness { ⟦<Self as StableCell>⟧.is_ready self.new
-            ≡ ⟦<Self as StableCell>⟧.is_ready self.old }
-        ensures failures { ⟦<Self as StableCell>⟧.failure_count self.new
-            ≡ ⟦<Self as StableCell>⟧.failure_count self.old }
-        ensures calls { D.call_count (disk_in self.new) ≡ D.call_count (disk_in self.old) }
+        ensures same_value { value_of self.new ≡ value_of self.old }
+        ensures any_moment { LeavesOnly moment_of left_since_of self.old self.new
+            (may_leave_of self.old) }
+        ensures same_room { capacity_of self.new ≡ capacity_of self.old }
+        ensures same_readiness { is_ready_of self.new ≡ is_ready_of self.old }
+        ensures failures { failures_of self.new ≡ failures_of self.old }
+        ensures calls { calls_of self.new ≡ calls_of self.old }
 
         // It is handed on to the disk.
-        ensures armed { OnOk result (D.armed (disk_in self.new) ≡ D.armed (disk_in self.old) ++ fault ∷ []) }
+        ensures armed { OnOk result
+            (D.armed (disk_in self.new) ≡ D.armed (disk_in self.old) ++ fault ∷ []) }
         ensures not_armed { OnErr result (D.armed (disk_in self.new) ≡ D.armed (disk_in self.old)) }
     {
         self.disk.arm(fault)
     }
 
     fn recount(&mut self)
-        ensures same_value { ⟦<Self as StableCell>⟧.value self.new ≡ ⟦<Self as StableCell>⟧.value self.old }
-        ensures any_moment { LeavesOnly ⟦<Self as StableCell>⟧.moment ⟦<Self as StableCell>⟧.left_since
-            self.old self.new (⟦<Self as StableCell>⟧.may_leave self.old) }
-        ensures same_room { ⟦<Self as StableCell>⟧.capacity self.new ≡ ⟦<Self as StableCell>⟧.capacity self.old }
-        ensures same_readiness { ⟦<Self as StableCell>⟧.is_ready self.new
-            ≡ ⟦<Self as StableCell>⟧.is_ready self.old }
-        ensures failures { ⟦<Self as StableCell>⟧.failure_count self.new
-            ≡ ⟦<Self as StableCell>⟧.failure_count self.old }
+        ensures same_value { value_of self.new ≡ value_of self.old }
+        ensures any_moment { LeavesOnly moment_of left_since_of self.old self.new
+            (may_leave_of self.old) }
+        ensures same_room { capacity_of self.new ≡ capacity_of self.old }
+        ensures same_readiness { is_ready_of self.new ≡ is_ready_of self.old }
+        ensures failures { failures_of self.new ≡ failures_of self.old }
 
         // The disk's count begins anew.
-        ensures calls { D.call_count (disk_in self.new) ≡ 0 }
+        ensures calls { calls_of self.new ≡ 0 }
         ensures setup { SameSetup D.sector_count D.armed (disk_in self.old) (disk_in self.new) }
     {
         self.disk.recount();

@@ -1,17 +1,12 @@
 -- What a crash may leave after each call.
 use Rattle.std.proofs.Common.{◌≡◌, inl, inr, ℕ, Bool, true, false, ◌+◌, ◌-◌, ◌*◌, ◌/◌, ◌<◌, ◌≤◌, List, ◌++◌, length, get_or, take, drop, replicate, refl, sym, ◌∙◌, ap, subst, arith, length-drop, length-take}
-use Rattle.std.proofs.lemmas.List.{ext_get_or, get_or-take, get_or-drop, length-replicate}
+use Rattle.std.proofs.lemmas.List.{get_or-take, get_or-drop, length-replicate}
 use Rattle.std.proofs.lemmas.Bool.{cases_lt}
-use Rattle.sector_disk.specs.Clock.{Only}
 use Rattle.sector_disk.specs.Disk.{IsInRange, IsOverwritten, SameOutside, OneStepFrom}
 use Rattle.sector_disk.specs.declared.TheConstants.{SECTOR_BYTES}
 use Rattle.sector_disk.specs.Doubt.{marked}
 use Rattle.sector_disk.specs.Images.{MayLeave}
 use Rattle.sector_disk.proofs.Splice.{splice, length-spliced, take-spliced, drop-spliced, get_before, get_within, get_after}
-
--- with no sector in doubt there is one outcome
-pub settled_only : (bytes : List ℕ) (in_doubt : List Bool) → ((k : ℕ) → get_or in_doubt k false ≡ false) → Only bytes (MayLeave bytes in_doubt)
-settled_only bytes in_doubt none c left = ext_get_or 0 c bytes left.size (λ i lt. left.settled i (omega (arith, left.size)) (none (i / SECTOR_BYTES)))
 
 pub overwritten_outside : (at : ℕ) (bytes old new : List ℕ) → at + length bytes ≤ length old → IsOverwritten old at bytes new → SameOutside at (length bytes) old new
 overwritten_outside at bytes old new fits holds = record {

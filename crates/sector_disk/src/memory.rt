@@ -1,5 +1,5 @@
 //! A disk in memory, which obeys armed faults.
-ghost use Rattle.std.specs.Prelude.{◌≡◌, ◌*◌, ◌/◌, ◌^◌, ◌<◌, ◌++◌, ◌↔◌, List, [], ◌∷◌, ℕ, false, length, take, drop, replicate, IsSome, IfOk, OnOk, OnErr, IsErrOf};
+ghost use Rattle.std.specs.Prelude.{◌≡◌, ◌*◌, ◌/◌, ◌^◌, ◌<◌, ◌++◌, ◌↔◌, [], ◌∷◌, false, length, take, drop, replicate, IsSome, IfOk, OnOk, OnErr, IsErrOf};
 ghost use Rattle.std.proofs.Common.{inl};
 ghost use Rattle.sector_disk.specs.declared.TheConstants.{SECTOR_BYTES};
 ghost use Rattle.sector_disk.specs.Clock.{Only, TimePasses};

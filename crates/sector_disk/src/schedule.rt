@@ -1,5 +1,5 @@
 //! The counts of a disk's calls and failures, and the failures that are to come.
-ghost use Rattle.std.specs.Prelude.{◌≡◌, ◌≤◌, ◌∷◌, [], ◌++◌, ◌↔◌, IsTrue, IsSome, OnOk, OnErr, find, ◌==◌};
+ghost use Rattle.std.specs.Prelude.{◌≡◌, ◌≤◌, ◌↔◌, IsTrue, IsSome, OnOk, OnErr, find, ◌==◌};
 ghost use Rattle.sector_disk.specs.declared.TheConstants.{GREATEST_COUNT};
 ghost use Rattle.sector_disk.specs.Schedule.{fault_at};
 

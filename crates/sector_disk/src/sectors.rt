@@ -1,5 +1,5 @@
 //! The bytes of a disk in memory, and what is in doubt of them.
-ghost use Rattle.std.specs.Prelude.{◌≡◌, ◌+◌, ◌*◌, ◌/◌, ◌^◌, ◌<◌, ◌≤◌, ◌++◌, ◌↔◌, false, length, take, drop, replicate, IsTrue, IfOk};
+ghost use Rattle.std.specs.Prelude.{◌≡◌, ◌+◌, ◌*◌, ◌^◌, ◌<◌, ◌≤◌, ◌++◌, ◌↔◌, false, length, take, drop, replicate, IsTrue, IfOk};
 ghost use Rattle.sector_disk.specs.declared.TheConstants.{SECTOR_BYTES};
 ghost use Rattle.sector_disk.specs.Disk.{IsInRange, IsOverwritten};
 ghost use Rattle.sector_disk.specs.Doubt.{NoneInDoubt};
