@@ -66,11 +66,11 @@ fn found_after_stop(
     only_byte(&mut opened(alloc, disk)?)
 }
 
-// The same of one cell, which crashes and is opened again in its place.
-fn found_in_place(alloc: Global, fault: ArmedFault) -> Result<u8, Fail> {
+// The same of one cell, which crashes by this fill and is opened again in its place.
+fn found_in_place(alloc: Global, fault: ArmedFault, given: Option<u8>) -> Result<u8, Fail> {
     let mut cell = formatted(alloc, 5, b"A")?;
     stop_put(&mut cell, b"B", fault)?;
-    cell.crash(None);
+    cell.crash(given);
     cell.reopen()?;
     only_byte(&mut cell)
 }
@@ -106,9 +106,15 @@ fn a_put_stopped_at_each_device_call(rt: HostRuntime) -> Result<(), Fail> {
 #[test]
 fn a_cell_that_crashes_and_comes_back(rt: HostRuntime) -> Result<(), Fail> {
     let alloc = rt.alloc();
-    for (call, fill, wanted) in [(2, 255, b'A'), (3, 254, b'A'), (3, 1, b'B'), (4, 255, b'B')] {
-        let found = found_in_place(alloc, ArmedFault { call, fill })?;
-        same_at(&rt, &found, &wanted, &(call, fill));
+    for (call, fill, given, wanted) in [
+        (2, 255, None, b'A'),
+        (3, 254, None, b'A'),
+        (3, 254, Some(1), b'B'),
+        (4, 1, Some(0), b'A'),
+        (4, 255, None, b'B'),
+    ] {
+        let found = found_in_place(alloc, ArmedFault { call, fill }, given)?;
+        same_at(&rt, &found, &wanted, &(call, fill, given));
     }
     Ok(())
 }
@@ -315,10 +321,20 @@ fn a_reopening_that_fails(rt: HostRuntime) -> Result<(), Fail> {
     let alloc = rt.alloc();
     let mut cell = formatted(alloc, 3, b"A")?;
     cell.crash(Some(9));
-    same(&rt, &refusal_of_get(&mut cell), &Some(23), "a get after the crash");
+    same(
+        &rt,
+        &refusal_of_get(&mut cell),
+        &Some(23),
+        "a get after the crash",
+    );
     puts(&rt, &mut cell, b"B", Err(CellFault::Reopen));
     arm(&mut cell, 2, 0)?;
-    same(&rt, &cell.reopen(), &Err(CellFault::Device), "the first reopen");
+    same(
+        &rt,
+        &cell.reopen(),
+        &Err(CellFault::Device),
+        "the first reopen",
+    );
     same(&rt, &refusal_of_get(&mut cell), &Some(23), "a get after it");
     same(&rt, &cell.reopen(), &Ok(()), "the second reopen");
     same(&rt, &only_byte(&mut cell)?, &b'A', "the value");

@@ -1,5 +1,5 @@
-//! The tests of the crates of disks, cells, logs and outlets, each crate's in a module of its own. They stand here since a crate
-//! with tests is proved twice, with them and without.
+//! The tests of the crates of disks, cells, logs and outlets, each crate's in a module of its own. A crate that has
+//! tests pays for its proof once more, so these crates have none of their own.
 #![tactic(auto)]
 
 #[cfg(test)]

@@ -7,13 +7,15 @@ use crate::fault::CellFault;
 use sector_disk::ArmedFault;
 use std::alloc::AllocError;
 
-/// A cell holds one value, a list of bytes, and keeps it through crashes: one cell serves for as long as its device does.
+/// A cell holds one value, a list of bytes, and keeps it through crashes: one cell serves for as long as its device
+/// does.
 ///
 /// A ready cell leaves its value and nothing else, whenever its device crashes. A failure of the device takes readiness
 /// away: if it struck in a `put`, a crash may leave the old value or the new one. A crash settles which of them it is,
 /// and `reopen` makes the cell ready again. Until then its calls answer `Reopen` (23).
 ///
-/// What a crash leaves is an `Option`, so that a cell that could lose its value has to say so; the law `opens` forbids it.
+/// What a crash leaves is an `Option`, so that a cell that could lose its value has to say so; the law `opens` forbids
+/// it.
 pub trait StableCell: Drop {
     /// What is found if the device crashes now and loses nothing. While the cell is ready, that is its value.
     ghost value: { Self → List ℕ };
@@ -33,7 +35,8 @@ pub trait StableCell: Drop {
     /// The values that a crash right now might leave.
     ghost may_leave: { Self → Option (List ℕ) → Type 0 };
 
-    /// The values that a crash might have left at a moment no earlier than this one. The moments inside a call count too.
+    /// The values that a crash might have left at a moment no earlier than this one. The moments inside a call count
+    /// too.
     ghost left_since: { Self → ℕ → Option (List ℕ) → Type 0 };
 
     /// The most bytes of a value that fits.
@@ -72,8 +75,8 @@ pub trait StableCell: Drop {
         ensures cause { HasCause (failure_count self.old) (failure_count self.new)
             (is_ready self.old) (is_ready self.new) result };
 
-    /// The device crashes and comes back: what it holds is settled, by the fill byte where one is given. The cell has to
-    /// be opened again.
+    /// The device crashes and comes back: what it holds is settled, by the fill byte where one is given. The cell has
+    /// to be opened again.
     fn crash(&mut self, fill: Option<u8>)
         // The value is now one of those that a crash might leave, and another crash leaves no other.
         ensures left { may_leave self.old (Some (value self.new)) }
@@ -109,7 +112,8 @@ pub trait StableCell: Drop {
         ensures failures { failure_count self.new ≡ failure_count self.old };
 
     /// While the cell is ready, a crash leaves the value and nothing else.
-    ghost settled: { (cell : Self) → IsTrue (is_ready cell) → Only (Some (value cell)) (may_leave cell) };
+    ghost settled: { (cell : Self)
+        → IsTrue (is_ready cell) → Only (Some (value cell)) (may_leave cell) };
 
     /// A crash may lose nothing, in every state.
     ghost value_may_stay: { (cell : Self) → may_leave cell (Some (value cell)) };
@@ -118,8 +122,10 @@ pub trait StableCell: Drop {
     ghost opens: { (cell : Self) (left : Option (List ℕ)) → may_leave cell left → IsSome left };
 
     /// What a crash may leave now is among what it might have left since an earlier moment.
-    ghost includes_now: { (cell : Self) (t : ℕ) (left : Option (List ℕ)) → t ≤ moment cell → may_leave cell left → left_since cell t left };
+    ghost includes_now: { (cell : Self) (t : ℕ) (left : Option (List ℕ))
+        → t ≤ moment cell → may_leave cell left → left_since cell t left };
 
     /// From this moment on there has been none but this one.
-    ghost only_now: { (cell : Self) (left : Option (List ℕ)) → left_since cell (moment cell) left → may_leave cell left };
+    ghost only_now: { (cell : Self) (left : Option (List ℕ))
+        → left_since cell (moment cell) left → may_leave cell left };
 }

@@ -5,7 +5,7 @@ ghost use Rattle.sector_disk.specs.Disk.{SameSetup};
 ghost use Rattle.gate_cell.specs.Calls.{HasStopped, count_after_calls};
 ghost use Rattle.gate_cell.specs.CellFault.{HasCause, HasDeviceCause};
 ghost use Rattle.gate_cell.specs.Layout.{other_area, HoldsNoValue, HasNoRoom, IsGate, IsSettled};
-ghost use Rattle.gate_cell.specs.Stands.{AlwaysStands, Looks, only_value, stands_for_one};
+ghost use Rattle.gate_cell.specs.Stands.{AlwaysStands, Looks, only_value, stands_for_content, stands_for_one};
 ghost use Rattle.gate_cell.specs.declared.fault.CellFault.TheVariants.{NoMemory, Device, TooLarge, Reopen};
 
 use crate::access::{find_value, look, make_sure, write_sectors, write_through};
@@ -15,11 +15,11 @@ use crate::frame::{area_of, frame_len, framed, gate_bytes, room_of, unframed};
 use sector_disk::{ArmedFault, Disk};
 use std::alloc::{AllocError, Global};
 
-/// A cell over a disk of at least 3 sectors: a sector that is the gate, then two areas of equal size, numbered 0 and 1. The
-/// least bit of the gate's first byte tells in which of them the value lies. The other is free for the next value.
+/// A cell over a disk of at least 3 sectors: a sector that is the gate, then two areas of equal size, numbered 0 and 1.
+/// The least bit of the gate's first byte tells in which of them the value lies. The other is free for the next value.
 ///
-/// In its area a value comes after its length, which is written in 8 bytes, the greatest first, and before zeros. It has
-/// at most `MAX_VALUE_BYTES` bytes, and fits the area.
+/// In its area a value comes after its length, which is written in 8 bytes, the greatest first, and before zeros. It
+/// has at most `MAX_VALUE_BYTES` bytes, and fits the area.
 #[derive(Drop)]
 pub struct GateCell<D: Disk> {
     alloc: Global,
@@ -30,7 +30,8 @@ pub struct GateCell<D: Disk> {
     ghost areas: { 3 ≤ D.sector_count disk },
     ghost which: { active ≤ 1 },
     ghost stands: { AlwaysStands (D.sector_count disk) (D.may_leave disk) },
-    ghost settled: { IsTrue ready → IsSettled (D.content disk) (D.may_leave disk) (D.sector_count disk) active value_len },
+    ghost settled: { IsTrue ready
+        → IsSettled (D.content disk) (D.may_leave disk) (D.sector_count disk) active value_len },
 }
 
 impl<D: Disk> GateCell<D> {
@@ -38,8 +39,8 @@ impl<D: Disk> GateCell<D> {
 
     /// Makes a cell with this value: it lies in area 0, under a gate of zeros. No device call is counted after it.
     ///
-    /// Refuses with `NoMemory` (1), `Device` (20), and with `TooLarge` (22) where the disk has fewer than 3 sectors or the
-    /// value doesn't fit. A refusal hands the disk back: as it was, but where the device failed.
+    /// Refuses with `NoMemory` (1), `Device` (20), and with `TooLarge` (22) where the disk has fewer than 3 sectors or
+    /// the value doesn't fit. A refusal hands the disk back: as it was, but where the device failed.
     pub fn format(alloc: Global, disk: D, value: &[u8]) -> Result<GateCell<D>, (CellFault, D)>
         ensures formatted { IfOk result (IsFormatted value.now) }
         ensures setup { IfOk result (λ cell. SameSetup D.sector_count D.armed disk (disk_in cell)) }
@@ -86,8 +87,9 @@ impl<D: Disk> GateCell<D> {
         })
     }
 
-    /// Opens what a crash may have left. First it syncs: a gate that is still in doubt could name one area now, and after
-    /// another crash the other one. Then it reads the gate and the front of the area that it names. It may crash too.
+    /// Opens what a crash may have left. First it syncs: a gate that is still in doubt could name one area now, and
+    /// after another crash the other one. Then it reads the gate and the front of the area that it names. It may crash
+    /// too.
     ///
     /// Refuses with `Device` (20), and with `TooLarge` (22) where the disk has fewer than 3 sectors or the length in
     /// the area doesn't fit. A refusal hands the disk back.
@@ -173,13 +175,15 @@ impl<D: Disk> StableCell for GateCell<D> {
 
     ghost left_since = { left_since_of };
 
-    ghost settled = { λ g ready. only_value (D.content g.disk) (D.may_leave g.disk) (D.sector_count g.disk) g.active g.value_len (g.settled ready) };
+    ghost settled = { λ g ready. only_value _ _ _ _ _ (g.settled ready) };
 
-    ghost value_may_stay = { λ g. (D.content g.disk, D.content_may_stay g.disk, g.stands (D.content g.disk) (D.content_may_stay g.disk)) };
+    ghost value_may_stay = { λ g. stands_for_content _ (D.content g.disk) _
+        g.stands (D.content_may_stay g.disk) };
 
-    ghost opens = { λ g left might. stands_for_one (D.sector_count g.disk) (D.may_leave g.disk) g.stands left might };
+    ghost opens = { λ g left might. stands_for_one _ _ g.stands left might };
 
-    ghost includes_now = { λ g t left le now. (now.0, D.includes_now g.disk t now.0 le now.1, now.2) };
+    ghost includes_now = { λ g t left le now.
+        (now.0, D.includes_now g.disk t now.0 le now.1, now.2) };
 
     ghost only_now = { λ g left might. (might.0, D.only_now g.disk might.0 might.1, might.2) };
 

@@ -18,8 +18,8 @@ pub struct ArmedFault {
     pub fill: u8,
 }
 
-/// A disk: sectors of `SECTOR_BYTES` bytes, numbered from 0. A sector that was written is in doubt until the next sync: a
-/// crash leaves what it likes there. Everywhere else it leaves what reads give.
+/// A disk: sectors of `SECTOR_BYTES` bytes, numbered from 0. A sector that was written is in doubt until the next sync:
+/// a crash leaves what it likes there. Everywhere else it leaves what reads give.
 ///
 /// Its device calls are `read`, `write` and `sync`. They are counted from 1, but for those refused by `Range`.
 /// No call takes memory, but for `arm`.
@@ -48,7 +48,8 @@ pub trait Disk: Drop {
     /// The contents that a crash right now might leave.
     ghost may_leave: { Self → List ℕ → Type 0 };
 
-    /// The contents that a crash might have left at a moment no earlier than this one. The moments inside a call count too.
+    /// The contents that a crash might have left at a moment no earlier than this one. The moments inside a call count
+    /// too.
     ghost left_since: { Self → ℕ → List ℕ → Type 0 };
 
     /// The number of sectors.
@@ -131,10 +132,12 @@ pub trait Disk: Drop {
         ensures setup { SameSetup sector_count armed self.old self.new };
 
     /// What a crash may leave now is among what it might have left since an earlier moment.
-    ghost includes_now: { (disk : Self) (t : ℕ) (c : List ℕ) → t ≤ moment disk → may_leave disk c → left_since disk t c };
+    ghost includes_now: { (disk : Self) (t : ℕ) (c : List ℕ)
+        → t ≤ moment disk → may_leave disk c → left_since disk t c };
 
     /// From this moment on there has been none but this one.
-    ghost only_now: { (disk : Self) (c : List ℕ) → left_since disk (moment disk) c → may_leave disk c };
+    ghost only_now: { (disk : Self) (c : List ℕ)
+        → left_since disk (moment disk) c → may_leave disk c };
 
     /// A crash may lose nothing.
     ghost content_may_stay: { (disk : Self) → may_leave disk (content disk) };

@@ -1,7 +1,7 @@
 //! A disk of sectors that may crash at any moment: what a read gives now, and what a crash may leave.
 //!
-//! `Disk` is the model that everything above rests on. `MemDisk` is a disk in memory that obeys armed faults. `Past` keeps,
-//! for proofs alone, what a value has been: a clock over it needs no memory.
+//! `Disk` is the model that everything above rests on. `MemDisk` is a disk in memory that obeys armed faults. `Past`
+//! keeps, for proofs alone, what a value has been: a clock over it needs no memory.
 #![tactic(auto)]
 
 mod disk;

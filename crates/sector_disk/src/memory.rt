@@ -74,7 +74,7 @@ impl Disk for MemDisk {
 
     ghost only_now = { λ disk c left. now_alone left_of (may_leave_of disk) (past_of disk) c left };
 
-    ghost content_may_stay = { λ disk. may_lose_nothing disk.sectors.bytes.items disk.sectors.doubt.flags.items };
+    ghost content_may_stay = { λ disk. may_lose_nothing (content_of disk) (doubt_of disk) };
 
     ghost is_whole = { λ disk. disk.sectors.whole };
 
