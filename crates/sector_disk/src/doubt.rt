@@ -8,6 +8,7 @@ use std::alloc::{AllocError, Global};
 /// A flag for each sector, and the range outside of which none is set: a sync clears that range alone.
 #[derive(Drop)]
 pub struct Doubt {
+    /// For each sector, whether it is in doubt.
     pub flags: Vec<bool>,
     first: usize,
     end: usize,

@@ -10,8 +10,11 @@ use std::alloc::{AllocError, Global};
 /// Faults armed for device calls, by the count of calls since the last recount.
 #[derive(Drop)]
 pub struct FaultSchedule {
+    /// In the order of arming.
     pub armed: Vec<ArmedFault>,
+    /// Device calls since the last recount.
     pub calls: u64,
+    /// All calls that failed.
     pub failures: u64,
     /// The last call that met a fault since the last recount, or 0.
     pub failed_call: u64,

@@ -12,7 +12,9 @@ use std::alloc::{AllocError, Global};
 /// Whole sectors, with a flag for each that says whether it is in doubt.
 #[derive(Drop)]
 pub struct Sectors {
+    /// What reads give, sector after sector.
     pub bytes: Vec<u8>,
+    /// Which of them are in doubt.
     pub doubt: Doubt,
     ghost whole: { length bytes.items ≡ SECTOR_BYTES * length doubt.flags.items },
     ghost addressable: { SECTOR_BYTES * length doubt.flags.items < 2 ^ 64 },
@@ -34,6 +36,7 @@ pub fn overwrite(bytes: &mut [u8], at: usize, new: &[u8])
     bytes[at..at + new.len()].copy_from_slice(new);
 }
 
+// Fills so many bytes at an offset.
 fn fill_range(bytes: &mut [u8], at: usize, count: usize, fill: u8)
     requires { at + count ≤ length bytes.old }
     ensures { bytes.new ≡ take at bytes.old ++ replicate count fill ++ drop (at + count) bytes.old }
