@@ -272,6 +272,7 @@ impl<D: Disk> StableCell for GateCell<D> {
 
         // The disk crashes: no device call. What it then holds is one of the contents that it might leave.
         ensures disk { D.may_leave (disk_in self.old) (content_of self.new) }
+        ensures filled { D.settles_to (disk_in self.old) fill (content_of self.new) }
         ensures calls { calls_of self.new ≡ calls_of self.old }
         ensures setup { SameSetup D.sector_count D.armed (disk_in self.old) (disk_in self.new) }
     {

@@ -1,6 +1,6 @@
 -- What a disk in memory shows.
 use Rattle.std.specs.Prelude.{ℕ, Bool, List, ◌∷◌, length, Option, Some, None}
-use Rattle.sector_disk.specs.Images.{MayLeave}
+use Rattle.sector_disk.specs.Images.{MayLeave, IsSettledBy}
 use Rattle.sector_disk.specs.Past.{states_of, LeftBySome}
 use Rattle.sector_disk.specs.Schedule.{FaultState}
 use Rattle.sector_disk.specs.FaultSchedule.{state_of}
@@ -24,6 +24,10 @@ faults_of disk = state_of disk.schedule
 abbrev pub fill_or : Option ℕ → ℕ → ℕ
 fill_or (Some fill) pending = fill
 fill_or None pending = pending
+
+-- each sector in doubt is filled
+abbrev pub settles_to_of : MemDisk → Option ℕ → List ℕ → Type 0
+settles_to_of disk fill new = IsSettledBy (fill_or fill disk.schedule.fill) (doubt_of disk) (content_of disk) new
 
 abbrev pub sectors_of : MemDisk → ℕ
 sectors_of disk = length disk.sectors.doubt.flags.items

@@ -1,5 +1,5 @@
 //! A disk, by what reads give and what a crash may leave, with a clock.
-ghost use Rattle.std.specs.Prelude.{◌≡◌, ◌*◌, ◌^◌, ◌<◌, ◌≤◌, ◌↔◌, List, [], ◌∷◌, ◌++◌, ℕ, length, take, drop, OnOk, OnErr, IsErrOf};
+ghost use Rattle.std.specs.Prelude.{◌≡◌, ◌*◌, ◌^◌, ◌<◌, ◌≤◌, ◌↔◌, List, [], ◌∷◌, ◌++◌, ℕ, length, take, drop, Option, OnOk, OnErr, IsErrOf};
 ghost use Rattle.sector_disk.specs.declared.TheConstants.{SECTOR_BYTES};
 ghost use Rattle.sector_disk.specs.declared.disk.ArmedFault.{ArmedFault};
 ghost use Rattle.sector_disk.specs.Clock.{Only, TimePasses};
@@ -47,6 +47,9 @@ pub trait Disk: Drop {
 
     /// The contents that a crash right now might leave.
     ghost may_leave: { Self → List ℕ → Type 0 };
+
+    /// What a crash by this fill byte, or by none, makes of the content.
+    ghost settles_to: { Self → Option ℕ → List ℕ → Type 0 };
 
     /// The contents that a crash might have left at a moment no earlier than this one. The moments inside a call count
     /// too.
@@ -108,6 +111,7 @@ pub trait Disk: Drop {
     /// by the fill byte where one is given.
     fn crash(&mut self, fill: Option<u8>)
         ensures left { may_leave self.old (content self.new) }
+        ensures filled { settles_to self.old fill (content self.new) }
         ensures durable { Only (content self.new) (may_leave self.new) }
         ensures time { TimePasses moment left_since may_leave self.old self.new }
         ensures counts { SameCounts failure_count call_count failed_call self.old self.new }

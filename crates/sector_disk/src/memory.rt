@@ -4,7 +4,7 @@ ghost use Rattle.std.proofs.Common.{inl};
 ghost use Rattle.sector_disk.specs.declared.TheConstants.{SECTOR_BYTES};
 ghost use Rattle.sector_disk.specs.Clock.{Only, TimePasses};
 ghost use Rattle.sector_disk.specs.Disk.{IsInRange, SameOutside, IsOverwritten, OneStepFrom, IsQuiet, IsCounted, SameCounts, SameSetup};
-ghost use Rattle.sector_disk.specs.Images.{IsSettledBy, may_lose_nothing};
+ghost use Rattle.sector_disk.specs.Images.{may_lose_nothing};
 ghost use Rattle.sector_disk.specs.Past.{now_alone};
 
 use crate::SECTOR_BYTES;
@@ -48,7 +48,7 @@ impl MemDisk {
 }
 
 impl Disk for MemDisk {
-    ghost use Rattle.sector_disk.specs.MemDisk.{content_of, doubt_of, faults_of, sectors_of, failures_of, calls_of, failed_call_of, armed_of, may_leave_of, moment_of, left_since_of, past_of, left_of, fill_or};
+    ghost use Rattle.sector_disk.specs.MemDisk.{content_of, doubt_of, faults_of, sectors_of, failures_of, calls_of, failed_call_of, armed_of, may_leave_of, moment_of, left_since_of, settles_to_of, past_of, left_of};
     ghost use Rattle.sector_disk.specs.Doubt.{marked, NoneInDoubt};
     ghost use Rattle.sector_disk.specs.Schedule.{fault_met, after_call, after_crash, after_arming, after_recount};
 
@@ -67,6 +67,8 @@ impl Disk for MemDisk {
     ghost moment = { moment_of };
 
     ghost may_leave = { may_leave_of };
+
+    ghost settles_to = { settles_to_of };
 
     ghost left_since = { left_since_of };
 
@@ -183,14 +185,14 @@ impl Disk for MemDisk {
 
     fn crash(&mut self, fill: Option<u8>)
         ensures left { may_leave_of self.old (content_of self.new) }
+
+        // Each sector in doubt holds copies of the fill byte: the one given, or that of the last fault met, or 0.
+        ensures filled { settles_to_of self.old fill (content_of self.new) }
         ensures durable { Only (content_of self.new) (may_leave_of self.new) }
         ensures time { TimePasses moment_of left_since_of may_leave_of self.old self.new }
         ensures counts { SameCounts failures_of calls_of failed_call_of self.old self.new }
         ensures setup { SameSetup sectors_of armed_of self.old self.new }
 
-        // Each sector in doubt holds copies of the fill byte: the one given, or that of the last fault met, or 0.
-        ensures settled { IsSettledBy (fill_or fill (faults_of self.old).fill)
-            (doubt_of self.old) (content_of self.old) (content_of self.new) }
         ensures faults { faults_of self.new ≡ after_crash (faults_of self.old) }
         ensures doubt { NoneInDoubt (doubt_of self.new) }
     {
