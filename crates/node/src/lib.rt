@@ -12,7 +12,6 @@ mod installing;
 mod memory;
 mod node;
 mod opening;
-mod past;
 mod putting;
 mod releasing;
 mod starting;
