@@ -3,6 +3,7 @@
 //! `write_packet` gives a packet's spelling, and `read_packet` the packet of a spelling; any other bytes it refuses.
 #![tactic(auto)]
 
+mod checking;
 mod fault;
 mod fields;
 mod laws;
@@ -11,6 +12,7 @@ mod packet;
 mod reading;
 mod writing;
 
+pub use checking::is_packet;
 pub use fault::PacketFault;
 pub use laws::no_spelling_begins_another;
 pub use needs::Needs;

@@ -1,5 +1,5 @@
 // From bytes to a packet.
-ghost use Rattle.std.specs.Prelude.{◌≡◌, option_map, IfOk, IsErrOf};
+ghost use Rattle.std.specs.Prelude.{◌≡◌, Some, option_map, slice_get, IfOk, IsErrOf};
 ghost use Rattle.datagram.specs.declared.packet.Packet.{Packet as PacketValue};
 ghost use Rattle.datagram.specs.PacketText.{IsPacketText};
 ghost use Rattle.datagram.specs.Reading.{Reads, read_as, data_body, counts_body, kept_body, ask_body, refused_body, need_at, needs_at, need_list_at, took_at, plain_body_at, body_at, packet_at, whole_at, IsReadUnlessMemory};
@@ -201,7 +201,8 @@ fn plain_body_of(kind: u8, bytes: &[u8]) -> Option<(Body, &[u8])>
 
 #[tactic(auto, unfolding(crate::specs::Reading::body_at))]
 fn body_of(alloc: Global, kind: u8, bytes: &[u8]) -> Result<(Body, &[u8]), PacketFault>
-    ensures { Reads (λ x. (x.0, x.1.now)) result (body_at kind bytes.now) }
+    ensures read { Reads (λ x. (x.0, x.1.now)) result (body_at kind bytes.now) }
+    ensures memory { IsErrOf result PacketFault.NoMemory → kind ≡ 5 }
 {
     if kind == 5 {
         return took_of(alloc, bytes);
@@ -212,7 +213,8 @@ fn body_of(alloc: Global, kind: u8, bytes: &[u8]) -> Result<(Body, &[u8]), Packe
 // The packet at the front.
 #[tactic(auto, unfolding(crate::specs::Reading::packet_at))]
 fn packet_of(alloc: Global, bytes: &[u8]) -> Result<(Packet, &[u8]), PacketFault>
-    ensures { Reads (λ x. (x.0, x.1.now)) result (packet_at bytes.now) }
+    ensures read { Reads (λ x. (x.0, x.1.now)) result (packet_at bytes.now) }
+    ensures memory { IsErrOf result PacketFault.NoMemory → slice_get bytes.now 0 ≡ Some 5 }
 {
     let [kind, from, to, rest @ ..] = bytes else {
         return Err(PacketFault::BadPacket);
@@ -228,7 +230,8 @@ fn packet_of(alloc: Global, bytes: &[u8]) -> Result<(Packet, &[u8]), PacketFault
 // The packet that takes all the bytes.
 #[tactic(auto, unfolding(crate::specs::Reading::whole_at))]
 fn whole_packet_of(alloc: Global, bytes: &[u8]) -> Result<Packet, PacketFault>
-    ensures { Reads (λ packet. packet) result (whole_at bytes.now) }
+    ensures read { Reads (λ packet. packet) result (whole_at bytes.now) }
+    ensures memory { IsErrOf result PacketFault.NoMemory → slice_get bytes.now 0 ≡ Some 5 }
 {
     let (packet, rest) = packet_of(alloc, bytes)?;
     if !rest.is_empty() {
@@ -251,6 +254,9 @@ pub fn read_packet(alloc: Global, bytes: &[u8]) -> Result<Packet, PacketFault>
     // What is refused spells no packet.
     ensures refused { IsErrOf result PacketFault.BadPacket
         → (packet : PacketValue) → ¬ (IsPacketText packet bytes.now) }
+
+    // Only a `Took` takes memory.
+    ensures memory { IsErrOf result PacketFault.NoMemory → slice_get bytes.now 0 ≡ Some 5 }
 {
     whole_packet_of(alloc, bytes)
 }
