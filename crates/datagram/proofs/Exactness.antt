@@ -1,8 +1,8 @@
 -- Packets are read as they are spelled, and what is spelled is read.
-use Rattle.std.proofs.Common.{◌≡◌, ◌≢◌, ℕ, zero, suc, ◌+◌, ◌≤◌, ◌<◌, ◌^◌, Bool, true, false, ◌&&◌, not, nat_eq, nat_le, cond, List, [], ◌∷◌, ◌++◌, ℤ, length, Option, Some, None, option_map, Result, Ok, Err, refl, sym, ap, subst, ◌∙◌, append_assoc, arith}
-use Rattle.std.specs.Prelude.{All, IfOk, IsErrOf}
+use Rattle.std.proofs.Common.{◌≡◌, ◌≢◌, ℕ, zero, suc, ◌≤◌, Bool, true, false, ◌&&◌, not, nat_eq, nat_le, cond, List, [], ◌∷◌, ◌++◌, length, Some, None, option_map, Result, Ok, Err, refl, sym, ap, subst, ◌∙◌, append_assoc, arith}
+use Rattle.std.specs.Prelude.{IfOk, IsErrOf}
 use Rattle.std.specs.List.{flat_map, AllByRecursion}
-use Rattle.std.proofs.lemmas.Bool.{leb-true, le-leb, eqb-true, eq-eqb, eqb-false, ne_eqb}
+use Rattle.std.proofs.lemmas.Bool.{leb-true, le-leb, eqb-true, eqb-false, ne_eqb}
 use Rattle.std.proofs.lemmas.List.{append-nil, nil_from_length}
 use Rattle.std.proofs.lemmas.List.Elements.{All-from_recursion, recursion_from_All}
 use Rattle.std.proofs.lemmas.List.Concat.{flat_map-cons}
@@ -10,12 +10,11 @@ use Rattle.datagram.specs.declared.packet.TheConstants.{LAST_NODE, LAST_CHANNEL,
 use Rattle.datagram.specs.declared.fault.PacketFault.{PacketFault}
 use Rattle.datagram.specs.declared.fault.PacketFault.TheVariants.{NoMemory, BadPacket}
 use Rattle.datagram.specs.declared.packet.Need.{Need}
-use Rattle.datagram.specs.declared.packet.Reason.{Reason}
 use Rattle.datagram.specs.declared.packet.Body.{Body}
 use Rattle.datagram.specs.declared.packet.Body.TheVariants.{Data, Ack, Kept, Ask, Took, Covered, Refused, Query, Commit, Ended, Settled, Undone}
 use Rattle.datagram.specs.declared.packet.Packet.{Packet}
 use Rattle.datagram.specs.PacketText.{IsChannel, IsCount, IsPositive, IsNeed, AreNeeds, are_ascending, IsBody, IsPacket, IsPacketText, number_text, need_text, needs_text, kind_of, body_text, packet_text}
-use Rattle.datagram.specs.Reading.{◌>>=◌, Found, Field, limited, channel, count, positive, needs_count, both, if_passes, need_at, needs_at, need_list_at, data_body, counts_body, kept_body, ask_body, refused_body, read_as, took_at, plain_body_at, body_at, are_nodes, packet_at, whole_at, Reads, IsReadUnlessMemory}
+use Rattle.datagram.specs.Reading.{◌>>=◌, Found, Field, channel, count, positive, needs_count, if_passes, need_at, needs_at, need_list_at, data_body, counts_body, kept_body, ask_body, refused_body, read_as, took_at, body_at, are_nodes, packet_at, whole_at, Reads, IsReadUnlessMemory}
 use Rattle.datagram.proofs.Parts.{IsBytes, IsBytes-rest, after_found, chosen, is_found, passed, was, Takes, Takes-then, Exact, back2, back8, limited_exact, item_exact, reason_exact, both_exact}
 
 -- ---- tests

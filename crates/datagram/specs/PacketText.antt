@@ -1,5 +1,5 @@
 -- The grammar of packets: which packets there are, and the one spelling of each.
-use Rattle.std.specs.Prelude.{◌≡◌, ◌≢◌, ℕ, ◌+◌, ◌≤◌, Bool, true, ◌&&◌, nat_le, IsTrue, ℤ, List, [], ◌∷◌, ◌++◌, length, All, FitsSigned}
+use Rattle.std.specs.Prelude.{◌≡◌, ◌≢◌, ℕ, ◌+◌, ◌≤◌, Bool, true, ◌&&◌, nat_le, ℤ, List, [], ◌∷◌, ◌++◌, length, All, FitsSigned}
 use Rattle.std.specs.List.{flat_map}
 use Rattle.std.specs.Int.{w64, cast_unsigned}
 use Rattle.byteorder.specs.Endian.{big_bytes}

@@ -1,6 +1,5 @@
 -- Reading from the front: what is read and what is left, or nothing.
-use Rattle.std.specs.Prelude.{◌≡◌, ℕ, zero, suc, ◌≤◌, ◌==◌, ◌&&◌, ◌^◌, ◌<◌, Bool, nat_le, nat_lt, not, if◌then◌else◌, ℤ, List, [], ◌∷◌, ◌++◌, length, take, drop, Option, Some, None, option_map, Result, Ok, Err, FitsSigned}
-use Rattle.std.specs.List.{flat_map, AllByRecursion}
+use Rattle.std.specs.Prelude.{◌≡◌, ℕ, zero, suc, ◌≤◌, ◌==◌, ◌&&◌, Bool, nat_le, nat_lt, not, if◌then◌else◌, ℤ, List, [], ◌∷◌, ◌++◌, length, drop, Option, Some, None, option_map, Result, Ok, Err, FitsSigned}
 use Rattle.std.specs.Int.{w64, cast_signed}
 use Rattle.byteorder.specs.Endian.{big_number}
 use Rattle.datagram.specs.declared.packet.TheConstants.{LAST_NODE, LAST_CHANNEL, LAST_NUMBER, MOST_NEEDS}

@@ -1,4 +1,3 @@
-use Rattle.std.proofs.Common.{◌≡◌}
 use Rattle.std.proofs.lemmas.Result.{err_from_is_err_and}
 use Rattle.datagram.specs.Reading.{needs_at}
 use Rattle.datagram.proofs.Loop.{one_more, stops, has_all}
