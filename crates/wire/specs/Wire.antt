@@ -1,6 +1,7 @@
 -- All that is in flight.
 use Rattle.std.specs.Prelude.{◌≡◌, ℕ, ◌+◌, Bool, false, List, [], replicate, slice_get, slice_set, slice_index, unwrap_or, Option, Some, None}
 use Rattle.wire.specs.declared.rule.Rule.{Rule}
+use Rattle.wire.specs.declared.queue.TheConstants.{NODES}
 use Rattle.wire.specs.declared.queue.Flight.{Flight}
 use Rattle.wire.specs.Rules.{capped}
 use Rattle.wire.specs.Queue.{QueueState, is_due}
@@ -13,7 +14,7 @@ pub record WireState : Type 0 where
 -- nothing is in flight to the node, and nobody sent anything to it
 pub record IsEmptyQueue (queue : QueueState) : Type 0 where
   pub flights : queue.flights ≡ []
-  pub counts : queue.counts ≡ replicate 16 0
+  pub counts : queue.counts ≡ replicate NODES 0
 
 -- the queue of a node
 abbrev pub queue_at : WireState → ℕ → QueueState

@@ -11,6 +11,6 @@ mod rule;
 mod wire;
 
 pub use bytes::Bytes;
-pub use queue::{Flight, Letter};
+pub use queue::{Flight, Letter, NODES};
 pub use rule::{Change, LAST_NUMBER, Rule};
-pub use wire::{LAST_NODE, Wire};
+pub use wire::Wire;

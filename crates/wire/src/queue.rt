@@ -11,7 +11,7 @@ use std::alloc::{AllocError, Global};
 use std::marker::Model;
 
 /// How many nodes there are.
-pub(crate) const NODES: usize = 16;
+pub const NODES: usize = 16;
 
 /// A packet in flight, and the round in which it is due.
 #[derive(Debug, Drop)]
@@ -24,7 +24,7 @@ pub struct Flight {
 #[derive(Drop)]
 pub(crate) struct Queue {
     flights: Vec<Flight>,
-    counts: [u64; 16],
+    counts: [u64; NODES],
 }
 
 impl Model for Queue {
@@ -138,11 +138,11 @@ impl Queue {
     ghost use Rattle.wire.specs.Wire.{is_due_at};
 
     pub(crate) fn new(alloc: Global) -> Queue
-        ensures { (result.flights ≡ []) × (result.counts ≡ replicate 16 0) }
+        ensures { (result.flights ≡ []) × (result.counts ≡ replicate NODES 0) }
     {
         Queue {
             flights: Vec::new(alloc),
-            counts: [0; 16],
+            counts: [0; NODES],
         }
     }
 
@@ -185,7 +185,7 @@ impl Queue {
 
     // Puts a letter's packets last, where there is room, and counts it.
     pub(crate) fn post(&mut self, from: u8, letter: Letter)
-        requires node { from < 16 }
+        requires node { from < NODES }
         requires room { length letter.flights ≤ self.old.room }
         ensures posted { self.new ≡ record {
           flights = self.old.flights ++ letter.flights;
@@ -200,7 +200,7 @@ impl Queue {
 
     // Makes room for a letter's packets, and posts it.
     pub(crate) fn send(&mut self, from: u8, letter: Letter) -> Result<(), AllocError>
-        requires { from < 16 }
+        requires { from < NODES }
         ensures ok { OnOk result (self.new ≡ record {
           flights = self.old.flights ++ letter.flights;
           counts = counted self.old.counts from;
@@ -253,7 +253,7 @@ impl Queue {
     }
 
     pub(crate) fn count(&self, from: u8) -> u64
-        requires { from < 16 }
+        requires { from < NODES }
         ensures { result ≡ slice_index self.now.counts from }
     {
         self.counts[from as usize]

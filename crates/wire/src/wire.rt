@@ -11,9 +11,6 @@ use crate::rule::{Rule, capped_sum, fate_by};
 use std::alloc::{AllocError, Global};
 use std::marker::Model;
 
-/// The greatest number of a node.
-pub const LAST_NODE: u8 = 15;
-
 /// The packets in flight to each node, in the order in which they were sent, and the rules that were armed.
 #[derive(Drop)]
 pub struct Wire {
@@ -23,18 +20,19 @@ pub struct Wire {
 
 impl Model for Wire {
     ghost use Rattle.std.specs.Prelude.{◌≡◌, length};
+    ghost use Rattle.wire.specs.declared.queue.TheConstants.{NODES};
     ghost use Rattle.wire.specs.Wire.{WireState};
 
     ghost Value = { WireState };
 
     ghost view = { λ wire. record { queues = wire.queues.items; rules = wire.rules.items } };
 
-    ghost invariant = { λ wire. length wire.queues.items ≡ 16 };
+    ghost invariant = { λ wire. length wire.queues.items ≡ NODES };
 }
 
 // So many queues with nothing in them.
 fn empty_queues(alloc: Global) -> Result<Vec<Queue>, AllocError>
-    ensures count { IfOk result (λ queues. length queues.items ≡ 16) }
+    ensures count { IfOk result (λ queues. length queues.items ≡ NODES) }
     ensures empty { IfOk result (λ queues. All IsEmptyQueue queues.items) }
 {
     let mut queues = Vec::with_capacity(alloc, NODES)?;
@@ -48,7 +46,7 @@ impl Wire {
     /// Nothing is in flight, and no rule is armed.
     pub fn new(alloc: Global) -> Result<Wire, AllocError>
         ensures queues { IfOk result (λ wire. All IsEmptyQueue wire.queues) }
-        ensures nodes { IfOk result (λ wire. length wire.queues ≡ 16) }
+        ensures nodes { IfOk result (λ wire. length wire.queues ≡ NODES) }
         ensures rules { IfOk result (λ wire. wire.rules ≡ []) }
     {
         Ok(Wire {
@@ -59,7 +57,7 @@ impl Wire {
 
     /// How many packets are in flight to a node.
     pub fn len(&self, to: u8) -> usize
-        requires { to ≤ LAST_NODE }
+        requires { to < NODES }
         ensures { result ≡ length (in_flight self.now to) }
     {
         self.queues[to as usize].len()
@@ -67,7 +65,7 @@ impl Wire {
 
     /// The packet at a place, from 0, of those in flight to a node.
     pub fn packet(&self, to: u8, place: usize) -> Option<&[u8]>
-        requires { to ≤ LAST_NODE }
+        requires { to < NODES }
         ensures { option_map (λ bytes. bytes.now) result
             ≡ option_map (λ f. f.packet) (slice_get (in_flight self.now to) place) }
     {
@@ -76,7 +74,7 @@ impl Wire {
 
     /// The place of the first packet that is due in a round, of those in flight to a node.
     pub fn first_due(&self, to: u8, round: u64) -> Option<usize>
-        requires { to ≤ LAST_NODE }
+        requires { to < NODES }
         ensures { result ≡ position_from (is_due round) 0 (in_flight self.now to) }
     {
         self.queues[to as usize].first_due(round)
@@ -84,7 +82,7 @@ impl Wire {
 
     /// Whether there is a packet at a place, and it is due in this round.
     pub fn is_due(&self, to: u8, place: usize, round: u64) -> bool
-        requires { to ≤ LAST_NODE }
+        requires { to < NODES }
         ensures { result ≡ is_due_at round (slice_get (in_flight self.now to) place) }
     {
         self.queues[to as usize].is_due(place, round)
@@ -92,7 +90,7 @@ impl Wire {
 
     /// Takes the packet at a place out, for the node.
     pub fn take(&mut self, to: u8, place: usize) -> Vec<u8>
-        requires node { to ≤ LAST_NODE }
+        requires node { to < NODES }
         requires there { place < length (in_flight self.old to) }
         ensures packet { option_map (λ f. f.packet) (slice_get (in_flight self.old to) place)
             ≡ Some result.items }
@@ -108,7 +106,7 @@ impl Wire {
 
     /// The packet at a place is gone.
     pub fn lose(&mut self, to: u8, place: usize)
-        requires node { to ≤ LAST_NODE }
+        requires node { to < NODES }
         requires there { place < length (in_flight self.old to) }
         ensures { let queue = queue_at self.old to in self.new ≡ with_queue self.old to (record {
           flights = remove queue.flights place;
@@ -122,7 +120,7 @@ impl Wire {
 
     /// The packet at a place is due so many rounds later.
     pub fn delay(&mut self, to: u8, place: usize, rounds: u64)
-        requires node { to ≤ LAST_NODE }
+        requires node { to < NODES }
         requires there { place < length (in_flight self.old to) }
         ensures { let queue = queue_at self.old to in self.new ≡ with_queue self.old to
             (record queue { flights = with_delay queue.flights place rounds }) }
@@ -134,7 +132,7 @@ impl Wire {
     /// A copy of the packet at a place goes last. It is due in the round of its original. Refuses for want of memory
     /// alone, and then the same is in flight as before.
     pub fn repeat(&mut self, alloc: Global, to: u8, place: usize) -> Result<(), AllocError>
-        requires node { to ≤ LAST_NODE }
+        requires node { to < NODES }
         requires there { place < length (in_flight self.old to) }
         ensures ok { let queue = queue_at self.old to in
             OnOk result (self.new ≡ with_queue self.old to (record {
@@ -170,8 +168,8 @@ impl Wire {
         packet: Vec<u8>,
         round: u64,
     ) -> Result<Letter, AllocError>
-        requires sender { from ≤ LAST_NODE }
-        requires receiver { to ≤ LAST_NODE }
+        requires sender { from < NODES }
+        requires receiver { to < NODES }
         ensures { let nth = nth_of (queue_at self.now to) from ahead in
             IfOk result (λ letter. letter ≡ record {
               from = from;
@@ -187,7 +185,7 @@ impl Wire {
 
     /// Makes room for so many packets more to a node, so that `post` needs no memory for them. Changes nothing else.
     pub fn reserve(&mut self, to: u8, places: usize) -> Result<(), AllocError>
-        requires { to ≤ LAST_NODE }
+        requires { to < NODES }
         ensures same { let queue = queue_at self.old to in
             self.new ≡ with_queue self.old to (record queue { room = (queue_at self.new to).room }) }
         ensures more { (queue_at self.old to).room ≤ (queue_at self.new to).room }
@@ -199,8 +197,8 @@ impl Wire {
 
     /// Sends a letter, for which there is room: its packets go last in the queue of their node.
     pub fn post(&mut self, letter: Letter)
-        requires sender { letter.from ≤ LAST_NODE }
-        requires receiver { letter.to ≤ LAST_NODE }
+        requires sender { letter.from < NODES }
+        requires receiver { letter.to < NODES }
         requires room { length letter.flights ≤ (queue_at self.old letter.to).room }
         ensures posted { let queue = queue_at self.old letter.to in
             self.new ≡ with_queue self.old letter.to (record {
@@ -218,8 +216,8 @@ impl Wire {
 
     // Makes room for a letter's packets, and posts it.
     fn send_letter(&mut self, letter: Letter) -> Result<(), AllocError>
-        requires sender { letter.from ≤ LAST_NODE }
-        requires receiver { letter.to ≤ LAST_NODE }
+        requires sender { letter.from < NODES }
+        requires receiver { letter.to < NODES }
         ensures ok { let queue = queue_at self.old letter.to in
             OnOk result (self.new ≡ with_queue self.old letter.to (record {
               flights = queue.flights ++ letter.flights;
@@ -245,8 +243,8 @@ impl Wire {
         packet: Vec<u8>,
         round: u64,
     ) -> Result<(), AllocError>
-        requires sender { from ≤ LAST_NODE }
-        requires receiver { to ≤ LAST_NODE }
+        requires sender { from < NODES }
+        requires receiver { to < NODES }
         ensures ok { let queue = queue_at self.old to in
             let fate = fate_of self.old.rules from to (nth_of queue from 0) in
             OnOk result (self.new ≡ with_queue self.old to (record {
