@@ -99,7 +99,8 @@ fn put_data(out: &mut Vec<u8>, channel: u16, position: u64, item: i64) -> Result
 }
 
 fn put_kept(out: &mut Vec<u8>, channel: u16, count: u64) -> Result<(), AllocError>
-    ensures { OnOk result (out.new.items ≡ out.old.items ++ (number_text 2 channel ++ number_text 8 count)) }
+    ensures { OnOk result (out.new.items ≡ out.old.items
+        ++ (number_text 2 channel ++ number_text 8 count)) }
 {
     put_u16(out, channel)?;
     put_u64(out, count)?;

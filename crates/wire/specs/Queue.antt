@@ -1,5 +1,5 @@
 -- The packets in flight to one node.
-use Rattle.std.specs.Prelude.{ℕ, ◌+◌, Bool, nat_le, List, ◌++◌, slice_get, slice_set, slice_index, Option, Some, None, option_map, replicate}
+use Rattle.std.specs.Prelude.{ℕ, ◌+◌, Bool, nat_le, List, ◌++◌, slice_get, slice_set, slice_index, Option, Some, None, option_map, replicate, remove, All, IsTrue}
 use Rattle.std.specs.Option.{option_to_list}
 use Rattle.wire.specs.declared.rule.Fate.{Fate}
 use Rattle.wire.specs.declared.queue.Flight.{Flight}
@@ -29,6 +29,10 @@ with_delay flights place rounds = replaced flights place (option_map (λ f. flig
 abbrev pub counted : List ℕ → ℕ → List ℕ
 counted counts from = slice_set counts from (capped (slice_index counts from + 1))
 
+-- the packet at a place is no longer in flight
+abbrev pub without : QueueState → ℕ → QueueState
+without queue place = record { flights = remove queue.flights place; counts = queue.counts; room = queue.room + 1 }
+
 -- a packet's copy goes last, with the round of its original
 abbrev pub with_copy : List Flight → ℕ → List Flight
 with_copy flights place = flights ++ option_to_list (slice_get flights place)
@@ -42,3 +46,7 @@ pub record LetterState : Type 0 where
   pub from : ℕ
   pub to : ℕ
   pub flights : List Flight
+
+-- each packet in flight passes a test
+abbrev pub AllPackets : (List ℕ → Bool) → List Flight → Type 0
+AllPackets test flights = All (λ f. IsTrue (test f.packet)) flights

@@ -28,6 +28,16 @@ in_flight wire node = (queue_at wire node).flights
 abbrev pub with_queue : WireState → ℕ → QueueState → WireState
 with_queue wire node queue = record { queues = slice_set wire.queues node queue; rules = wire.rules }
 
+-- for how many packets more to a node there is memory
+abbrev pub room_for : WireState → ℕ → ℕ
+room_for wire node = (queue_at wire node).room
+
+-- the same with other memory for the packets to a node
+abbrev pub with_room : WireState → ℕ → ℕ → WireState
+with_room wire node room =
+    let queue = queue_at wire node in
+    with_queue wire node (record { flights = queue.flights; counts = queue.counts; room = room })
+
 -- which packet from a node the one is that is sent after so many others
 abbrev pub nth_of : QueueState → ℕ → ℕ → ℕ
 nth_of queue from ahead = capped (capped (slice_index queue.counts from + ahead) + 1)

@@ -6,11 +6,13 @@
 #![tactic(auto)]
 
 mod bytes;
+mod laws;
 mod queue;
 mod rule;
 mod wire;
 
 pub use bytes::Bytes;
+pub use laws::nothing_is_made_up;
 pub use queue::{Flight, Letter, NODES};
 pub use rule::{Change, LAST_NUMBER, Rule};
 pub use wire::Wire;

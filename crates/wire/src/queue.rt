@@ -1,9 +1,9 @@
 // The packets in flight to one node.
-ghost use Rattle.std.specs.Prelude.{◌≡◌, ◌+◌, ◌-◌, ◌≤◌, ◌<◌, ◌++◌, [], ◌∷◌, length, slice_get, slice_index, option_map, replicate, remove, Some, IfOk, OnOk, OnErr, IsTrue, ◌↔◌, IsSomeAnd, vec_len, vec_capacity};
+ghost use Rattle.std.specs.Prelude.{◌≡◌, ◌+◌, ◌-◌, ◌≤◌, ◌<◌, ◌++◌, [], ◌∷◌, length, slice_get, slice_index, option_map, replicate, Some, IfOk, OnOk, OnErr, IsTrue, ◌↔◌, IsSomeAnd, vec_len, vec_capacity};
 ghost use Rattle.std.specs.List.{position_from};
 ghost use Rattle.std.specs.Option.{option_copied};
 ghost use Rattle.wire.specs.Rules.{capped};
-ghost use Rattle.wire.specs.Queue.{flight, flights_of, is_due, with_delay, with_copy, counted};
+ghost use Rattle.wire.specs.Queue.{flight, flights_of, is_due, without, with_delay, with_copy, counted};
 
 use crate::bytes::Bytes;
 use crate::rule::{Fate, capped_sum};
@@ -235,18 +235,16 @@ impl Queue {
     pub(crate) fn take(&mut self, place: usize) -> Flight
         requires { place < length self.old.flights }
         ensures taken { slice_get self.old.flights place ≡ Some result }
-        ensures left { self.new ≡ record {
-          flights = remove self.old.flights place;
-          counts = self.old.counts;
-          room = self.old.room + 1;
-        } }
+        ensures left { self.new ≡ without self.old place }
     {
         self.flights.remove(place)
     }
 
     pub(crate) fn delay(&mut self, place: usize, rounds: u64)
         requires { place < length self.old.flights }
-        ensures { self.new ≡ record (self.old) { flights = with_delay self.old.flights place rounds } }
+        ensures { self.new ≡ record (self.old) {
+          flights = with_delay self.old.flights place rounds;
+        } }
     {
         let flight = &mut self.flights[place];
         flight.due = capped_sum(flight.due, rounds);

@@ -1,9 +1,9 @@
 // All that is in flight.
-ghost use Rattle.std.specs.Prelude.{◌≡◌, ◌+◌, ◌-◌, ◌≤◌, ◌<◌, ◌++◌, [], ◌∷◌, ℕ, All, length, slice_get, option_map, remove, replicate, Some, IfOk, OnOk, OnErr, IsTrue, ◌↔◌};
+ghost use Rattle.std.specs.Prelude.{◌≡◌, ◌+◌, ◌≤◌, ◌<◌, ◌++◌, [], ◌∷◌, ℕ, All, length, slice_get, option_map, Some, IfOk, OnOk, OnErr, IsTrue, ◌↔◌};
 ghost use Rattle.std.specs.List.{position_from};
 ghost use Rattle.wire.specs.Rules.{fate_of};
-ghost use Rattle.wire.specs.Queue.{is_due, flights_of, with_delay, with_copy, counted};
-ghost use Rattle.wire.specs.Wire.{WireState, IsEmptyQueue, queue_at, in_flight, with_queue, nth_of, is_due_at};
+ghost use Rattle.wire.specs.Queue.{is_due, flights_of, without, with_delay, with_copy, counted};
+ghost use Rattle.wire.specs.Wire.{IsEmptyQueue, queue_at, in_flight, room_for, with_queue, with_room, nth_of, is_due_at};
 
 use crate::bytes::Bytes;
 use crate::queue::{Letter, NODES, Queue};
@@ -94,11 +94,7 @@ impl Wire {
         requires there { place < length (in_flight self.old to) }
         ensures packet { option_map (λ f. f.packet) (slice_get (in_flight self.old to) place)
             ≡ Some result.items }
-        ensures left { let queue = queue_at self.old to in self.new ≡ with_queue self.old to (record {
-          flights = remove queue.flights place;
-          counts = queue.counts;
-          room = queue.room + 1;
-        }) }
+        ensures left { self.new ≡ with_queue self.old to (without (queue_at self.old to) place) }
     {
         let queue = &mut self.queues[to as usize];
         queue.take(place).packet.into_vec()
@@ -108,11 +104,7 @@ impl Wire {
     pub fn lose(&mut self, to: u8, place: usize)
         requires node { to < NODES }
         requires there { place < length (in_flight self.old to) }
-        ensures { let queue = queue_at self.old to in self.new ≡ with_queue self.old to (record {
-          flights = remove queue.flights place;
-          counts = queue.counts;
-          room = queue.room + 1;
-        }) }
+        ensures { self.new ≡ with_queue self.old to (without (queue_at self.old to) place) }
     {
         let queue = &mut self.queues[to as usize];
         let _lost = queue.take(place);
@@ -138,10 +130,9 @@ impl Wire {
             OnOk result (self.new ≡ with_queue self.old to (record {
               flights = with_copy queue.flights place;
               counts = queue.counts;
-              room = (queue_at self.new to).room;
+              room = room_for self.new to;
             })) }
-        ensures err { let queue = queue_at self.old to in
-            OnErr result (self.new ≡ with_queue self.old to (record queue { room = (queue_at self.new to).room })) }
+        ensures err { OnErr result (self.new ≡ with_room self.old to (room_for self.new to)) }
     {
         let queue = &mut self.queues[to as usize];
         queue.repeat(alloc, place)
@@ -150,7 +141,8 @@ impl Wire {
     /// Arms a rule. It says nothing of packets that were sent before. Refuses for want of memory alone, and is then as
     /// it was.
     pub fn arm(&mut self, rule: Rule) -> Result<(), AllocError>
-        ensures ok { OnOk result (self.new ≡ record (self.old) { rules = self.old.rules ++ rule ∷ [] }) }
+        ensures ok { OnOk result (self.new
+            ≡ record (self.old) { rules = self.old.rules ++ rule ∷ [] }) }
         ensures err { OnErr result (self.new ≡ self.old) }
     {
         self.rules.push(rule)?;
@@ -186,10 +178,9 @@ impl Wire {
     /// Makes room for so many packets more to a node, so that `post` needs no memory for them. Changes nothing else.
     pub fn reserve(&mut self, to: u8, places: usize) -> Result<(), AllocError>
         requires { to < NODES }
-        ensures same { let queue = queue_at self.old to in
-            self.new ≡ with_queue self.old to (record queue { room = (queue_at self.new to).room }) }
-        ensures more { (queue_at self.old to).room ≤ (queue_at self.new to).room }
-        ensures ok { OnOk result (places ≤ (queue_at self.new to).room) }
+        ensures same { self.new ≡ with_room self.old to (room_for self.new to) }
+        ensures more { room_for self.old to ≤ room_for self.new to }
+        ensures ok { OnOk result (places ≤ room_for self.new to) }
     {
         let queue = &mut self.queues[to as usize];
         queue.reserve(places)
@@ -199,15 +190,15 @@ impl Wire {
     pub fn post(&mut self, letter: Letter)
         requires sender { letter.from < NODES }
         requires receiver { letter.to < NODES }
-        requires room { length letter.flights ≤ (queue_at self.old letter.to).room }
+        requires room { length letter.flights ≤ room_for self.old letter.to }
         ensures posted { let queue = queue_at self.old letter.to in
             self.new ≡ with_queue self.old letter.to (record {
               flights = queue.flights ++ letter.flights;
               counts = counted queue.counts letter.from;
-              room = (queue_at self.new letter.to).room;
+              room = room_for self.new letter.to;
             }) }
-        ensures left { (queue_at self.old letter.to).room
-            ≤ (queue_at self.new letter.to).room + length letter.flights }
+        ensures left { room_for self.old letter.to
+            ≤ room_for self.new letter.to + length letter.flights }
     {
         let (from, to) = (letter.from(), letter.to());
         let queue = &mut self.queues[to as usize];
@@ -222,11 +213,10 @@ impl Wire {
             OnOk result (self.new ≡ with_queue self.old letter.to (record {
               flights = queue.flights ++ letter.flights;
               counts = counted queue.counts letter.from;
-              room = (queue_at self.new letter.to).room;
+              room = room_for self.new letter.to;
             })) }
-        ensures err { let queue = queue_at self.old letter.to in
-            OnErr result (self.new ≡ with_queue self.old letter.to
-            (record queue { room = (queue_at self.new letter.to).room })) }
+        ensures err { OnErr result (self.new
+            ≡ with_room self.old letter.to (room_for self.new letter.to)) }
     {
         let (from, to) = (letter.from(), letter.to());
         let queue = &mut self.queues[to as usize];
@@ -250,10 +240,9 @@ impl Wire {
             OnOk result (self.new ≡ with_queue self.old to (record {
               flights = queue.flights ++ flights_of fate packet.items round;
               counts = counted queue.counts from;
-              room = (queue_at self.new to).room;
+              room = room_for self.new to;
             })) }
-        ensures err { let queue = queue_at self.old to in
-            OnErr result (self.new ≡ with_queue self.old to (record queue { room = (queue_at self.new to).room })) }
+        ensures err { OnErr result (self.new ≡ with_room self.old to (room_for self.new to)) }
     {
         let letter = self.letter(alloc, from, to, 0, packet, round)?;
         self.send_letter(letter)
