@@ -244,14 +244,14 @@ fn whole_packet_of(alloc: Global, bytes: &[u8]) -> Result<Packet, PacketFault>
 ///
 /// Refuses with `BadPacket` (33) where they spell none, and with `NoMemory` (1), which only a `Took` meets.
 pub fn read_packet(alloc: Global, bytes: &[u8]) -> Result<Packet, PacketFault>
-    // What is read is spelled so.
+    // These bytes spell the packet that is answered.
     ensures found { IfOk result (λ packet. IsPacketText packet bytes.now) }
 
-    // What is spelled so is read, unless memory runs out.
+    // The packet that they spell is answered, or memory runs out.
     ensures only { (packet : PacketValue) → IsPacketText packet bytes.now
         → IsReadUnlessMemory packet result }
 
-    // What is refused spells no packet.
+    // Bytes that are bad spell no packet.
     ensures refused { IsErrOf result PacketFault.BadPacket
         → (packet : PacketValue) → ¬ (IsPacketText packet bytes.now) }
 

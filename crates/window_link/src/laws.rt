@@ -4,7 +4,7 @@ ghost use Rattle.window_link.specs.Link.{LinkEvent, run, opening, IsOneItemEach,
 
 /// Whatever is lost, repeated or reordered, and whenever an end is set back: what the receiver has taken is a beginning of
 /// the longest list that was ever appended, if two items appended at one position are equal. And what the sender
-/// takes for acknowledged in an epoch is never above the receiver's next position in that epoch.
+/// takes for acknowledged the receiver has reached, in the same epoch.
 pub fn link_law()
     ensures prefix { (size : ℕ) (events : List LinkEvent) → let link = run events (opening size)
         in IsOneItemEach link.appends → IsBeginningOf link.taken link.longest }
