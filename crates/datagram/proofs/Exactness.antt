@@ -13,8 +13,9 @@ use Rattle.datagram.specs.declared.packet.Need.{Need}
 use Rattle.datagram.specs.declared.packet.Body.{Body}
 use Rattle.datagram.specs.declared.packet.Body.TheVariants.{Data, Ack, Kept, Ask, Took, Covered, Refused, Query, Commit, Ended, Settled, Undone}
 use Rattle.datagram.specs.declared.packet.Packet.{Packet}
-use Rattle.datagram.specs.PacketText.{IsChannel, IsCount, IsPositive, IsNeed, AreNeeds, are_ascending, IsBody, IsPacket, IsPacketText, number_text, need_text, needs_text, kind_of, body_text, packet_text}
-use Rattle.datagram.specs.Reading.{◌>>=◌, Found, Field, channel, count, positive, needs_count, if_passes, need_at, needs_at, need_list_at, data_body, counts_body, kept_body, ask_body, refused_body, read_as, took_at, body_at, are_nodes, packet_at, whole_at, Reads, IsReadUnlessMemory}
+use Rattle.datagram.specs.PacketText.{IsChannel, IsCount, IsPositive, IsNeed, AreNeeds, IsBody, IsPacket, IsPacketText, number_text, need_text, needs_text, kind_of, body_text, packet_text}
+use Rattle.datagram.specs.Reading.{are_ascending, ◌>>=◌, Found, Field, channel, count, positive, needs_count, if_passes, need_at, needs_at, need_list_at, data_body, counts_body, kept_body, ask_body, refused_body, read_as, took_at, body_at, are_nodes, packet_at, whole_at, Reads, IsReadUnlessMemory}
+use Rattle.datagram.proofs.Rising.{is_rising, rising}
 use Rattle.datagram.proofs.Parts.{AreBytes, AreBytes-rest, after_found, chosen, is_found, passed, was, Splits, both_split, Exact, back2, back8, limited_exact, item_exact, reason_exact, both_exact}
 
 -- ---- tests
@@ -107,18 +108,19 @@ need_list_takes bytes x fits e =
       record {
         count = omega (arith, second.1, first.1);
         each = All-from_recursion IsNeed x.0 second.2;
-        ascending = p.1;
+        ascending = is_rising 0 x.0 p.1;
       },
     )
 
 need_list_again : (needs : List Need) (rest : List ℕ) → AreNeeds needs → need_list_at (needs_text needs ++ rest) ≡ Some (needs, rest)
 unfolding need_list_at
 need_list_again needs rest fits =
+    let passes : are_ascending 0 needs ≡ true = rising 0 needs (λ need more e. omega arith) fits.ascending in
     rw (
       append_assoc (number_text 2 (length needs)) (flat_map need_text needs) rest,
       needs_count_exact.again (length needs) (flat_map need_text needs ++ rest) fits.count,
       needs_again needs rest (recursion_from_All IsNeed needs fits.each),
-      fits.ascending,
+      passes,
     ) refl
 
 -- ---- bodies

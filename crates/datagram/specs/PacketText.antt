@@ -1,5 +1,6 @@
 -- The grammar of packets: which packets there are, and the one spelling of each.
-use Rattle.std.specs.Prelude.{◌≡◌, ◌≢◌, ℕ, ◌+◌, ◌≤◌, Bool, true, ◌&&◌, nat_le, ℤ, List, [], ◌∷◌, ◌++◌, length, All, FitsSigned}
+use Rattle.std.specs.Prelude.{◌≡◌, ◌≢◌, ℕ, ◌≤◌, ℤ, List, [], ◌∷◌, ◌++◌, length, map, slice_get, Some, All, FitsSigned}
+use Rattle.std.specs.List.Sorted.{IsStrictlyIncreasing}
 use Rattle.std.specs.List.{flat_map}
 use Rattle.std.specs.Int.{w64, cast_unsigned}
 use Rattle.byteorder.specs.Endian.{big_bytes}
@@ -27,15 +28,13 @@ IsPositive n = (1 ≤ n) × (n ≤ LAST_NUMBER)
 abbrev pub IsNeed : Need → Type 0
 IsNeed need = IsChannel need.channel × IsPositive need.count
 
--- whether the channels ascend from this one on, each above the one before it
-abbrev pub are_ascending : ℕ → List Need → Bool
-are_ascending least [] = true
-are_ascending least (need ∷ needs) = nat_le least need.channel && are_ascending (need.channel + 1) needs
+abbrev pub channels : List Need → List ℕ
+channels needs = map (λ need. need.channel) needs
 
 pub record AreNeeds (needs : List Need) : Type 0 where
   pub count : length needs ≤ MOST_NEEDS
   pub each : All IsNeed needs
-  pub ascending : are_ascending 0 needs ≡ true
+  pub ascending : IsStrictlyIncreasing (channels needs)
 
 abbrev pub IsBody : Body → Type 0
 IsBody (Data channel position item) = IsChannel channel × IsCount position × FitsSigned w64 item
@@ -112,6 +111,10 @@ body_text (Undone channel epoch sent) = number_text 2 channel ++ (number_text 8 
 -- the kind, the two nodes, and what is said
 abbrev pub packet_text : Packet → List ℕ
 packet_text packet = kind_of packet.body ∷ packet.from ∷ packet.to ∷ body_text packet.body
+
+-- the bytes begin as a packet with a list does
+abbrev pub BeginsAsTook : List ℕ → Type 0
+BeginsAsTook bytes = slice_get bytes 0 ≡ Some 5
 
 -- the bytes spell this packet
 pub record IsPacketText (packet : Packet) (bytes : List ℕ) : Type 0 where

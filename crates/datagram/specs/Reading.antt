@@ -1,5 +1,5 @@
 -- Reading from the front: what is read and what is left, or nothing.
-use Rattle.std.specs.Prelude.{◌≡◌, ℕ, zero, suc, ◌≤◌, ◌==◌, ◌&&◌, Bool, nat_le, nat_lt, not, if◌then◌else◌, ℤ, List, [], ◌∷◌, ◌++◌, length, drop, Option, Some, None, option_map, Result, Ok, Err, FitsSigned}
+use Rattle.std.specs.Prelude.{◌≡◌, ℕ, zero, suc, ◌+◌, ◌≤◌, ◌==◌, ◌&&◌, Bool, true, nat_le, nat_lt, not, if◌then◌else◌, ℤ, List, [], ◌∷◌, ◌++◌, length, drop, Option, Some, None, option_map, Result, Ok, Err, FitsSigned}
 use Rattle.std.specs.Int.{w64, cast_signed}
 use Rattle.byteorder.specs.Endian.{big_number}
 use Rattle.datagram.specs.declared.packet.TheConstants.{LAST_NODE, LAST_CHANNEL, LAST_NUMBER, MOST_NEEDS}
@@ -11,7 +11,7 @@ use Rattle.datagram.specs.declared.packet.Reason.TheVariants.{Busy, Behind, Reco
 use Rattle.datagram.specs.declared.packet.Body.{Body}
 use Rattle.datagram.specs.declared.packet.Body.TheVariants.{Data, Ack, Kept, Ask, Took, Covered, Refused, Query, Commit, Ended, Settled, Undone}
 use Rattle.datagram.specs.declared.packet.Packet.{Packet}
-use Rattle.datagram.specs.PacketText.{IsChannel, IsCount, IsPositive, are_ascending, number_text, item_text, reason_number}
+use Rattle.datagram.specs.PacketText.{IsChannel, IsCount, IsPositive, number_text, item_text, reason_number}
 
 infixl 10 ◌>>=◌
 abbrev pub ◌>>=◌ : {A B : Type 0} → Option A → (A → Option B) → Option B
@@ -87,6 +87,11 @@ both f g = record {
 
 abbrev pub need_at : List ℕ → Found Need
 need_at text = channel.read text >>= λ a. positive.read a.1 >>= λ b. Some (record { channel = a.0; count = b.0 }, b.1)
+
+-- whether the channels ascend from this one on, each above the one before it
+abbrev pub are_ascending : ℕ → List Need → Bool
+are_ascending least [] = true
+are_ascending least (need ∷ needs) = nat_le least need.channel && are_ascending (need.channel + 1) needs
 
 -- so many needs
 unfoldable pub needs_at : ℕ → List ℕ → Found (List Need)

@@ -1,6 +1,8 @@
 // The list of needs that a packet carries.
 ghost use Rattle.std.specs.Prelude.{◌≡◌, ◌++◌, [], ◌∷◌, length, IsTrue, ◌↔◌, OnOk, OnErr};
-ghost use Rattle.datagram.specs.PacketText.{are_ascending};
+ghost use Rattle.std.specs.List.Sorted.{IsStrictlyIncreasing};
+ghost use Rattle.datagram.specs.PacketText.{channels};
+ghost use Rattle.datagram.specs.Reading.{are_ascending};
 
 use crate::packet::Need;
 use std::alloc::{AllocError, Global};
@@ -75,10 +77,16 @@ impl Needs {
         self.list.is_empty()
     }
 
-    /// Whether each need's channel is above the one before it.
-    pub fn is_ascending(&self) -> bool
+    pub(crate) fn ascends(&self) -> bool
         ensures { result ≡ are_ascending 0 self.now }
     {
         are_in_order(self.list.as_slice())
+    }
+
+    /// Whether each need's channel is above the one before it.
+    pub fn is_ascending(&self) -> bool
+        ensures { IsTrue result ↔ IsStrictlyIncreasing (channels self.now) }
+    {
+        self.ascends()
     }
 }

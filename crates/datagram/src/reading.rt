@@ -1,7 +1,7 @@
 // From bytes to a packet.
-ghost use Rattle.std.specs.Prelude.{◌≡◌, Some, option_map, slice_get, IfOk, IsErrOf};
+ghost use Rattle.std.specs.Prelude.{◌≡◌, option_map, IfOk, IsErrOf};
 ghost use Rattle.datagram.specs.declared.packet.Packet.{Packet as PacketValue};
-ghost use Rattle.datagram.specs.PacketText.{IsPacketText};
+ghost use Rattle.datagram.specs.PacketText.{IsPacketText, BeginsAsTook};
 ghost use Rattle.datagram.specs.Reading.{Reads, read_as, data_body, counts_body, kept_body, ask_body, refused_body, need_at, needs_at, need_list_at, took_at, plain_body_at, body_at, packet_at, whole_at, IsReadUnlessMemory};
 
 use crate::fault::PacketFault;
@@ -84,7 +84,7 @@ fn need_list_of(alloc: Global, bytes: &[u8]) -> Result<(Needs, &[u8]), PacketFau
 {
     let (count, rest) = needs_count_of(bytes).ok_or(PacketFault::BadPacket)?;
     let (needs, rest) = needs_of(alloc, count, rest)?;
-    if !needs.is_ascending() {
+    if !needs.ascends() {
         return Err(PacketFault::BadPacket);
     }
     Ok((needs, rest))
@@ -214,7 +214,7 @@ fn body_of(alloc: Global, kind: u8, bytes: &[u8]) -> Result<(Body, &[u8]), Packe
 #[tactic(auto, unfolding(crate::specs::Reading::packet_at))]
 fn packet_of(alloc: Global, bytes: &[u8]) -> Result<(Packet, &[u8]), PacketFault>
     ensures read { Reads (λ x. (x.0, x.1.now)) result (packet_at bytes.now) }
-    ensures memory { IsErrOf result PacketFault.NoMemory → slice_get bytes.now 0 ≡ Some 5 }
+    ensures memory { IsErrOf result PacketFault.NoMemory → BeginsAsTook bytes.now }
 {
     let [kind, from, to, rest @ ..] = bytes else {
         return Err(PacketFault::BadPacket);
@@ -231,7 +231,7 @@ fn packet_of(alloc: Global, bytes: &[u8]) -> Result<(Packet, &[u8]), PacketFault
 #[tactic(auto, unfolding(crate::specs::Reading::whole_at))]
 fn whole_packet_of(alloc: Global, bytes: &[u8]) -> Result<Packet, PacketFault>
     ensures read { Reads (λ packet. packet) result (whole_at bytes.now) }
-    ensures memory { IsErrOf result PacketFault.NoMemory → slice_get bytes.now 0 ≡ Some 5 }
+    ensures memory { IsErrOf result PacketFault.NoMemory → BeginsAsTook bytes.now }
 {
     let (packet, rest) = packet_of(alloc, bytes)?;
     if !rest.is_empty() {
@@ -256,7 +256,7 @@ pub fn read_packet(alloc: Global, bytes: &[u8]) -> Result<Packet, PacketFault>
         → (packet : PacketValue) → ¬ (IsPacketText packet bytes.now) }
 
     // Only a `Took` takes memory.
-    ensures memory { IsErrOf result PacketFault.NoMemory → slice_get bytes.now 0 ≡ Some 5 }
+    ensures memory { IsErrOf result PacketFault.NoMemory → BeginsAsTook bytes.now }
 {
     whole_packet_of(alloc, bytes)
 }
