@@ -17,7 +17,9 @@ pub const MOST_NEEDS: u16 = 256;
 /// So many items of a channel.
 #[derive(Clone, Copy, Debug, PartialEq, Eq)]
 pub struct Need {
+    /// The channel, at most `LAST_CHANNEL`.
     pub channel: u16,
+    /// How many of its items, from 1 to `LAST_NUMBER`.
     pub count: u64,
 }
 
@@ -109,7 +111,10 @@ pub enum Body {
 /// What one node says to another. Both are at most `LAST_NODE`, and they differ.
 #[derive(Debug, Drop)]
 pub struct Packet {
+    /// The node that sends it.
     pub from: u8,
+    /// The node that it is for.
     pub to: u8,
+    /// What it says.
     pub body: Body,
 }

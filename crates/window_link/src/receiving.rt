@@ -21,7 +21,9 @@ pub enum Arrival {
 /// What a receiver tells its sender: its epoch, and the position that it takes next.
 #[derive(Clone, Copy, Debug, PartialEq, Eq)]
 pub struct Ack {
+    /// The receiver's epoch.
     pub epoch: u64,
+    /// The position that it takes next.
     pub next: u64,
 }
 

@@ -10,13 +10,15 @@ use crate::rule::{Fate, capped_sum};
 use std::alloc::{AllocError, Global};
 use std::marker::Model;
 
-/// How many nodes there are.
+/// How many nodes there are: their numbers are below.
 pub const NODES: usize = 16;
 
 /// A packet in flight, and the round in which it is due.
 #[derive(Debug, Drop)]
 pub struct Flight {
+    /// Its bytes.
     pub packet: Bytes,
+    /// The first round in which it is due.
     pub due: u64,
 }
 

@@ -19,9 +19,13 @@ pub enum Change {
 /// What becomes of the `nth` packet from one node to another, counted from 1.
 #[derive(Clone, Copy, Debug, PartialEq, Eq)]
 pub struct Rule {
+    /// The node that sends the packet.
     pub from: u8,
+    /// The node that it is for.
     pub to: u8,
+    /// Which packet from the one to the other it is, from 1.
     pub nth: u64,
+    /// What becomes of it.
     pub change: Change,
 }
 
