@@ -6,7 +6,8 @@ use Rattle.std.proofs.lemmas.Bool.{leb-true, le-leb, eqb-true, eqb-false, ne_eqb
 use Rattle.std.proofs.lemmas.List.{append-nil, nil_from_length}
 use Rattle.std.proofs.lemmas.List.Elements.{All-from_recursion, recursion_from_All}
 use Rattle.std.proofs.lemmas.List.Concat.{flat_map-cons}
-use Rattle.datagram.specs.declared.packet.TheConstants.{LAST_NODE, LAST_CHANNEL, LAST_NUMBER, MOST_NEEDS}
+use Rattle.datagram.specs.declared.packet.TheConstants.{LAST_NODE, LAST_CHANNEL, MOST_NEEDS}
+use Rattle.kahn_net.specs.declared.limits.TheConstants.{MAX_COUNT}
 use Rattle.datagram.specs.declared.fault.PacketFault.{PacketFault}
 use Rattle.datagram.specs.declared.fault.PacketFault.TheVariants.{NoMemory, BadPacket}
 use Rattle.datagram.specs.declared.packet.Need.{Need}
@@ -39,13 +40,13 @@ channel_exact = limited_exact IsChannel (λ n. nat_le n LAST_CHANNEL) 2 back2
     (λ k e. leb-true k LAST_CHANNEL e) (λ k fits. (le-leb k LAST_CHANNEL fits, omega arith))
 
 count_exact : Exact count
-count_exact = limited_exact IsCount (λ n. nat_le n LAST_NUMBER) 8 back8
-    (λ k e. leb-true k LAST_NUMBER e) (λ k fits. (le-leb k LAST_NUMBER fits, omega arith))
+count_exact = limited_exact IsCount (λ n. nat_le n MAX_COUNT) 8 back8
+    (λ k e. leb-true k MAX_COUNT e) (λ k fits. (le-leb k MAX_COUNT fits, omega arith))
 
 positive_exact : Exact positive
-positive_exact = limited_exact IsPositive (λ n. nat_le 1 n && nat_le n LAST_NUMBER) 8 back8
-    (λ k e. let p = and_both (nat_le 1 k) (nat_le k LAST_NUMBER) e in (leb-true 1 k p.0, leb-true k LAST_NUMBER p.1))
-    (λ k fits. (both_and (nat_le 1 k) (nat_le k LAST_NUMBER) (le-leb 1 k fits.0) (le-leb k LAST_NUMBER fits.1), omega arith))
+positive_exact = limited_exact IsPositive (λ n. nat_le 1 n && nat_le n MAX_COUNT) 8 back8
+    (λ k e. let p = and_both (nat_le 1 k) (nat_le k MAX_COUNT) e in (leb-true 1 k p.0, leb-true k MAX_COUNT p.1))
+    (λ k fits. (both_and (nat_le 1 k) (nat_le k MAX_COUNT) (le-leb 1 k fits.0) (le-leb k MAX_COUNT fits.1), omega arith))
 
 needs_count_exact : Exact needs_count
 needs_count_exact = limited_exact (λ n. n ≤ MOST_NEEDS) (λ n. nat_le n MOST_NEEDS) 2 back2

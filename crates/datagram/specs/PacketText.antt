@@ -4,7 +4,8 @@ use Rattle.std.specs.List.Sorted.{IsStrictlyIncreasing}
 use Rattle.std.specs.List.{flat_map}
 use Rattle.std.specs.Int.{w64, cast_unsigned}
 use Rattle.byteorder.specs.Endian.{big_bytes}
-use Rattle.datagram.specs.declared.packet.TheConstants.{LAST_NODE, LAST_CHANNEL, LAST_NUMBER, MOST_NEEDS}
+use Rattle.datagram.specs.declared.packet.TheConstants.{LAST_NODE, LAST_CHANNEL, MOST_NEEDS}
+use Rattle.kahn_net.specs.declared.limits.TheConstants.{MAX_COUNT}
 use Rattle.datagram.specs.declared.packet.Need.{Need}
 use Rattle.datagram.specs.declared.packet.Reason.{Reason}
 use Rattle.datagram.specs.declared.packet.Reason.TheVariants.{Busy, Behind, Recovering, TooLarge}
@@ -19,11 +20,11 @@ IsChannel channel = channel ≤ LAST_CHANNEL
 
 -- a position, a count or an epoch, which may be 0
 abbrev pub IsCount : ℕ → Type 0
-IsCount count = count ≤ LAST_NUMBER
+IsCount count = count ≤ MAX_COUNT
 
 -- the number of an instance, and a count that asks for something
 abbrev pub IsPositive : ℕ → Type 0
-IsPositive n = (1 ≤ n) × (n ≤ LAST_NUMBER)
+IsPositive n = (1 ≤ n) × (n ≤ MAX_COUNT)
 
 abbrev pub IsNeed : Need → Type 0
 IsNeed need = IsChannel need.channel × IsPositive need.count

@@ -2,7 +2,8 @@
 use Rattle.std.specs.Prelude.{◌≡◌, ℕ, zero, suc, ◌+◌, ◌≤◌, ◌==◌, ◌&&◌, Bool, true, nat_le, nat_lt, not, if◌then◌else◌, ℤ, List, [], ◌∷◌, ◌++◌, length, drop, Option, Some, None, option_map, Result, Ok, Err, FitsSigned}
 use Rattle.std.specs.Int.{w64, cast_signed}
 use Rattle.byteorder.specs.Endian.{big_number}
-use Rattle.datagram.specs.declared.packet.TheConstants.{LAST_NODE, LAST_CHANNEL, LAST_NUMBER, MOST_NEEDS}
+use Rattle.datagram.specs.declared.packet.TheConstants.{LAST_NODE, LAST_CHANNEL, MOST_NEEDS}
+use Rattle.kahn_net.specs.declared.limits.TheConstants.{MAX_COUNT}
 use Rattle.datagram.specs.declared.fault.PacketFault.{PacketFault}
 use Rattle.datagram.specs.declared.fault.PacketFault.TheVariants.{NoMemory, BadPacket}
 use Rattle.datagram.specs.declared.packet.Need.{Need}
@@ -55,10 +56,10 @@ abbrev pub channel : Field ℕ
 channel = limited IsChannel (λ n. nat_le n LAST_CHANNEL) 2
 
 abbrev pub count : Field ℕ
-count = limited IsCount (λ n. nat_le n LAST_NUMBER) 8
+count = limited IsCount (λ n. nat_le n MAX_COUNT) 8
 
 abbrev pub positive : Field ℕ
-positive = limited IsPositive (λ n. nat_le 1 n && nat_le n LAST_NUMBER) 8
+positive = limited IsPositive (λ n. nat_le 1 n && nat_le n MAX_COUNT) 8
 
 -- how many needs there are
 abbrev pub needs_count : Field ℕ

@@ -1,9 +1,10 @@
 // Whether a packet is one that has a spelling.
-ghost use Rattle.std.specs.Prelude.{◌≡◌, ◌↔◌, IsTrue, All};
+ghost use Rattle.std.specs.Prelude.{◌↔◌, IsTrue, All};
 ghost use Rattle.datagram.specs.PacketText.{IsChannel, IsCount, IsPositive, IsNeed, AreNeeds, IsBody, IsPacket};
 
 use crate::needs::Needs;
-use crate::packet::{Body, LAST_CHANNEL, LAST_NODE, LAST_NUMBER, MOST_NEEDS, Need, Packet};
+use crate::packet::{Body, LAST_CHANNEL, LAST_NODE, MOST_NEEDS, Need, Packet};
+use kahn_net::MAX_COUNT;
 
 fn is_channel(channel: u16) -> bool
     ensures { IsTrue result ↔ IsChannel channel }
@@ -14,13 +15,13 @@ fn is_channel(channel: u16) -> bool
 fn is_count(count: u64) -> bool
     ensures { IsTrue result ↔ IsCount count }
 {
-    count <= LAST_NUMBER
+    count <= MAX_COUNT
 }
 
 fn is_positive(number: u64) -> bool
     ensures { IsTrue result ↔ IsPositive number }
 {
-    1 <= number && number <= LAST_NUMBER
+    1 <= number && number <= MAX_COUNT
 }
 
 fn is_need(need: Need) -> bool

@@ -2,8 +2,9 @@
 ghost use Rattle.std.specs.Prelude.{◌≡◌, option_map};
 ghost use Rattle.datagram.specs.Reading.{number_at, item_at, channel, count, positive, needs_count, reason_at, need_at};
 
-use crate::packet::{LAST_CHANNEL, LAST_NUMBER, MOST_NEEDS, Need, Reason};
+use crate::packet::{LAST_CHANNEL, MOST_NEEDS, Need, Reason};
 use byteorder::{BigEndian, ByteOrder};
+use kahn_net::MAX_COUNT;
 
 #[tactic(auto, unfolding(crate::specs::Reading::number_at))]
 fn u16_at(bytes: &[u8]) -> Option<(u16, &[u8])>
@@ -52,7 +53,7 @@ pub(crate) fn count_of(bytes: &[u8]) -> Option<(u64, &[u8])>
     ensures { option_map (λ x. (x.0, x.1.now)) result ≡ count.read bytes.now }
 {
     let (count, rest) = u64_at(bytes)?;
-    if count > LAST_NUMBER {
+    if count > MAX_COUNT {
         return None;
     }
     Some((count, rest))
@@ -62,7 +63,7 @@ pub(crate) fn positive_of(bytes: &[u8]) -> Option<(u64, &[u8])>
     ensures { option_map (λ x. (x.0, x.1.now)) result ≡ positive.read bytes.now }
 {
     let (number, rest) = u64_at(bytes)?;
-    if number < 1 || number > LAST_NUMBER {
+    if number < 1 || number > MAX_COUNT {
         return None;
     }
     Some((number, rest))

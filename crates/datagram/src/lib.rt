@@ -16,6 +16,6 @@ pub use checking::is_packet;
 pub use fault::PacketFault;
 pub use laws::no_spelling_begins_another;
 pub use needs::Needs;
-pub use packet::{Body, LAST_CHANNEL, LAST_NODE, LAST_NUMBER, MOST_NEEDS, Need, Packet, Reason};
+pub use packet::{Body, LAST_CHANNEL, LAST_NODE, MOST_NEEDS, Need, Packet, Reason};
 pub use reading::read_packet;
 pub use writing::write_packet;

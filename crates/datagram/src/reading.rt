@@ -2,7 +2,7 @@
 ghost use Rattle.std.specs.Prelude.{◌≡◌, option_map, IfOk, IsErrOf};
 ghost use Rattle.datagram.specs.declared.packet.Packet.{Packet as PacketValue};
 ghost use Rattle.datagram.specs.PacketText.{IsPacketText, BeginsAsTook};
-ghost use Rattle.datagram.specs.Reading.{Reads, read_as, data_body, counts_body, kept_body, ask_body, refused_body, need_at, needs_at, need_list_at, took_at, plain_body_at, body_at, packet_at, whole_at, IsReadUnlessMemory};
+ghost use Rattle.datagram.specs.Reading.{Reads, data_body, counts_body, kept_body, ask_body, refused_body, need_at, needs_at, need_list_at, took_at, plain_body_at, body_at, packet_at, whole_at, IsReadUnlessMemory};
 
 use crate::fault::PacketFault;
 use crate::fields::{

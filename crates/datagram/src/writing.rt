@@ -1,7 +1,7 @@
 // From a packet to bytes.
 ghost use Rattle.std.specs.Prelude.{◌≡◌, ◌++◌, [], ◌∷◌, IfOk, OnOk};
 ghost use Rattle.std.specs.List.{flat_map};
-ghost use Rattle.datagram.specs.PacketText.{IsPacket, IsBody, IsPacketText, AreNeeds, number_text, item_text, need_text, needs_text, body_text, packet_text, kind_of, reason_number};
+ghost use Rattle.datagram.specs.PacketText.{IsPacket, IsBody, IsPacketText, AreNeeds, number_text, item_text, need_text, needs_text, body_text, kind_of, reason_number};
 
 use crate::needs::Needs;
 use crate::packet::{Body, Need, Packet, Reason};

@@ -25,7 +25,8 @@ struct Fragile {
 impl Outlet for Fragile {
     ghost taken = { λ outlet. outlet.items.items };
 
-    ghost failures = { λ outlet. (if outlet.failed_before then 1 else 0) + (if outlet.failed_behind then 1 else 0) };
+    ghost failures = { λ outlet. (if outlet.failed_before then 1 else 0) +
+        (if outlet.failed_behind then 1 else 0) };
 
     fn len(&self) -> u64 {
         self.items.len() as u64

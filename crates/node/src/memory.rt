@@ -10,8 +10,8 @@ ghost use Rattle.node.specs.Cell.{IsUnchanged};
 ghost use Rattle.node.specs.MemCell.{value_of, is_ready_of, may_leave_of, moment_of, left_since_of, failures_of, fits_in, left_of};
 
 use crate::cell::StableCell;
-use record::Record;
 use gate_cell::CellFault;
+use record::Record;
 use sector_disk::Past;
 use std::alloc::Global;
 
@@ -67,16 +67,19 @@ impl StableCell for MemCell {
 
     ghost includes_now = { λ cell t left le now. inl (le, now) };
 
-    ghost only_now = { λ cell left since. now_alone left_of (left_of cell.kept) (states_of cell.past) left since };
+    ghost only_now = { λ cell left since. now_alone left_of (left_of cell.kept)
+        (states_of cell.past) left since };
 
     fn get(&mut self) -> Result<Record, CellFault>
         ensures value { IfOk result (λ kept. kept ≡ value_of self.old) }
-        ensures any_moment { LeavesOnly moment_of left_since_of self.old self.new (may_leave_of self.old) }
+        ensures any_moment { LeavesOnly moment_of left_since_of self.old self.new
+            (may_leave_of self.old) }
         ensures same_value { value_of self.new ≡ value_of self.old }
         ensures same_fits { (kept : RecordView) → fits_in self.new kept ≡ fits_in self.old kept }
         ensures too_large { ¬ (IsErrOf result CellFault.TooLarge) }
         ensures unchanged { IsErrOf result CellFault.Reopen
-            → IsUnchanged value_of is_ready_of may_leave_of moment_of left_since_of failures_of self.old self.new }
+            → IsUnchanged value_of is_ready_of may_leave_of moment_of left_since_of failures_of
+            self.old self.new }
         ensures cause { HasCause (failures_of self.old) (failures_of self.new)
             (is_ready_of self.old) (is_ready_of self.new) result }
 
@@ -94,8 +97,10 @@ impl StableCell for MemCell {
         ensures same_fits { (kept : RecordView) → fits_in self.new kept ≡ fits_in self.old kept }
         ensures too_large { IsErrOf result CellFault.TooLarge
             ↔ (IsTrue (is_ready_of self.old) × (fits_in self.old next.now ≡ false)) }
-        ensures unchanged { (IsErrOf result CellFault.NoMemory ⊎ IsErrOf result CellFault.TooLarge ⊎ IsErrOf result CellFault.Reopen)
-            → IsUnchanged value_of is_ready_of may_leave_of moment_of left_since_of failures_of self.old self.new }
+        ensures unchanged { (IsErrOf result CellFault.NoMemory ⊎ IsErrOf result CellFault.TooLarge
+            ⊎ IsErrOf result CellFault.Reopen)
+            → IsUnchanged value_of is_ready_of may_leave_of moment_of left_since_of failures_of
+            self.old self.new }
         ensures cause { HasCause (failures_of self.old) (failures_of self.new)
             (is_ready_of self.old) (is_ready_of self.new) result }
 

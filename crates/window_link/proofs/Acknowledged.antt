@@ -4,7 +4,7 @@ use Rattle.std.specs.Prelude.{slice_get}
 use Rattle.std.specs.List.{AllByRecursion}
 use Rattle.std.proofs.lemmas.Bool.{eq-eqb, eqb-true, ltb-true, ltb-false, leb-true}
 use Rattle.std.proofs.lemmas.List.{length-append, length-take-le}
-use Rattle.window_link.specs.declared.receiving.TheConstants.{LAST_NUMBER}
+use Rattle.kahn_net.specs.declared.limits.TheConstants.{MAX_COUNT}
 use Rattle.window_link.specs.declared.receiving.Ack.{Ack}
 use Rattle.window_link.specs.Windows.{Sender, Receiver, Received, is_due, sender_after, received}
 use Rattle.window_link.specs.Link.{LinkPacket, Item, Acknowledgement, LinkEvent, Appended, SenderSetBack, ReceiverSetBack, ItemSent, AcknowledgementSent, Delivered, Link, with_reached, handed_out, with_item_sent, with_delivered, after, run, opening}
@@ -72,7 +72,7 @@ item_came : (sender : Sender) (receiver : Receiver) (taken : List ℤ) (reached 
     Acked sender come.window (taken ++ handed_out come.answer item) (with_reached reached come.window.epoch come.window.next) sent)
 item_came sender receiver taken reached sent position item acked =
     by_cases (λ (come : Received). Acked sender come.window (taken ++ handed_out come.answer item) (with_reached reached come.window.epoch come.window.next) sent)
-    (nat_eq position receiver.next && nat_lt position LAST_NUMBER) _ _
+    (nat_eq position receiver.next && nat_lt position MAX_COUNT) _ _
     (λ next. goes_on sender receiver taken reached sent (item ∷ []) (receiver.next + 1) refl acked)
     (λ other. goes_on sender receiver taken reached sent [] receiver.next (omega arith) acked)
 

@@ -4,11 +4,16 @@ use Rattle.std.specs.Prelude.{slice_get}
 use Rattle.std.specs.List.{AllByRecursion}
 use Rattle.std.proofs.lemmas.Bool.{eqb-true, ltb-true, ltb-false}
 use Rattle.std.proofs.lemmas.List.{length-append, take-append-drop, append-nil}
-use Rattle.window_link.specs.declared.receiving.TheConstants.{LAST_NUMBER}
+use Rattle.kahn_net.specs.declared.limits.TheConstants.{MAX_COUNT}
+use Rattle.kahn_net.specs.Streams.{IsPrefix}
+use Rattle.kahn_net.specs.Laws.Prefixes.{prefix_of}
 use Rattle.window_link.specs.Windows.{Received, is_due}
-use Rattle.window_link.specs.Link.{LinkPacket, Item, Acknowledgement, LinkEvent, Appended, SenderSetBack, ReceiverSetBack, ItemSent, AcknowledgementSent, Delivered, Link, longer_of, handed_out, with_item_sent, with_delivered, after, run, opening, IsOneItemEach, IsBeginningOf}
+use Rattle.window_link.specs.Link.{LinkPacket, Item, Acknowledgement, LinkEvent, Appended, SenderSetBack, ReceiverSetBack, ItemSent, AcknowledgementSent, Delivered, Link, longer_of, handed_out, with_item_sent, with_delivered, after, run, opening, IsOneItemEach}
 use Rattle.window_link.proofs.Lists.{by_cases, and_both, at_place, each_weaker, in_front, behind_front, first_of_rest, in_longer, contains_at, Contains-later}
 use Rattle.window_link.proofs.Acknowledged.{AckedLink, acked_after}
+
+abbrev IsBeginningOf : List ℤ → List ℤ → Type 0
+IsBeginningOf front whole = (rest : List ℤ) × (whole ≡ front ++ rest)
 
 -- an item that was sent stands in the longest list at its position
 abbrev pub StandsIn : List ℤ → LinkPacket → Type 0
@@ -115,9 +120,9 @@ item_came : (link : Link) (position : ℕ) (item : ℤ) → slice_get link.longe
     → KeptLink link → KeptLink (with_delivered link (Some (Item position item)))
 item_came link position item there count kept =
     by_cases (λ (come : Received). Kept link.appended link.longest link.appends (link.taken ++ handed_out come.answer item) link.sent)
-    (nat_eq position link.receiver.next && nat_lt position LAST_NUMBER) _ _
+    (nat_eq position link.receiver.next && nat_lt position MAX_COUNT) _ _
     (λ next.
-    let is_next = eqb-true position link.receiver.next (and_both (nat_eq position link.receiver.next) (nat_lt position LAST_NUMBER) next).0 in
+    let is_next = eqb-true position link.receiver.next (and_both (nat_eq position link.receiver.next) (nat_lt position MAX_COUNT) next).0 in
     let at_end : slice_get link.longest (length link.taken) ≡ Some item
     = ap (slice_get link.longest) (count ∙ sym is_next) ∙ there in
     record {
@@ -191,8 +196,9 @@ kept_over (event ∷ events) link acked kept one_each =
     (λ now. kept_after link event acked now (kept (one_each_before link event now))) one_each
 
 pub taken_is_beginning : (events : List LinkEvent) (size : ℕ) → AckedLink (opening size) → IsOneItemEach (run events (opening size)).appends
-    → (let link : Link = run events (opening size) in IsBeginningOf link.taken link.longest)
+    → (let link : Link = run events (opening size) in IsPrefix link.taken link.longest)
 taken_is_beginning events size acked one_each =
-    (kept_over events (opening size) acked
+    let kept = (kept_over events (opening size) acked
     (λ none. record { appended_there = ([], refl); taken_there = ([], refl); items = tt; recorded = λ position item there. absurd cc })
-    one_each).taken_there
+    one_each).taken_there in
+    prefix_of (record { rest = kept.0; is = kept.1 })

@@ -117,6 +117,3 @@ opening size =
 abbrev pub IsOneItemEach : List (ℕ × ℤ) → Type 0
 IsOneItemEach appends =
     (position : ℕ) (one other : ℤ) → Contains appends (position, one) → Contains appends (position, other) → one ≡ other
-
-abbrev pub IsBeginningOf : List ℤ → List ℤ → Type 0
-IsBeginningOf front whole = (rest : List ℤ) × (whole ≡ front ++ rest)

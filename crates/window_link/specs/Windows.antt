@@ -1,7 +1,7 @@
 -- The two windows of a link, and what each call makes of them.
 use Rattle.std.specs.Prelude.{◌==◌, ◌&&◌, ℕ, ◌+◌, ◌≤◌, ℤ, Bool, nat_lt, nat_le, max, if◌then◌else◌}
 use Rattle.window_link.specs.declared.sending.TheConstants.{LARGEST_WINDOW}
-use Rattle.window_link.specs.declared.receiving.TheConstants.{LAST_NUMBER}
+use Rattle.kahn_net.specs.declared.limits.TheConstants.{MAX_COUNT}
 use Rattle.window_link.specs.declared.receiving.Arrival.{Arrival}
 use Rattle.window_link.specs.declared.receiving.Arrival.TheVariants.{Taken, Dropped}
 use Rattle.window_link.specs.declared.receiving.Ack.{Ack}
@@ -43,8 +43,8 @@ pub record Receiver : Type 0 where
   pub next : ℕ
 
 pub record IsWithinLimits (epoch next : ℕ) : Type 0 where
-  pub epoch_within : epoch ≤ LAST_NUMBER
-  pub next_within : next ≤ LAST_NUMBER
+  pub epoch_within : epoch ≤ MAX_COUNT
+  pub next_within : next ≤ MAX_COUNT
 
 -- what an item that comes leaves, and what becomes of it
 pub record Received : Type 0 where
@@ -54,7 +54,7 @@ pub record Received : Type 0 where
 -- the next position is taken, unless it is the last number, and any other is dropped
 abbrev pub received : Receiver → ℕ → ℤ → Received
 received window position item =
-    if position == window.next && nat_lt position LAST_NUMBER
+    if position == window.next && nat_lt position MAX_COUNT
     then record { window = record { epoch = window.epoch; next = window.next + 1 }; answer = Taken }
     else record { window = window; answer = Dropped }
 

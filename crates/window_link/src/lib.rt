@@ -9,5 +9,5 @@ mod receiving;
 mod sending;
 
 pub use laws::link_law;
-pub use receiving::{Ack, Arrival, LAST_NUMBER, RecvWindow};
+pub use receiving::{Ack, Arrival, RecvWindow};
 pub use sending::{LARGEST_WINDOW, SendWindow};

@@ -2,10 +2,8 @@
 ghost use Rattle.std.specs.Prelude.{◌≡◌, ◌≤◌};
 ghost use Rattle.window_link.specs.Windows.{received, ack_of};
 
+use kahn_net::MAX_COUNT;
 use std::marker::Model;
-
-/// The greatest position, epoch or count. No item is taken at this position.
-pub const LAST_NUMBER: u64 = (1 << 63) - 1;
 
 /// What became of an item that came.
 #[derive(Clone, Copy, Debug, PartialEq, Eq)]
@@ -60,7 +58,7 @@ impl RecvWindow {
         ensures window { self.new ≡ (received self.old position item).window }
     {
         let _ = item;
-        if position != self.next || position == LAST_NUMBER {
+        if position != self.next || position == MAX_COUNT {
             return Arrival::Dropped;
         }
         self.next += 1;
@@ -70,7 +68,7 @@ impl RecvWindow {
     /// What the sender is told.
     pub fn ack(&self) -> Ack
         ensures value { result ≡ ack_of self.now }
-        ensures within { (result.epoch ≤ LAST_NUMBER) × (result.next ≤ LAST_NUMBER) }
+        ensures within { (result.epoch ≤ MAX_COUNT) × (result.next ≤ MAX_COUNT) }
     {
         Ack {
             epoch: self.epoch,
@@ -80,7 +78,7 @@ impl RecvWindow {
 
     /// The receiver goes on from this position in this epoch.
     pub fn set_back(&mut self, next: u64, epoch: u64)
-        requires { (next ≤ LAST_NUMBER) × (epoch ≤ LAST_NUMBER) }
+        requires { (next ≤ MAX_COUNT) × (epoch ≤ MAX_COUNT) }
         ensures { self.new ≡ record { epoch = epoch; next = next } }
     {
         self.epoch = epoch;

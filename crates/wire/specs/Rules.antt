@@ -1,6 +1,6 @@
 -- What becomes of a packet that is sent, by the rules that were armed.
 use Rattle.std.specs.Prelude.{◌==◌, ◌&&◌, ℕ, ◌+◌, min, if◌then◌else◌, List, fold}
-use Rattle.wire.specs.declared.rule.TheConstants.{LAST_NUMBER}
+use Rattle.kahn_net.specs.declared.limits.TheConstants.{MAX_COUNT}
 use Rattle.wire.specs.declared.rule.Change.{Change}
 use Rattle.wire.specs.declared.rule.Change.TheVariants.{Lose, Repeat, Delay}
 use Rattle.wire.specs.declared.rule.Rule.{Rule}
@@ -8,7 +8,7 @@ use Rattle.wire.specs.declared.rule.Fate.{Fate}
 
 -- a count stops at the last number
 abbrev pub capped : ℕ → ℕ
-capped n = min n LAST_NUMBER
+capped n = min n MAX_COUNT
 
 -- a lost packet has no copies, a repeated one has one more if it has one, and delays add up
 abbrev pub changed : Fate → Change → Fate

@@ -14,5 +14,5 @@ mod wire;
 pub use bytes::Bytes;
 pub use laws::nothing_is_made_up;
 pub use queue::{Flight, Letter, NODES};
-pub use rule::{Change, LAST_NUMBER, Rule};
+pub use rule::{Change, Rule};
 pub use wire::Wire;

@@ -1,8 +1,6 @@
 // The packets in flight to one node.
-ghost use Rattle.std.specs.Prelude.{◌≡◌, ◌+◌, ◌-◌, ◌≤◌, ◌<◌, ◌++◌, [], ◌∷◌, length, slice_get, slice_index, option_map, replicate, Some, IfOk, OnOk, OnErr, IsTrue, ◌↔◌, IsSomeAnd, vec_len, vec_capacity};
+ghost use Rattle.std.specs.Prelude.{◌≡◌, ◌+◌, ◌-◌, ◌≤◌, ◌<◌, ◌++◌, [], length, slice_get, slice_index, option_map, replicate, Some, IfOk, OnOk, OnErr, vec_len, vec_capacity};
 ghost use Rattle.std.specs.List.{position_from};
-ghost use Rattle.std.specs.Option.{option_copied};
-ghost use Rattle.wire.specs.Rules.{capped};
 ghost use Rattle.wire.specs.Queue.{flight, flights_of, is_due, without, with_delay, with_copy, counted};
 
 use crate::bytes::Bytes;

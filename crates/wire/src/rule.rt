@@ -1,9 +1,8 @@
 // Rules for packets that are still to be sent.
-ghost use Rattle.std.specs.Prelude.{◌≡◌, ◌+◌, min, fold};
+ghost use Rattle.std.specs.Prelude.{◌≡◌, ◌+◌, min};
 ghost use Rattle.wire.specs.Rules.{capped, changed, fate_after, fate_of};
 
-/// The greatest round, count or number of rounds. A sum that would pass it is this number.
-pub const LAST_NUMBER: u64 = (1 << 63) - 1;
+use kahn_net::MAX_COUNT;
 
 /// What a rule makes of its packet.
 #[derive(Clone, Copy, Debug, PartialEq, Eq)]
@@ -40,7 +39,7 @@ pub struct Fate {
 pub(crate) fn capped_sum(one: u64, other: u64) -> u64
     ensures { result ≡ capped (one + other) }
 {
-    one.saturating_add(other).min(LAST_NUMBER)
+    one.saturating_add(other).min(MAX_COUNT)
 }
 
 fn changed_by(fate: Fate, change: Change) -> Fate

@@ -1,5 +1,5 @@
 // All that is in flight.
-ghost use Rattle.std.specs.Prelude.{◌≡◌, ◌+◌, ◌≤◌, ◌<◌, ◌++◌, [], ◌∷◌, ℕ, All, length, slice_get, option_map, Some, IfOk, OnOk, OnErr, IsTrue, ◌↔◌};
+ghost use Rattle.std.specs.Prelude.{◌≡◌, ◌+◌, ◌≤◌, ◌<◌, ◌++◌, [], ◌∷◌, All, length, slice_get, option_map, Some, IfOk, OnOk, OnErr};
 ghost use Rattle.std.specs.List.{position_from};
 ghost use Rattle.wire.specs.Rules.{fate_of};
 ghost use Rattle.wire.specs.Queue.{is_due, flights_of, without, with_delay, with_copy, counted};

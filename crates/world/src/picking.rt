@@ -82,7 +82,8 @@ impl<C: StableCell, O: Outlet> Station<C, O> {
     // Whether a job is next: a process is ready, and fewer were granted in this round than may be.
     fn has_grant(&self, round: u64) -> bool
         ensures { result ≡ (nat_lt (turns_of round self.now.turns).granted MAX_GRANTS
-            && is_some (next_job (network_of self.now.net.value.program) self.now.inputs.value (node_view self.now.node.state))) }
+            && is_some (next_job (network_of self.now.net.value.program) self.now.inputs.value
+            (node_view self.now.node.state))) }
     {
         let node = &self.node;
         self.turns.of(round).granted < MAX_GRANTS && node.state.has_job(&self.net, &self.inputs)
