@@ -1,9 +1,9 @@
 ghost use Rattle.std.specs.Prelude.{◌+◌, if◌then◌else◌};
 
 use crate::asserting::{same, same_at};
-use retained::{Log, LogFault};
 use kahn_net::MAX_COUNT;
 use outlet::{ListOutlet, Outlet, OutletFault, can_release, release};
+use retained::{Log, LogFault};
 use std::alloc::Global;
 use std::ops::Range;
 use std::process::Abort;

@@ -23,5 +23,5 @@ pub use granting::MAX_JOB_ITEMS;
 pub use memory::MemCell;
 pub use node::Node;
 pub use putting::Putting;
-pub use starting::next_after;
+pub use starting::{can_start, next_after};
 pub use state::NodeState;

@@ -77,8 +77,8 @@ fn own_record(alloc: Global, kept: &Record, node: u8, image: &Image) -> Result<R
     Ok(next)
 }
 
-// Whether a node may take a tentative image of its own.
-fn can_start(state: &NodeState) -> bool
+/// Whether a node may take a tentative image of its own.
+pub fn can_start(state: &NodeState) -> bool
     ensures { result ≡ may_start (node_view state.now) }
 {
     state.up && state.kept.tentative.is_none() && state.kept.decision.is_none()

@@ -245,7 +245,7 @@ fn refused(
     same(rt, &outcome_of(alloc, parts), &Ok(wanted), what);
 }
 
-/// `input i; output o; process sum on 0 { var a; var v; loop { v = get i; a = a + v; put a to o; } }`
+/// The tree of the running sum: `a` is what was got so far.
 fn running_sum(alloc: Global) -> Result<NetText, AllocError> {
     let mut builder = Builder::new(alloc);
     builder.add_all(&[
