@@ -2,7 +2,8 @@
 
 ghost use Rattle.std.specs.Prelude.{◌||◌, not, if◌then◌else◌, IsTrue};
 ghost use Rattle.std.proofs.Common.{refl, inl};
-ghost use Rattle.node.specs.MemCell.{value_of, may_leave_of, moment_of, left_since_of, only_kept};
+ghost use Rattle.sector_disk.specs.Past.{states_of, now_alone};
+ghost use Rattle.node.specs.MemCell.{value_of, may_leave_of, moment_of, left_since_of, left_of};
 ghost use Rattle.node.specs.Starting.{is_none};
 
 use node::{CellFault, MemCell, StableCell};
@@ -64,10 +65,10 @@ impl StableCell for WeakCell {
 
     ghost value_may_stay = { λ cell ready. refl };
 
-    ghost includes_now = { λ cell t left le now. inl now };
+    ghost includes_now = { λ cell t left le now. inl (le, now) };
 
-    ghost only_now = { λ cell left since. only_kept cell.inner.past.records cell.inner.kept left
-        since };
+    ghost only_now = { λ cell left since. now_alone left_of (left_of cell.inner.kept)
+        (states_of cell.inner.past) left since };
 
     fn get(&mut self) -> Result<Record, CellFault> {
         if self.has_failed {
