@@ -18,7 +18,10 @@ fn new_cell(alloc: Global, sectors: usize) -> anyhow::Result<GateCell<MemDisk>> 
         return Err(anyhow::anyhow!("too many sectors"));
     }
     let disk = MemDisk::new(alloc, sectors)?;
-    Ok(GateCell::format(alloc, disk, b"")?)
+    match GateCell::format(alloc, disk, b"") {
+        Ok(cell) => Ok(cell),
+        Err((fault, _)) => Err(fault.into()),
+    }
 }
 
 fn processor_micros(rt: &impl CpuClock) -> anyhow::Result<u64> {

@@ -1,4 +1,5 @@
 mod Areas
 mod Lift
+mod Standing
 mod OnePut
 mod Found

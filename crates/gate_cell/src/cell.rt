@@ -1,38 +1,47 @@
-// One value that outlives a crash.
-ghost use Rattle.std.specs.Prelude.{◌≡◌, ◌⊎◌, ◌<◌, ◌≤◌, ◌↔◌, Bool, List, ℕ, length, IfOk, OnOk, IsErrOf, IsTrue, Option, Some};
+//! One value that outlives a crash.
+ghost use Rattle.std.specs.Prelude.{◌≡◌, ◌⊎◌, ◌<◌, ◌≤◌, ◌↔◌, Bool, false, List, ℕ, length, IfOk, OnOk, OnErr, IsErrOf, IsTrue, IsSome, Option, Some};
 ghost use Rattle.sector_disk.specs.Clock.{Only, LeavesOnly};
-ghost use Rattle.gate_cell.specs.CellFault.{HasCause};
+ghost use Rattle.gate_cell.specs.CellFault.{HasCause, HasDeviceCause};
 
 use crate::fault::CellFault;
 use sector_disk::ArmedFault;
 use std::alloc::AllocError;
 
-/// A cell holds one value, a list of bytes.
+/// A cell holds one value, a list of bytes, and keeps it through crashes: one cell serves for as long as its device
+/// does.
 ///
-/// What a crash leaves of it is a value, or `None` where what is left can't be opened. While the cell is ready that is
-/// its value and nothing else. After a failure of its device it is no longer ready: it may stand for the old value or
-/// for the new one, and answers `Reopen` (23) until it is opened again.
+/// A ready cell leaves its value and nothing else, whenever its device crashes. A failure of the device takes readiness
+/// away: if it struck in a `put`, a crash may leave the old value or the new one. A crash settles which of them it is,
+/// and `reopen` makes the cell ready again. Until then its calls answer `Reopen` (23).
+///
+/// What a crash leaves is an `Option`, so that a cell that could lose its value has to say so; the law `opens` forbids
+/// it.
 pub trait StableCell: Drop {
-    /// The value, while the cell is ready.
+    /// What is found if the device crashes now and loses nothing. While the cell is ready, that is its value.
     ghost value: { Self → List ℕ };
 
-    /// No failure of the device has been met since the cell was opened.
+    /// It has been opened, and has met neither a crash nor a failure of the device since.
     ghost is_ready: { Self → Bool };
 
-    /// What a crash at this moment may leave.
-    ghost may_leave: { Self → Option (List ℕ) → Type 0 };
-
-    /// The moment, as a number that doesn't fall.
-    ghost moment: { Self → ℕ };
-
-    /// What a crash at some moment from that one on might have left, during a call or between two.
-    ghost left_since: { Self → ℕ → Option (List ℕ) → Type 0 };
+    /// The most bytes of a value that fits.
+    ghost capacity: { Self → ℕ };
 
     /// How often the device has failed.
     ghost failure_count: { Self → ℕ };
 
+    /// The clock. It never goes back.
+    ghost moment: { Self → ℕ };
+
+    /// The values that a crash right now might leave.
+    ghost may_leave: { Self → Option (List ℕ) → Type 0 };
+
+    /// The values that a crash might have left at a moment no earlier than this one. The moments inside a call count
+    /// too.
+    ghost left_since: { Self → ℕ → Option (List ℕ) → Type 0 };
+
     /// The most bytes of a value that fits.
-    ghost room: { Self → ℕ };
+    fn room(&self) -> usize
+        ensures { result ≡ capacity self.now };
 
     /// The value. Refuses with `NoMemory` (1), `Device` (20) and `Reopen` (23).
     fn get(&mut self) -> Result<Vec<u8>, CellFault>
@@ -41,7 +50,7 @@ pub trait StableCell: Drop {
         // A crash at any moment of the call leaves what it might have left before.
         ensures any_moment { LeavesOnly moment left_since self.old self.new (may_leave self.old) }
         ensures same_value { value self.new ≡ value self.old }
-        ensures same_room { room self.new ≡ room self.old }
+        ensures same_room { capacity self.new ≡ capacity self.old }
 
         ensures too_large { ¬ (IsErrOf result CellFault.TooLarge) }
         ensures unchanged { (IsErrOf result CellFault.NoMemory ⊎ IsErrOf result CellFault.Reopen)
@@ -57,20 +66,40 @@ pub trait StableCell: Drop {
         // A crash at any moment of the call leaves what it might have left before, or the new value.
         ensures any_moment { LeavesOnly moment left_since self.old self.new
             (λ left. may_leave self.old left ⊎ (left ≡ Some new.now)) }
-        ensures same_room { room self.new ≡ room self.old }
+        ensures same_room { capacity self.new ≡ capacity self.old }
 
         ensures too_large { IsErrOf result CellFault.TooLarge
-            ↔ (IsTrue (is_ready self.old) × (room self.old < length new.now)) }
-        ensures unchanged { (IsErrOf result CellFault.NoMemory ⊎ IsErrOf result CellFault.TooLarge ⊎ IsErrOf result CellFault.Reopen)
-            → self.new ≡ self.old }
+            ↔ (IsTrue (is_ready self.old) × (capacity self.old < length new.now)) }
+        ensures unchanged { (IsErrOf result CellFault.NoMemory ⊎ IsErrOf result CellFault.TooLarge
+            ⊎ IsErrOf result CellFault.Reopen) → self.new ≡ self.old }
         ensures cause { HasCause (failure_count self.old) (failure_count self.new)
             (is_ready self.old) (is_ready self.new) result };
+
+    /// The device crashes and comes back: what it holds is settled, by the fill byte where one is given. The cell has
+    /// to be opened again.
+    fn crash(&mut self, fill: Option<u8>)
+        // The value is now one of those that a crash might leave, and another crash leaves no other.
+        ensures left { may_leave self.old (Some (value self.new)) }
+        ensures settled { Only (Some (value self.new)) (may_leave self.new) }
+        ensures any_moment { LeavesOnly moment left_since self.old self.new (may_leave self.old) }
+        ensures same_room { capacity self.new ≡ capacity self.old }
+        ensures down { is_ready self.new ≡ false }
+        ensures failures { failure_count self.new ≡ failure_count self.old };
+
+    /// Makes the cell ready, whatever state it is in. Refuses with `Device` (20) alone, and may then be called again.
+    fn reopen(&mut self) -> Result<(), CellFault>
+        ensures ready { OnOk result (IsTrue (is_ready self.new)) }
+        ensures not_ready { OnErr result (is_ready self.new ≡ false) }
+        ensures same_value { value self.new ≡ value self.old }
+        ensures any_moment { LeavesOnly moment left_since self.old self.new (may_leave self.old) }
+        ensures same_room { capacity self.new ≡ capacity self.old }
+        ensures cause { HasDeviceCause (failure_count self.old) (failure_count self.new) result };
 
     /// Prepares a failure of the device, where there is one. Without memory (1) it prepares nothing.
     fn arm(&mut self, fault: ArmedFault) -> Result<(), AllocError>
         ensures same_value { value self.new ≡ value self.old }
         ensures any_moment { LeavesOnly moment left_since self.old self.new (may_leave self.old) }
-        ensures same_room { room self.new ≡ room self.old }
+        ensures same_room { capacity self.new ≡ capacity self.old }
         ensures same_readiness { is_ready self.new ≡ is_ready self.old }
         ensures failures { failure_count self.new ≡ failure_count self.old };
 
@@ -78,19 +107,25 @@ pub trait StableCell: Drop {
     fn recount(&mut self)
         ensures same_value { value self.new ≡ value self.old }
         ensures any_moment { LeavesOnly moment left_since self.old self.new (may_leave self.old) }
-        ensures same_room { room self.new ≡ room self.old }
+        ensures same_room { capacity self.new ≡ capacity self.old }
         ensures same_readiness { is_ready self.new ≡ is_ready self.old }
         ensures failures { failure_count self.new ≡ failure_count self.old };
 
-    /// While it is ready, a crash leaves the value and nothing else.
-    ghost settled: { (cell : Self) → IsTrue (is_ready cell) → Only (Some (value cell)) (may_leave cell) };
+    /// While the cell is ready, a crash leaves the value and nothing else.
+    ghost settled: { (cell : Self)
+        → IsTrue (is_ready cell) → Only (Some (value cell)) (may_leave cell) };
 
-    /// While it is ready, a crash may leave the value.
-    ghost value_may_stay: { (cell : Self) → IsTrue (is_ready cell) → may_leave cell (Some (value cell)) };
+    /// A crash may lose nothing, in every state.
+    ghost value_may_stay: { (cell : Self) → may_leave cell (Some (value cell)) };
 
-    /// This moment is one of those since an earlier one.
-    ghost includes_now: { (cell : Self) (t : ℕ) (left : Option (List ℕ)) → t ≤ moment cell → may_leave cell left → left_since cell t left };
+    /// What a crash leaves is a value, in every state.
+    ghost opens: { (cell : Self) (left : Option (List ℕ)) → may_leave cell left → IsSome left };
 
-    /// Since this moment there is no other.
-    ghost only_now: { (cell : Self) (left : Option (List ℕ)) → left_since cell (moment cell) left → may_leave cell left };
+    /// What a crash may leave now is among what it might have left since an earlier moment.
+    ghost includes_now: { (cell : Self) (t : ℕ) (left : Option (List ℕ))
+        → t ≤ moment cell → may_leave cell left → left_since cell t left };
+
+    /// From this moment on there has been none but this one.
+    ghost only_now: { (cell : Self) (left : Option (List ℕ))
+        → left_since cell (moment cell) left → may_leave cell left };
 }

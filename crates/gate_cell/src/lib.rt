@@ -13,3 +13,6 @@ mod gate;
 pub use cell::StableCell;
 pub use fault::CellFault;
 pub use gate::GateCell;
+
+/// The most bytes of a value, on any disk.
+pub const MAX_VALUE_BYTES: usize = 1 << 20;

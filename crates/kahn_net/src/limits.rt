@@ -12,7 +12,7 @@ pub const MAX_CHANNELS: usize = 256;
 /// The most variables of a process.
 pub const MAX_VARIABLES: usize = 64;
 
-/// The most units of a process: each statement, literal, variable in an expression and operator is one.
+/// The most units of a process, which measure the length of its statements.
 pub const MAX_UNITS: usize = 4_096;
 
 /// The most items of an input, and of a history that is computed whole.

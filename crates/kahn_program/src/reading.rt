@@ -55,7 +55,8 @@ fn read_text<R: Read + Drop>(
     source: Source,
     reader: Option<R>,
 ) -> Result<String, Failure>
-    ensures ok { IfOk result (λ text. IfSome (option_and_then R.remaining reader) (λ bytes. string_bytes text ≡ bytes)) }
+    ensures ok { IfOk result (λ text. IfSome (option_and_then R.remaining reader)
+        (λ bytes. string_bytes text ≡ bytes)) }
     ensures absent { IsNone reader → result ≡ Err (Unreadable source) }
     ensures err { IfErr result (IsReadFailure source (option_and_then R.remaining reader)) }
 {
@@ -114,15 +115,16 @@ fn inputs_of_text(alloc: Global, text: &str, net: &Net) -> Result<Inputs, Failur
 /// memory.
 pub fn read_net<R: Read + Drop>(alloc: Global, reader: Option<R>) -> Result<Net, Failure>
     // The network is that of the reader's bytes.
-    ensures net { IfOk result (λ net. IfSome (option_and_then R.remaining reader) (λ bytes. IsNetOf bytes net)) }
+    ensures net { IfOk result
+        (λ net. IfSome (option_and_then R.remaining reader) (λ bytes. IsNetOf bytes net)) }
     // There is one node.
     ensures one_node { IfOk result (λ net. IsOnOneNode (network_of net.program)) }
     ensures absent { IsNone reader → result ≡ Err (Unreadable source.Net) }
     // What is refused has the fault, on its line.
     ensures err { IfErr result (IsNetFailure (option_and_then R.remaining reader)) }
     // A text that describes a network isn't refused.
-    ensures accepted { (bytes : List ℕ) → option_and_then R.remaining reader ≡ Some bytes → IsUtf8 bytes
-        → IsTextOfNet bytes → IfErr result (IsOutside source.Net) }
+    ensures accepted { (bytes : List ℕ) → option_and_then R.remaining reader ≡ Some bytes
+        → IsUtf8 bytes → IsTextOfNet bytes → IfErr result (IsOutside source.Net) }
 {
     let text = read_text(alloc, Source::Net, reader)?;
     net_of_text(alloc, &text)
@@ -137,15 +139,17 @@ pub fn read_inputs<R: Read + Drop>(
     net: &Net,
 ) -> Result<Inputs, Failure>
     // Each input has exactly the items of its line in the reader's bytes.
-    ensures inputs { IfOk result (λ inputs. IfSome (option_and_then R.remaining reader) (λ bytes. AreInputsOf bytes net.now inputs)) }
+    ensures inputs { IfOk result
+        (λ inputs. IfSome (option_and_then R.remaining reader)
+        (λ bytes. AreInputsOf bytes net.now inputs)) }
     // They are inputs for this network.
     ensures fitting { IfOk result (Fits (network_of net.now.program)) }
     ensures absent { IsNone reader → result ≡ Err (Unreadable source.Inputs) }
     // What is refused has the fault, on its line.
     ensures err { IfErr result (IsInputsFailure net.now (option_and_then R.remaining reader)) }
     // A text that gives the inputs their items isn't refused.
-    ensures accepted { (bytes : List ℕ) → option_and_then R.remaining reader ≡ Some bytes → IsUtf8 bytes
-        → IsTextOfInputs net.now bytes → IfErr result (IsOutside source.Inputs) }
+    ensures accepted { (bytes : List ℕ) → option_and_then R.remaining reader ≡ Some bytes
+        → IsUtf8 bytes → IsTextOfInputs net.now bytes → IfErr result (IsOutside source.Inputs) }
 {
     let text = read_text(alloc, Source::Inputs, reader)?;
     inputs_of_text(alloc, &text, net)

@@ -70,7 +70,8 @@ fn write_items(text: &mut String, items: &[i64]) -> Result<(), AllocError>
 
 /// Writes the line of an output.
 fn write_line(text: &mut String, name: &Name, stream: &Stream<'_>) -> Result<(), AllocError>
-    ensures { OnOk result (string_bytes text.new ≡ string_bytes text.old ++ output_line name.now stream.now) }
+    ensures { OnOk result (string_bytes text.new ≡ string_bytes text.old
+        ++ output_line name.now stream.now) }
 {
     text.push_str(name.as_str())?;
     text.push_str(":")?;
@@ -87,7 +88,8 @@ fn write_lines(
 ) -> Result<(), AllocError>
     requires names { length names.now ≡ length channels.now }
     requires streams { length streams.now ≡ output_count channels.now }
-    ensures { OnOk result (string_bytes text.new ≡ string_bytes text.old ++ output_lines channels.now names.now streams.now) }
+    ensures { OnOk result (string_bytes text.new ≡ string_bytes text.old
+        ++ output_lines channels.now names.now streams.now) }
 {
     let mut next = 0;
     for (number, channel) in channels.iter().enumerate() {
@@ -109,7 +111,9 @@ pub fn report(
     complete: bool,
 ) -> Result<Vec<u8>, AllocError>
     requires { length streams.now ≡ output_count net.now.program.channels.items }
-    ensures { IfOk result (λ bytes. bytes.items ≡ report_text net.now.program.channels.items net.now.channel_names.items streams.now complete) }
+    ensures { IfOk result (λ bytes. bytes.items
+        ≡ report_text net.now.program.channels.items net.now.channel_names.items streams.now
+        complete) }
 {
     let mut text = String::new(alloc);
     write_lines(

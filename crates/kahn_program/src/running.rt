@@ -19,9 +19,8 @@ fn report_of_readers<N: Read + Drop, I: Read + Drop>(
     net: Option<N>,
     inputs: Option<I>,
 ) -> Result<(Vec<u8>, bool), Failure>
-    ensures ok { IfOk result
-        (λ report. IsReported (option_and_then N.remaining net) (option_and_then I.remaining inputs)
-        report.0.items report.1) }
+    ensures ok { IfOk result (λ report. IsReported (option_and_then N.remaining net)
+        (option_and_then I.remaining inputs) report.0.items report.1) }
     ensures err { IfErr result
         (IsRunFailure (option_and_then N.remaining net) (option_and_then I.remaining inputs)) }
 {

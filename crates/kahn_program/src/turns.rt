@@ -99,8 +99,9 @@ fn add_stream<'a>(
     channel: &Channel,
     world: &'a World<MemCell, ListOutlet>,
 ) -> Result<(), AllocError>
-    ensures { OnOk result (streams.new.items
-        ≡ streams.old.items ++ (if goes_outside channel.now.consumer then released_of number (map station_view world.now.stations.items) ∷ [] else [])) }
+    ensures { OnOk result (streams.new.items ≡ streams.old.items
+        ++ (if goes_outside channel.now.consumer then released_of number
+        (map station_view world.now.stations.items) ∷ [] else [])) }
 {
     if let Port::Outside = channel.consumer {
         streams.push(Stream::new(world.released(number)))?;
@@ -116,7 +117,8 @@ fn streams<'a>(
 ) -> Result<Vec<Stream<'a>>, AllocError>
     requires { length channels.now ≤ MAX_CHANNELS }
     ensures { IfOk result (λ streams. streams.items
-        ≡ map (λ channel. released_of channel (map station_view world.now.stations.items)) (output_channels 0 channels.now)) }
+        ≡ map (λ channel. released_of channel (map station_view world.now.stations.items))
+        (output_channels 0 channels.now)) }
 {
     let mut streams = Vec::new(alloc);
     for (number, channel) in channels.iter().enumerate() {

@@ -11,7 +11,7 @@ use Rattle.net_text.specs.declared.fault.TextFault.TheVariants.{NoMemory, BadTok
 use Rattle.net_text.specs.declared.limits.TheConstants.{MAX_NAME_BYTES}
 use Rattle.net_text.specs.Results.{◌>>=◌}
 
--- What a function returned, seen by view, is what reading gives, unless memory ran out. Reading itself never runs out of memory.
+-- A call that failed by this fault did as its reader does, which fails by the same one; for want of memory a reader never fails.
 abbrev pub Fails : {Y : Type 0} → TextFault → Result Y TextFault → Type 0
 Fails NoMemory read = Unit {0}
 Fails (BadToken line) read = read ≡ Err (BadToken line)

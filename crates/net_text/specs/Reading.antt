@@ -33,7 +33,7 @@ use Rattle.net_text.specs.Results.{◌>>=◌}
 abbrev pub Read : Type 0 → Type 0
 Read A = Result (A × List Lexeme) Stuck
 
--- What a function returned, seen by view, is what reading gives, unless memory ran out.
+-- A call that failed so did as its reader does, which is stuck there; for want of memory a reader is never stuck.
 abbrev pub Fails : {Y : Type 0} → ParseError → Result Y Stuck → Type 0
 Fails error.NoMemory read = Unit {0}
 Fails (error.Stuck stuck) read = read ≡ Err stuck

@@ -1,6 +1,6 @@
 -- One item that is handed to an outlet.
-use Rattle.std.proofs.Common.{◌≡◌, ◌⊎◌, ℕ, ◌+◌, ◌++◌, List, ℤ, length, sym, ap, subst, ◌∙◌}
-use Rattle.std.specs.Prelude.{Result, Ok, Err, OnOk, IsErrOf}
+use Rattle.std.proofs.Common.{◌≡◌, ◌⊎◌, ℕ, ◌+◌, ◌++◌, List, ℤ, length, ap, subst, ◌∙◌}
+use Rattle.std.specs.Prelude.{Result, OnOk, IsErrOf}
 use Rattle.outlet.specs.Released.{released_items, CanRelease, TookSomeOrAll}
 use Rattle.outlet.specs.ReleaseLaws.{released_one, took_or_not}
 use Rattle.outlet.specs.declared.fault.OutletFault.{OutletFault}

@@ -25,7 +25,6 @@ stopped_order round old new is order = subst (λ (n : NodeView). AreInOrder n.ke
 some_is : {A : Type 0} (x y : A) → Some x ≡ Some y → x ≡ y
 some_is x y e = cc
 
-
 decided_order : (old new : NodeView) → new ≡ with_kept (decided old.kept) old → AreInOrder old.kept old.current → AreInOrder new.kept new.current
 decided_order old new is order = subst (λ (n : NodeView). AreInOrder n.kept n.current) (sym is) (at old.kept.tentative refl)
   where

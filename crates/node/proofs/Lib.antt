@@ -1,5 +1,5 @@
-mod History
 mod Handing
+mod Resting
 mod Slices
 mod Installs
 mod Keeping

@@ -58,7 +58,7 @@ abbrev pub or_else : {A : Type 0} → Option A → Option A → Option A
 or_else None other = other
 or_else (Some x) other = Some x
 
--- the ready process with the least number after the last one granted, beginning again at the least (processes are listed by number)
+-- the ready process that comes next in order of number behind the one granted last, and behind the greatest the first one
 abbrev pub next_ready : Network → List (List ℤ) → ImageView → Option ℕ → Option SavedProcessView
 next_ready net inputs image last = or_else (ready_after net inputs image last) (ready_after net inputs image None)
 

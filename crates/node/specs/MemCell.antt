@@ -1,6 +1,6 @@
 -- What a cell in memory shows.
-use Rattle.std.specs.Prelude.{◌≡◌, ◌⊎◌, ℕ, Bool, true, List, [], ◌∷◌, length, drop, Option, Some}
-use mathlib.Core.Logic.{inl, inr}
+use Rattle.std.specs.Prelude.{◌≡◌, ℕ, Bool, true, ◌∷◌, length, Option, Some}
+use Rattle.sector_disk.specs.Past.{states_of, LeftBySome}
 use Rattle.record.specs.RecordView.{RecordView}
 use Rattle.node.specs.declared.memory.MemCell.{MemCell}
 
@@ -18,31 +18,17 @@ failures_of cell = 0
 abbrev pub fits_in : MemCell → RecordView → Bool
 fits_in cell next = true
 
--- one of these records is left
-abbrev pub IsOneOf : List RecordView → Option RecordView → Type 0
-IsOneOf [] left = ⊥
-IsOneOf (held ∷ records) left = (left ≡ Some held) ⊎ IsOneOf records left
+-- a crash leaves this record
+abbrev pub left_of : RecordView → Option RecordView → Type 0
+left_of kept left = left ≡ Some kept
 
--- what is left where a cell holds this record, or held one of those since
-abbrev pub IsLeft : RecordView → List RecordView → Option RecordView → Type 0
-IsLeft kept records left = (left ≡ Some kept) ⊎ IsOneOf records left
-
--- a crash now leaves the record
 abbrev pub may_leave_of : MemCell → Option RecordView → Type 0
-may_leave_of cell left = left ≡ Some cell.kept
+may_leave_of cell = left_of cell.kept
 
 -- the number of records that it held before
 abbrev pub moment_of : MemCell → ℕ
-moment_of cell = length cell.past.records
+moment_of cell = length (states_of cell.past)
 
+-- what a crash leaves of the record that it holds, or of one that it held since
 abbrev pub left_since_of : MemCell → ℕ → Option RecordView → Type 0
-left_since_of cell t = IsLeft cell.kept (drop t cell.past.records)
-
-none_left : (records : List RecordView) (left : Option RecordView) → IsOneOf (drop (length records) records) left → ⊥
-none_left [] left had = had
-none_left (held ∷ records) left had = none_left records left had
-
--- since the last of them there is what is there now
-pub only_kept : (records : List RecordView) (kept : RecordView) (left : Option RecordView) → IsLeft kept (drop (length records) records) left → left ≡ Some kept
-only_kept records kept left (inl now) = now
-only_kept records kept left (inr had) = absurd (none_left records left had)
+left_since_of cell = LeftBySome left_of (cell.kept ∷ states_of cell.past)

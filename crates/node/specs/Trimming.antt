@@ -1,5 +1,5 @@
 -- A log of an image without what has left the system, and how one item leaves.
-use Rattle.std.specs.Prelude.{◌≡◌, ◌⊎◌, ℕ, ◌+◌, ◌++◌, ℤ, List, [], length, Option, Some, None}
+use Rattle.std.specs.Prelude.{◌≡◌, ℕ, ◌+◌, ◌++◌, ℤ, List, [], length, Option, Some, None}
 use Rattle.retained.specs.LogState.{LogState, items_at}
 use Rattle.outlet.specs.Released.{CanRelease}
 use Rattle.record.specs.ImageView.{ImageView}

@@ -20,13 +20,13 @@ pub trait StableCell: Drop {
     /// No failure of the device has been met since the cell was opened.
     ghost is_ready: { Self → Bool };
 
-    /// What a crash at this moment may leave.
+    /// The records of which a crash now leaves one.
     ghost may_leave: { Self → Option RecordView → Type 0 };
 
-    /// The moment, as a number that doesn't fall.
+    /// A clock: it doesn't go back.
     ghost moment: { Self → ℕ };
 
-    /// What a crash at some moment from that one on might have left, during a call or between two.
+    /// The same of a crash at any time since the clock showed this, also inside a call.
     ghost left_since: { Self → ℕ → Option RecordView → Type 0 };
 
     /// How often the device has failed.
@@ -66,20 +66,25 @@ pub trait StableCell: Drop {
             ↔ (IsTrue (is_ready self.old) × (fits self.old next.now ≡ false)) }
 
         // It takes its memory before the first change.
-        ensures unchanged { (IsErrOf result CellFault.NoMemory ⊎ IsErrOf result CellFault.TooLarge ⊎ IsErrOf result CellFault.Reopen)
+        ensures unchanged { (IsErrOf result CellFault.NoMemory ⊎ IsErrOf result CellFault.TooLarge
+            ⊎ IsErrOf result CellFault.Reopen)
             → IsUnchanged value is_ready may_leave moment left_since failure_count self.old self.new }
         ensures cause { HasCause (failure_count self.old) (failure_count self.new)
             (is_ready self.old) (is_ready self.new) result };
 
     /// While it is ready, a crash leaves the record and nothing else.
-    ghost settled: { (cell : Self) → IsTrue (is_ready cell) → Only (Some (value cell)) (may_leave cell) };
+    ghost settled: { (cell : Self) → IsTrue (is_ready cell)
+        → Only (Some (value cell)) (may_leave cell) };
 
     /// While it is ready, a crash may leave the record.
-    ghost value_may_stay: { (cell : Self) → IsTrue (is_ready cell) → may_leave cell (Some (value cell)) };
+    ghost value_may_stay: { (cell : Self) → IsTrue (is_ready cell)
+        → may_leave cell (Some (value cell)) };
 
-    /// This moment is one of those since an earlier one.
-    ghost includes_now: { (cell : Self) (t : ℕ) (left : Option RecordView) → t ≤ moment cell → may_leave cell left → left_since cell t left };
+    /// What a crash leaves now, one at some time since then leaves.
+    ghost includes_now: { (cell : Self) (t : ℕ) (left : Option RecordView) → t ≤ moment cell
+        → may_leave cell left → left_since cell t left };
 
-    /// Since this moment there is no other.
-    ghost only_now: { (cell : Self) (left : Option RecordView) → left_since cell (moment cell) left → may_leave cell left };
+    /// And since now, it leaves nothing else.
+    ghost only_now: { (cell : Self) (left : Option RecordView) → left_since cell (moment cell) left
+        → may_leave cell left };
 }

@@ -72,7 +72,8 @@ fn first_ready<'a>(
     image: &'a Image,
     last: Option<usize>,
 ) -> Option<&'a SavedProcess>
-    ensures { option_copied result ≡ ready_after (network_of net.now.program) inputs.now image.now last }
+    ensures { option_copied result
+        ≡ ready_after (network_of net.now.program) inputs.now image.now last }
 {
     for saved in &image.processes {
         if is_after(last, usize::from(saved.number)) && is_ready(net, inputs, image, saved) {
@@ -89,8 +90,10 @@ fn next_ready<'a>(
     image: &'a Image,
     last: Option<usize>,
 ) -> Option<&'a SavedProcess>
-    ensures chosen { option_copied result ≡ next_ready (network_of net.now.program) inputs.now image.now last }
-    ensures there { IfSome result (λ saved. saved.now.number < length net.now.program.processes.items) }
+    ensures chosen { option_copied result
+        ≡ next_ready (network_of net.now.program) inputs.now image.now last }
+    ensures there { IfSome result
+        (λ saved. saved.now.number < length net.now.program.processes.items) }
 {
     match first_ready(net, inputs, image, last) {
         Some(saved) => Some(saved),
@@ -108,7 +111,8 @@ impl NodeState {
 
     /// Whether a job can be granted now.
     pub fn has_job(&self, net: &Net, inputs: &Inputs) -> bool
-        ensures { result ≡ is_some (next_job (network_of net.now.program) inputs.now (node_view self.now)) }
+        ensures { result ≡ is_some
+            (next_job (network_of net.now.program) inputs.now (node_view self.now)) }
     {
         self.can_grant() && next_ready(net, inputs.as_slice(), &self.current, self.last).is_some()
     }
@@ -148,10 +152,13 @@ impl NodeState {
         net: &Arc<Net>,
         inputs: &Inputs,
     ) -> Result<Option<Job>, AllocError>
-        ensures job { IfOk result (λ job. option_map job_view job
+        ensures job { IfOk result
+            (λ job. option_map job_view job
             ≡ next_job (network_of net.now.value.program) inputs.now (node_view self.old)) }
-        ensures state { IfOk result (λ job. node_view self.new
-            ≡ after_grant (next_job (network_of net.now.value.program) inputs.now (node_view self.old)) (node_view self.old)) }
+        ensures state { IfOk result
+            (λ job. node_view self.new
+            ≡ after_grant (next_job (network_of net.now.value.program) inputs.now
+            (node_view self.old)) (node_view self.old)) }
         ensures err { OnErr result (node_view self.new ≡ node_view self.old) }
     {
         let job = self.next_job(alloc, net, inputs)?;

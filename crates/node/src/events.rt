@@ -38,10 +38,13 @@ impl<C: StableCell> Node<C> {
         net: &Arc<Net>,
         inputs: &Inputs,
     ) -> Result<Option<Job>, AllocError>
-        ensures job { IfOk result (λ job. option_map job_view job
+        ensures job { IfOk result
+            (λ job. option_map job_view job
             ≡ next_job (network_of net.now.value.program) inputs.now (node_view self.old.state)) }
-        ensures state { IfOk result (λ job. node_view self.new.state
-            ≡ after_grant (next_job (network_of net.now.value.program) inputs.now (node_view self.old.state)) (node_view self.old.state)) }
+        ensures state { IfOk result
+            (λ job. node_view self.new.state
+            ≡ after_grant (next_job (network_of net.now.value.program) inputs.now
+            (node_view self.old.state)) (node_view self.old.state)) }
         ensures err { OnErr result (node_view self.new.state ≡ node_view self.old.state) }
         ensures same { (self.new.cell ≡ self.old.cell) × (self.new.number ≡ self.old.number) }
     {
@@ -57,9 +60,12 @@ impl<C: StableCell> Node<C> {
         done: &Done,
     ) -> Result<bool, LogFault>
         requires { IsOut (job_view done.now.job) (node_view self.old.state)
-            → ImageTakes channels.now done.now.job.process done.now.taken.items done.now.sent.items self.old.state.current }
-        ensures step { IfOk result (λ applied. IsInstall channels.now (job_view done.now.job) (standing_of done.now.state)
-            done.now.taken.items done.now.sent.items (node_view self.old.state) applied (node_view self.new.state)) }
+            → ImageTakes channels.now done.now.job.process done.now.taken.items done.now.sent.items
+            self.old.state.current }
+        ensures step { IfOk result
+            (λ applied. IsInstall channels.now (job_view done.now.job)
+            (standing_of done.now.state) done.now.taken.items done.now.sent.items
+            (node_view self.old.state) applied (node_view self.new.state)) }
         ensures err { OnErr result (node_view self.new.state ≡ node_view self.old.state) }
         ensures full { ¬ (IsErrOf result LogFault.Full) }
         ensures same { (self.new.cell ≡ self.old.cell) × (self.new.number ≡ self.old.number) }
@@ -70,10 +76,17 @@ impl<C: StableCell> Node<C> {
     /// Takes a tentative image of where the node stands now, under its next number: the first half of a checkpoint.
     /// Refuses for want of memory alone, and then nothing is changed.
     pub fn start(&mut self, alloc: Global, round: u64) -> Result<Putting, AllocError>
-        ensures step { IfOk result (λ outcome. IsStart self.old.number round (node_view self.old.state) outcome (node_view self.new.state)) }
+        ensures step { IfOk result
+            (λ outcome. IsStart self.old.number round (node_view self.old.state) outcome
+            (node_view self.new.state)) }
         ensures refused { OnErr result (node_view self.new.state ≡ node_view self.old.state) }
-        ensures put { IfOk result (IsPut (C.fits self.old.cell (with_own self.old.number self.old.state.current self.old.state.kept)) (C.failure_count self.old.cell) (C.failure_count self.new.cell)) }
-        ensures unchanged { LeavesCell result → IsUnchanged C.value C.is_ready C.may_leave C.moment C.left_since C.failure_count self.old.cell self.new.cell }
+        ensures put { IfOk result
+            (IsPut (C.fits self.old.cell
+            (with_own self.old.number self.old.state.current self.old.state.kept))
+            (C.failure_count self.old.cell) (C.failure_count self.new.cell)) }
+        ensures unchanged { LeavesCell result
+            → IsUnchanged C.value C.is_ready C.may_leave C.moment C.left_since C.failure_count
+            self.old.cell self.new.cell }
         ensures any_moment { LeavesOnly C.moment C.left_since self.old.cell self.new.cell
             (λ left. C.may_leave self.old.cell left
             ⊎ (left ≡ Some (with_own self.old.number self.old.state.current self.old.state.kept))) }
@@ -85,10 +98,16 @@ impl<C: StableCell> Node<C> {
     /// Makes the node's own tentative image permanent: the second half of a checkpoint. Refuses for want of memory
     /// alone, and then nothing is changed.
     pub fn decide(&mut self, alloc: Global, round: u64) -> Result<Putting, AllocError>
-        ensures step { IfOk result (λ outcome. IsDecision self.old.number round (node_view self.old.state) outcome (node_view self.new.state)) }
+        ensures step { IfOk result
+            (λ outcome. IsDecision self.old.number round (node_view self.old.state) outcome
+            (node_view self.new.state)) }
         ensures refused { OnErr result (node_view self.new.state ≡ node_view self.old.state) }
-        ensures put { IfOk result (IsPut (C.fits self.old.cell (decided self.old.state.kept)) (C.failure_count self.old.cell) (C.failure_count self.new.cell)) }
-        ensures unchanged { LeavesCell result → IsUnchanged C.value C.is_ready C.may_leave C.moment C.left_since C.failure_count self.old.cell self.new.cell }
+        ensures put { IfOk result
+            (IsPut (C.fits self.old.cell (decided self.old.state.kept))
+            (C.failure_count self.old.cell) (C.failure_count self.new.cell)) }
+        ensures unchanged { LeavesCell result
+            → IsUnchanged C.value C.is_ready C.may_leave C.moment C.left_since C.failure_count
+            self.old.cell self.new.cell }
         ensures any_moment { LeavesOnly C.moment C.left_since self.old.cell self.new.cell
             (λ left. C.may_leave self.old.cell left ⊎ (left ≡ Some (decided self.old.state.kept))) }
         ensures same_number { self.new.number ≡ self.old.number }
@@ -103,20 +122,27 @@ impl<C: StableCell> Node<C> {
         requires { HasNext (log_of self.old.state.current channel) (length (O.taken outlet.old)) }
         ensures ok { OnOk result (length (O.taken outlet.new) ≡ length (O.taken outlet.old) + 1) }
         ensures no_memory { IsErrOf result OutletFault.NoMemory
-            → (O.taken outlet.new ≡ O.taken outlet.old) × (node_view self.new.state ≡ node_view self.old.state) }
+            → (O.taken outlet.new ≡ O.taken outlet.old)
+            × (node_view self.new.state ≡ node_view self.old.state) }
         ensures failed { IsErrOf result OutletFault.Failed
             → (length (O.taken outlet.new) ≡ length (O.taken outlet.old))
             ⊎ (length (O.taken outlet.new) ≡ length (O.taken outlet.old) + 1) }
-        ensures trimmed { ¬ (IsErrOf result OutletFault.NoMemory) → node_view self.new.state
-            ≡ with_current (trimmed_image channel (length (O.taken outlet.new)) self.old.state.current) (node_view self.old.state) }
+        ensures trimmed { ¬ (IsErrOf result OutletFault.NoMemory)
+            → node_view self.new.state
+            ≡ with_current (trimmed_image channel
+            (length (O.taken outlet.new)) self.old.state.current) (node_view self.old.state) }
         ensures item { OnOk result
-            (TookNext (log_of self.old.state.current channel) (O.taken outlet.old) (O.taken outlet.new)) }
+            (TookNext (log_of self.old.state.current channel) (O.taken outlet.old)
+            (O.taken outlet.new)) }
         ensures failed_item { IsErrOf result OutletFault.Failed
             → (O.taken outlet.new ≡ O.taken outlet.old)
-            ⊎ (TookNext (log_of self.old.state.current channel) (O.taken outlet.old) (O.taken outlet.new)) }
+            ⊎ (TookNext (log_of self.old.state.current channel) (O.taken outlet.old)
+            (O.taken outlet.new)) }
         ensures begins { IsPrefix (O.taken outlet.old) (O.taken outlet.new) }
-        ensures history { (log : LogState) (history : List ℤ) → log_of self.old.state.current channel ≡ Some log → IsLogOf log history
-            → IsPrefix (O.taken outlet.old) history → IsPrefix (O.taken outlet.new) history }
+        ensures history { (log : LogState)
+            (history : List ℤ) → log_of self.old.state.current channel ≡ Some log
+            → IsLogOf log history → IsPrefix (O.taken outlet.old) history
+            → IsPrefix (O.taken outlet.new) history }
         ensures count { O.failures outlet.new ≡ failures_after result (O.failures outlet.old) }
         ensures same { (self.new.cell ≡ self.old.cell) × (self.new.number ≡ self.old.number) }
     {

@@ -66,7 +66,8 @@ fn copy_items(
     process: usize,
 ) -> Result<Vec<History>, AllocError>
     requires { length channels.now ≤ MAX_CHANNELS }
-    ensures { IfOk result (λ items. items.items ≡ items_from inputs.now image.now process 0 channels.now) }
+    ensures { IfOk result (λ items. items.items
+        ≡ items_from inputs.now image.now process 0 channels.now) }
 {
     let mut items = Vec::with_capacity(alloc, channels.len())?;
     for (number, channel) in channels.iter().enumerate() {
@@ -124,7 +125,10 @@ pub(crate) fn make_job(
     version: u64,
 ) -> Result<Job, AllocError>
     requires { process < length net.now.value.program.processes.items }
-    ensures job { IfOk result (λ job. job_view job ≡ job_for (network_of net.now.value.program) inputs.now image.now process (standing_of state.now) version) }
+    ensures job { IfOk result
+        (λ job. job_view job ≡ job_for
+        (network_of net.now.value.program) inputs.now image.now process
+        (standing_of state.now) version) }
 {
     Ok(Job {
         net: Arc::try_clone(net)?,

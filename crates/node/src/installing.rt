@@ -64,7 +64,8 @@ fn push_sent(
 ) -> Result<(), LogFault>
     requires within { from ≤ length ends.old.items }
     requires takes { (k : ℕ) (saved : SavedEnd) → from ≤ k → slice_get ends.old.items k ≡ Some saved
-        → LogTakes (length (put_on channels.now process sent.now saved.channel)) (log_at (Some (saved.end))) }
+        → LogTakes (length (put_on channels.now process sent.now saved.channel))
+        (log_at (Some (saved.end))) }
     ensures ok { OnOk result (ends.new.items ≡ take from ends.old.items
         ++ map (saved_pushed channels.now process sent.now) (drop from ends.old.items)) }
     ensures err { OnErr result (ends.new.items ≡ ends.old.items) }
@@ -87,7 +88,8 @@ fn push_sent(
 // Counts what was taken at each end.
 fn count_all(ends: &mut Vec<SavedEnd>, channels: &[Channel], process: usize, taken: &[usize])
     requires { (k : ℕ) (saved : SavedEnd) → slice_get ends.old.items k ≡ Some saved
-        → received_at (Some (saved.end)) + taken_from channels.now process taken.now saved.channel ≤ MAX_COUNT }
+        → received_at (Some (saved.end)) + taken_from channels.now process taken.now saved.channel
+        ≤ MAX_COUNT }
     ensures { ends.new.items ≡ map (saved_counted channels.now process taken.now) ends.old.items }
 {
     for saved in ends.iter_mut() {
@@ -120,7 +122,8 @@ fn install_turn(
     sent: &[History],
 ) -> Result<(), LogFault>
     requires { ImageTakes channels.now process taken.now sent.now image.old }
-    ensures ok { OnOk result (image.new ≡ installed channels.now process (standing_of state.now) taken.now sent.now image.old) }
+    ensures ok { OnOk result (image.new
+        ≡ installed channels.now process (standing_of state.now) taken.now sent.now image.old) }
     ensures err { OnErr result (image.new ≡ image.old) }
     ensures full { ¬ (IsErrOf result LogFault.Full) }
 {
@@ -141,9 +144,12 @@ impl NodeState {
         done: &Done,
     ) -> Result<bool, LogFault>
         requires { IsOut (job_view done.now.job) (node_view self.old)
-            → ImageTakes channels.now done.now.job.process done.now.taken.items done.now.sent.items self.old.current }
-        ensures step { IfOk result (λ applied. IsInstall channels.now (job_view done.now.job) (standing_of done.now.state)
-            done.now.taken.items done.now.sent.items (node_view self.old) applied (node_view self.new)) }
+            → ImageTakes channels.now done.now.job.process done.now.taken.items done.now.sent.items
+            self.old.current }
+        ensures step { IfOk result
+            (λ applied. IsInstall channels.now (job_view done.now.job)
+            (standing_of done.now.state) done.now.taken.items done.now.sent.items
+            (node_view self.old) applied (node_view self.new)) }
         ensures err { OnErr result (node_view self.new ≡ node_view self.old) }
         ensures full { ¬ (IsErrOf result LogFault.Full) }
     {
@@ -166,7 +172,8 @@ impl NodeState {
 
 // Whether a job is the one that is out at a node that runs.
 fn is_out(out: &Option<Job>, up: bool, job: &Job) -> bool
-    ensures { IsTrue result ↔ ((up ≡ true) × (option_map job_view out.now ≡ Some (job_view job.now))) }
+    ensures { IsTrue result ↔ ((up ≡ true)
+        × (option_map job_view out.now ≡ Some (job_view job.now))) }
 {
     match out {
         Some(out) => up && out.is_same(job),

@@ -2,16 +2,17 @@
 ghost use Rattle.std.specs.Prelude.{◌≡◌, ◌⊎◌, ◌↔◌, false, IfOk, IfErr, OnOk, IsErrOf, IsTrue, Some};
 ghost use Rattle.std.proofs.Common.{refl, inl};
 ghost use Rattle.sector_disk.specs.Clock.{LeavesOnly, TimePasses};
+ghost use Rattle.sector_disk.specs.Past.{states_of, now_alone};
 ghost use Rattle.gate_cell.specs.CellFault.{HasCause};
 ghost use Rattle.gate_cell.specs.declared.fault.CellFault.TheVariants.{NoMemory};
 ghost use Rattle.record.specs.RecordView.{RecordView};
 ghost use Rattle.node.specs.Cell.{IsUnchanged};
-ghost use Rattle.node.specs.MemCell.{value_of, is_ready_of, may_leave_of, moment_of, left_since_of, failures_of, fits_in, only_kept};
+ghost use Rattle.node.specs.MemCell.{value_of, is_ready_of, may_leave_of, moment_of, left_since_of, failures_of, fits_in, left_of};
 
 use crate::cell::StableCell;
-use crate::past::Past;
 use gate_cell::CellFault;
 use record::Record;
+use sector_disk::Past;
 use std::alloc::Global;
 
 /// A cell in memory, which never fails: its calls refuse for want of memory alone.
@@ -21,7 +22,7 @@ use std::alloc::Global;
 pub struct MemCell {
     alloc: Global,
     kept: Record,
-    past: Past,
+    past: Past<Record>,
 }
 
 impl MemCell {
@@ -64,18 +65,21 @@ impl StableCell for MemCell {
 
     ghost value_may_stay = { λ cell ready. refl };
 
-    ghost includes_now = { λ cell t left le now. inl now };
+    ghost includes_now = { λ cell t left le now. inl (le, now) };
 
-    ghost only_now = { λ cell left since. only_kept cell.past.records cell.kept left since };
+    ghost only_now = { λ cell left since. now_alone left_of (left_of cell.kept)
+        (states_of cell.past) left since };
 
     fn get(&mut self) -> Result<Record, CellFault>
         ensures value { IfOk result (λ kept. kept ≡ value_of self.old) }
-        ensures any_moment { LeavesOnly moment_of left_since_of self.old self.new (may_leave_of self.old) }
+        ensures any_moment { LeavesOnly moment_of left_since_of self.old self.new
+            (may_leave_of self.old) }
         ensures same_value { value_of self.new ≡ value_of self.old }
         ensures same_fits { (kept : RecordView) → fits_in self.new kept ≡ fits_in self.old kept }
         ensures too_large { ¬ (IsErrOf result CellFault.TooLarge) }
         ensures unchanged { IsErrOf result CellFault.Reopen
-            → IsUnchanged value_of is_ready_of may_leave_of moment_of left_since_of failures_of self.old self.new }
+            → IsUnchanged value_of is_ready_of may_leave_of moment_of left_since_of failures_of
+            self.old self.new }
         ensures cause { HasCause (failures_of self.old) (failures_of self.new)
             (is_ready_of self.old) (is_ready_of self.new) result }
 
@@ -93,8 +97,10 @@ impl StableCell for MemCell {
         ensures same_fits { (kept : RecordView) → fits_in self.new kept ≡ fits_in self.old kept }
         ensures too_large { IsErrOf result CellFault.TooLarge
             ↔ (IsTrue (is_ready_of self.old) × (fits_in self.old next.now ≡ false)) }
-        ensures unchanged { (IsErrOf result CellFault.NoMemory ⊎ IsErrOf result CellFault.TooLarge ⊎ IsErrOf result CellFault.Reopen)
-            → IsUnchanged value_of is_ready_of may_leave_of moment_of left_since_of failures_of self.old self.new }
+        ensures unchanged { (IsErrOf result CellFault.NoMemory ⊎ IsErrOf result CellFault.TooLarge
+            ⊎ IsErrOf result CellFault.Reopen)
+            → IsUnchanged value_of is_ready_of may_leave_of moment_of left_since_of failures_of
+            self.old self.new }
         ensures cause { HasCause (failures_of self.old) (failures_of self.new)
             (is_ready_of self.old) (is_ready_of self.new) result }
 

@@ -18,5 +18,6 @@ pub struct Node<C: StableCell> {
     pub ghost listed: { number < length state.kept.highest },
     pub ghost agree: { AgreeWhileUp C.is_ready C.value state.up state.kept cell },
     pub ghost in_order: { AreInOrder state.kept state.current },
-    pub ghost durable: { (left : Option RecordView) → C.may_leave cell left → LeavesAsMuch state.kept.permanent left },
+    pub ghost durable: { (left : Option RecordView) → C.may_leave cell left
+        → LeavesAsMuch state.kept.permanent left },
 }

@@ -76,7 +76,8 @@ fn open_image(alloc: Global, net: &Net) -> Result<Image, AllocError>
 
 // What a node of so many nodes has before its first event.
 fn open_state(alloc: Global, net: &Net, nodes: usize) -> Result<NodeState, AllocError>
-    ensures { IfOk result (λ state. node_view state ≡ opening_node (network_of net.now.program) nodes) }
+    ensures { IfOk result (λ state. node_view state
+        ≡ opening_node (network_of net.now.program) nodes) }
 {
     Ok(NodeState {
         kept: Record {
@@ -108,9 +109,13 @@ impl<C: StableCell> Node<C> {
         requires ready { IsTrue (C.is_ready cell) }
         requires listed { number < nodes }
         ensures number { IfOk result (λ node. node.number ≡ number) }
-        ensures state { IfOk result (λ node. node_view node.state ≡ opening_node (network_of net.now.program) nodes) }
-        ensures fits { IfOk result (λ node. IsTrue (C.fits cell (opening_record (network_of net.now.program) nodes)) × (C.failure_count node.cell ≡ C.failure_count cell)) }
-        ensures too_large { IsErrOf result CellFault.TooLarge → C.fits cell (opening_record (network_of net.now.program) nodes) ≡ false }
+        ensures state { IfOk result
+            (λ node. node_view node.state ≡ opening_node (network_of net.now.program) nodes) }
+        ensures fits { IfOk result
+            (λ node. IsTrue (C.fits cell (opening_record (network_of net.now.program) nodes))
+            × (C.failure_count node.cell ≡ C.failure_count cell)) }
+        ensures too_large { IsErrOf result CellFault.TooLarge
+            → C.fits cell (opening_record (network_of net.now.program) nodes) ≡ false }
         ensures device { IsErrOf result CellFault.Device → HasFailed C.failure_count cell }
         ensures reopen { ¬ (IsErrOf result CellFault.Reopen) }
     {

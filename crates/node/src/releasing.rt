@@ -16,7 +16,8 @@ use retained::Log;
 fn hand_item<O: Outlet>(log: &Log, outlet: &mut O) -> Result<(), OutletFault>
     requires { CanRelease log.now (length (O.taken outlet.old)) (length (O.taken outlet.old) + 1) }
     ensures ok { OnOk result (length (O.taken outlet.new) ≡ length (O.taken outlet.old) + 1) }
-    ensures no_memory { IsErrOf result OutletFault.NoMemory → O.taken outlet.new ≡ O.taken outlet.old }
+    ensures no_memory { IsErrOf result OutletFault.NoMemory
+        → O.taken outlet.new ≡ O.taken outlet.old }
     ensures failed { IsErrOf result OutletFault.Failed
         → (length (O.taken outlet.new) ≡ length (O.taken outlet.old))
         ⊎ (length (O.taken outlet.new) ≡ length (O.taken outlet.old) + 1) }
@@ -41,17 +42,20 @@ fn hand_item<O: Outlet>(log: &Log, outlet: &mut O) -> Result<(), OutletFault>
 fn hand_next<O: Outlet>(image: &Image, channel: u8, outlet: &mut O) -> Result<(), OutletFault>
     requires { HasNext (log_of image.now channel) (length (O.taken outlet.old)) }
     ensures ok { OnOk result (length (O.taken outlet.new) ≡ length (O.taken outlet.old) + 1) }
-    ensures no_memory { IsErrOf result OutletFault.NoMemory → O.taken outlet.new ≡ O.taken outlet.old }
+    ensures no_memory { IsErrOf result OutletFault.NoMemory
+        → O.taken outlet.new ≡ O.taken outlet.old }
     ensures failed { IsErrOf result OutletFault.Failed
         → (length (O.taken outlet.new) ≡ length (O.taken outlet.old))
         ⊎ (length (O.taken outlet.new) ≡ length (O.taken outlet.old) + 1) }
-    ensures item { OnOk result (TookNext (log_of image.now channel) (O.taken outlet.old) (O.taken outlet.new)) }
+    ensures item { OnOk result
+        (TookNext (log_of image.now channel) (O.taken outlet.old) (O.taken outlet.new)) }
     ensures failed_item { IsErrOf result OutletFault.Failed
         → (O.taken outlet.new ≡ O.taken outlet.old)
         ⊎ (TookNext (log_of image.now channel) (O.taken outlet.old) (O.taken outlet.new)) }
     ensures begins { IsPrefix (O.taken outlet.old) (O.taken outlet.new) }
-    ensures history { (log : LogState) (history : List ℤ) → log_of image.now channel ≡ Some log → IsLogOf log history
-        → IsPrefix (O.taken outlet.old) history → IsPrefix (O.taken outlet.new) history }
+    ensures history { (log : LogState) (history : List ℤ) → log_of image.now channel ≡ Some log
+        → IsLogOf log history → IsPrefix (O.taken outlet.old) history
+        → IsPrefix (O.taken outlet.new) history }
     ensures count { O.failures outlet.new ≡ failures_after result (O.failures outlet.old) }
 {
     match image.log(channel) {
@@ -75,13 +79,15 @@ pub(crate) fn release_next<O: Outlet>(
         ⊎ (length (O.taken outlet.new) ≡ length (O.taken outlet.old) + 1) }
     ensures trimmed { ¬ (IsErrOf result OutletFault.NoMemory)
         → image.new ≡ trimmed_image channel (length (O.taken outlet.new)) image.old }
-    ensures item { OnOk result (TookNext (log_of image.old channel) (O.taken outlet.old) (O.taken outlet.new)) }
+    ensures item { OnOk result
+        (TookNext (log_of image.old channel) (O.taken outlet.old) (O.taken outlet.new)) }
     ensures failed_item { IsErrOf result OutletFault.Failed
         → (O.taken outlet.new ≡ O.taken outlet.old)
         ⊎ (TookNext (log_of image.old channel) (O.taken outlet.old) (O.taken outlet.new)) }
     ensures begins { IsPrefix (O.taken outlet.old) (O.taken outlet.new) }
-    ensures history { (log : LogState) (history : List ℤ) → log_of image.old channel ≡ Some log → IsLogOf log history
-        → IsPrefix (O.taken outlet.old) history → IsPrefix (O.taken outlet.new) history }
+    ensures history { (log : LogState) (history : List ℤ) → log_of image.old channel ≡ Some log
+        → IsLogOf log history → IsPrefix (O.taken outlet.old) history
+        → IsPrefix (O.taken outlet.new) history }
     ensures count { O.failures outlet.new ≡ failures_after result (O.failures outlet.old) }
 {
     match hand_next(image, channel, outlet) {

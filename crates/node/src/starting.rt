@@ -44,8 +44,10 @@ impl NodeState {
 
     // What a refused put comes to, where memory isn't what it lacked.
     fn settle(&mut self, fault: CellFault, round: u64) -> Result<Putting, AllocError>
-        ensures ok { IfOk result (λ outcome. IsFailedPut fault round (node_view self.old) outcome (node_view self.new)) }
-        ensures err { OnErr result ((fault ≡ NoMemory) × (node_view self.new ≡ node_view self.old)) }
+        ensures ok { IfOk result (λ outcome. IsFailedPut fault round (node_view self.old) outcome
+            (node_view self.new)) }
+        ensures err { OnErr result
+            ((fault ≡ NoMemory) × (node_view self.new ≡ node_view self.old)) }
     {
         match fault {
             CellFault::NoMemory => Err(AllocError),
@@ -75,8 +77,8 @@ fn own_record(alloc: Global, kept: &Record, node: u8, image: &Image) -> Result<R
     Ok(next)
 }
 
-// Whether a node may take a tentative image of its own.
-fn can_start(state: &NodeState) -> bool
+/// Whether a node may take a tentative image of its own.
+pub fn can_start(state: &NodeState) -> bool
     ensures { result ≡ may_start (node_view state.now) }
 {
     state.up && state.kept.tentative.is_none() && state.kept.decision.is_none()
@@ -92,13 +94,19 @@ pub(crate) fn put_own<C: StableCell>(
 ) -> Result<Putting, AllocError>
     requires listed { number < length state.old.kept.highest }
     requires agree { AgreeWhileUp C.is_ready C.value state.old.up state.old.kept cell.old }
-    ensures step { IfOk result (λ outcome. IsStart number round (node_view state.old) outcome (node_view state.new)) }
+    ensures step { IfOk result
+        (λ outcome. IsStart number round (node_view state.old) outcome (node_view state.new)) }
     ensures refused { OnErr result (node_view state.new ≡ node_view state.old) }
-    ensures put { IfOk result (IsPut (C.fits cell.old (with_own number state.old.current state.old.kept)) (C.failure_count cell.old) (C.failure_count cell.new)) }
-    ensures unchanged { LeavesCell result → IsUnchanged C.value C.is_ready C.may_leave C.moment C.left_since C.failure_count cell.old cell.new }
+    ensures put { IfOk result
+        (IsPut (C.fits cell.old (with_own number state.old.current state.old.kept))
+        (C.failure_count cell.old) (C.failure_count cell.new)) }
+    ensures unchanged { LeavesCell result
+        → IsUnchanged C.value C.is_ready C.may_leave C.moment C.left_since C.failure_count cell.old
+        cell.new }
     ensures agree { AgreeWhileUp C.is_ready C.value state.new.up state.new.kept cell.new }
     ensures any_moment { LeavesOnly C.moment C.left_since cell.old cell.new
-        (λ left. C.may_leave cell.old left ⊎ (left ≡ Some (with_own number state.old.current state.old.kept))) }
+        (λ left. C.may_leave cell.old left
+        ⊎ (left ≡ Some (with_own number state.old.current state.old.kept))) }
 {
     if !can_start(state) {
         return Ok(Putting::NotDue);
@@ -143,10 +151,15 @@ pub(crate) fn put_decision<C: StableCell>(
     round: u64,
 ) -> Result<Putting, AllocError>
     requires agree { AgreeWhileUp C.is_ready C.value state.old.up state.old.kept cell.old }
-    ensures step { IfOk result (λ outcome. IsDecision number round (node_view state.old) outcome (node_view state.new)) }
+    ensures step { IfOk result
+        (λ outcome. IsDecision number round (node_view state.old) outcome (node_view state.new)) }
     ensures refused { OnErr result (node_view state.new ≡ node_view state.old) }
-    ensures put { IfOk result (IsPut (C.fits cell.old (decided state.old.kept)) (C.failure_count cell.old) (C.failure_count cell.new)) }
-    ensures unchanged { LeavesCell result → IsUnchanged C.value C.is_ready C.may_leave C.moment C.left_since C.failure_count cell.old cell.new }
+    ensures put { IfOk result
+        (IsPut (C.fits cell.old (decided state.old.kept)) (C.failure_count cell.old)
+        (C.failure_count cell.new)) }
+    ensures unchanged { LeavesCell result
+        → IsUnchanged C.value C.is_ready C.may_leave C.moment C.left_since C.failure_count cell.old
+        cell.new }
     ensures agree { AgreeWhileUp C.is_ready C.value state.new.up state.new.kept cell.new }
     ensures any_moment { LeavesOnly C.moment C.left_since cell.old cell.new
         (λ left. C.may_leave cell.old left ⊎ (left ≡ Some (decided state.old.kept))) }

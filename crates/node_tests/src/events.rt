@@ -368,7 +368,8 @@ fn put_fits(end: &End, count: usize) -> bool
 
 // Whether an end takes what came of a job.
 fn end_fits(channels: &[Channel], done: &Done, saved: &SavedEnd) -> bool
-    ensures { IsTrue result → EndTakes channels.now done.now.job.process done.now.taken.items done.now.sent.items saved.now }
+    ensures { IsTrue result → EndTakes channels.now done.now.job.process done.now.taken.items
+        done.now.sent.items saved.now }
 {
     let process = done.job.process;
     let taken = count_taken(channels, process, &done.taken, saved.channel) as u64;
@@ -377,7 +378,8 @@ fn end_fits(channels: &[Channel], done: &Done, saved: &SavedEnd) -> bool
 }
 
 fn image_fits(channels: &[Channel], done: &Done, image: &Image) -> bool
-    ensures { IsTrue result → ImageTakes channels.now done.now.job.process done.now.taken.items done.now.sent.items image.now }
+    ensures { IsTrue result → ImageTakes channels.now done.now.job.process done.now.taken.items
+        done.now.sent.items image.now }
 {
     for saved in &image.ends {
         if !end_fits(channels, done, saved) {

@@ -1,10 +1,8 @@
 -- The steps of a release.
 use Rattle.std.proofs.Common.{◌≡◌, ◌⊎◌, inl, inr, ℕ, ◌+◌, ◌-◌, ◌<◌, ◌≤◌, max, List, ◌++◌, ℤ, length, take, drop, arith, rules, refl, sym, ◌∙◌, ap}
 use Rattle.std.specs.Prelude.{Err, IsErrOf}
-
 use Rattle.std.proofs.Math.Seq.{take-add}
 use Rattle.std.proofs.lemmas.List.{take-take, take_min, length-take, length-take-le, length-drop, length-append, drop-drop, append_assoc}
-
 use Rattle.retained.specs.LogState.{LogState, items_at, IsLogOf}
 use Rattle.outlet.specs.declared.fault.OutletFault.{OutletFault}
 use Rattle.outlet.specs.declared.fault.OutletFault.TheVariants.{NoMemory, Failed}

@@ -67,9 +67,9 @@ impl Job {
         self.net.program.processes[self.process].node
     }
 
-    /// Makes the process's turn: as many of its acts as the items at hand and the room allow. It
-    /// ends where the process gets from a channel with no item left in the job, puts on one with no
-    /// room left, or has finished. Refuses for want of memory alone, and then hands the job back.
+    /// Makes the process's turn: as many of its acts as the items at hand and the room allow, until
+    /// it finishes, or its next act is held back for want of an item or of a place. Refuses for
+    /// want of memory alone, and then hands the job back.
     pub fn run(self, alloc: Global) -> Result<Done, JobFault>
         ensures { MatchResult result (λ done. done.job ≡ self) (λ fault. fault.job ≡ self) }
     {

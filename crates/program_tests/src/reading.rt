@@ -10,10 +10,6 @@ use std::test::Fail;
 const SUM: &[u8] =
     b"kahn 1;\ninput i;\noutput o;\nprocess sum on 0 {\n  var a;\n  var v;\n  loop { v = get i; a = a + v; put a to o; }\n}\n";
 
-// The loop stands on line 7, and gets nothing.
-const IDLE: &[u8] =
-    b"kahn 1;\ninput i;\noutput o;\nprocess p on 0 {\n  var v;\n  v = get i;\n  loop { put v to o; }\n}\n";
-
 /// A reader that gives these bytes, and then fails.
 #[derive(Drop)]
 struct Broken<'a> {
@@ -50,14 +46,6 @@ impl Read for Slow<'_> {
     }
 }
 
-/// The line of the failure, where there is one.
-fn line_of<T: Drop>(alloc: Global, answer: Result<T, Failure>) -> Result<Option<String>, Fail> {
-    match answer {
-        Ok(_) => Ok(None),
-        Err(failure) => Ok(Some(failure.to_string(alloc)?)),
-    }
-}
-
 fn running_sum(alloc: Global) -> Result<Net, Fail> {
     match read_net(alloc, Some(SUM)) {
         Ok(net) => Ok(net),
@@ -66,55 +54,18 @@ fn running_sum(alloc: Global) -> Result<Net, Fail> {
 }
 
 #[test]
-fn networks_that_are_refused(rt: HostRuntime) -> Result<(), Fail> {
+fn an_overlong_text_and_an_absent_one(rt: HostRuntime) -> Result<(), Fail> {
     let alloc = rt.alloc();
     let long = Vec::from_elem(alloc, b' ', 1_048_577)?;
-    for (bytes, line) in [
-        (b"".as_slice(), "net line 1: refusal 3"),
-        (b"kahn 2;".as_slice(), "net line 1: refusal 3"),
-        (b"kahn 1;\n\n@".as_slice(), "net line 3: refusal 2"),
-        (IDLE, "net line 7: refusal 14"),
-        (b"kahn 1;\xff".as_slice(), "net: not text"),
-        (b"@\xc3".as_slice(), "net: not text"),
-        (long.as_slice(), "net line 1: refusal 5"),
-    ] {
-        let found = line_of(alloc, read_net(alloc, Some(bytes)))?;
-        assert_eq!(rt; found.as_ref().map(|found| found.as_str()), Some(line));
-    }
-    let found = line_of(alloc, read_net(alloc, None::<&[u8]>))?;
-    assert_eq!(rt;
-        found.as_ref().map(|found| found.as_str()),
-        Some("net: cannot be read")
-    );
-    Ok(())
-}
-
-#[test]
-fn inputs_that_are_refused(rt: HostRuntime) -> Result<(), Fail> {
-    let alloc = rt.alloc();
+    let refused = Failure::Line {
+        source: Source::Net,
+        line: 1,
+        number: 5,
+    };
+    assert_eq!(rt; read_net(alloc, Some(long.as_slice())).err(), Some(refused));
     let net = running_sum(alloc)?;
-    for (bytes, line) in [
-        (b"".as_slice(), "inputs: refusal 18"),
-        (b"# i: 1\n".as_slice(), "inputs: refusal 18"),
-        (b"i: 1 2 x\n".as_slice(), "inputs line 1: refusal 2"),
-        (b"\ni 1\n".as_slice(), "inputs line 2: refusal 2"),
-        (b"i".as_slice(), "inputs line 1: refusal 3"),
-        (
-            b"i: 9223372036854775808".as_slice(),
-            "inputs line 1: refusal 4",
-        ),
-        (b"o: 1\n".as_slice(), "inputs line 1: refusal 11"),
-        (b"i: 1\n\ni: 2\n".as_slice(), "inputs line 3: refusal 10"),
-        (b"i: 1\n\xc0".as_slice(), "inputs: not text"),
-    ] {
-        let found = line_of(alloc, read_inputs(alloc, Some(bytes), &net))?;
-        assert_eq!(rt; found.as_ref().map(|found| found.as_str()), Some(line));
-    }
-    let found = line_of(alloc, read_inputs(alloc, None::<&[u8]>, &net))?;
-    assert_eq!(rt;
-        found.as_ref().map(|found| found.as_str()),
-        Some("inputs: cannot be read")
-    );
+    let absent = read_inputs(alloc, None::<&[u8]>, &net).err();
+    assert_eq!(rt; absent, Some(Failure::Unreadable(Source::Inputs)));
     Ok(())
 }
 

@@ -33,36 +33,17 @@ fn runs_and_their_statuses(rt: HostRuntime) -> Result<(), Fail> {
     let alloc = rt.alloc();
     let bad: Option<&[u8]> = Some(b"@");
     let none: Option<&[u8]> = None;
-    for (net, inputs, written, line, status) in [
-        (
-            Some(SUM),
-            Some(b"i: 1 2 3\n".as_slice()),
-            b"o: 1 3 6\ncomplete\n".as_slice(),
-            b"".as_slice(),
-            0,
-        ),
-        (
-            Some(SUM),
-            Some(b"i: 9223372036854775807 1\n"),
-            b"o: 9223372036854775807 -9223372036854775808\ncomplete\n",
-            b"",
-            0,
-        ),
-        (Some(SUM), Some(b"i:"), b"o:\ncomplete\n", b"", 0),
-        // The network's text is read and refused before the inputs' one is.
-        (bad, bad, b"", b"net line 1: refusal 2\n", 2),
-        (bad, none, b"", b"net line 1: refusal 2\n", 2),
-        (none, bad, b"", b"net: cannot be read\n", 1),
-        (none, none, b"", b"net: cannot be read\n", 1),
-        (Some(SUM), bad, b"", b"inputs line 1: refusal 2\n", 2),
-        (Some(SUM), none, b"", b"inputs: cannot be read\n", 1),
-        (Some(SUM), Some(b"\xff"), b"", b"inputs: not text\n", 2),
-        (Some(SUM), Some(b""), b"", b"inputs: refusal 18\n", 2),
+    // The network's text is read and refused before the inputs' one is. (The table in `text_cases` has the texts.)
+    for (net, inputs, line, status) in [
+        (bad, none, b"net line 1: refusal 2\n".as_slice(), 2),
+        (none, bad, b"net: cannot be read\n", 1),
+        (Some(SUM), none, b"inputs: cannot be read\n", 1),
+        (Some(SUM), Some(b"\xff"), b"inputs: not text\n", 2),
     ] {
         let mut out = Vec::new(alloc);
         let mut err = Vec::new(alloc);
         assert_eq!(rt; run(alloc, net, inputs, &mut out, &mut err), status);
-        assert_eq!(rt; out.as_slice(), written);
+        assert_eq!(rt; out.is_empty(), true);
         assert_eq!(rt; err.as_slice(), line);
     }
     Ok(())

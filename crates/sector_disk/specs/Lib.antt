@@ -1,6 +1,7 @@
 pub mod Clock
 pub mod Disk
 pub mod DiskFault
+pub mod Past
 pub mod Images
 pub mod Doubt
 pub mod Schedule

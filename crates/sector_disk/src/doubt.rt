@@ -1,4 +1,4 @@
-// The sectors that were written since the last sync.
+//! The sectors that were written since the last sync.
 ghost use Rattle.std.specs.Prelude.{◌≡◌, ℕ, ◌+◌, ◌<◌, ◌≤◌, false, replicate, length, IfOk};
 ghost use Rattle.std.proofs.Common.{get_or};
 ghost use Rattle.sector_disk.specs.Doubt.{marked, NoneInDoubt};
@@ -8,6 +8,7 @@ use std::alloc::{AllocError, Global};
 /// A flag for each sector, and the range outside of which none is set: a sync clears that range alone.
 #[derive(Drop)]
 pub struct Doubt {
+    /// For each sector, whether it is in doubt.
     pub flags: Vec<bool>,
     first: usize,
     end: usize,

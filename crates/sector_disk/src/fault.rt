@@ -1,4 +1,4 @@
-// Why a disk refuses.
+//! Why a disk refuses.
 ghost use Rattle.std.specs.Prelude.{◌≡◌};
 ghost use Rattle.sector_disk.specs.DiskFault.{refusal_number};
 

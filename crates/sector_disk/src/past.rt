@@ -1,34 +1,35 @@
-// What a disk has been. It exists in proofs alone: it takes no memory, and its methods do nothing at run time.
-ghost use Rattle.std.specs.Prelude.{◌≡◌, ℕ, Bool, List, [], ◌∷◌, ◌++◌};
-ghost use Rattle.std.specs.Borrow.{ftrue};
+//! What a value has been. It is read in proofs alone, so it keeps no copy of anything.
+ghost use Rattle.std.specs.Prelude.{◌≡◌, [], ◌∷◌};
 
-use std::marker::{Model, PhantomData};
+use std::snapshot::Snapshot;
 
-/// Each image that a disk had, the oldest first: its bytes, and for each sector whether it was in doubt.
+/// The states that a value went through, each with those before it.
+///
+/// A state is a `Snapshot`: clauses see the value that it was, and at run time there is nothing. A past of a million
+/// states takes as much room as an empty one, and adding one never refuses.
 #[derive(Drop)]
-pub struct Past {
-    marker: PhantomData<u8>,
-    pub ghost images: { List (List ℕ × List Bool) },
+pub enum Past<T> {
+    /// It has had one state, the one that it is in.
+    Nothing,
+    /// The past before its last state, and that state.
+    After(Snapshot<Past<T>>, Snapshot<T>),
 }
 
-impl Model for Past {
-    ghost also_owns = { λ _. ftrue };
-}
+impl<T> Past<T> {
+    ghost use Rattle.sector_disk.specs.Past.{states_of};
 
-impl Past {
-    pub fn new() -> Past
-        ensures { result.images ≡ [] }
+    /// The past of what has just begun.
+    pub fn new() -> Past<T>
+        ensures { states_of result ≡ [] }
     {
-        Past {
-            marker: PhantomData,
-        }
+        Past::Nothing
     }
 
-    /// Adds an image behind the others.
-    pub fn note(&mut self, _bytes: &[u8], _in_doubt: &[bool])
-        ensures { self.new.images ≡ self.old.images ++ (_bytes.now, _in_doubt.now) ∷ [] }
-    {}
+    /// The value is about to change: it has been what it is now.
+    pub fn note(&mut self, now: &T)
+        ensures { states_of self.new ≡ now.now ∷ states_of self.old }
+    {
+        let before = Snapshot::of(self);
+        *self = Past::After(before, Snapshot::of(now));
+    }
 }
-
-// It owns nothing, so a disk may go to another thread.
-unsafe impl Send for Past {}

@@ -1,22 +1,27 @@
-// The counts of a disk's calls and failures, and the failures that are to come.
-ghost use Rattle.std.specs.Prelude.{◌≡◌, ◌-◌, ◌^◌, ◌≤◌, ◌∷◌, [], ◌++◌, ◌↔◌, IsTrue, IsSome, OnOk, OnErr, find, ◌==◌};
+//! The counts of a disk's calls and failures, and the failures that are to come.
+ghost use Rattle.std.specs.Prelude.{◌≡◌, ◌≤◌, ◌↔◌, IsTrue, IsSome, OnOk, OnErr, find, ◌==◌};
+ghost use Rattle.sector_disk.specs.declared.TheConstants.{GREATEST_COUNT};
 ghost use Rattle.sector_disk.specs.Schedule.{fault_at};
 
+use crate::GREATEST_COUNT;
 use crate::disk::ArmedFault;
 use std::alloc::{AllocError, Global};
-
-const COUNT_LIMIT: u64 = (1 << 63) - 1;
 
 /// Faults armed for device calls, by the count of calls since the last recount.
 #[derive(Drop)]
 pub struct FaultSchedule {
+    /// In the order of arming.
     pub armed: Vec<ArmedFault>,
+    /// Device calls since the last recount.
     pub calls: u64,
+    /// All calls that failed.
     pub failures: u64,
+    /// The last call that met a fault since the last recount, or 0.
+    pub failed_call: u64,
     /// The byte by which a crash fills, unless it is given one: that of the last fault met since the last crash, or 0.
     pub fill: u8,
-    ghost calls_countable: { calls ≤ 2 ^ 63 - 1 },
-    ghost failures_countable: { failures ≤ 2 ^ 63 - 1 },
+    ghost calls_countable: { calls ≤ GREATEST_COUNT },
+    ghost failures_countable: { failures ≤ GREATEST_COUNT },
 }
 
 // The first fault that is armed for the call with this count.
@@ -31,10 +36,11 @@ fn armed_for(armed: &[ArmedFault], call: u64) -> Option<ArmedFault>
     None
 }
 
+// The fault that the call with this count meets, where so many calls have failed.
 fn fault_due(armed: &[ArmedFault], call: u64, failures: u64) -> Option<ArmedFault>
     ensures { result ≡ fault_at armed.now call failures }
 {
-    if failures < COUNT_LIMIT {
+    if failures < GREATEST_COUNT {
         armed_for(armed, call)
     } else {
         None
@@ -43,22 +49,24 @@ fn fault_due(armed: &[ArmedFault], call: u64, failures: u64) -> Option<ArmedFaul
 
 impl FaultSchedule {
     ghost use Rattle.sector_disk.specs.FaultSchedule.{state_of};
-    ghost use Rattle.sector_disk.specs.Schedule.{fault_met, after_call};
+    ghost use Rattle.sector_disk.specs.Schedule.{no_faults, fault_met, after_call, after_recount, after_arming};
 
+    /// Nothing is armed or counted.
     pub fn new(alloc: Global) -> FaultSchedule
-        ensures { state_of result ≡ record { armed = []; calls = 0; failures = 0; fill = 0 } }
+        ensures { state_of result ≡ no_faults }
     {
         FaultSchedule {
             armed: Vec::new(alloc),
             calls: 0,
             failures: 0,
+            failed_call: 0,
             fill: 0,
         }
     }
 
+    /// Arms a fault behind the others.
     pub fn arm(&mut self, fault: ArmedFault) -> Result<(), AllocError>
-        ensures ok { OnOk result (state_of self.new
-            ≡ record (state_of self.old) { armed = self.old.armed.items ++ fault ∷ [] }) }
+        ensures ok { OnOk result (state_of self.new ≡ after_arming fault (state_of self.old)) }
         ensures err { OnErr result (state_of self.new ≡ state_of self.old) }
     {
         self.armed.push(fault)?;
@@ -70,16 +78,25 @@ impl FaultSchedule {
         ensures fails { IsTrue result ↔ IsSome (fault_met (state_of self.old)) }
         ensures counted { state_of self.new ≡ after_call (state_of self.old) }
     {
-        if self.calls < COUNT_LIMIT {
+        if self.calls < GREATEST_COUNT {
             self.calls += 1;
         }
         match fault_due(&self.armed, self.calls, self.failures) {
             Some(fault) => {
                 self.failures += 1;
+                self.failed_call = self.calls;
                 self.fill = fault.fill;
                 true
             }
             None => false,
         }
+    }
+
+    /// Begins the count of calls anew.
+    pub fn recount(&mut self)
+        ensures { state_of self.new ≡ after_recount (state_of self.old) }
+    {
+        self.calls = 0;
+        self.failed_call = 0;
     }
 }

@@ -2,10 +2,12 @@
 //! network. A text is a table of its parts, each with its line.
 
 use crate::asserting::{same, same_at, same_items};
-use kahn_net::{Channel, Expr, History, Port, Statement, is_same_process};
+use kahn_net::{Channel, Expr, History, Operator, Port, Statement, is_same_process};
 use net_check::{Net, NetFault, bind, check, fits};
-use kahn_net::Operator;
-use net_text::{ChannelText, Declaration, ExprText, InputLine, LinkText, LoopText, Name, NetText, NodeText, ProcessText, RawInputs, Role, StatementText, VariableText, parse};
+use net_text::{
+    ChannelText, Declaration, ExprText, InputLine, LinkText, LoopText, Name, NetText, NodeText,
+    ProcessText, RawInputs, Role, StatementText, VariableText, parse,
+};
 use std::alloc::{AllocError, Global};
 use std::process::Abort;
 use std::test::Fail;
@@ -243,7 +245,7 @@ fn refused(
     same(rt, &outcome_of(alloc, parts), &Ok(wanted), what);
 }
 
-/// `input i; output o; process sum on 0 { var a; var v; loop { v = get i; a = a + v; put a to o; } }`
+/// The tree of the running sum: `a` is what was got so far.
 fn running_sum(alloc: Global) -> Result<NetText, AllocError> {
     let mut builder = Builder::new(alloc);
     builder.add_all(&[
@@ -426,6 +428,52 @@ fn refuses_loops_and_ends(rt: HostRuntime) {
     same(&rt, &sum, &Ok((0, None)), "the running sum");
 }
 
+/// Which of two faults counts.
+#[test]
+fn refuses_the_first_fault(rt: HostRuntime) {
+    let alloc = rt.alloc();
+    let unknown = [
+        (2, Output("o")),
+        (3, Process("p", 0)),
+        (4, Put("u", "o", 4)),
+        (5, Loop),
+    ];
+    refused(
+        &rt,
+        alloc,
+        &unknown,
+        (11, Some(4)),
+        "an unknown name before a loop",
+    );
+    let node = [
+        (2, Process("p", 16)),
+        (3, Variable("v")),
+        (4, Variable("v")),
+    ];
+    refused(
+        &rt,
+        alloc,
+        &node,
+        (15, Some(2)),
+        "a node before its variables",
+    );
+}
+
+/// A process whose loop gets nothing, and one of 4,100 units behind it.
+fn idle_before_long(alloc: Global) -> Result<NetText, AllocError> {
+    let mut builder = Builder::new(alloc);
+    builder.add_all(&[
+        (2, Process("p", 0)),
+        (3, Loop),
+        (4, Process("q", 0)),
+        (5, Variable("a")),
+    ])?;
+    for _ in 0..1_025 {
+        builder.add(6, Sum("a", "a", "a"))?;
+    }
+    builder.finish()
+}
+
 /// A name of a letter and a number.
 fn numbered(alloc: Global, letter: &str, number: usize) -> Result<String, AllocError> {
     format!(in alloc; "{letter}{number}")
@@ -442,14 +490,18 @@ fn with_channels(alloc: Global, count: usize, last: &str) -> Result<NetText, All
     builder.finish()
 }
 
-fn with_processes(alloc: Global, count: usize) -> Result<NetText, AllocError> {
+fn with_processes_and(alloc: Global, count: usize, last: &str) -> Result<NetText, AllocError> {
     let mut builder = Builder::new(alloc);
     for i in 0..count {
         let text = numbered(alloc, "p", i)?;
         builder.add_process(text.as_str(), 0, 2)?;
     }
-    builder.add_process("last", 0, 3)?;
+    builder.add_process(last, 0, 3)?;
     builder.finish()
+}
+
+fn with_processes(alloc: Global, count: usize) -> Result<NetText, AllocError> {
+    with_processes_and(alloc, count, "last")
 }
 
 fn with_variables(alloc: Global, count: usize) -> Result<NetText, AllocError> {
@@ -519,6 +571,16 @@ fn refuses_past_limits(rt: HostRuntime) {
     answers(&rt, alloc, most, (14, Some(5)), "4,096 units");
     let more = with_units(alloc, 1023, 5);
     answers(&rt, alloc, more, (15, Some(2)), "4,097 units");
+    let idle = idle_before_long(alloc);
+    answers(&rt, alloc, idle, (14, Some(3)), "processes in order");
+    let again = with_processes_and(alloc, 64, "p0");
+    answers(
+        &rt,
+        alloc,
+        again,
+        (10, Some(3)),
+        "a second use and one too many",
+    );
 }
 
 /// The text of a name, empty where there is no such name.
@@ -784,6 +846,13 @@ fn refuses_many_items(rt: HostRuntime) -> Result<(), Fail> {
         &refused,
         &NetFault::Limit { line: 7 },
         "too many items",
+    );
+    let twice = refusal_of_bind(alloc, &net, &[(7, "i", &[1]), (8, "i", many.as_slice())])?;
+    same(
+        &rt,
+        &twice,
+        &NetFault::TwiceNamed { line: 8 },
+        "a second line of too many items",
     );
     Ok(())
 }

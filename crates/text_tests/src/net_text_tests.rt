@@ -2,7 +2,11 @@
 
 use crate::asserting::{same, same_at, same_items_at};
 use kahn_net::Operator;
-use net_text::{ChannelText, Declaration, ExprText, Keyword, LONGEST_TEXT, LinkText, NetText, ProcessText, Role, StatementText, Symbol, TextFault, Token, TokenKind, VariableText, parse, parse_inputs, tokens};
+use net_text::{
+    ChannelText, Declaration, ExprText, Keyword, LinkText, MAX_TEXT_BYTES, NetText, ProcessText,
+    Role, StatementText, Symbol, TextFault, Token, TokenKind, VariableText, parse, parse_inputs,
+    tokens,
+};
 use std::process::Abort;
 use std::test::Fail;
 
@@ -126,59 +130,6 @@ fn the_running_sum_is_read(rt: HostRuntime) -> Result<(), Fail> {
     is_sum_process(&rt, process)
 }
 
-#[test]
-fn texts_are_refused(rt: HostRuntime) {
-    let cases = [
-        ("", (3, 1)),
-        ("kahn 1;\n\n", (3, 3)),
-        ("kahn 2;", (3, 1)),
-        ("kahn\n2;", (3, 2)),
-        ("kahn 01; input i; output o; process p on 0 { put i", (3, 1)),
-        ("kahn 1; chan c;", (3, 1)),
-        ("kahn 1; output o;", (3, 1)),
-        ("kahn 1; input i;\n$", (2, 2)),
-        ("kahn 1; input i;\n!", (2, 2)),
-        ("kahn 1; input i; \u{e9}", (2, 1)),
-        ("kahn 1; input i; # \u{e9}\n\u{e9}", (2, 2)),
-        ("kahn 1; input i; output o process $", (3, 1)),
-        ("kahn 1; input kahn;", (3, 1)),
-        (
-            "kahn 1; input i; output o; process p on 0 { loop { put 1 - 2 to o; } }",
-            (3, 1),
-        ),
-        ("kahn 1; input i; output o; process p on 0 { }\nx", (3, 2)),
-        ("kahn 1; input i; output o; process p on 0 { }\n?", (2, 2)),
-        (
-            "kahn 1; input i; output o;\nprocess p on 0 { var v = 9223372036854775808;",
-            (4, 2),
-        ),
-        (
-            "kahn 1; input i; output o; process p on 18446744073709551616",
-            (4, 1),
-        ),
-        (
-            "kahn 1;\ninput a2345678901234567890123456789012345678901234567890123456789012345;",
-            (5, 2),
-        ),
-    ];
-    for (text, want) in cases {
-        same_at(&rt, &refusal(parse(rt.alloc(), text)), &want, &text);
-    }
-}
-
-#[test]
-fn texts_are_read(rt: HostRuntime) {
-    let cases = [
-        "kahn 01; input i; output o; process p on 0 { }",
-        "kahn 1;input i;output o;process p on 0{var v=-9223372036854775807;loop{v=get i;put v to o;}}",
-        "\tkahn\r\n1 ; # a comment with any characters: $ ! \u{e9}\n input i; output o; process p on 15 { var v; put v + 2 to o; }",
-        "kahn 1; input i; output o; process p on 0 { var a234567890123456789012345678901234567890123456789012345678901234; }",
-    ];
-    for text in cases {
-        same_at(&rt, &refusal(parse(rt.alloc(), text)), &(0, 0), &text);
-    }
-}
-
 // Asserts the text of a token.
 fn has_text(rt: &impl Abort, token: &Token<'_>, text: &str) {
     assert_eq!(rt; token.text, text);
@@ -223,7 +174,7 @@ fn tokens_are_the_longest(rt: HostRuntime) -> Result<(), Fail> {
 #[test]
 fn an_overlong_text_is_refused_first(rt: HostRuntime) -> Result<(), Fail> {
     let mut text = String::from_str(rt.alloc(), "$")?;
-    for _ in 0..LONGEST_TEXT {
+    for _ in 0..MAX_TEXT_BYTES {
         text.push_str("\n")?;
     }
     same(&rt, &refusal(parse(rt.alloc(), &text)), &(5, 1), "parsed");
@@ -256,35 +207,4 @@ fn inputs_are_read(rt: HostRuntime) -> Result<(), Fail> {
     let none = parse_inputs(rt.alloc(), "")?.lines.len();
     same(&rt, &none, &0, "lines of an empty text");
     Ok(())
-}
-
-#[test]
-fn inputs_are_refused(rt: HostRuntime) {
-    let cases = [
-        ("i 1", (2, 1)),
-        ("i: 1\n i: 1", (2, 2)),
-        ("i:1", (2, 1)),
-        ("i: 1,2", (2, 1)),
-        ("i: 1-", (2, 1)),
-        ("\ni: -", (2, 2)),
-        ("i: --1", (2, 1)),
-        ("i: +1", (2, 1)),
-        ("i:\r\r\n", (2, 1)),
-        ("i: 1\t2", (2, 1)),
-        (": 1", (2, 1)),
-        ("1: 1", (2, 1)),
-        ("\u{e9}: 1", (2, 1)),
-        ("i: 1\ni", (3, 2)),
-        ("i\r\n", (3, 1)),
-        ("i: 9223372036854775808", (4, 1)),
-        ("i: -9223372036854775809", (4, 1)),
-        ("i: 9223372036854775808x", (4, 1)),
-        (
-            "a2345678901234567890123456789012345678901234567890123456789012345",
-            (5, 1),
-        ),
-    ];
-    for (text, want) in cases {
-        same_at(&rt, &refusal(parse_inputs(rt.alloc(), text)), &want, &text);
-    }
 }

@@ -8,10 +8,12 @@ ghost use Rattle.text_tests.specs.Examples.{at_the_end, pair_net, pair_inputs, o
 ghost use Rattle.text_tests.specs.Examples.{cycle_after, zeros, ones, zero_one};
 
 use crate::asserting::{same, same_at, same_items, same_items_at};
-use kahn_net::History;
+use kahn_net::{History, Operator};
 use net_check::{Net, NetFault, bind, check};
-use kahn_net::Operator;
-use net_text::{ChannelText, Declaration, ExprText, InputLine, LinkText, LoopText, Name, NetText, NodeText, ProcessText, RawInputs, Role, StatementText, VariableText};
+use net_text::{
+    ChannelText, Declaration, ExprText, InputLine, LinkText, LoopText, Name, NetText, NodeText,
+    ProcessText, RawInputs, Role, StatementText, VariableText,
+};
 use std::alloc::{AllocError, Global};
 use std::test::Fail;
 use stream_eq::{Fault, Histories, approx, is_solution};
@@ -41,7 +43,8 @@ fn wrapping_sum_by_definition()
 /// Items of two inputs, added in pairs by one process and summed up by another: an input's last
 /// item waits for a partner.
 fn pair_by_definition()
-    ensures first { approximation pair_net pair_inputs 1 ≡ one_two ∷ tens ∷ (pos 11 ∷ pos 22 ∷ []) ∷ [] ∷ [] }
+    ensures first { approximation pair_net pair_inputs 1
+        ≡ one_two ∷ tens ∷ (pos 11 ∷ pos 22 ∷ []) ∷ [] ∷ [] }
     ensures second { approximation pair_net pair_inputs 2
         ≡ one_two ∷ tens ∷ (pos 11 ∷ pos 22 ∷ []) ∷ (pos 11 ∷ pos 33 ∷ []) ∷ [] }
 {}
@@ -52,9 +55,11 @@ fn cycle_by_definition()
     ensures first { cycle_after 1 ≡ [] ∷ zeros 1 ∷ ones 1 ∷ [] ∷ [] ∷ [] ∷ [] }
     ensures second { cycle_after 2 ≡ zero_one ∷ zeros 1 ∷ ones 1 ∷ [] ∷ [] ∷ zero_one ∷ [] }
     ensures third { cycle_after 3 ≡ zero_one ∷ zeros 1 ∷ ones 1 ∷ zeros 1 ∷ ones 1 ∷ zero_one ∷ [] }
-    ensures fourth { cycle_after 4 ≡ zero_one ∷ zeros 2 ∷ ones 2 ∷ zeros 1 ∷ ones 1 ∷ zero_one ∷ [] }
+    ensures fourth { cycle_after 4
+        ≡ zero_one ∷ zeros 2 ∷ ones 2 ∷ zeros 1 ∷ ones 1 ∷ zero_one ∷ [] }
     ensures fifth { cycle_after 5
-        ≡ (zero_one ++ zero_one) ∷ zeros 2 ∷ ones 2 ∷ zeros 1 ∷ ones 1 ∷ (zero_one ++ zero_one) ∷ [] }
+        ≡ (zero_one ++ zero_one) ∷ zeros 2 ∷ ones 2 ∷ zeros 1 ∷ ones 1 ∷
+        (zero_one ++ zero_one) ∷ [] }
 {}
 
 fn name(alloc: Global, text: &str) -> Result<Name, AllocError> {

@@ -1,8 +1,8 @@
 -- An event of a world, as a relation of what was before, what is answered, and what is after.
 --
 -- A relation goes by cases of the event; a reply that an event never has is nowhere in its case. An event that can't happen is answered by
--- `NotDue` and changes nothing, and only such an event is. What the network and the nodes' own state don't settle is whether a device or an
--- outlet fails, and whether an outlet that fails took the item.
+-- `NotDue` and changes nothing, and only such an event is. Free in it are the failures
+-- of devices and outlets alone, and of an outlet's failure, whether it took the item all the same.
 use Rattle.std.specs.Prelude.{◌≡◌, ◌⊎◌, ◌==◌, ℕ, ◌+◌, nat_lt, Bool, true, false, ◌&&◌, ◌||◌, not, if◌then◌else◌, List, [], ◌∷◌, length, Option, Some, None, slice_get, slice_set}
 use Rattle.kahn_net.specs.Syntax.{Code, network_of}
 use Rattle.kahn_net.specs.States.{standing_of}

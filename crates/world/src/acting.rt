@@ -39,10 +39,14 @@ impl RoundTurns {
 impl<C: StableCell, O: Outlet> Station<C, O> {
     // The node sends what is due: nothing, as long as there is no other node.
     fn send(&mut self, round: u64) -> Reply
-        ensures outputs { outputs_view O.taken self.new.outputs.items ≡ outputs_view O.taken self.old.outputs.items }
-        ensures same { (self.new.net ≡ self.old.net) × (self.new.inputs ≡ self.old.inputs) × (self.new.node ≡ self.old.node) }
-        ensures covered { AreCoveredSince C.moment C.left_since self.old.node.cell self.new.node.cell (outputs_view O.taken self.new.outputs.items) }
-        ensures step { IsSendOf self.old.node.state.up round (station_view self.old) result (station_view self.new) }
+        ensures outputs { outputs_view O.taken self.new.outputs.items
+            ≡ outputs_view O.taken self.old.outputs.items }
+        ensures same { (self.new.net ≡ self.old.net) × (self.new.inputs ≡ self.old.inputs)
+            × (self.new.node ≡ self.old.node) }
+        ensures covered { AreCoveredSince C.moment C.left_since self.old.node.cell
+            self.new.node.cell (outputs_view O.taken self.new.outputs.items) }
+        ensures step { IsSendOf self.old.node.state.up round (station_view self.old) result
+            (station_view self.new) }
     {
         let node = &self.node;
         if !node.state.up {
@@ -55,9 +59,12 @@ impl<C: StableCell, O: Outlet> Station<C, O> {
 
     // The node lets its turn pass.
     fn idle(&mut self, round: u64) -> Reply
-        ensures outputs { outputs_view O.taken self.new.outputs.items ≡ outputs_view O.taken self.old.outputs.items }
-        ensures same { (self.new.net ≡ self.old.net) × (self.new.inputs ≡ self.old.inputs) × (self.new.node ≡ self.old.node) }
-        ensures covered { AreCoveredSince C.moment C.left_since self.old.node.cell self.new.node.cell (outputs_view O.taken self.new.outputs.items) }
+        ensures outputs { outputs_view O.taken self.new.outputs.items
+            ≡ outputs_view O.taken self.old.outputs.items }
+        ensures same { (self.new.net ≡ self.old.net) × (self.new.inputs ≡ self.old.inputs)
+            × (self.new.node ≡ self.old.node) }
+        ensures covered { AreCoveredSince C.moment C.left_since self.old.node.cell
+            self.new.node.cell (outputs_view O.taken self.new.outputs.items) }
         ensures step { IsIdle round (station_view self.old) result (station_view self.new) }
     {
         self.turns = self.turns.of(round).with_idle();
@@ -71,11 +78,16 @@ impl<C: StableCell, O: Outlet> Station<C, O> {
         round: u64,
         event: &Event,
     ) -> Result<Reply, AllocError>
-        ensures same { (self.new.net ≡ self.old.net) × (self.new.inputs ≡ self.old.inputs) × (self.new.node.number ≡ self.old.node.number) }
+        ensures same { (self.new.net ≡ self.old.net) × (self.new.inputs ≡ self.old.inputs)
+            × (self.new.node.number ≡ self.old.node.number) }
         ensures grown { HasGrown C.moment C.left_since self.old.node.cell self.new.node.cell
-            (outputs_view O.taken self.old.outputs.items) (outputs_view O.taken self.new.outputs.items) }
-        ensures refused { OnErr result ((station_view self.new ≡ station_view self.old) × TakesMemory event.now) }
-        ensures step { IfOk result (λ reply. IsStationStep (C.fits self.old.node.cell) round event.now (station_view self.old) reply (station_view self.new)) }
+            (outputs_view O.taken self.old.outputs.items)
+            (outputs_view O.taken self.new.outputs.items) }
+        ensures refused { OnErr result
+            ((station_view self.new ≡ station_view self.old) × TakesMemory event.now) }
+        ensures step { IfOk result
+            (λ reply. IsStationStep (C.fits self.old.node.cell) round event.now
+            (station_view self.old) reply (station_view self.new)) }
         ensures unchanged { LeavesCells result → IsCellUnchanged self.old self.new }
     {
         match event {

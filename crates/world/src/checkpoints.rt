@@ -59,12 +59,17 @@ fn decision_reply(putting: Putting) -> Reply
 impl<C: StableCell, O: Outlet> Station<C, O> {
     /// Begins a checkpoint.
     pub(crate) fn start(&mut self, alloc: Global, round: u64) -> Result<Reply, AllocError>
-        ensures outputs { outputs_view O.taken self.new.outputs.items ≡ outputs_view O.taken self.old.outputs.items }
-        ensures same { (self.new.net ≡ self.old.net) × (self.new.inputs ≡ self.old.inputs) × (self.new.node.number ≡ self.old.node.number) }
-        ensures covered { AreCoveredSince C.moment C.left_since self.old.node.cell self.new.node.cell (outputs_view O.taken self.new.outputs.items) }
+        ensures outputs { outputs_view O.taken self.new.outputs.items
+            ≡ outputs_view O.taken self.old.outputs.items }
+        ensures same { (self.new.net ≡ self.old.net) × (self.new.inputs ≡ self.old.inputs)
+            × (self.new.node.number ≡ self.old.node.number) }
+        ensures covered { AreCoveredSince C.moment C.left_since self.old.node.cell
+            self.new.node.cell (outputs_view O.taken self.new.outputs.items) }
         ensures later { C.moment self.old.node.cell ≤ C.moment self.new.node.cell }
         ensures refused { OnErr result (station_view self.new ≡ station_view self.old) }
-        ensures step { IfOk result (λ reply. IsBegun (C.fits self.old.node.cell) round (station_view self.old) reply (station_view self.new)) }
+        ensures step { IfOk result
+            (λ reply. IsBegun (C.fits self.old.node.cell) round (station_view self.old) reply
+            (station_view self.new)) }
         ensures unchanged { LeavesCells result → IsCellUnchanged self.old self.new }
     {
         let putting = self.node.start(alloc, round)?;
@@ -73,12 +78,17 @@ impl<C: StableCell, O: Outlet> Station<C, O> {
 
     /// Makes the station's own tentative image permanent.
     pub(crate) fn decide(&mut self, alloc: Global, round: u64) -> Result<Reply, AllocError>
-        ensures outputs { outputs_view O.taken self.new.outputs.items ≡ outputs_view O.taken self.old.outputs.items }
-        ensures same { (self.new.net ≡ self.old.net) × (self.new.inputs ≡ self.old.inputs) × (self.new.node.number ≡ self.old.node.number) }
-        ensures covered { AreCoveredSince C.moment C.left_since self.old.node.cell self.new.node.cell (outputs_view O.taken self.new.outputs.items) }
+        ensures outputs { outputs_view O.taken self.new.outputs.items
+            ≡ outputs_view O.taken self.old.outputs.items }
+        ensures same { (self.new.net ≡ self.old.net) × (self.new.inputs ≡ self.old.inputs)
+            × (self.new.node.number ≡ self.old.node.number) }
+        ensures covered { AreCoveredSince C.moment C.left_since self.old.node.cell
+            self.new.node.cell (outputs_view O.taken self.new.outputs.items) }
         ensures later { C.moment self.old.node.cell ≤ C.moment self.new.node.cell }
         ensures refused { OnErr result (station_view self.new ≡ station_view self.old) }
-        ensures step { IfOk result (λ reply. IsDecided (C.fits self.old.node.cell) round (station_view self.old) reply (station_view self.new)) }
+        ensures step { IfOk result
+            (λ reply. IsDecided (C.fits self.old.node.cell) round (station_view self.old) reply
+            (station_view self.new)) }
         ensures unchanged { LeavesCells result → IsCellUnchanged self.old self.new }
     {
         let putting = self.node.decide(alloc, round)?;

@@ -32,8 +32,10 @@ fn add_output(
     channel: &Channel,
 ) -> Result<(), AllocError>
     requires { AllByRecursion (IsUnused (λ taken. taken)) outputs.old.items }
-    ensures listed { OnOk result (map (λ output. output.channel) outputs.new.items
-        ≡ map (λ output. output.channel) outputs.old.items ++ (if goes_outside channel.now.consumer then number ∷ [] else [])) }
+    ensures listed { OnOk result
+        (map (λ output. output.channel) outputs.new.items
+        ≡ map (λ output. output.channel) outputs.old.items
+        ++ (if goes_outside channel.now.consumer then number ∷ [] else [])) }
     ensures empty { OnOk result (AllByRecursion (IsUnused (λ taken. taken)) outputs.new.items) }
 {
     if let Port::Outside = channel.consumer {
@@ -49,7 +51,8 @@ fn add_output(
 // An outlet in memory for each channel whose items go outside.
 fn open_outputs(alloc: Global, channels: &[Channel]) -> Result<Vec<Output<ListOutlet>>, AllocError>
     requires { length channels.now ≤ MAX_CHANNELS }
-    ensures listed { IfOk result (λ outputs. map (λ output. output.channel) outputs.items ≡ output_channels 0 channels.now) }
+    ensures listed { IfOk result
+        (λ outputs. map (λ output. output.channel) outputs.items ≡ output_channels 0 channels.now) }
     ensures empty { IfOk result
         (λ outputs. AllByRecursion (IsUnused (λ taken. taken)) outputs.items) }
 {
@@ -62,7 +65,9 @@ fn open_outputs(alloc: Global, channels: &[Channel]) -> Result<Vec<Output<ListOu
 
 /// An outlet in memory for each output of a network.
 pub fn list_outputs(alloc: Global, net: &Net) -> Result<Vec<Output<ListOutlet>>, AllocError>
-    ensures listed { IfOk result (λ outputs. map (λ output. output.channel) outputs.items ≡ output_channels 0 (network_of net.now.program).channels) }
+    ensures listed { IfOk result
+        (λ outputs. map (λ output. output.channel) outputs.items
+        ≡ output_channels 0 (network_of net.now.program).channels) }
     ensures empty { IfOk result
         (λ outputs. AllByRecursion (IsUnused (λ taken. taken)) outputs.items) }
 {
@@ -97,15 +102,24 @@ impl<C: StableCell, O: Outlet> Station<C, O> {
     ) -> Result<Station<C, O>, CellFault>
         requires fits { Fits (network_of net.value.program) inputs.value }
         requires ready { IsTrue (C.is_ready cell) }
-        requires listed { map (λ output. output.channel) outputs.items ≡ output_channels 0 (network_of net.value.program).channels }
+        requires listed { map (λ output. output.channel) outputs.items
+            ≡ output_channels 0 (network_of net.value.program).channels }
         requires empty { AllByRecursion (IsUnused O.taken) outputs.items }
-        ensures node { IfOk result (λ station. node_view station.node.state ≡ opening_node (network_of net.value.program) 1) }
-        ensures opening { IfOk result (λ station. station_view station
+        ensures node { IfOk result
+            (λ station. node_view station.node.state
+            ≡ opening_node (network_of net.value.program) 1) }
+        ensures opening { IfOk result
+            (λ station. station_view station
             ≡ opening_station (network_of net.value.program) inputs.value (C.failure_count cell)
             (outlet_views O.taken O.failures outputs.items)) }
-        ensures same { IfOk result (λ station. (station.net ≡ net) × (station.inputs ≡ inputs) × (station.outputs ≡ outputs)) }
-        ensures fits { IfOk result (λ station. IsTrue (C.fits cell (opening_record (network_of net.value.program) 1)) × (C.failure_count station.node.cell ≡ C.failure_count cell)) }
-        ensures too_large { IsErrOf result CellFault.TooLarge → C.fits cell (opening_record (network_of net.value.program) 1) ≡ false }
+        ensures same { IfOk result
+            (λ station. (station.net ≡ net) × (station.inputs ≡ inputs)
+            × (station.outputs ≡ outputs)) }
+        ensures fits { IfOk result
+            (λ station. IsTrue (C.fits cell (opening_record (network_of net.value.program) 1))
+            × (C.failure_count station.node.cell ≡ C.failure_count cell)) }
+        ensures too_large { IsErrOf result CellFault.TooLarge
+            → C.fits cell (opening_record (network_of net.value.program) 1) ≡ false }
         ensures device { IsErrOf result CellFault.Device → HasFailed C.failure_count cell }
         ensures reopen { ¬ (IsErrOf result CellFault.Reopen) }
     {
@@ -134,10 +148,12 @@ impl<C: StableCell, O: Outlet> World<C, O> {
         requires one_node { IsOnOneNode (network_of net.value.program) }
         requires fits { Fits (network_of net.value.program) inputs.value }
         requires ready { IsTrue (C.is_ready cell) }
-        requires listed { map (λ output. output.channel) outputs.items ≡ output_channels 0 (network_of net.value.program).channels }
+        requires listed { map (λ output. output.channel) outputs.items
+            ≡ output_channels 0 (network_of net.value.program).channels }
         requires empty { AllByRecursion (IsUnused O.taken) outputs.items }
         // It is the opening world of the network and the inputs, with the outlets that were given.
-        ensures opening { IfOk result (λ world. world_view world.stations.items world.round
+        ensures opening { IfOk result
+            (λ world. world_view world.stations.items world.round
             ≡ opening_world (network_of net.value.program) inputs.value (C.failure_count cell)
             (outlet_views O.taken O.failures outputs.items)) }
         ensures same { IfOk result
@@ -146,8 +162,10 @@ impl<C: StableCell, O: Outlet> World<C, O> {
             (λ world. AllByRecursion (HasOutlets outputs.items) world.stations.items) }
         ensures one { IfOk result (λ world. length world.stations.items ≡ 1) }
         // A device failure is told where the device failed, 22 where the record doesn't fit, and 23 never.
-        ensures fits { IfOk result (λ world. IsTrue (C.fits cell (opening_record (network_of net.value.program) 1))) }
-        ensures too_large { IsErrOf result CellFault.TooLarge → C.fits cell (opening_record (network_of net.value.program) 1) ≡ false }
+        ensures fits { IfOk result
+            (λ world. IsTrue (C.fits cell (opening_record (network_of net.value.program) 1))) }
+        ensures too_large { IsErrOf result CellFault.TooLarge
+            → C.fits cell (opening_record (network_of net.value.program) 1) ≡ false }
         ensures device { IsErrOf result CellFault.Device → HasFailed C.failure_count cell }
         ensures reopen { ¬ (IsErrOf result CellFault.Reopen) }
     {

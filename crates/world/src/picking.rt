@@ -4,7 +4,7 @@ ghost use Rattle.kahn_net.specs.Syntax.{network_of};
 ghost use Rattle.record.specs.Ends.{received_of, sent_of};
 ghost use Rattle.node.specs.Choosing.{next_job};
 ghost use Rattle.node.specs.NodeView.{node_view};
-ghost use Rattle.node.specs.Starting.{is_own, may_decide, may_start};
+ghost use Rattle.node.specs.Starting.{is_own, may_decide};
 ghost use Rattle.world.specs.Choice.{counts_rose, has_turn, wants_checkpoint, has_sent, station_choice, choice};
 ghost use Rattle.world.specs.Steps.{next_release};
 ghost use Rattle.world.specs.Turns.{turns_of};
@@ -15,7 +15,7 @@ use crate::releasing::next_output;
 use crate::station::Station;
 use crate::turning::MAX_GRANTS;
 use crate::world::World;
-use node::{NodeState, StableCell};
+use node::{NodeState, StableCell, can_start};
 use outlet::Outlet;
 use record::{Image, Record};
 
@@ -34,13 +34,6 @@ fn may_decide(state: &NodeState, number: u8) -> bool
     ensures { result ≡ may_decide number (node_view state.now) }
 {
     state.up && holds_own(&state.kept, number)
-}
-
-// Whether a node may take a tentative image of its own.
-fn may_start(state: &NodeState) -> bool
-    ensures { result ≡ may_start (node_view state.now) }
-{
-    state.up && state.kept.tentative.is_none() && state.kept.decision.is_none()
 }
 
 // Whether a count of this channel is above what it is in an earlier image.
@@ -82,7 +75,8 @@ impl<C: StableCell, O: Outlet> Station<C, O> {
     // Whether a job is next: a process is ready, and fewer were granted in this round than may be.
     fn has_grant(&self, round: u64) -> bool
         ensures { result ≡ (nat_lt (turns_of round self.now.turns).granted MAX_GRANTS
-            && is_some (next_job (network_of self.now.net.value.program) self.now.inputs.value (node_view self.now.node.state))) }
+            && is_some (next_job (network_of self.now.net.value.program) self.now.inputs.value
+            (node_view self.now.node.state))) }
     {
         let node = &self.node;
         self.turns.of(round).granted < MAX_GRANTS && node.state.has_job(&self.net, &self.inputs)
@@ -96,7 +90,7 @@ impl<C: StableCell, O: Outlet> Station<C, O> {
         let state = &node.state;
         has_turn(nodes, round, node.number)
             && !self.turns.of(round).started
-            && may_start(state)
+            && can_start(state)
             && has_more(&state.current, &state.kept.permanent)
     }
 

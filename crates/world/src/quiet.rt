@@ -60,7 +60,8 @@ fn is_at_rest(net: &Net, inputs: &[History], image: &Image, saved: &SavedProcess
 
 // Whether no process can do anything more.
 fn are_at_rest(net: &Net, inputs: &[History], image: &Image) -> bool
-    ensures { result ≡ are_at_rest (network_of net.now.program) inputs.now image.now image.now.processes }
+    ensures { result ≡ are_at_rest
+        (network_of net.now.program) inputs.now image.now image.now.processes }
 {
     for saved in &image.processes {
         if !is_at_rest(net, inputs, image, saved) {
@@ -86,8 +87,8 @@ impl<C: StableCell, O: Outlet> Station<C, O> {
     // Whether nothing is left to do here: the node is up, no job is out, and no process can do more than it did, all of
     // which has left.
     fn is_complete(&self) -> bool
-        ensures { result ≡ is_quiet (network_of self.now.net.value.program) self.now.inputs.value (node_view self.now.node.state)
-            (outputs_view O.taken self.now.outputs.items) }
+        ensures { result ≡ is_quiet (network_of self.now.net.value.program) self.now.inputs.value
+            (node_view self.now.node.state) (outputs_view O.taken self.now.outputs.items) }
     {
         let node = &self.node;
         let state = &node.state;

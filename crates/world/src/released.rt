@@ -12,8 +12,10 @@ use outlet::Outlet;
 
 // The items that have left by the output of this channel, where it is one of these.
 fn released_by<O: Outlet>(outputs: &[Output<O>], channel: u8) -> Option<&[i64]>
-    ensures { option_copied result ≡ option_map (λ (outlet : OutletView). outlet.taken)
-        (find (λ (outlet : OutletView). outlet.channel == channel) (outlet_views O.taken O.failures outputs.now)) }
+    ensures { option_copied result
+        ≡ option_map (λ (outlet : OutletView). outlet.taken)
+        (find (λ (outlet : OutletView). outlet.channel == channel)
+        (outlet_views O.taken O.failures outputs.now)) }
 {
     for output in outputs {
         if output.channel == channel {

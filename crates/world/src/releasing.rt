@@ -46,10 +46,12 @@ pub(crate) fn next_output<O: Outlet>(
     outputs: &[Output<O>],
     round: u64,
 ) -> Option<usize>
-    ensures waiting { IfSome result (λ j. (output : OutputView) → slice_get (outputs_view O.taken outputs.now) j ≡ Some output
+    ensures waiting { IfSome result
+        (λ j. (output : OutputView) → slice_get (outputs_view O.taken outputs.now) j ≡ Some output
         → length output.taken < sent_of kept.now.permanent output.channel) }
     ensures within { IfSome result (λ j. j < length outputs.now) }
-    ensures first { result ≡ first_waiting kept.now round 0 (outlet_views O.taken O.failures outputs.now) }
+    ensures first { result ≡ first_waiting kept.now round 0
+        (outlet_views O.taken O.failures outputs.now) }
 {
     for (j, output) in outputs.iter().enumerate() {
         if is_waiting(kept, output, round) {
@@ -65,20 +67,28 @@ fn release_at<C: StableCell, O: Outlet>(
     output: &mut Output<O>,
     round: u64,
 ) -> Result<Reply, AllocError>
-    requires { HasNext (log_of node.old.state.current output.old.channel) (length (O.taken output.old.outlet)) }
+    requires { HasNext (log_of node.old.state.current output.old.channel)
+        (length (O.taken output.old.outlet)) }
     ensures channel { output.new.channel ≡ output.old.channel }
     ensures length { (length (O.taken output.new.outlet) ≡ length (O.taken output.old.outlet))
         ⊎ (length (O.taken output.new.outlet) ≡ length (O.taken output.old.outlet) + 1) }
     ensures begins { IsPrefix (O.taken output.old.outlet) (O.taken output.new.outlet) }
-    ensures history { (log : LogState) (history : List ℤ) → log_of node.old.state.current output.old.channel ≡ Some log → IsLogOf log history
-        → IsPrefix (O.taken output.old.outlet) history → IsPrefix (O.taken output.new.outlet) history }
-    ensures refused { OnErr result ((node_view node.new.state ≡ node_view node.old.state)
+    ensures history { (log : LogState)
+        (history : List ℤ) → log_of node.old.state.current output.old.channel ≡ Some log
+        → IsLogOf log history → IsPrefix (O.taken output.old.outlet) history
+        → IsPrefix (O.taken output.new.outlet) history }
+    ensures refused { OnErr result
+        ((node_view node.new.state ≡ node_view node.old.state)
         × (outlet_view O.taken O.failures output.new ≡ outlet_view O.taken O.failures output.old)) }
-    ensures trimmed { IfOk result (λ reply. node_view node.new.state
-        ≡ with_current (trimmed_image output.old.channel (length (O.taken output.new.outlet)) node.old.state.current) (node_view node.old.state)) }
+    ensures trimmed { IfOk result
+        (λ reply. node_view node.new.state
+        ≡ with_current (trimmed_image output.old.channel
+        (length (O.taken output.new.outlet)) node.old.state.current) (node_view node.old.state)) }
     ensures same { (node.new.cell ≡ node.old.cell) × (node.new.number ≡ node.old.number) }
-    ensures handed { IfOk result (λ reply. IsHanded round (log_of node.old.state.current output.old.channel)
-        (outlet_view O.taken O.failures output.old) reply (outlet_view O.taken O.failures output.new)) }
+    ensures handed { IfOk result
+        (λ reply. IsHanded round (log_of node.old.state.current output.old.channel)
+        (outlet_view O.taken O.failures output.old) reply
+        (outlet_view O.taken O.failures output.new)) }
 {
     let channel = output.channel;
     match node.release(channel, &mut output.outlet) {
@@ -97,12 +107,17 @@ fn release_at<C: StableCell, O: Outlet>(
 impl<C: StableCell, O: Outlet> Station<C, O> {
     /// Lets one item leave.
     pub(crate) fn release(&mut self, round: u64) -> Result<Reply, AllocError>
-        ensures begins { EachBegins (outputs_view O.taken self.old.outputs.items) (outputs_view O.taken self.new.outputs.items) }
-        ensures same { (self.new.net ≡ self.old.net) × (self.new.inputs ≡ self.old.inputs) × (self.new.node.number ≡ self.old.node.number) }
+        ensures begins { EachBegins (outputs_view O.taken self.old.outputs.items)
+            (outputs_view O.taken self.new.outputs.items) }
+        ensures same { (self.new.net ≡ self.old.net) × (self.new.inputs ≡ self.old.inputs)
+            × (self.new.node.number ≡ self.old.node.number) }
         ensures cell { self.new.node.cell ≡ self.old.node.cell }
-        ensures covered { AreCoveredSince C.moment C.left_since self.old.node.cell self.new.node.cell (outputs_view O.taken self.new.outputs.items) }
+        ensures covered { AreCoveredSince C.moment C.left_since self.old.node.cell
+            self.new.node.cell (outputs_view O.taken self.new.outputs.items) }
         ensures refused { OnErr result (station_view self.new ≡ station_view self.old) }
-        ensures step { IfOk result (λ reply. IsRelease round (next_release round (station_view self.old)) (station_view self.old) reply (station_view self.new)) }
+        ensures step { IfOk result
+            (λ reply. IsRelease round (next_release round (station_view self.old))
+            (station_view self.old) reply (station_view self.new)) }
     {
         let node = &self.node;
         if !node.state.up {

@@ -25,5 +25,6 @@ pub struct Station<C: StableCell, O: Outlet> {
     pub outputs: Vec<Output<O>>,
     pub turns: RoundTurns,
     pub ghost fits: { Fits (network_of net.value.program) inputs.value },
-    pub ghost sound: { IsSound (network_of net.value.program) inputs.value (node_view node.state) (outputs_view O.taken outputs.items) },
+    pub ghost sound: { IsSound (network_of net.value.program) inputs.value (node_view node.state)
+        (outputs_view O.taken outputs.items) },
 }

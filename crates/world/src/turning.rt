@@ -51,13 +51,19 @@ impl RoundTurns {
 impl<C: StableCell, O: Outlet> Station<C, O> {
     /// Grants a job.
     pub(crate) fn grant(&mut self, alloc: Global, round: u64) -> Result<Reply, AllocError>
-        ensures outputs { outputs_view O.taken self.new.outputs.items ≡ outputs_view O.taken self.old.outputs.items }
-        ensures same { (self.new.net ≡ self.old.net) × (self.new.inputs ≡ self.old.inputs) × (self.new.node.number ≡ self.old.node.number) }
+        ensures outputs { outputs_view O.taken self.new.outputs.items
+            ≡ outputs_view O.taken self.old.outputs.items }
+        ensures same { (self.new.net ≡ self.old.net) × (self.new.inputs ≡ self.old.inputs)
+            × (self.new.node.number ≡ self.old.node.number) }
         ensures cell { self.new.node.cell ≡ self.old.node.cell }
-        ensures covered { AreCoveredSince C.moment C.left_since self.old.node.cell self.new.node.cell (outputs_view O.taken self.new.outputs.items) }
+        ensures covered { AreCoveredSince C.moment C.left_since self.old.node.cell
+            self.new.node.cell (outputs_view O.taken self.new.outputs.items) }
         ensures refused { OnErr result (station_view self.new ≡ station_view self.old) }
-        ensures step { IfOk result (λ reply. IsGrant round (next_job (network_of self.old.net.value.program) self.old.inputs.value (node_view self.old.node.state))
-            (station_view self.old) reply (station_view self.new)) }
+        ensures step { IfOk result
+            (λ reply. IsGrant round (next_job
+            (network_of self.old.net.value.program) self.old.inputs.value
+            (node_view self.old.node.state)) (station_view self.old) reply
+            (station_view self.new)) }
     {
         let granted = self.node.grant(alloc, &self.net, &self.inputs)?;
         Ok(self.turns.note_grant(granted, round))
@@ -65,12 +71,16 @@ impl<C: StableCell, O: Outlet> Station<C, O> {
 
     /// Takes in what came of a job.
     pub(crate) fn install(&mut self, alloc: Global, done: &Done) -> Result<Reply, AllocError>
-        ensures outputs { outputs_view O.taken self.new.outputs.items ≡ outputs_view O.taken self.old.outputs.items }
-        ensures same { (self.new.net ≡ self.old.net) × (self.new.inputs ≡ self.old.inputs) × (self.new.node.number ≡ self.old.node.number) }
+        ensures outputs { outputs_view O.taken self.new.outputs.items
+            ≡ outputs_view O.taken self.old.outputs.items }
+        ensures same { (self.new.net ≡ self.old.net) × (self.new.inputs ≡ self.old.inputs)
+            × (self.new.node.number ≡ self.old.node.number) }
         ensures cell { self.new.node.cell ≡ self.old.node.cell }
-        ensures covered { AreCoveredSince C.moment C.left_since self.old.node.cell self.new.node.cell (outputs_view O.taken self.new.outputs.items) }
+        ensures covered { AreCoveredSince C.moment C.left_since self.old.node.cell
+            self.new.node.cell (outputs_view O.taken self.new.outputs.items) }
         ensures refused { OnErr result (station_view self.new ≡ station_view self.old) }
-        ensures step { IfOk result (λ reply. IsInstalled done.now (station_view self.old) reply (station_view self.new)) }
+        ensures step { IfOk result
+            (λ reply. IsInstalled done.now (station_view self.old) reply (station_view self.new)) }
     {
         match self.node.install(alloc, &self.net.program.channels, done) {
             Ok(true) => Ok(Reply::Installed),

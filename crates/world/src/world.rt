@@ -112,13 +112,15 @@ impl<C: StableCell, O: Outlet> World<C, O> {
         // The network and its inputs stay.
         ensures same { AllZip IsOfSame self.old.stations.items self.new.stations.items }
         // It is a step of the world: what is answered, and what is there afterwards.
-        ensures step { IfOk result (λ reply. IsStep (rooms self.old.stations.items) event
+        ensures step { IfOk result
+            (λ reply. IsStep (rooms self.old.stations.items) event
             (world_view self.old.stations.items self.old.round) reply
             (world_view self.new.stations.items self.new.round)) }
         // What it doesn't touch stays as it was: the cells where no record was put, and all of it at a refusal.
         ensures unchanged { LeavesCells result
             → AllZip IsCellUnchanged self.old.stations.items self.new.stations.items }
-        ensures refused { OnErr result (world_view self.new.stations.items self.new.round
+        ensures refused { OnErr result
+            (world_view self.new.stations.items self.new.round
             ≡ world_view self.old.stations.items self.old.round) }
         // An event that takes no memory isn't refused.
         ensures memory { OnErr result (TakesMemory event) }

@@ -83,7 +83,9 @@ fn weak_outputs(
     fails_at: usize,
     takes_it: bool,
 ) -> Result<Vec<Output<WeakOutlet>>, Fail>
-    ensures listed { IfOk result (λ outputs. map (λ output. output.channel) outputs.items ≡ output_channels 0 (network_of net.now.program).channels) }
+    ensures listed { IfOk result
+        (λ outputs. map (λ output. output.channel) outputs.items
+        ≡ output_channels 0 (network_of net.now.program).channels) }
     ensures empty { IfOk result
         (λ outputs. AllByRecursion (IsUnused (λ outlet. outlet.items.items)) outputs.items) }
 {

@@ -1,6 +1,6 @@
 //! A cell that fails, or that has no room for a tentative image.
 
-ghost use Rattle.std.specs.Prelude.{◌≡◌, ◌||◌, not, if◌then◌else◌, IsTrue};
+ghost use Rattle.std.specs.Prelude.{◌||◌, not, if◌then◌else◌, IsTrue};
 ghost use Rattle.std.proofs.Common.{refl, inl};
 ghost use Rattle.node.specs.MemCell.{value_of, may_leave_of, moment_of, left_since_of, only_kept};
 ghost use Rattle.node.specs.Starting.{is_none};
@@ -66,7 +66,8 @@ impl StableCell for WeakCell {
 
     ghost includes_now = { λ cell t left le now. inl now };
 
-    ghost only_now = { λ cell left since. only_kept cell.inner.past.records cell.inner.kept left since };
+    ghost only_now = { λ cell left since. only_kept cell.inner.past.records cell.inner.kept left
+        since };
 
     fn get(&mut self) -> Result<Record, CellFault> {
         if self.has_failed {

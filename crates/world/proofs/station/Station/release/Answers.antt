@@ -1,5 +1,5 @@
 use Rattle.std.proofs.Common.{◌≡◌, ◌<◌, List, length, ℕ, Option, Some, None, refl, sym, ap, subst, ◌∙◌}
-use Rattle.std.specs.Prelude.{OnErr, slice_get}
+use Rattle.std.specs.Prelude.{slice_get}
 use Rattle.record.specs.RecordView.{RecordView}
 use Rattle.world.specs.Sound.{IsSound}
 use Rattle.world.specs.Covered.{AreCovered}

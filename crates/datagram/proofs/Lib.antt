@@ -1,0 +1,4 @@
+pub mod Loop
+pub mod Parts
+pub mod Exactness
+pub mod Rising

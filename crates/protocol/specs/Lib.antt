@@ -1,0 +1,9 @@
+pub mod Images
+pub mod Records
+pub mod Moves
+pub mod Nodes
+pub mod Packets
+pub mod Worlds
+pub mod Line
+pub mod Invariant
+pub mod Laws

@@ -1,0 +1,3 @@
+pub mod Rules
+pub mod Queue
+pub mod Wire

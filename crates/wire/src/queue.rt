@@ -1,0 +1,259 @@
+// The packets in flight to one node.
+ghost use Rattle.std.specs.Prelude.{◌≡◌, ◌+◌, ◌-◌, ◌≤◌, ◌<◌, ◌++◌, [], length, slice_get, slice_index, option_map, replicate, Some, IfOk, OnOk, OnErr, vec_len, vec_capacity};
+ghost use Rattle.std.specs.List.{position_from};
+ghost use Rattle.wire.specs.Queue.{flight, flights_of, is_due, without, with_delay, with_copy, counted};
+
+use crate::bytes::Bytes;
+use crate::rule::{Fate, capped_sum};
+use std::alloc::{AllocError, Global};
+use std::marker::Model;
+
+/// How many nodes there are: their numbers are below.
+pub const NODES: usize = 16;
+
+/// A packet in flight, and the round in which it is due.
+#[derive(Debug, Drop)]
+pub struct Flight {
+    /// Its bytes.
+    pub packet: Bytes,
+    /// The first round in which it is due.
+    pub due: u64,
+}
+
+/// The packets in flight to one node, in order, and how many each node sent to it.
+#[derive(Drop)]
+pub(crate) struct Queue {
+    flights: Vec<Flight>,
+    counts: [u64; NODES],
+}
+
+impl Model for Queue {
+    ghost use Rattle.std.specs.Prelude.{vec_len, vec_capacity, ◌-◌};
+    ghost use Rattle.wire.specs.Queue.{QueueState};
+
+    ghost Value = { QueueState };
+
+    ghost view = { λ queue. record {
+      flights = queue.flights.items;
+      counts = queue.counts;
+      room = vec_capacity queue.flights - vec_len queue.flights;
+    } };
+}
+
+/// A packet that is ready to be sent: where from and to, and what is to be put in flight.
+#[derive(Drop)]
+pub struct Letter {
+    from: u8,
+    to: u8,
+    flights: Vec<Flight>,
+}
+
+impl Model for Letter {
+    ghost use Rattle.wire.specs.Queue.{LetterState};
+
+    ghost Value = { LetterState };
+
+    ghost view = { λ letter. record {
+      from = letter.from;
+      to = letter.to;
+      flights = letter.flights.items;
+    } };
+}
+
+// So many packets in flight, the given one among them.
+fn copies_of(alloc: Global, packet: Bytes, copies: u64, due: u64) -> Result<Vec<Flight>, AllocError>
+    ensures { IfOk result (λ flights. flights.items ≡ replicate copies (flight packet due)) }
+{
+    let mut flights = Vec::new(alloc);
+    if copies == 0 {
+        return Ok(flights);
+    }
+    for _ in 0..copies - 1 {
+        let packet = packet.copy(alloc)?;
+        flights.push(Flight { packet, due })?;
+    }
+    flights.push(Flight { packet, due })?;
+    Ok(flights)
+}
+
+// Puts packets last, where there is room.
+fn put_last(flights: &mut Vec<Flight>, mut more: Vec<Flight>)
+    requires { vec_len flights.old + vec_len more ≤ vec_capacity flights.old }
+    ensures items { flights.new.items ≡ flights.old.items ++ more.items }
+    ensures capacity { vec_capacity flights.old ≤ vec_capacity flights.new }
+    ensures len { vec_len flights.new ≡ vec_len flights.old + vec_len more }
+{
+    let _ = flights.append(&mut more);
+}
+
+impl Letter {
+    pub(crate) fn new(
+        alloc: Global,
+        from: u8,
+        to: u8,
+        packet: Bytes,
+        fate: Fate,
+        round: u64,
+    ) -> Result<Letter, AllocError>
+        ensures { IfOk result (λ letter. letter ≡ record {
+          from = from;
+          to = to;
+          flights = flights_of fate packet round;
+        }) }
+    {
+        let due = capped_sum(round, fate.delay);
+        let flights = copies_of(alloc, packet, fate.copies, due)?;
+        Ok(Letter { from, to, flights })
+    }
+
+    /// The node that sends it.
+    pub fn from(&self) -> u8
+        ensures { result ≡ self.now.from }
+    {
+        self.from
+    }
+
+    /// The node that it is for.
+    pub fn to(&self) -> u8
+        ensures { result ≡ self.now.to }
+    {
+        self.to
+    }
+
+    /// How many packets are to be put in flight.
+    pub fn places(&self) -> usize
+        ensures { result ≡ length self.now.flights }
+    {
+        self.flights.len()
+    }
+
+    pub(crate) fn into_flights(self) -> Vec<Flight>
+        ensures { result.items ≡ self.flights }
+    {
+        self.flights
+    }
+}
+
+impl Queue {
+    ghost use Rattle.wire.specs.Wire.{is_due_at};
+
+    pub(crate) fn new(alloc: Global) -> Queue
+        ensures { (result.flights ≡ []) × (result.counts ≡ replicate NODES 0) }
+    {
+        Queue {
+            flights: Vec::new(alloc),
+            counts: [0; NODES],
+        }
+    }
+
+    pub(crate) fn len(&self) -> usize
+        ensures { result ≡ length self.now.flights }
+    {
+        self.flights.len()
+    }
+
+    pub(crate) fn packet(&self, place: usize) -> Option<&[u8]>
+        ensures { option_map (λ bytes. bytes.now) result
+            ≡ option_map (λ f. f.packet) (slice_get self.now.flights place) }
+    {
+        let found = self.flights.get(place)?;
+        Some(found.packet.as_slice())
+    }
+
+    pub(crate) fn first_due(&self, round: u64) -> Option<usize>
+        ensures { result ≡ position_from (is_due round) 0 self.now.flights }
+    {
+        self.flights.iter().position(|flight| flight.due <= round)
+    }
+
+    pub(crate) fn is_due(&self, place: usize, round: u64) -> bool
+        ensures { result ≡ is_due_at round (slice_get self.now.flights place) }
+    {
+        match self.flights.get(place) {
+            Some(flight) => flight.due <= round,
+            None => false,
+        }
+    }
+
+    pub(crate) fn reserve(&mut self, places: usize) -> Result<(), AllocError>
+        ensures same { self.new ≡ record (self.old) { room = self.new.room } }
+        ensures more { self.old.room ≤ self.new.room }
+        ensures ok { OnOk result (places ≤ self.new.room) }
+    {
+        self.flights.reserve(places)
+    }
+
+    // Puts a letter's packets last, where there is room, and counts it.
+    pub(crate) fn post(&mut self, from: u8, letter: Letter)
+        requires node { from < NODES }
+        requires room { length letter.flights ≤ self.old.room }
+        ensures posted { self.new ≡ record {
+          flights = self.old.flights ++ letter.flights;
+          counts = counted self.old.counts from;
+          room = self.new.room;
+        } }
+        ensures left { self.old.room ≤ self.new.room + length letter.flights }
+    {
+        put_last(&mut self.flights, letter.into_flights());
+        self.counts[from as usize] = capped_sum(self.counts[from as usize], 1);
+    }
+
+    // Makes room for a letter's packets, and posts it.
+    pub(crate) fn send(&mut self, from: u8, letter: Letter) -> Result<(), AllocError>
+        requires { from < NODES }
+        ensures ok { OnOk result (self.new ≡ record {
+          flights = self.old.flights ++ letter.flights;
+          counts = counted self.old.counts from;
+          room = self.new.room;
+        }) }
+        ensures err { OnErr result (self.new ≡ record (self.old) { room = self.new.room }) }
+    {
+        self.reserve(letter.places())?;
+        self.post(from, letter);
+        Ok(())
+    }
+
+    // Puts a copy of a packet last.
+    pub(crate) fn repeat(&mut self, alloc: Global, place: usize) -> Result<(), AllocError>
+        requires { place < length self.old.flights }
+        ensures ok { OnOk result (self.new ≡ record {
+          flights = with_copy self.old.flights place;
+          counts = self.old.counts;
+          room = self.new.room;
+        }) }
+        ensures err { OnErr result (self.new ≡ record (self.old) { room = self.new.room }) }
+    {
+        let original = &self.flights[place];
+        let copy = Flight {
+            packet: original.packet.copy(alloc)?,
+            due: original.due,
+        };
+        self.flights.push(copy)?;
+        Ok(())
+    }
+
+    pub(crate) fn take(&mut self, place: usize) -> Flight
+        requires { place < length self.old.flights }
+        ensures taken { slice_get self.old.flights place ≡ Some result }
+        ensures left { self.new ≡ without self.old place }
+    {
+        self.flights.remove(place)
+    }
+
+    pub(crate) fn delay(&mut self, place: usize, rounds: u64)
+        requires { place < length self.old.flights }
+        ensures { self.new ≡ record (self.old) {
+          flights = with_delay self.old.flights place rounds;
+        } }
+    {
+        let flight = &mut self.flights[place];
+        flight.due = capped_sum(flight.due, rounds);
+    }
+
+    pub(crate) fn count(&self, from: u8) -> u64
+        requires { from < NODES }
+        ensures { result ≡ slice_index self.now.counts from }
+    {
+        self.counts[from as usize]
+    }
+}

@@ -1,0 +1,250 @@
+// All that is in flight.
+ghost use Rattle.std.specs.Prelude.{◌≡◌, ◌+◌, ◌≤◌, ◌<◌, ◌++◌, [], ◌∷◌, All, length, slice_get, option_map, Some, IfOk, OnOk, OnErr};
+ghost use Rattle.std.specs.List.{position_from};
+ghost use Rattle.wire.specs.Rules.{fate_of};
+ghost use Rattle.wire.specs.Queue.{is_due, flights_of, without, with_delay, with_copy, counted};
+ghost use Rattle.wire.specs.Wire.{IsEmptyQueue, queue_at, in_flight, room_for, with_queue, with_room, nth_of, is_due_at};
+
+use crate::bytes::Bytes;
+use crate::queue::{Letter, NODES, Queue};
+use crate::rule::{Rule, capped_sum, fate_by};
+use std::alloc::{AllocError, Global};
+use std::marker::Model;
+
+/// The packets in flight to each node, in the order in which they were sent, and the rules that were armed.
+#[derive(Drop)]
+pub struct Wire {
+    queues: Vec<Queue>,
+    rules: Vec<Rule>,
+}
+
+impl Model for Wire {
+    ghost use Rattle.std.specs.Prelude.{◌≡◌, length};
+    ghost use Rattle.wire.specs.declared.queue.TheConstants.{NODES};
+    ghost use Rattle.wire.specs.Wire.{WireState};
+
+    ghost Value = { WireState };
+
+    ghost view = { λ wire. record { queues = wire.queues.items; rules = wire.rules.items } };
+
+    ghost invariant = { λ wire. length wire.queues.items ≡ NODES };
+}
+
+// So many queues with nothing in them.
+fn empty_queues(alloc: Global) -> Result<Vec<Queue>, AllocError>
+    ensures count { IfOk result (λ queues. length queues.items ≡ NODES) }
+    ensures empty { IfOk result (λ queues. All IsEmptyQueue queues.items) }
+{
+    let mut queues = Vec::with_capacity(alloc, NODES)?;
+    for _ in 0..NODES {
+        queues.push(Queue::new(alloc))?;
+    }
+    Ok(queues)
+}
+
+impl Wire {
+    /// Nothing is in flight, and no rule is armed.
+    pub fn new(alloc: Global) -> Result<Wire, AllocError>
+        ensures queues { IfOk result (λ wire. All IsEmptyQueue wire.queues) }
+        ensures nodes { IfOk result (λ wire. length wire.queues ≡ NODES) }
+        ensures rules { IfOk result (λ wire. wire.rules ≡ []) }
+    {
+        Ok(Wire {
+            queues: empty_queues(alloc)?,
+            rules: Vec::new(alloc),
+        })
+    }
+
+    /// How many packets are in flight to a node.
+    pub fn len(&self, to: u8) -> usize
+        requires { to < NODES }
+        ensures { result ≡ length (in_flight self.now to) }
+    {
+        self.queues[to as usize].len()
+    }
+
+    /// The packet at a place, from 0, of those in flight to a node.
+    pub fn packet(&self, to: u8, place: usize) -> Option<&[u8]>
+        requires { to < NODES }
+        ensures { option_map (λ bytes. bytes.now) result
+            ≡ option_map (λ f. f.packet) (slice_get (in_flight self.now to) place) }
+    {
+        self.queues[to as usize].packet(place)
+    }
+
+    /// The place of the first packet that is due in a round, of those in flight to a node.
+    pub fn first_due(&self, to: u8, round: u64) -> Option<usize>
+        requires { to < NODES }
+        ensures { result ≡ position_from (is_due round) 0 (in_flight self.now to) }
+    {
+        self.queues[to as usize].first_due(round)
+    }
+
+    /// Whether there is a packet at a place, and it is due in this round.
+    pub fn is_due(&self, to: u8, place: usize, round: u64) -> bool
+        requires { to < NODES }
+        ensures { result ≡ is_due_at round (slice_get (in_flight self.now to) place) }
+    {
+        self.queues[to as usize].is_due(place, round)
+    }
+
+    /// Takes the packet at a place out, for the node.
+    pub fn take(&mut self, to: u8, place: usize) -> Vec<u8>
+        requires node { to < NODES }
+        requires there { place < length (in_flight self.old to) }
+        ensures packet { option_map (λ f. f.packet) (slice_get (in_flight self.old to) place)
+            ≡ Some result.items }
+        ensures left { self.new ≡ with_queue self.old to (without (queue_at self.old to) place) }
+    {
+        let queue = &mut self.queues[to as usize];
+        queue.take(place).packet.into_vec()
+    }
+
+    /// The packet at a place is gone.
+    pub fn lose(&mut self, to: u8, place: usize)
+        requires node { to < NODES }
+        requires there { place < length (in_flight self.old to) }
+        ensures { self.new ≡ with_queue self.old to (without (queue_at self.old to) place) }
+    {
+        let queue = &mut self.queues[to as usize];
+        let _lost = queue.take(place);
+    }
+
+    /// The packet at a place is due so many rounds later.
+    pub fn delay(&mut self, to: u8, place: usize, rounds: u64)
+        requires node { to < NODES }
+        requires there { place < length (in_flight self.old to) }
+        ensures { let queue = queue_at self.old to in self.new ≡ with_queue self.old to
+            (record queue { flights = with_delay queue.flights place rounds }) }
+    {
+        let queue = &mut self.queues[to as usize];
+        queue.delay(place, rounds);
+    }
+
+    /// A copy of the packet at a place goes last. It is due in the round of its original. Refuses for want of memory
+    /// alone, and then the same is in flight as before.
+    pub fn repeat(&mut self, alloc: Global, to: u8, place: usize) -> Result<(), AllocError>
+        requires node { to < NODES }
+        requires there { place < length (in_flight self.old to) }
+        ensures ok { let queue = queue_at self.old to in
+            OnOk result (self.new ≡ with_queue self.old to (record {
+              flights = with_copy queue.flights place;
+              counts = queue.counts;
+              room = room_for self.new to;
+            })) }
+        ensures err { OnErr result (self.new ≡ with_room self.old to (room_for self.new to)) }
+    {
+        let queue = &mut self.queues[to as usize];
+        queue.repeat(alloc, place)
+    }
+
+    /// Arms a rule. It says nothing of packets that were sent before. Refuses for want of memory alone, and is then as
+    /// it was.
+    pub fn arm(&mut self, rule: Rule) -> Result<(), AllocError>
+        ensures ok { OnOk result (self.new
+            ≡ record (self.old) { rules = self.old.rules ++ rule ∷ [] }) }
+        ensures err { OnErr result (self.new ≡ self.old) }
+    {
+        self.rules.push(rule)?;
+        Ok(())
+    }
+
+    /// A packet made ready to be sent in this round, with what the rules make of it: the next one from this node to that, or
+    /// the one `ahead` packets later, where others are sent before it.
+    pub fn letter(
+        &self,
+        alloc: Global,
+        from: u8,
+        to: u8,
+        ahead: u64,
+        packet: Vec<u8>,
+        round: u64,
+    ) -> Result<Letter, AllocError>
+        requires sender { from < NODES }
+        requires receiver { to < NODES }
+        ensures { let nth = nth_of (queue_at self.now to) from ahead in
+            IfOk result (λ letter. letter ≡ record {
+              from = from;
+              to = to;
+              flights = flights_of (fate_of self.now.rules from to nth) packet.items round;
+            }) }
+    {
+        let count = self.queues[to as usize].count(from);
+        let nth = capped_sum(capped_sum(count, ahead), 1);
+        let fate = fate_by(&self.rules, from, to, nth);
+        Letter::new(alloc, from, to, Bytes::new(packet), fate, round)
+    }
+
+    /// Makes room for so many packets more to a node, so that `post` needs no memory for them. Changes nothing else.
+    pub fn reserve(&mut self, to: u8, places: usize) -> Result<(), AllocError>
+        requires { to < NODES }
+        ensures same { self.new ≡ with_room self.old to (room_for self.new to) }
+        ensures more { room_for self.old to ≤ room_for self.new to }
+        ensures ok { OnOk result (places ≤ room_for self.new to) }
+    {
+        let queue = &mut self.queues[to as usize];
+        queue.reserve(places)
+    }
+
+    /// Sends a letter, for which there is room: its packets go last in the queue of their node.
+    pub fn post(&mut self, letter: Letter)
+        requires sender { letter.from < NODES }
+        requires receiver { letter.to < NODES }
+        requires room { length letter.flights ≤ room_for self.old letter.to }
+        ensures posted { let queue = queue_at self.old letter.to in
+            self.new ≡ with_queue self.old letter.to (record {
+              flights = queue.flights ++ letter.flights;
+              counts = counted queue.counts letter.from;
+              room = room_for self.new letter.to;
+            }) }
+        ensures left { room_for self.old letter.to
+            ≤ room_for self.new letter.to + length letter.flights }
+    {
+        let (from, to) = (letter.from(), letter.to());
+        let queue = &mut self.queues[to as usize];
+        queue.post(from, letter);
+    }
+
+    // Makes room for a letter's packets, and posts it.
+    fn send_letter(&mut self, letter: Letter) -> Result<(), AllocError>
+        requires sender { letter.from < NODES }
+        requires receiver { letter.to < NODES }
+        ensures ok { let queue = queue_at self.old letter.to in
+            OnOk result (self.new ≡ with_queue self.old letter.to (record {
+              flights = queue.flights ++ letter.flights;
+              counts = counted queue.counts letter.from;
+              room = room_for self.new letter.to;
+            })) }
+        ensures err { OnErr result (self.new
+            ≡ with_room self.old letter.to (room_for self.new letter.to)) }
+    {
+        let (from, to) = (letter.from(), letter.to());
+        let queue = &mut self.queues[to as usize];
+        queue.send(from, letter)
+    }
+
+    /// Sends a packet in this round, as the rules have it. Takes its memory first, and refuses for want of memory
+    /// alone: then the same is in flight as before.
+    pub fn send(
+        &mut self,
+        alloc: Global,
+        from: u8,
+        to: u8,
+        packet: Vec<u8>,
+        round: u64,
+    ) -> Result<(), AllocError>
+        requires sender { from < NODES }
+        requires receiver { to < NODES }
+        ensures ok { let queue = queue_at self.old to in
+            let fate = fate_of self.old.rules from to (nth_of queue from 0) in
+            OnOk result (self.new ≡ with_queue self.old to (record {
+              flights = queue.flights ++ flights_of fate packet.items round;
+              counts = counted queue.counts from;
+              room = room_for self.new to;
+            })) }
+        ensures err { OnErr result (self.new ≡ with_room self.old to (room_for self.new to)) }
+    {
+        let letter = self.letter(alloc, from, to, 0, packet, round)?;
+        self.send_letter(letter)
+    }
+}
