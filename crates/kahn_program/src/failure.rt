@@ -69,7 +69,7 @@ impl fmt::Display for Failure {
 }
 
 impl Failure {
-    /// The program's exit status: 2 for a text that is refused, 1 for all else.
+    /// The program's exit status, where the line is written: 2 for a text that is refused, 1 for all else.
     pub fn status(self) -> u8
         ensures { result ≡ status_of self }
     {

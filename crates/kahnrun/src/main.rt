@@ -1,8 +1,8 @@
 //! `kahnrun NET INPUTS` runs the network of one file on the inputs of the other, and prints what each output
 //! released, and whether the run is complete.
 //!
-//! The exit status is 0 where it is complete, 3 where it isn't, 2 where a text or the command line is refused, and 1
-//! for any other failure.
+//! The exit status is 0 where it is complete, 3 where it isn't, 2 where a text or the command line is refused (or help
+//! is asked for), and 1 for any other failure, as where a line can't be written.
 #![tactic(auto)]
 
 use clap::Error;

@@ -1,7 +1,6 @@
-//! What a node keeps over a crash, and the cell that holds it.
+//! A node: what it has, the cell that keeps its record over a crash, and its events.
 //!
-//! A `Record` has the node's permanent checkpoint and the tentative one, as images of its processes and channels.
-//! `StableCell` is the model of what holds it: a crash at any moment of a `put` leaves the old record or the new one.
+//! `StableCell` is the model of that cell: a crash at any moment of a `put` leaves the old record or the new one.
 #![tactic(auto)]
 
 mod cell;

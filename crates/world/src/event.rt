@@ -40,7 +40,8 @@ pub enum Reply {
     Sent,
     Started,
     Decided,
-    /// A start was refused: its record would be too large (22), or its number would pass 2^63 - 1 (44).
+    /// A start or a decision was refused: its record would be too large (22), or the number of a start would pass
+    /// 2^63 - 1 (44).
     Refused(u8),
     Released(Freed),
     /// The outlet failed. It took the item or didn't.

@@ -137,7 +137,7 @@ impl<C: StableCell, O: Outlet> Station<C, O> {
 impl<C: StableCell, O: Outlet> World<C, O> {
     /// The world of a network on one node, before its first event: no process has begun, no item was received or put,
     /// and the cell holds the opening record. The outputs are those of the network, in order, and nothing has left by
-    /// them. Refuses as `put` of the cell does.
+    /// them. Refuses for want of memory (1), and with 20 and 22 as `put` of the cell does.
     pub fn new(
         alloc: Global,
         net: Arc<Net>,
