@@ -113,8 +113,9 @@ fn are_inputs_named(channels: &[Channel], named: &[bool]) -> bool
 
 /// The items of a network's inputs, from the lines of an inputs text.
 ///
-/// The first fault counts, line by line: 11 for a name that is no input, 10 for one named already, 15 for more than
-/// 1,048,576 items. At the end 18, on no line, for an input that no line names.
+/// It goes line by line and refuses the first fault: 11 where the name is none of an input's, 10 where an earlier
+/// line has it, 15 where there are more than 1,048,576 items. After the last line it refuses an input without a line
+/// by 18, which is on no line.
 pub fn bind(alloc: Global, net: &Net, inputs: RawInputs) -> Result<Inputs, NetFault>
     // Each input has exactly the items of its line.
     ensures bound { IfOk result

@@ -20,10 +20,10 @@ pub enum NetFault {
     /// Refusal 11, at the name used: nothing that it could mean is declared.
     #[error("line {line}: unknown name")]
     UnknownName { line: usize },
-    /// Refusal 12, at the name used: a put on an input, or on a channel on which another process puts.
+    /// Refusal 12, at the name used: it puts on a channel that is an input, or on which another process puts.
     #[error("line {line}: two producers")]
     TwoProducers { line: usize },
-    /// Refusal 13, at the name used: a get from an output, or from a channel from which another process gets.
+    /// Refusal 13, at the name used: it gets from a channel that is an output, or from which another process gets.
     #[error("line {line}: two consumers")]
     TwoConsumers { line: usize },
     /// Refusal 14, at the word `loop`: a pass of the loop need not get an item.

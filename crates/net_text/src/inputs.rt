@@ -180,8 +180,9 @@ fn split_lines(alloc: Global, text: &str) -> Result<Vec<&str>, AllocError>
     text.split('\n').collect(alloc)
 }
 
-/// The lines of an inputs text that name an input, in order. A line is empty, or holds spaces alone, or begins
-/// with `#`, or is a name, directly `:`, and items, each after one or more spaces; a carriage return may end it.
+/// The lines of an inputs text that name an input, in order. An entry is a name, `:` right
+/// after it, and items with one or more spaces before each; blank lines and lines that begin with `#` are passed
+/// over. A carriage return may end any of them.
 /// Refuses the first line that is none of these: 2 at a character that can't stand at its place or at a line that
 /// ends after a `-`, 3 at a line that ends before its `:`, 4 at an item past the signed 64 bits, 5 at a name of
 /// more than 64 bytes; and an over-long text by 5 on line 1 before all else.
