@@ -1,7 +1,14 @@
-use Rattle.node.specs.MemCell.{may_leave_of}
-use Rattle.world_tests.proofs.Resting.{resting}
+use Rattle.std.proofs.Common.{inl, arith}
+use Rattle.sector_disk.specs.Past.{states_of, now_alone}
+use Rattle.node.specs.MemCell.{left_of}
 use Rattle.world_tests.proofs.weak_cell.WeakCellStableCell.get.Goals as goal
 
 pub returns-then-self-clause-any_moment : goal.returns-then-self-clause-any_moment
 returns-then-self-clause-any_moment c =
-    resting c.args.self.now c.args.self.now.has_failed (may_leave_of c.args.self.now.inner) (λ left may. may)
+    let cell = c.args.self.now.inner in
+    record {
+      later = omega arith;
+      each = λ left since. now_alone left_of (left_of cell.kept) (states_of cell.past) left since;
+      before = λ t left le since. inl since;
+      keeps = λ t left le since. since;
+    }
