@@ -48,7 +48,8 @@ pub trait StableCell: Drop {
 
         // It may have looked at its device before it finds that memory is missing, so that time went on.
         ensures unchanged { IsErrOf result CellFault.Reopen
-            → IsUnchanged value is_ready may_leave moment left_since failure_count self.old self.new }
+            → IsUnchanged value is_ready may_leave moment left_since failure_count
+            self.old self.new }
         ensures cause { HasCause (failure_count self.old) (failure_count self.new)
             (is_ready self.old) (is_ready self.new) result };
 
@@ -68,7 +69,8 @@ pub trait StableCell: Drop {
         // It takes its memory before the first change.
         ensures unchanged { (IsErrOf result CellFault.NoMemory ⊎ IsErrOf result CellFault.TooLarge
             ⊎ IsErrOf result CellFault.Reopen)
-            → IsUnchanged value is_ready may_leave moment left_since failure_count self.old self.new }
+            → IsUnchanged value is_ready may_leave moment left_since failure_count
+            self.old self.new }
         ensures cause { HasCause (failure_count self.old) (failure_count self.new)
             (is_ready self.old) (is_ready self.new) result };
 

@@ -35,7 +35,8 @@ impl MemDisk {
     /// `arm`, and refuses for want of memory (1) alone.
     pub fn new(alloc: Global, sectors: usize) -> Result<MemDisk, AllocError>
         requires { SECTOR_BYTES * sectors < 2 ^ 64 }
-        ensures content { IfOk result (λ disk. content_of disk ≡ replicate (SECTOR_BYTES * sectors) 0) }
+        ensures content { IfOk result
+            (λ disk. content_of disk ≡ replicate (SECTOR_BYTES * sectors) 0) }
         ensures settled { IfOk result (λ disk. doubt_of disk ≡ replicate sectors false) }
         ensures faults { IfOk result (λ disk. faults_of disk ≡ no_faults) }
     {
@@ -99,7 +100,8 @@ impl Disk for MemDisk {
             ↔ ¬ (IsInRange (sectors_of self.old) first (length into.old)) }
         ensures out_of_range { IsErrOf result DiskFault.Range → self.new ≡ self.old }
         ensures bytes { OnOk result
-            (into.new ≡ take (length into.old) (drop (SECTOR_BYTES * first) (content_of self.old))) }
+            (into.new ≡ take (length into.old)
+            (drop (SECTOR_BYTES * first) (content_of self.old))) }
         ensures same_bytes { OnErr result (into.new ≡ into.old) }
         ensures quiet { IsQuiet content_of may_leave_of self.old self.new }
         ensures time { TimePasses moment_of left_since_of may_leave_of self.old self.new }
@@ -130,7 +132,8 @@ impl Disk for MemDisk {
             ↔ ¬ (IsInRange (sectors_of self.old) first (length bytes.now)) }
         ensures out_of_range { IsErrOf result DiskFault.Range → self.new ≡ self.old }
         ensures written { OnOk result
-            (IsOverwritten (content_of self.old) (SECTOR_BYTES * first) bytes.now (content_of self.new)) }
+            (IsOverwritten (content_of self.old) (SECTOR_BYTES * first) bytes.now
+            (content_of self.new)) }
         ensures elsewhere { SameOutside (SECTOR_BYTES * first) (length bytes.now)
             (content_of self.old) (content_of self.new) }
         ensures crash { OneStepFrom (may_leave_of self.old) (may_leave_of self.new)
@@ -143,11 +146,13 @@ impl Disk for MemDisk {
         ensures fails { IsErrOf result DiskFault.Device
             ↔ (IsInRange (sectors_of self.old) first (length bytes.now)
             × IsSome (fault_met (faults_of self.old))) }
-        ensures failed { IsErrOf result DiskFault.Device → content_of self.new ≡ content_of self.old }
+        ensures failed { IsErrOf result DiskFault.Device
+            → content_of self.new ≡ content_of self.old }
         ensures faults { ¬ (IsErrOf result DiskFault.Range)
             → faults_of self.new ≡ after_call (faults_of self.old) }
         ensures doubt { ¬ (IsErrOf result DiskFault.Range)
-            → doubt_of self.new ≡ marked first (length bytes.now / SECTOR_BYTES) (doubt_of self.old) }
+            → doubt_of self.new
+            ≡ marked first (length bytes.now / SECTOR_BYTES) (doubt_of self.old) }
     {
         if !is_in_range(self.sectors.doubt.flags.len(), first, bytes.len()) {
             return Err(DiskFault::Range);
@@ -209,7 +214,8 @@ impl Disk for MemDisk {
         ensures armed { OnOk result (armed_of self.new ≡ armed_of self.old ++ fault ∷ []) }
         ensures not_armed { OnErr result (armed_of self.new ≡ armed_of self.old) }
 
-        ensures faults { OnOk result (faults_of self.new ≡ after_arming fault (faults_of self.old)) }
+        ensures faults { OnOk result
+            (faults_of self.new ≡ after_arming fault (faults_of self.old)) }
         ensures same_faults { OnErr result (faults_of self.new ≡ faults_of self.old) }
         ensures doubt { doubt_of self.new ≡ doubt_of self.old }
     {

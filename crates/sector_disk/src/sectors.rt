@@ -60,7 +60,8 @@ impl Sectors {
     /// So many sectors of zeros, none of them in doubt.
     pub fn new(alloc: Global, count: usize) -> Result<Sectors, AllocError>
         requires { SECTOR_BYTES * count < 2 ^ 64 }
-        ensures bytes { IfOk result (λ sectors. sectors.bytes.items ≡ replicate (SECTOR_BYTES * count) 0) }
+        ensures bytes { IfOk result
+            (λ sectors. sectors.bytes.items ≡ replicate (SECTOR_BYTES * count) 0) }
         ensures flags { IfOk result (λ sectors. sectors.doubt.flags.items ≡ replicate count false) }
     {
         Ok(Sectors {
@@ -71,7 +72,8 @@ impl Sectors {
 
     /// A crash fills the sectors in doubt. After it none is.
     pub fn settle(&mut self, fill: u8)
-        ensures filled { IsSettledBy fill self.old.doubt.flags.items self.old.bytes.items self.new.bytes.items }
+        ensures filled { IsSettledBy fill self.old.doubt.flags.items self.old.bytes.items
+            self.new.bytes.items }
         ensures none { NoneInDoubt self.new.doubt.flags.items }
         ensures len { length self.new.doubt.flags.items ≡ length self.old.doubt.flags.items }
     {

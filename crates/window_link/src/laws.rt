@@ -14,5 +14,6 @@ pub fn link_law()
     ensures present { (size : ℕ) (events : List LinkEvent) → let link = run events (opening size)
         in link.reached link.receiver.epoch ≡ link.receiver.next }
     ensures acknowledged { (size : ℕ) (events : List LinkEvent) →
-        let link = run events (opening size) in link.sender.acknowledged ≤ link.reached link.sender.epoch }
+        let link = run events (opening size)
+        in link.sender.acknowledged ≤ link.reached link.sender.epoch }
 {}

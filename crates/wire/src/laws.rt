@@ -17,6 +17,7 @@ pub fn nothing_is_made_up()
     ensures gone { (test : List ℕ → Bool) (flights : List Flight) (place : ℕ)
         → AllPackets test flights → AllPackets test (remove flights place) }
     ensures arrives { (test : List ℕ → Bool) (flights : List Flight) (place : ℕ) (packet : List ℕ)
-        → AllPackets test flights → option_map (λ f. f.packet) (slice_get flights place) ≡ Some packet
+        → AllPackets test flights
+        → option_map (λ f. f.packet) (slice_get flights place) ≡ Some packet
         → IsTrue (test packet) }
 {}
