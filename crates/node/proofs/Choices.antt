@@ -1,12 +1,14 @@
 -- Which process goes on next.
 use Rattle.std.proofs.Common.{◌≡◌, ℕ, ◌<◌, ◌≤◌, Bool, true, false, ◌&&◌, List, ℤ, [], ◌∷◌, map, length, get_or, Option, Some, None, refl, sym, ap, subst, ◌∙◌, Bor}
-use Rattle.std.specs.Prelude.{slice_get, find, cond, IfSome, option_copied}
+use Rattle.std.specs.Prelude.{◌==◌, slice_get, find, cond, IfSome, option_copied}
 use Rattle.std.proofs.lemmas.Option.{slice_get_within}
 use Rattle.std.proofs.lemmas.List.{length-map}
 use Rattle.kahn_net.specs.Syntax.{Code, Network, code_of, network_of}
 use Rattle.kahn_net.specs.Processes.{Standing}
 use Rattle.kahn_net.specs.Laws.Valid.{code_at, code_past}
 use Rattle.kahn_net.specs.NextActs.{next_of}
+use Rattle.kahn_net.specs.Valid.{IsValid}
+use Rattle.kahn_net.specs.declared.limits.TheConstants.{MAX_PROCESSES}
 use Rattle.kahn_net.specs.declared.program.Channel.{Channel}
 use Rattle.kahn_net.specs.declared.program.Program.{Program}
 use Rattle.kahn_net.specs.declared.program.Process.{Process}
@@ -14,7 +16,7 @@ use Rattle.proc_step.specs.NextView.{next_view}
 use Rattle.proc_step.specs.declared.next.NextAct.{NextAct}
 use Rattle.record.specs.ProcessView.{SavedProcessView}
 use Rattle.record.specs.ImageView.{ImageView}
-use Rattle.node.specs.Choosing.{has_item, has_room, can_go, next_at, is_ready, is_after, ready_after}
+use Rattle.node.specs.Choosing.{has_item, has_room, can_go, next_at, is_ready, ready_process}
 
 -- the code of a process, as it was looked up
 pub code_found : (program : Program) (ps : List Process) (m n : ℕ) (p : Process) → ps ≡ program.processes.items → m ≡ n → m < length ps → p ≡ get_or ps m p
@@ -71,16 +73,27 @@ code_there : (net : Network) (inputs : List (List ℤ)) (image : ImageView) (num
 code_there net inputs image number standing None is goes = absurd (cc)
 code_there net inputs image number standing (Some code) is goes = slice_get_within net.codes number code is
 
-ready_there : (program : Program) (inputs : List (List ℤ)) (image : ImageView) (last : Option ℕ) (saved : SavedProcessView)
-    → ready_after (network_of program) inputs image last ≡ Some saved → saved.number < length program.processes.items
-ready_there program inputs image last saved is =
+-- there are few of them
+pub few_processes : (program : Program) → IsValid (network_of program) → length program.processes.items ≤ MAX_PROCESSES
+few_processes program valid = subst (λ (n : ℕ). n ≤ MAX_PROCESSES) (length-map program.processes.items code_of) valid.process_count
+
+-- a process that is ready is one of the network's
+pub goes_there : (program : Program) (inputs : List (List ℤ)) (image : ImageView) (saved : SavedProcessView)
+    → is_ready (network_of program) inputs image saved ≡ true → saved.number < length program.processes.items
+goes_there program inputs image saved goes =
     let net = network_of program in
-    let test : SavedProcessView → Bool = λ one. is_after last one.number && is_ready net inputs image one in
-    let goes : is_ready net inputs image saved ≡ true = second_too (is_after last saved.number) (is_ready net inputs image saved) (found_passes test image.processes saved is) in
     subst (λ (n : ℕ). saved.number < n) (length-map program.processes.items code_of) (code_there net inputs image saved.number saved.standing _ refl goes)
 
+-- and so is one that is found ready
+pub ready_there : (program : Program) (inputs : List (List ℤ)) (image : ImageView) (number : ℕ) (saved : SavedProcessView)
+    → ready_process (network_of program) inputs image number ≡ Some saved → saved.number < length program.processes.items
+ready_there program inputs image number saved is =
+    let net = network_of program in
+    let test : SavedProcessView → Bool = λ one. (one.number == number) && is_ready net inputs image one in
+    goes_there program inputs image saved (second_too (saved.number == number) (is_ready net inputs image saved) (found_passes test image.processes saved is))
+
 -- the process that is chosen is one of the network's
-pub chosen_there : (program : Program) (inputs : List (List ℤ)) (image : ImageView) (last : Option ℕ) (found : Option (Bor SavedProcessView))
-    → option_copied found ≡ ready_after (network_of program) inputs image last → IfSome found (λ saved. saved.now.number < length program.processes.items)
-chosen_there program inputs image last None is = tt
-chosen_there program inputs image last (Some saved) is = ready_there program inputs image last saved.now (sym is)
+pub chosen_there : (program : Program) (inputs : List (List ℤ)) (image : ImageView) (number : ℕ) (found : Option (Bor SavedProcessView))
+    → option_copied found ≡ ready_process (network_of program) inputs image number → IfSome found (λ saved. saved.now.number < length program.processes.items)
+chosen_there program inputs image number None is = tt
+chosen_there program inputs image number (Some saved) is = ready_there program inputs image number saved.now (sym is)

@@ -6,3 +6,4 @@ mod Keeping
 mod Sending
 mod Taking
 mod Choices
+mod Marking

@@ -1,5 +1,5 @@
 -- How many items an image has put, as turns are taken in and logs are trimmed.
-use Rattle.std.proofs.Common.{◌≡◌, ◌⊎◌, ℕ, ◌-◌, ◌<◌, ◌≤◌, Bool, true, false, List, ℤ, [], ◌∷◌, map, length, drop, Option, Some, inl, inr, refl, ap, ◌∙◌, length-append, arith}
+use Rattle.std.proofs.Common.{◌≡◌, ◌⊎◌, ℕ, ◌-◌, ◌<◌, ◌≤◌, Bool, true, false, List, ℤ, [], ◌∷◌, map, Option, Some, inl, inr, refl, ap, ◌∙◌, length-append, arith}
 use Rattle.std.specs.Prelude.{◌==◌, eqb, find, option_map}
 use Rattle.std.proofs.lemmas.List.{length-drop}
 use Rattle.std.proofs.lemmas.Bool.{cases_lt, lt-ltb, le-ltb}

@@ -1,5 +1,6 @@
 -- Which process of a node goes on next, and the job that it is given.
-use Rattle.std.specs.Prelude.{ℕ, Bool, true, false, ◌&&◌, nat_lt, if◌then◌else◌, ℤ, List, length, find, Option, Some, None, slice_get}
+use Rattle.std.specs.Prelude.{ℕ, Bool, true, false, ◌&&◌, ◌==◌, nat_lt, if◌then◌else◌, ℤ, List, length, map, find, is_some, Option, Some, None, slice_get}
+use Rattle.std.specs.List.{range_with_len}
 use Rattle.kahn_net.specs.Streams.{history_of}
 use Rattle.kahn_net.specs.Syntax.{Code, Network}
 use Rattle.kahn_net.specs.Processes.{Standing}
@@ -10,6 +11,7 @@ use Rattle.kahn_net.specs.declared.program.Port.TheVariants.{Outside, Process}
 use Rattle.record.specs.ProcessView.{SavedProcessView}
 use Rattle.record.specs.ImageView.{ImageView}
 use Rattle.record.specs.Ends.{received_of, log_of}
+use Rattle.turns.specs.Turns.{next_in_turn}
 use Rattle.node.specs.JobView.{JobView}
 use Rattle.node.specs.NodeView.{NodeView}
 use Rattle.node.specs.Granting.{room_in, job_for}
@@ -45,22 +47,21 @@ next_at (Some code) standing = next_of code standing
 abbrev pub is_ready : Network → List (List ℤ) → ImageView → SavedProcessView → Bool
 is_ready net inputs image saved = can_go net inputs image (next_at (slice_get net.codes saved.number) saved.standing)
 
--- a number comes after the last one; each does where there was none
-abbrev pub is_after : Option ℕ → ℕ → Bool
-is_after None number = true
-is_after (Some last) number = nat_lt last number
+-- the process of this number, if it is here and ready
+abbrev pub ready_process : Network → List (List ℤ) → ImageView → ℕ → Option SavedProcessView
+ready_process net inputs image number = find (λ (saved : SavedProcessView). (saved.number == number) && is_ready net inputs image saved) image.processes
 
--- the first ready process after the last one
-abbrev pub ready_after : Network → List (List ℤ) → ImageView → Option ℕ → Option SavedProcessView
-ready_after net inputs image last = find (λ (saved : SavedProcessView). is_after last saved.number && is_ready net inputs image saved) image.processes
+-- whether each of the network's processes is here and ready, in order of their numbers
+unfoldable pub ready_processes : Network → List (List ℤ) → ImageView → List Bool
+ready_processes net inputs image = map (λ (number : ℕ). is_some (ready_process net inputs image number)) (range_with_len 0 (length net.codes))
 
-abbrev pub or_else : {A : Type 0} → Option A → Option A → Option A
-or_else None other = other
-or_else (Some x) other = Some x
+abbrev pub process_at : Network → List (List ℤ) → ImageView → Option ℕ → Option SavedProcessView
+process_at net inputs image None = None
+process_at net inputs image (Some number) = ready_process net inputs image number
 
--- the ready process that comes next in order of number behind the one granted last, and behind the greatest the first one
-abbrev pub next_ready : Network → List (List ℤ) → ImageView → Option ℕ → Option SavedProcessView
-next_ready net inputs image last = or_else (ready_after net inputs image last) (ready_after net inputs image None)
+-- the ready process that is next in turn behind the one granted last
+abbrev pub next_process : Network → List (List ℤ) → ImageView → Option ℕ → Option SavedProcessView
+next_process net inputs image last = process_at net inputs image (next_in_turn last (ready_processes net inputs image))
 
 -- a node may grant a job: it runs, holds no tentative image, has no job out, and its version isn't the greatest
 abbrev pub may_grant : NodeView → Bool
@@ -72,7 +73,7 @@ job_of net inputs node (Some saved) = Some (job_for net inputs node.current save
 
 -- the job that a node grants next, if it may grant one and a process is ready
 abbrev pub next_job : Network → List (List ℤ) → NodeView → Option JobView
-next_job net inputs node = if may_grant node then job_of net inputs node (next_ready net inputs node.current node.last) else None
+next_job net inputs node = if may_grant node then job_of net inputs node (next_process net inputs node.current node.last) else None
 
 -- the node after a job was granted, or as it was
 abbrev pub after_grant : Option JobView → NodeView → NodeView

@@ -1,28 +1,25 @@
 -- Laws of a job that is granted: it is of where its process stands.
-use Rattle.std.proofs.Common.{◌≡◌, ◌⊎◌, inl, inr, ℕ, Bool, true, false, eqb, cond, ℤ, List, length, Option, Some, None, refl, ap, subst, ◌∙◌, arith}
-use Rattle.std.specs.Prelude.{slice_get, find, ◌&&◌}
+use Rattle.std.proofs.Common.{◌≡◌, ℕ, Bool, true, false, eqb, cond, ℤ, List, length, Option, Some, None, refl, ap, subst, ◌∙◌, arith}
+use Rattle.std.specs.Prelude.{slice_get, find, ◌&&◌, ◌==◌}
 use Rattle.kahn_net.specs.Syntax.{Network}
 use Rattle.record.specs.ProcessView.{SavedProcessView}
 use Rattle.record.specs.ImageView.{ImageView}
+use Rattle.turns.specs.Turns.{next_in_turn}
 use Rattle.node.specs.JobView.{JobView}
 use Rattle.node.specs.NodeView.{NodeView}
 use Rattle.node.specs.Granting.{job_for}
-use Rattle.node.specs.Choosing.{is_after, is_ready, ready_after, or_else, next_ready, may_grant, job_of, next_job}
+use Rattle.node.specs.Choosing.{is_ready, ready_processes, process_at, next_process, may_grant, job_of, next_job}
 use Rattle.node.specs.Reached.{IsLaidOut, IsJobOf}
 use Rattle.node.specs.ImageLaws.{numbered_mark, numbered_find, find_within}
 
-one_of : (first other : Option SavedProcessView) (saved : SavedProcessView) → or_else first other ≡ Some saved → (first ≡ Some saved) ⊎ (other ≡ Some saved)
-one_of None other saved h = inr h
-one_of (Some x) other saved h = inl h
-
 -- the process that is next is one of the image
-pub ready_within : (net : Network) (inputs : List (List ℤ)) (image : ImageView) (last : Option ℕ) (saved : SavedProcessView) → next_ready net inputs image last ≡ Some saved
+pub next_within : (net : Network) (inputs : List (List ℤ)) (image : ImageView) (last : Option ℕ) (saved : SavedProcessView) → next_process net inputs image last ≡ Some saved
     → (k : ℕ) × (slice_get image.processes k ≡ Some saved)
-ready_within net inputs image last saved h = at (one_of (ready_after net inputs image last) (ready_after net inputs image None) saved h)
+next_within net inputs image last saved h = at (next_in_turn last (ready_processes net inputs image)) h
   where
-    at : ((ready_after net inputs image last ≡ Some saved) ⊎ (ready_after net inputs image None ≡ Some saved)) → (k : ℕ) × (slice_get image.processes k ≡ Some saved)
-    at (inl e) = find_within (λ (s : SavedProcessView). is_after last s.number && is_ready net inputs image s) image.processes saved e
-    at (inr e) = find_within (λ (s : SavedProcessView). is_after None s.number && is_ready net inputs image s) image.processes saved e
+    at : (number : Option ℕ) → process_at net inputs image number ≡ Some saved → (k : ℕ) × (slice_get image.processes k ≡ Some saved)
+    at None e = absurd (cc)
+    at (Some number) e = find_within (λ (s : SavedProcessView). (s.number == number) && is_ready net inputs image s) image.processes saved e
 
 -- a job made from an entry of an image is of that image
 pub job_of_entry : (net : Network) (inputs : List (List ℤ)) (image : ImageView) (k : ℕ) (saved : SavedProcessView) (version : ℕ) → IsLaidOut net image → slice_get image.processes k ≡ Some saved
@@ -41,13 +38,13 @@ job_of_entry net inputs image k saved version laid is = record {
 pub job_granted : (net : Network) (inputs : List (List ℤ)) (node : NodeView) (job : JobView) → IsLaidOut net node.current → next_job net inputs node ≡ Some job → IsJobOf net inputs node.current job
 job_granted net inputs node job laid h = by_leave (may_grant node) h
   where
-    by_process : (o : Option SavedProcessView) → next_ready net inputs node.current node.last ≡ o → job_of net inputs node o ≡ Some job → IsJobOf net inputs node.current job
+    by_process : (o : Option SavedProcessView) → next_process net inputs node.current node.last ≡ o → job_of net inputs node o ≡ Some job → IsJobOf net inputs node.current job
     by_process None next e = absurd (cc)
     by_process (Some saved) next e =
-        let there = ready_within net inputs node.current node.last saved next in
+        let there = next_within net inputs node.current node.last saved next in
         let same : job_for net inputs node.current saved.number saved.standing node.version ≡ job = cc in
         subst (IsJobOf net inputs node.current) same (job_of_entry net inputs node.current there.0 saved node.version laid there.1)
 
-    by_leave : (b : Bool) → cond b (job_of net inputs node (next_ready net inputs node.current node.last)) None ≡ Some job → IsJobOf net inputs node.current job
-    by_leave true e = by_process (next_ready net inputs node.current node.last) refl e
+    by_leave : (b : Bool) → cond b (job_of net inputs node (next_process net inputs node.current node.last)) None ≡ Some job → IsJobOf net inputs node.current job
+    by_leave true e = by_process (next_process net inputs node.current node.last) refl e
     by_leave false e = absurd (cc)

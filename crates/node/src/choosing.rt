@@ -1,19 +1,20 @@
 // Which process of a node goes on next, and the job that it is given.
-ghost use Rattle.std.specs.Prelude.{◌≡◌, ◌≤◌, ◌<◌, ◌&&◌, length, slice_get, IfOk, IfSome, OnErr, is_some, option_map, option_copied};
+ghost use Rattle.std.specs.Prelude.{◌≡◌, ◌≤◌, ◌<◌, ◌&&◌, length, slice_get, take, IfOk, IfSome, OnErr, is_some, option_map, option_copied};
 ghost use Rattle.kahn_net.specs.Syntax.{network_of};
 ghost use Rattle.node.specs.JobView.{job_view};
 ghost use Rattle.node.specs.NodeView.{node_view};
-ghost use Rattle.node.specs.Choosing.{has_item, has_room, is_ready, is_after, ready_after, next_ready, may_grant, next_job, after_grant};
+ghost use Rattle.node.specs.Choosing.{has_item, has_room, is_ready, ready_process, ready_processes, next_process, may_grant, next_job, after_grant};
 ghost use Rattle.kahn_net.specs.declared.limits.TheConstants.{MAX_CHANNELS};
 
 use crate::granting::{make_job, places};
 use crate::state::NodeState;
-use kahn_net::{Channel, History, MAX_COUNT, Port};
+use kahn_net::{Channel, History, MAX_COUNT, MAX_PROCESSES, Port};
 use net_check::{Inputs, Net};
 use proc_step::{Job, NextAct, next_act};
 use record::{Image, SavedProcess};
 use std::alloc::{AllocError, Global};
 use std::sync::Arc;
+use turns::next_ready;
 
 // Whether a next item of this channel is at hand.
 fn has_item(channels: &[Channel], inputs: &[History], image: &Image, channel: usize) -> bool
@@ -55,28 +56,32 @@ fn is_ready(net: &Net, inputs: &[History], image: &Image, saved: &SavedProcess) 
     }
 }
 
-// Whether a process comes after the last one.
-fn is_after(last: Option<usize>, number: usize) -> bool
-    ensures { result ≡ is_after last number }
+// Which processes are ready here: entry p tells it of process p.
+fn ready_processes(net: &Net, inputs: &[History], image: &Image) -> [bool; MAX_PROCESSES]
+    ensures { take (length net.now.program.processes.items) result
+        ≡ ready_processes (network_of net.now.program) inputs.now image.now }
 {
-    match last {
-        Some(last) => last < number,
-        None => true,
+    let mut ready = [false; MAX_PROCESSES];
+    for saved in &image.processes {
+        if is_ready(net, inputs, image, saved) {
+            ready[usize::from(saved.number)] = true;
+        }
     }
+    ready
 }
 
-// The first ready process after the last one.
-fn first_ready<'a>(
+// The process of this number, if it is here and ready.
+fn ready_process<'a>(
     net: &Net,
     inputs: &[History],
     image: &'a Image,
-    last: Option<usize>,
+    number: u8,
 ) -> Option<&'a SavedProcess>
     ensures { option_copied result
-        ≡ ready_after (network_of net.now.program) inputs.now image.now last }
+        ≡ ready_process (network_of net.now.program) inputs.now image.now number }
 {
     for saved in &image.processes {
-        if is_after(last, usize::from(saved.number)) && is_ready(net, inputs, image, saved) {
+        if saved.number == number && is_ready(net, inputs, image, saved) {
             return Some(saved);
         }
     }
@@ -84,20 +89,21 @@ fn first_ready<'a>(
 }
 
 // The ready process with the least number after the last one, beginning again at the least.
-fn next_ready<'a>(
+fn next_process<'a>(
     net: &Net,
     inputs: &[History],
     image: &'a Image,
-    last: Option<usize>,
+    last: Option<u8>,
 ) -> Option<&'a SavedProcess>
     ensures chosen { option_copied result
-        ≡ next_ready (network_of net.now.program) inputs.now image.now last }
+        ≡ next_process (network_of net.now.program) inputs.now image.now last }
     ensures there { IfSome result
         (λ saved. saved.now.number < length net.now.program.processes.items) }
 {
-    match first_ready(net, inputs, image, last) {
-        Some(saved) => Some(saved),
-        None => first_ready(net, inputs, image, None),
+    let ready = ready_processes(net, inputs, image);
+    match next_ready(last, &ready[..net.program.processes.len()]) {
+        Some(number) => ready_process(net, inputs, image, number),
+        None => None,
     }
 }
 
@@ -114,7 +120,7 @@ impl NodeState {
         ensures { result ≡ is_some
             (next_job (network_of net.now.program) inputs.now (node_view self.now)) }
     {
-        self.can_grant() && next_ready(net, inputs.as_slice(), &self.current, self.last).is_some()
+        self.can_grant() && next_process(net, inputs.as_slice(), &self.current, self.last).is_some()
     }
 
     // The job that the node grants next.
@@ -130,7 +136,7 @@ impl NodeState {
         if !self.can_grant() {
             return Ok(None);
         }
-        match next_ready(net, inputs.as_slice(), &self.current, self.last) {
+        match next_process(net, inputs.as_slice(), &self.current, self.last) {
             Some(saved) => Ok(Some(make_job(
                 alloc,
                 net,
@@ -163,7 +169,7 @@ impl NodeState {
     {
         let job = self.next_job(alloc, net, inputs)?;
         if let Some(out) = self.next_job(alloc, net, inputs)? {
-            self.last = Some(out.process);
+            self.last = Some(out.process as u8);
             self.out = Some(out);
         }
         Ok(job)

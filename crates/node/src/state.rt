@@ -15,7 +15,7 @@ pub struct NodeState {
     /// Rises with each crash, so that a job from before it can be told. At the greatest no job is granted.
     pub version: u64,
     /// The process to which the last job was granted.
-    pub last: Option<usize>,
+    pub last: Option<u8>,
     /// It runs. It doesn't from a failure of its device on.
     pub up: bool,
     /// The round from which a node that is down may be recovered.

@@ -1,5 +1,5 @@
 -- A job that is granted is of where its process stands now, and what is true of a station stays so.
-use Rattle.std.proofs.Common.{◌≡◌, ℕ, ◌+◌, Bool, true, false, eqb, ◌&&◌, cond, ℤ, List, length, Option, Some, None, refl, ap, subst, ◌∙◌, arith}
+use Rattle.std.proofs.Common.{◌≡◌, ℕ, ◌+◌, Bool, true, false, eqb, cond, ℤ, List, length, Option, Some, None, refl, ap, subst, ◌∙◌, arith}
 use Rattle.std.specs.Prelude.{slice_get, find}
 use Rattle.std.proofs.Math.Logic.{∥∥₁_map}
 use Rattle.kahn_net.specs.Valid.{IsValid}
@@ -9,9 +9,10 @@ use Rattle.record.specs.ImageView.{ImageView}
 use Rattle.node.specs.JobView.{JobView}
 use Rattle.node.specs.NodeView.{NodeView}
 use Rattle.node.specs.Granting.{job_for}
-use Rattle.node.specs.Choosing.{is_ready, is_after, ready_after, or_else, next_ready, may_grant, job_of, next_job, after_grant}
+use Rattle.node.specs.Choosing.{next_process, may_grant, job_of, next_job, after_grant}
 use Rattle.node.specs.Reached.{IsLaidOut, IsJobOf}
-use Rattle.node.specs.ImageLaws.{numbered_mark, numbered_find, find_within}
+use Rattle.node.specs.GrantLaws.{next_within}
+use Rattle.node.specs.ImageLaws.{numbered_mark, numbered_find}
 use Rattle.node.specs.StepLaws.{reached_grant, on_grant}
 use Rattle.node.specs.ReleaseLaws.{beginning_stays}
 use Rattle.world.specs.OutputView.{OutputView}
@@ -19,16 +20,7 @@ use Rattle.world.specs.Sound.{HasCome, IsSound}
 
 -- Which process goes on next
 
--- it is one of the image
-next_within : (net : Network) (inputs : List (List ℤ)) (image : ImageView) (last : Option ℕ) (saved : SavedProcessView) → next_ready net inputs image last ≡ Some saved
-    → (k : ℕ) × (slice_get image.processes k ≡ Some saved)
-next_within net inputs image last saved is = at (ready_after net inputs image last) refl is
-  where
-    at : (o : Option SavedProcessView) → ready_after net inputs image last ≡ o → or_else o (ready_after net inputs image None) ≡ Some saved → (k : ℕ) × (slice_get image.processes k ≡ Some saved)
-    at None first e = find_within (λ (s : SavedProcessView). is_after None s.number && is_ready net inputs image s) image.processes saved e
-    at (Some one) first e = find_within (λ (s : SavedProcessView). is_after last s.number && is_ready net inputs image s) image.processes saved (first ∙ e)
-
--- and found there by its number
+-- it is found by its number
 found_by_number : (net : Network) (image : ImageView) (k : ℕ) (saved : SavedProcessView) → IsLaidOut net image → slice_get image.processes k ≡ Some saved
     → find (λ (s : SavedProcessView). eqb s.number saved.number) image.processes ≡ Some (record { number = saved.number; standing = saved.standing })
 found_by_number net image k saved laid is =
@@ -49,9 +41,9 @@ is_job net inputs image k saved version laid is = record {
 
 -- the job that a node grants next is of what it has now
 pub next_is_job : (net : Network) (inputs : List (List ℤ)) (node : NodeView) (job : JobView) → IsLaidOut net node.current → next_job net inputs node ≡ Some job → IsJobOf net inputs node.current job
-next_is_job net inputs node job laid is = at (may_grant node) (next_ready net inputs node.current node.last) refl is
+next_is_job net inputs node job laid is = at (may_grant node) (next_process net inputs node.current node.last) refl is
   where
-    at : (b : Bool) (o : Option SavedProcessView) → next_ready net inputs node.current node.last ≡ o → cond b (job_of net inputs node o) None ≡ Some job → IsJobOf net inputs node.current job
+    at : (b : Bool) (o : Option SavedProcessView) → next_process net inputs node.current node.last ≡ o → cond b (job_of net inputs node o) None ≡ Some job → IsJobOf net inputs node.current job
     at false o next e = absurd (cc)
     at true None next e = absurd (cc)
     at true (Some saved) next e =
