@@ -1,5 +1,5 @@
 -- What a world's outlets took are the streams of a run.
-use Rattle.std.proofs.Common.{◌≡◌, ◌≢◌, ◌⊎◌, inl, inr, Vec, Global, ℕ, zero, suc, ◌+◌, ◌<◌, Bool, true, false, eqb, cond, List, ℤ, [], ◌∷◌, ◌++◌, length, map, drop, get_or, Option, Some, refl, sym, ap, subst, ◌∙◌, append_assoc, arith}
+use Rattle.std.proofs.Common.{◌≡◌, ◌≢◌, ◌⊎◌, inl, inr, Vec, Global, ℕ, zero, suc, ◌+◌, ◌<◌, Bool, true, false, ◌&&◌, eqb, cond, List, ℤ, [], ◌∷◌, ◌++◌, length, map, drop, get_or, Option, Some, None, refl, sym, ap, subst, ◌∙◌, append_assoc, arith}
 use Rattle.std.specs.Prelude.{Result, Ok, Err, IfOk, IfSome, slice_get, find, IsTrue, if◌then◌else◌}
 use Rattle.std.specs.Io.KnownBytes.{Appends}
 use Rattle.std.proofs.Math.Logic.{∥∥₁_map}
@@ -19,7 +19,7 @@ use Rattle.world.specs.Released.{taken_or, released_of}
 use Rattle.kahn_net.specs.declared.program.Port.{Port}
 use Rattle.kahn_net.specs.declared.program.Port.TheVariants.{Outside, Process}
 use Rattle.node.specs.NodeView.{node_view}
-use Rattle.std.specs.List.{AllByRecursion, AllZip}
+use Rattle.std.specs.List.{AllByRecursion, AllZip, list_all}
 use Rattle.world.specs.PairLaws.{pairs_refl, pairs_then}
 use Rattle.world.specs.WorldView.{station_view, IsOfSame, IsWhole}
 use Rattle.world.specs.declared.output.Output.{Output}
@@ -30,11 +30,12 @@ use Rattle.net_check.specs.declared.net.Net.{Net}
 use Rattle.kahn_program.specs.Report.{one_if_output, output_count, report_text}
 use Rattle.kahn_program.specs.Readings.{IsNetOf, AreInputsOf}
 use Rattle.kahn_program.specs.Statuses.{status_of_run}
-use Rattle.kahn_program.specs.Runs.{released_streams, IsRun, IsReport, IsReported, HasWritten}
+use Rattle.kahn_program.specs.Runs.{released_streams, cut_at, first_items, is_whole, run_text, IsRun, IsReport, IsApproximated, IsReportOf, IsReported, HasWritten}
+use Rattle.kahn_program.specs.Runnable.{CanRun, IsApproximationFailure, IsReportFailure}
 use Rattle.kahn_program.specs.declared.failure.Failure.{Failure}
 use Rattle.std.specs.Prelude.{IfErr}
-use Rattle.kahn_program.specs.Readings.{IsRunFailure, of_memory}
-use Rattle.kahn_program.specs.declared.failure.Failure.TheVariants.{NoMemory}
+use Rattle.kahn_program.specs.Readings.{IsRunFailure, of_report}
+use Rattle.kahn_program.specs.declared.failure.Failure.TheVariants.{NoMemory, Unsupported}
 
 -- The outlet of a channel
 
@@ -182,22 +183,99 @@ world_run {C} {O} {cell} {outlet} net inputs (s ∷ []) (t ∷ []) complete one 
 
 -- The report of a run
 
-pub reported : (net : Net) (inputs : List (List ℤ)) (given : List Channel) (streams : List (List ℤ)) (stations : List StationView) (text : List ℕ) (complete : Bool) → given ≡ net.program.channels.items
-    → streams ≡ map (λ (channel : ℕ). released_of channel stations) (output_channels 0 given)
-    → text ≡ report_text net.program.channels.items net.channel_names.items streams complete
+twice : (f : ℕ → List ℤ) (g : List ℤ → List ℤ) (numbers : List ℕ) → map (λ (number : ℕ). g (f number)) numbers ≡ map g (map f numbers)
+twice f g [] = refl
+twice f g (number ∷ numbers) = ap (λ (rest : List (List ℤ)). g (f number) ∷ rest) (twice f g numbers)
+
+pub reported : (net : Net) (inputs : List (List ℤ)) (given : List Channel) (items cut : Option ℕ) (streams : List (List ℤ)) (stations : List StationView) (text : List ℕ) (complete told : Bool) → given ≡ net.program.channels.items
+    → cut ≡ cut_at items (map (λ (channel : ℕ). released_of channel stations) (output_channels 0 given))
+    → streams ≡ map (λ (channel : ℕ). first_items cut (released_of channel stations)) (output_channels 0 given)
+    → told ≡ is_whole cut complete
+    → text ≡ report_text net.program.channels.items net.channel_names.items streams told
     → IsRun (network_of net.program) inputs (released_streams (network_of net.program) stations) complete
-    → IsReport net inputs text complete
-reported net inputs given streams stations text complete channels listed printed run =
-    let all : streams ≡ released_streams (network_of net.program) stations = listed ∙ ap (λ (l : List Channel). map (λ (channel : ℕ). released_of channel stations) (output_channels 0 l)) channels in
-    ∣ (released_streams (network_of net.program) stations, printed ∙ ap (λ (l : List (List ℤ)). report_text net.program.channels.items net.channel_names.items l complete) all, run) ∣₁
+    → IsReport net items inputs text told
+reported net inputs given items cut streams stations text complete told channels where_cut listed whole printed run =
+    let released : List (List ℤ) = released_streams (network_of net.program) stations in
+    let same : map (λ (channel : ℕ). released_of channel stations) (output_channels 0 given) ≡ released = ap (λ (l : List Channel). map (λ (channel : ℕ). released_of channel stations) (output_channels 0 l)) channels in
+    let at : cut ≡ cut_at items released = where_cut ∙ ap (cut_at items) same in
+    let all : streams ≡ map (first_items cut) released = listed ∙ (twice (λ (channel : ℕ). released_of channel stations) (first_items cut) (output_channels 0 given) ∙ ap (map (first_items cut)) same) in
+    let text_is : text ≡ run_text net cut released complete =
+    printed ∙ (ap (λ (l : List (List ℤ)). report_text net.program.channels.items net.channel_names.items l told) all
+    ∙ ap (λ (b : Bool). report_text net.program.channels.items net.channel_names.items (map (first_items cut) released) b) whole) in
+    ∣ (released, complete, run, whole ∙ ap (λ (c : Option ℕ). is_whole c complete) at, text_is ∙ ap (λ (c : Option ℕ). run_text net c released complete) at) ∣₁
+
+-- Whether each output has so many items
+
+module _ (f : ℕ → List ℤ) (test : List ℤ → Bool) where
+  one_passed : (b : Bool) (number : ℕ) (rest : List ℕ) (passes : Bool) → passes ≡ (if b then test (f number) else true) → passes ≡ true
+      → list_all test (map f (if b then number ∷ rest else rest)) ≡ list_all test (map f rest)
+  one_passed true number rest passes is yes_it_is = ap (λ (p : Bool). p && list_all test (map f rest)) (sym is ∙ yes_it_is)
+  one_passed false number rest passes is yes_it_is = refl
+
+  one_failed : (b : Bool) (number : ℕ) (rest : List ℕ) (passes : Bool) → passes ≡ (if b then test (f number) else true) → passes ≡ false
+      → list_all test (map f (if b then number ∷ rest else rest)) ≡ false
+  one_failed true number rest passes is fails = ap (λ (p : Bool). p && list_all test (map f rest)) (sym is ∙ fails)
+  one_failed false number rest passes is fails = absurd (cc)
+
+  here : (channels : List Channel) (k : ℕ) (d : Channel) → k < length channels
+      → list_all test (map f (output_channels k (drop k channels)))
+      ≡ list_all test (map f (if goes_outside (get_or channels k d).consumer then k ∷ output_channels (suc k) (drop (suc k) channels) else output_channels (suc k) (drop (suc k) channels)))
+  here channels k d within = ap (λ (l : List Channel). list_all test (map f (output_channels k l))) (drop-cons channels k d within)
+
+  -- one more channel was looked at, and has them
+  pub all_next : (channels : List Channel) (k : ℕ) (d : Channel) (passes whole : Bool) → k < length channels → list_all test (map f (output_channels k (drop k channels))) ≡ whole
+      → passes ≡ (if goes_outside (get_or channels k d).consumer then test (f k) else true) → passes ≡ true
+      → list_all test (map f (output_channels (k + 1) (drop (k + 1) channels))) ≡ whole
+  all_next channels k d passes whole within so_far is yes_it_is =
+      let next : suc k ≡ k + 1 = omega arith in
+      ap (λ (n : ℕ). list_all test (map f (output_channels n (drop n channels)))) (sym next)
+      ∙ (sym (one_passed (goes_outside (get_or channels k d).consumer) k (output_channels (suc k) (drop (suc k) channels)) passes is yes_it_is)
+      ∙ (sym (here channels k d within) ∙ so_far))
+
+  -- or has not
+  pub all_stop : (channels : List Channel) (k : ℕ) (d : Channel) (passes whole : Bool) → k < length channels → list_all test (map f (output_channels k (drop k channels))) ≡ whole
+      → passes ≡ (if goes_outside (get_or channels k d).consumer then test (f k) else true) → passes ≡ false → false ≡ whole
+  all_stop channels k d passes whole within so_far is fails =
+      sym (one_failed (goes_outside (get_or channels k d).consumer) k (output_channels (suc k) (drop (suc k) channels)) passes is fails)
+      ∙ (sym (here channels k d within) ∙ so_far)
+
+-- The report that is asked for
+
+pub of_approximation : (approx items : Option ℕ) (n : ℕ) (net : Net) (inputs : List (List ℤ)) (result : Result (Vec ℕ Global × Bool) Failure) → approx ≡ Some n
+    → IfOk result (λ report. IsApproximated net inputs n report.0.items report.1) → IfOk result (λ report. IsReportOf approx items net inputs report.0.items report.1)
+of_approximation approx items n net inputs (Err e) is report = tt
+of_approximation approx items n net inputs (Ok r) is report = subst (λ (a : Option ℕ). IsReportOf a items net inputs r.0.items r.1) (sym is) report
+
+pub no_approximation : (approx : Option ℕ) (n : ℕ) (net : Network) (inputs : List (List ℤ)) (result : Result (Vec ℕ Global × Bool) Failure) → approx ≡ Some n
+    → IfErr result (IsApproximationFailure net inputs n) → IfErr result (IsReportFailure approx net inputs)
+no_approximation approx n net inputs (Ok r) is err = tt
+no_approximation approx n net inputs (Err failure) is err = subst (λ (a : Option ℕ). IsReportFailure a net inputs failure) (sym is) err
+
+pub of_run : (approx items : Option ℕ) (net : Net) (inputs : List (List ℤ)) (result : Result (Vec ℕ Global × Bool) Failure) → approx ≡ None → CanRun (network_of net.program)
+    → IfOk result (λ report. IsReport net items inputs report.0.items report.1) → IfOk result (λ report. IsReportOf approx items net inputs report.0.items report.1)
+of_run approx items net inputs (Err e) is can report = tt
+of_run approx items net inputs (Ok r) is can report = subst (λ (a : Option ℕ). IsReportOf a items net inputs r.0.items r.1) (sym is) (can, report)
+
+pub no_run : (approx : Option ℕ) (net : Network) (inputs : List (List ℤ)) (result : Result (Vec ℕ Global × Bool) Failure) → approx ≡ None
+    → IfErr result (λ failure. failure ≡ NoMemory) → IfErr result (IsReportFailure approx net inputs)
+no_run approx net inputs (Ok r) is err = tt
+no_run approx net inputs (Err failure) is err = subst (λ (a : Option ℕ). IsReportFailure a net inputs failure) (sym is) (inr err)
+
+pub not_run : (approx : Option ℕ) (net : Network) (inputs : List (List ℤ)) → approx ≡ None → ¬ (CanRun net) → IsReportFailure approx net inputs Unsupported
+not_run approx net inputs is can_not = subst (λ (a : Option ℕ). IsReportFailure a net inputs Unsupported) (sym is) (inl (refl, can_not))
 
 -- of the texts of two readers
-pub run_of_readers : (net_bytes input_bytes : Option (List ℕ)) (net : Net) (inputs : List (List ℤ)) (result : Result (Vec ℕ Global × Bool) Failure) → IfSome net_bytes (λ bytes. IsNetOf bytes net) → IfSome input_bytes (λ bytes. AreInputsOf bytes net inputs)
-    → IfOk result (λ report. IsReport net inputs report.0.items report.1) → IfOk result (λ report. IsReported net_bytes input_bytes report.0.items report.1)
-run_of_readers net_bytes input_bytes net inputs (Err e) of_net of_inputs report = tt
-run_of_readers net_bytes input_bytes net inputs (Ok r) of_net of_inputs report = ∣ (net, inputs, of_net, of_inputs, report) ∣₁
+pub run_of_readers : (approx items : Option ℕ) (net_bytes input_bytes : Option (List ℕ)) (net : Net) (inputs : List (List ℤ)) (result : Result (Vec ℕ Global × Bool) Failure) → IfSome net_bytes (λ bytes. IsNetOf bytes net) → IfSome input_bytes (λ bytes. AreInputsOf bytes net inputs)
+    → IfOk result (λ report. IsReportOf approx items net inputs report.0.items report.1) → IfOk result (λ report. IsReported approx items net_bytes input_bytes report.0.items report.1)
+run_of_readers approx items net_bytes input_bytes net inputs (Err e) of_net of_inputs report = tt
+run_of_readers approx items net_bytes input_bytes net inputs (Ok r) of_net of_inputs report = ∣ (net, inputs, of_net, of_inputs, report) ∣₁
 
--- what was written where the status is that of a run
+pub failed_run : {T : Type 0} (approx : Option ℕ) (net_bytes input_bytes : Option (List ℕ)) (net : Net) (inputs : List (List ℤ)) (result : Result T Failure) → IfSome net_bytes (λ bytes. IsNetOf bytes net) → IfSome input_bytes (λ bytes. AreInputsOf bytes net inputs)
+    → IfErr result (IsReportFailure approx (network_of net.program) inputs) → IfErr result (IsRunFailure approx net_bytes input_bytes)
+failed_run approx net_bytes input_bytes net inputs (Ok value) of_net of_inputs err = tt
+failed_run approx net_bytes input_bytes net inputs (Err failure) of_net of_inputs err = of_report net inputs of_net of_inputs err
+
+-- what was written where the status is that of a report
 one_status : (a b : Bool) → status_of_run a ≡ status_of_run b → a ≡ b
 one_status true true e = refl
 one_status false false e = refl
@@ -208,16 +286,11 @@ not_failed : (a : Bool) → status_of_run a ≡ 1 → ⊥
 not_failed true e = cc
 not_failed false e = cc
 
-pub written_report : (net_bytes input_bytes before after : Option (List ℕ)) (text : List ℕ) (complete : Bool) (status : ℕ) → IsReported net_bytes input_bytes text complete
+pub written_report : (approx items : Option ℕ) (net_bytes input_bytes before after : Option (List ℕ)) (text : List ℕ) (complete : Bool) (status : ℕ) → IsReported approx items net_bytes input_bytes text complete
     → (status ≡ 1) ⊎ (status ≡ status_of_run complete) → (status ≢ 1 → Appends before after text)
-    → (whole : Bool) → status ≡ status_of_run whole → HasWritten net_bytes input_bytes before after whole
-written_report net_bytes input_bytes before after text complete status of (inl failed) writes whole is = absurd (not_failed whole (sym is ∙ failed))
-written_report net_bytes input_bytes before after text complete status of (inr came) writes whole is =
+    → (whole : Bool) → status ≡ status_of_run whole → HasWritten approx items net_bytes input_bytes before after whole
+written_report approx items net_bytes input_bytes before after text complete status of (inl failed) writes whole is = absurd (not_failed whole (sym is ∙ failed))
+written_report approx items net_bytes input_bytes before after text complete status of (inr came) writes whole is =
     let same : complete ≡ whole = one_status complete whole (sym came ∙ is) in
-    subst (HasWritten net_bytes input_bytes before after) same
+    subst (HasWritten approx items net_bytes input_bytes before after) same
     ∣ (text, of, writes (λ failed. not_failed complete (sym came ∙ failed))) ∣₁
-
--- a run itself ends without a report for want of memory alone
-pub failed_run : {T : Type 0} (net_bytes input_bytes : Option (List ℕ)) (result : Result T Failure) → IfErr result (λ failure. failure ≡ NoMemory) → IfErr result (IsRunFailure net_bytes input_bytes)
-failed_run net_bytes input_bytes (Ok value) err = tt
-failed_run net_bytes input_bytes (Err failure) err = of_memory err

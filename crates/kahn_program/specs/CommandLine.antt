@@ -1,17 +1,56 @@
 -- The command line as `clap` sees it, and what its matches ask for.
-use Rattle.std.specs.Prelude.{◌≡◌, true, List, Some, codes, string_bytes}
-use Rattle.clap.specs.Words.{App, Row, Rule, Text, new_app, new_rule, with_rule, first_of}
+use Rattle.std.specs.Prelude.{◌≡◌, ℕ, ◌≤◌, true, false, Bool, List, [], ◌∷◌, Option, Some, None, codes, string_bytes}
+use Rattle.std.specs.Str.Parse.{IsNumeral, digits_value, without_leading_plus}
+use Rattle.clap.specs.Words.{App, Row, Rule, Text, new_app, new_rule, with_rule, first_of, one_of}
+use Rattle.clap.specs.declared.builder.action.ArgAction.TheVariants.{SetTrue}
+use Rattle.clap.specs.declared.builder.value_parser.ValueParser.TheVariants.{Unsigned}
 use Rattle.kahn_program.specs.declared.asked.Options.{Options}
+use Rattle.kahn_program.specs.declared.asked.TheConstants.{MAX_ROUNDS, MAX_ITEMS, MAX_APPROXIMATION}
 
 -- an argument that has to be there
 abbrev pub required : Text → Rule
 required name = record (new_rule name) { required = true }
 
--- kahnrun NET INPUTS
-unfoldable pub kahnrun : App
-kahnrun = with_rule (with_rule (new_app (codes "kahnrun")) (required (codes "NET"))) (required (codes "INPUTS"))
+-- `--NAME N`, of a number within these bounds
+abbrev pub number : Text → ℕ → ℕ → Rule
+number name least most = record (new_rule name) { long = Some name; value_names = 1; parser = Some (Unsigned least most) }
 
--- the two names are those of the matches
+-- and with this text where the command line has none
+abbrev pub by_default : Text → Rule → Rule
+by_default text rule = record rule { defaults = text ∷ [] }
+
+-- `--NAME`
+abbrev pub flag : Text → Rule
+flag name = record (new_rule name) { long = Some name; action = Some SetTrue }
+
+-- kahnrun [--rounds N] [--items N] [--plain] [--approx N] NET INPUTS
+unfoldable pub kahnrun : App
+kahnrun =
+    let net = with_rule (new_app (codes "kahnrun")) (required (codes "NET")) in
+    let inputs = with_rule net (required (codes "INPUTS")) in
+    let rounds = with_rule inputs (by_default (codes "1000") (number (codes "rounds") 1 MAX_ROUNDS)) in
+    let items = with_rule rounds (number (codes "items") 0 MAX_ITEMS) in
+    let plain = with_rule items (flag (codes "plain")) in
+    with_rule plain (number (codes "approx") 0 MAX_APPROXIMATION)
+
+-- what an option's text gives: a number within these bounds, which the text writes in decimal, or none where the option has no text
+abbrev pub IsNumber : ℕ → ℕ → Option Text → Option ℕ → Type 0
+IsNumber least most None None = Unit {0}
+IsNumber least most None (Some number) = ⊥
+IsNumber least most (Some text) None = ⊥
+IsNumber least most (Some text) (Some number) = IsNumeral 10 (without_leading_plus text) × (number ≡ digits_value 10 (without_leading_plus text)) × (least ≤ number) × (number ≤ most)
+
+-- what a flag's text gives
+pub record IsFlag (text : Option Text) (is_set : Bool) : Type 0 where
+  pub set : text ≡ Some (codes "true") → is_set ≡ true
+  pub not_set : text ≡ Some (codes "false") → is_set ≡ false
+  pub absent : text ≡ None → is_set ≡ false
+
+-- each of the values is that of the matches, defaults included, and within its bounds
 pub record IsAsked (rows : List Row) (options : Options) : Type 0 where
   pub net : first_of (codes "NET") rows ≡ Some (string_bytes options.net)
   pub inputs : first_of (codes "INPUTS") rows ≡ Some (string_bytes options.inputs)
+  pub rounds : IsNumber 1 MAX_ROUNDS (one_of (codes "rounds") rows) (Some options.rounds)
+  pub items : IsNumber 0 MAX_ITEMS (one_of (codes "items") rows) options.items
+  pub plain : IsFlag (one_of (codes "plain") rows) options.plain
+  pub approx : IsNumber 0 MAX_APPROXIMATION (one_of (codes "approx") rows) options.approx

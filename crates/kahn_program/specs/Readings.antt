@@ -18,8 +18,9 @@ use Rattle.net_check.specs.declared.fault.NetFault.{NetFault}
 use Rattle.net_check.specs.declared.fault.NetFault.TheVariants as fault
 use Rattle.net_check.specs.declared.net.Net.{Net}
 use Rattle.kahn_program.specs.declared.failure.Failure.{Failure}
-use Rattle.kahn_program.specs.declared.failure.Failure.TheVariants.{Line, Whole, NotText, Unreadable, NoMemory, Other}
+use Rattle.kahn_program.specs.declared.failure.Failure.TheVariants.{Line, Whole, NotText, Unreadable, Approximation, Unsupported, NoMemory, Other}
 use Rattle.kahn_program.specs.Failures.{failure_line, status_of}
+use Rattle.kahn_program.specs.Runnable.{IsReportFailure}
 use Rattle.kahn_program.specs.declared.failure.Source.{Source}
 use Rattle.kahn_program.specs.declared.failure.Source.TheVariants as source
 
@@ -80,6 +81,8 @@ IsReadFailure source known (Unreadable other) = other ≡ source
 IsReadFailure source known NoMemory = Unit {0}
 IsReadFailure source known (Line other line number) = ⊥
 IsReadFailure source known (Whole other number) = ⊥
+IsReadFailure source known (Approximation number) = ⊥
+IsReadFailure source known Unsupported = ⊥
 IsReadFailure source known (Other number) = ⊥
 
 -- want of memory, or a reader that isn't there or fails: no fault of a text
@@ -106,14 +109,14 @@ pub data IsInputsFailure : Net → Option (List ℕ) → Failure → Type 0 wher
   inputs_unread : {net : Net} {known : Option (List ℕ)} {failure : Failure} → IsReadFailure source.Inputs known failure → IsInputsFailure net known failure
   inputs_refused : {net : Net} {known : Option (List ℕ)} {failure : Failure} → IfSome known (λ bytes. IsInputsTextFailure net bytes failure) → IsInputsFailure net known failure
 
--- Why a run on readers with these bytes, where they are known, ends without a report: the network's reader, then that of the inputs for the
--- network that it describes; or for want of memory.
-pub data IsRunFailure : Option (List ℕ) → Option (List ℕ) → Failure → Type 0 where
-  of_net : {net_bytes input_bytes : Option (List ℕ)} {failure : Failure} → IsNetFailure net_bytes failure → IsRunFailure net_bytes input_bytes failure
-  of_inputs : {net_bytes input_bytes : Option (List ℕ)} {failure : Failure} (net : Net) → IfSome net_bytes (λ bytes. IsNetOf bytes net) → IsInputsFailure net input_bytes failure → IsRunFailure net_bytes input_bytes failure
-  of_memory : {net_bytes input_bytes : Option (List ℕ)} {failure : Failure} → failure ≡ NoMemory → IsRunFailure net_bytes input_bytes failure
+-- Why the program on readers with these bytes, where they are known, ends without a report, where it is asked for this approximation or for a
+-- run: the network's reader, then that of the inputs for the network that it describes, then what is asked for.
+pub data IsRunFailure : Option ℕ → Option (List ℕ) → Option (List ℕ) → Failure → Type 0 where
+  of_net : {approx : Option ℕ} {net_bytes input_bytes : Option (List ℕ)} {failure : Failure} → IsNetFailure net_bytes failure → IsRunFailure approx net_bytes input_bytes failure
+  of_inputs : {approx : Option ℕ} {net_bytes input_bytes : Option (List ℕ)} {failure : Failure} (net : Net) → IfSome net_bytes (λ bytes. IsNetOf bytes net) → IsInputsFailure net input_bytes failure → IsRunFailure approx net_bytes input_bytes failure
+  of_report : {approx : Option ℕ} {net_bytes input_bytes : Option (List ℕ)} {failure : Failure} (net : Net) (inputs : List (List ℤ)) → IfSome net_bytes (λ bytes. IsNetOf bytes net) → IfSome input_bytes (λ bytes. AreInputsOf bytes net inputs) → IsReportFailure approx (network_of net.program) inputs failure → IsRunFailure approx net_bytes input_bytes failure
 
 -- the line of such a failure was written; its status is this one
-abbrev pub HasTold : Option (List ℕ) → Option (List ℕ) → Option (List ℕ) → Option (List ℕ) → ℕ → Type 0
-HasTold net_bytes input_bytes before after status =
-    ∥ ((failure : Failure) × IsRunFailure net_bytes input_bytes failure × (status ≡ status_of failure) × Appends before after (failure_line failure)) ∥₁
+abbrev pub HasTold : Option ℕ → Option (List ℕ) → Option (List ℕ) → Option (List ℕ) → Option (List ℕ) → ℕ → Type 0
+HasTold approx net_bytes input_bytes before after status =
+    ∥ ((failure : Failure) × IsRunFailure approx net_bytes input_bytes failure × (status ≡ status_of failure) × Appends before after (failure_line failure)) ∥₁

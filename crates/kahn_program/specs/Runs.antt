@@ -1,15 +1,17 @@
 -- What a run of a network releases, and its report.
-use Rattle.std.specs.Prelude.{◌≡◌, ℕ, Bool, IsTrue, ℤ, List, Option, Some, IfSome, length, map, slice_get}
+use Rattle.std.specs.Prelude.{◌≡◌, ◌↔◌, ℕ, Bool, false, IsTrue, if◌then◌else◌, nat_le, ℤ, List, Option, Some, None, IfSome, length, map, take, slice_get}
+use Rattle.std.specs.List.{list_all}
 use Rattle.std.specs.Io.KnownBytes.{Appends}
 use Rattle.kahn_net.specs.Streams.{history_of, IsPrefix}
 use Rattle.kahn_net.specs.Syntax.{Network, network_of}
-use Rattle.kahn_net.specs.Approximations.{approximation, IsReached}
+use Rattle.kahn_net.specs.Approximations.{approximation, IsReached, IsSolution}
 use Rattle.net_check.specs.declared.net.Net.{Net}
 use Rattle.world.specs.Sound.{output_channels}
 use Rattle.world.specs.Released.{released_of}
 use Rattle.world.specs.StationView.{StationView}
 use Rattle.kahn_program.specs.Readings.{IsNetOf, AreInputsOf}
 use Rattle.kahn_program.specs.Report.{report_text}
+use Rattle.kahn_program.specs.Runnable.{CanRun}
 
 -- what the stations' outlets took, for each of a network's outputs in order
 abbrev pub released_streams : Network → List StationView → List (List ℤ)
@@ -32,17 +34,48 @@ pub record IsRun (net : Network) (inputs streams : List (List ℤ)) (complete : 
   pub prefix : ∥ ((n : ℕ) × AreWithin net inputs streams n) ∥₁
   pub whole : IsTrue complete → ∥ ((n : ℕ) × IsReached net inputs n × AreAll net inputs streams n) ∥₁
 
--- a text is the report of a run of this network on these inputs
-abbrev pub IsReport : Net → List (List ℤ) → List ℕ → Bool → Type 0
-IsReport net inputs text complete =
-    ∥ ((streams : List (List ℤ)) × (text ≡ report_text net.program.channels.items net.channel_names.items streams complete) × IsRun (network_of net.program) inputs streams complete) ∥₁
+-- Where the streams of a run are cut: at so many items, where that was asked for and each has them.
+abbrev pub cut_at : Option ℕ → List (List ℤ) → Option ℕ
+cut_at None released = None
+cut_at (Some items) released = if list_all (λ (stream : List ℤ). nat_le items (length stream)) released then Some items else None
 
--- A text is the report of a run of the network that a reader with these bytes describes, on the inputs that another gives, where the bytes
--- are known.
-abbrev pub IsReported : Option (List ℕ) → Option (List ℕ) → List ℕ → Bool → Type 0
-IsReported net_bytes input_bytes text complete =
-    ∥ ((net : Net) × (inputs : List (List ℤ)) × IfSome net_bytes (λ bytes. IsNetOf bytes net) × IfSome input_bytes (λ bytes. AreInputsOf bytes net inputs) × IsReport net inputs text complete) ∥₁
+-- what is printed of a stream, and whether the run is told to be complete: a run whose streams are cut isn't
+abbrev pub first_items : Option ℕ → List ℤ → List ℤ
+first_items None stream = stream
+first_items (Some items) stream = take items stream
+
+abbrev pub is_whole : Option ℕ → Bool → Bool
+is_whole None complete = complete
+is_whole (Some items) complete = false
+
+-- what is written of a run that released these streams
+abbrev pub run_text : Net → Option ℕ → List (List ℤ) → Bool → List ℕ
+run_text net cut released complete = report_text net.program.channels.items net.channel_names.items (map (first_items cut) released) (is_whole cut complete)
+
+-- A text is the report of a run of this network on these inputs, and tells whether it is complete. Where so many items of each output were
+-- asked for, and each has them, the first ones of each are printed, and the run is partial.
+abbrev pub IsReport : Net → Option ℕ → List (List ℤ) → List ℕ → Bool → Type 0
+IsReport net items inputs text told =
+    ∥ ((released : List (List ℤ)) × (complete : Bool) × IsRun (network_of net.program) inputs released complete
+    × (told ≡ is_whole (cut_at items released) complete) × (text ≡ run_text net (cut_at items released) released complete)) ∥₁
+
+-- A text is the report of the n-th approximation on these inputs: each output's whole history there. It tells `complete` exactly where that
+-- approximation is a solution.
+pub record IsApproximated (net : Net) (inputs : List (List ℤ)) (n : ℕ) (text : List ℕ) (told : Bool) : Type 0 where
+  pub text_is : text ≡ report_text net.program.channels.items net.channel_names.items
+      (map (λ (channel : ℕ). history_of (approximation (network_of net.program) inputs n) channel) (output_channels 0 net.program.channels.items)) told
+  pub solution : IsTrue told ↔ IsSolution (network_of net.program) inputs (approximation (network_of net.program) inputs n)
+
+-- a text is the report that is asked for: of an approximation, or of a run, cut at so many items; only a network that can be run is run
+abbrev pub IsReportOf : Option ℕ → Option ℕ → Net → List (List ℤ) → List ℕ → Bool → Type 0
+IsReportOf (Some n) items net inputs text told = IsApproximated net inputs n text told
+IsReportOf None items net inputs text told = CanRun (network_of net.program) × IsReport net items inputs text told
+
+-- The same of the network that a reader with these bytes describes, on the inputs that another gives, where the bytes are known.
+abbrev pub IsReported : Option ℕ → Option ℕ → Option (List ℕ) → Option (List ℕ) → List ℕ → Bool → Type 0
+IsReported approx items net_bytes input_bytes text told =
+    ∥ ((net : Net) × (inputs : List (List ℤ)) × IfSome net_bytes (λ bytes. IsNetOf bytes net) × IfSome input_bytes (λ bytes. AreInputsOf bytes net inputs) × IsReportOf approx items net inputs text told) ∥₁
 
 -- and such a text was written
-abbrev pub HasWritten : Option (List ℕ) → Option (List ℕ) → Option (List ℕ) → Option (List ℕ) → Bool → Type 0
-HasWritten net_bytes input_bytes before after complete = ∥ ((text : List ℕ) × IsReported net_bytes input_bytes text complete × Appends before after text) ∥₁
+abbrev pub HasWritten : Option ℕ → Option ℕ → Option (List ℕ) → Option (List ℕ) → Option (List ℕ) → Option (List ℕ) → Bool → Type 0
+HasWritten approx items net_bytes input_bytes before after told = ∥ ((text : List ℕ) × IsReported approx items net_bytes input_bytes text told × Appends before after text) ∥₁

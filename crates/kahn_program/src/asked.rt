@@ -1,8 +1,50 @@
 //! What the command line asks for.
 
-/// The files that the command line names.
+ghost use Rattle.std.specs.Prelude.{◌≡◌, None, false};
+
+/// The most rounds of a run that may be asked for.
+pub const MAX_ROUNDS: u64 = 1_000_000;
+
+/// The rounds of a run for which the command line names no number.
+pub const DEFAULT_ROUNDS: u64 = 1_000;
+
+/// The most items of each output that may be asked for.
+pub const MAX_ITEMS: u64 = 1_000_000;
+
+/// The greatest number of an approximation that may be asked for.
+pub const MAX_APPROXIMATION: u64 = 10_000;
+
+/// What the command line asks for.
 #[derive(Debug, Drop)]
 pub struct Options {
+    /// The file of the network's text.
     pub net: String,
+    /// The file of the inputs' text.
     pub inputs: String,
+    /// A run ends after so many rounds, complete or not.
+    pub rounds: u64,
+    /// A run ends where each output has so many items.
+    pub items: Option<u64>,
+    /// Turns are taken plainly, by one thread. They always are so far.
+    pub plain: bool,
+    /// The approximation that is printed in place of a run.
+    pub approx: Option<u64>,
+}
+
+impl Options {
+    /// What the names of the two files alone ask for.
+    pub fn new(net: String, inputs: String) -> Self
+        ensures names { (result.net ≡ net) × (result.inputs ≡ inputs) }
+        ensures rounds { result.rounds ≡ DEFAULT_ROUNDS }
+        ensures others { (result.items ≡ None) × (result.plain ≡ false) × (result.approx ≡ None) }
+    {
+        Options {
+            net,
+            inputs,
+            rounds: DEFAULT_ROUNDS,
+            items: None,
+            plain: false,
+            approx: None,
+        }
+    }
 }

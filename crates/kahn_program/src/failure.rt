@@ -30,6 +30,12 @@ pub enum Failure {
     NotText(Source),
     /// A text's file can't be opened or read.
     Unreadable(Source),
+    /// An approximation is refused.
+    Approximation {
+        number: u8,
+    },
+    /// A network has several nodes, or channels between processes.
+    Unsupported,
     /// There is no memory.
     NoMemory,
     /// A refusal that is no text's.
@@ -62,6 +68,10 @@ impl fmt::Display for Failure {
             Failure::Whole { source, number } => write!(f, "{source}: refusal {number}"),
             Failure::NotText(source) => write!(f, "{source}: not text"),
             Failure::Unreadable(source) => write!(f, "{source}: cannot be read"),
+            Failure::Approximation { number } => write!(f, "approx: refusal {number}"),
+            Failure::Unsupported => f.write_str(
+                "run: several nodes, or channels between processes, are not supported yet; use --approx",
+            ),
             Failure::NoMemory => f.write_str("no memory"),
             Failure::Other { number } => write!(f, "refusal {number}"),
         }
@@ -75,7 +85,11 @@ impl Failure {
     {
         match self {
             Failure::Line { .. } | Failure::Whole { .. } | Failure::NotText(_) => 2,
-            Failure::Unreadable(_) | Failure::NoMemory | Failure::Other { .. } => 1,
+            Failure::Unreadable(_)
+            | Failure::Approximation { .. }
+            | Failure::Unsupported
+            | Failure::NoMemory
+            | Failure::Other { .. } => 1,
         }
     }
 }

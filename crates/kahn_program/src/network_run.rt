@@ -1,14 +1,14 @@
 //! A network's run, and its report.
 
-ghost use Rattle.std.specs.Prelude.{◌≡◌, ◌≤◌, ◌++◌, ◌∷◌, [], if◌then◌else◌, length, map, IfErr, IfOk, OnOk};
+ghost use Rattle.std.specs.Prelude.{◌≡◌, ◌≤◌, ◌++◌, ◌∷◌, [], if◌then◌else◌, true, nat_le, length, map, IfErr, IfOk, OnOk};
 ghost use Rattle.kahn_net.specs.Fits.{Fits};
 ghost use Rattle.kahn_net.specs.Nodes.{IsOnOneNode};
 ghost use Rattle.kahn_net.specs.Syntax.{network_of};
-ghost use Rattle.std.specs.List.{AllZip};
+ghost use Rattle.std.specs.List.{AllZip, list_all};
 ghost use Rattle.world.specs.Released.{released_of};
 ghost use Rattle.world.specs.Sound.{goes_outside, output_channels};
 ghost use Rattle.world.specs.WorldView.{station_view, IsOfSame};
-ghost use Rattle.kahn_program.specs.Runs.{IsReport};
+ghost use Rattle.kahn_program.specs.Runs.{IsReport, cut_at, first_items, is_whole};
 ghost use Rattle.kahn_net.specs.declared.limits.TheConstants.{MAX_CHANNELS};
 
 use crate::failure::Failure;
@@ -21,9 +21,6 @@ use record::{Image, Record};
 use std::alloc::{AllocError, Global};
 use std::sync::Arc;
 use world::{Event, Reply, World, list_outputs};
-
-/// The rounds of a run.
-const ROUNDS: u64 = 1_000;
 
 /// The one node's number.
 const NODE: u8 = 0;
@@ -78,18 +75,100 @@ fn take_turn(alloc: Global, world: &mut World<MemCell, ListOutlet>) -> Result<()
     }
 }
 
-/// Takes turns until nothing is left to do, or the rounds are over.
-fn take_turns(alloc: Global, world: &mut World<MemCell, ListOutlet>) -> Result<(), Failure>
+/// Whether so many items have left by a channel, if its items go outside.
+fn has_left(number: u8, channel: &Channel, world: &World<MemCell, ListOutlet>, items: u64) -> bool
+    ensures { result ≡ (if goes_outside channel.now.consumer
+        then nat_le items (length (released_of number (map station_view world.now.stations.items)))
+        else true) }
+{
+    match channel.consumer {
+        Port::Outside => items <= world.released(number).len() as u64,
+        Port::Process(_) => true,
+    }
+}
+
+/// Whether so many items have left by each output.
+fn have_left(channels: &[Channel], world: &World<MemCell, ListOutlet>, items: u64) -> bool
+    requires { length channels.now ≤ MAX_CHANNELS }
+    ensures { result ≡ list_all (λ stream. nat_le items (length stream))
+        (map (λ channel. released_of channel (map station_view world.now.stations.items))
+        (output_channels 0 channels.now)) }
+{
+    for (number, channel) in channels.iter().enumerate() {
+        if !has_left(number as u8, channel, world, items) {
+            return false;
+        }
+    }
+    true
+}
+
+/// Where what has left is cut: at so many items, where that is asked for and each output has them.
+fn cut(channels: &[Channel], world: &World<MemCell, ListOutlet>, items: Option<u64>) -> Option<u64>
+    requires { length channels.now ≤ MAX_CHANNELS }
+    ensures { result ≡ cut_at items
+        (map (λ channel. released_of channel (map station_view world.now.stations.items))
+        (output_channels 0 channels.now)) }
+{
+    match items {
+        Some(items) => {
+            if have_left(channels, world, items) {
+                Some(items)
+            } else {
+                None
+            }
+        }
+        None => None,
+    }
+}
+
+/// Takes turns until nothing is left to do, the rounds are over, or each output has the items that are asked for.
+fn take_turns(
+    alloc: Global,
+    channels: &[Channel],
+    world: &mut World<MemCell, ListOutlet>,
+    rounds: u64,
+    items: Option<u64>,
+) -> Result<(), Failure>
+    requires { length channels.now ≤ MAX_CHANNELS }
     ensures same { AllZip IsOfSame world.old.stations.items world.new.stations.items }
     ensures err { IfErr result (λ failure. failure ≡ Failure.NoMemory) }
 {
     for _ in 0..u64::MAX {
-        if world.complete() || world.round() >= ROUNDS {
+        let is_over = world.complete()
+            || world.round() >= rounds
+            || cut(channels, world, items).is_some();
+        if is_over {
             return Ok(());
         }
         take_turn(alloc, world)?;
     }
     Ok(())
+}
+
+/// The first items of a stream, or all.
+fn first_items(stream: &[i64], cut: Option<u64>) -> &[i64]
+    ensures { result.now ≡ first_items cut stream.now }
+{
+    match cut {
+        Some(items) => {
+            if items < stream.len() as u64 {
+                &stream[..items as usize]
+            } else {
+                stream
+            }
+        }
+        None => stream,
+    }
+}
+
+/// Whether a run is told to be complete: one whose streams are cut isn't.
+fn is_whole(cut: Option<u64>, complete: bool) -> bool
+    ensures { result ≡ is_whole cut complete }
+{
+    match cut {
+        Some(_) => false,
+        None => complete,
+    }
 }
 
 /// Adds what has left by a channel, if its items go outside.
@@ -98,41 +177,50 @@ fn add_stream<'a>(
     number: u8,
     channel: &Channel,
     world: &'a World<MemCell, ListOutlet>,
+    cut: Option<u64>,
 ) -> Result<(), AllocError>
     ensures { OnOk result (streams.new.items ≡ streams.old.items
-        ++ (if goes_outside channel.now.consumer then released_of number
-        (map station_view world.now.stations.items) ∷ [] else [])) }
+        ++ (if goes_outside channel.now.consumer then first_items cut (released_of number
+        (map station_view world.now.stations.items)) ∷ [] else [])) }
 {
     if let Port::Outside = channel.consumer {
-        streams.push(Stream::new(world.released(number)))?;
+        streams.push(Stream::new(first_items(world.released(number), cut)))?;
     }
     Ok(())
 }
 
-/// What has left by each output, in order of the channels.
+/// What has left by each output, or the first items of it, in order of the channels.
 fn streams<'a>(
     alloc: Global,
     channels: &[Channel],
     world: &'a World<MemCell, ListOutlet>,
+    cut: Option<u64>,
 ) -> Result<Vec<Stream<'a>>, AllocError>
     requires { length channels.now ≤ MAX_CHANNELS }
     ensures { IfOk result (λ streams. streams.items
-        ≡ map (λ channel. released_of channel (map station_view world.now.stations.items))
+        ≡ map (λ channel. first_items cut
+        (released_of channel (map station_view world.now.stations.items)))
         (output_channels 0 channels.now)) }
 {
     let mut streams = Vec::new(alloc);
     for (number, channel) in channels.iter().enumerate() {
-        add_stream(&mut streams, number as u8, channel, world)?;
+        add_stream(&mut streams, number as u8, channel, world, cut)?;
     }
     Ok(streams)
 }
 
-/// Runs a network on its inputs, until nothing is left to do or 1,000 rounds are over. Gives the whole report, and
-/// whether the run is complete.
-pub fn report_of_run(alloc: Global, net: Net, inputs: Inputs) -> Result<(Vec<u8>, bool), Failure>
+/// Runs a network on its inputs, until nothing is left to do, so many rounds are over, or each output has the items that
+/// are asked for. Gives the whole report, and whether the run is complete.
+pub fn report_of_run(
+    alloc: Global,
+    net: Net,
+    inputs: Inputs,
+    rounds: u64,
+    items: Option<u64>,
+) -> Result<(Vec<u8>, bool), Failure>
     requires fitting { Fits (network_of net.program) inputs }
     requires one_node { IsOnOneNode (network_of net.program) }
-    ensures ok { IfOk result (λ report. IsReport net inputs report.0.items report.1) }
+    ensures ok { IfOk result (λ report. IsReport net items inputs report.0.items report.1) }
     // Nothing but memory can be missing.
     ensures err { IfErr result (λ failure. failure ≡ Failure.NoMemory) }
 {
@@ -152,9 +240,11 @@ pub fn report_of_run(alloc: Global, net: Net, inputs: Inputs) -> Result<(Vec<u8>
         Ok(world) => world,
         Err(fault) => return Err(cell_failure(fault)),
     };
-    take_turns(alloc, &mut world)?;
-    let complete = world.complete();
-    let Ok(streams) = streams(alloc, &net.program.channels, &world) else {
+    let channels = net.program.channels.as_slice();
+    take_turns(alloc, channels, &mut world, rounds, items)?;
+    let cut = cut(channels, &world, items);
+    let complete = is_whole(cut, world.complete());
+    let Ok(streams) = streams(alloc, channels, &world, cut) else {
         return Err(Failure::NoMemory);
     };
     match report(alloc, &net, &streams, complete) {

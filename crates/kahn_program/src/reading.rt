@@ -2,7 +2,6 @@
 
 ghost use Rattle.std.specs.Prelude.{◌≡◌, ℕ, Err, IfErr, IfOk, IfSome, IsNone, IsOkUnless, IsUtf8, List, Some, option_and_then, string_bytes};
 ghost use Rattle.kahn_net.specs.Fits.{Fits};
-ghost use Rattle.kahn_net.specs.Nodes.{IsOnOneNode};
 ghost use Rattle.kahn_net.specs.Syntax.{network_of};
 ghost use Rattle.kahn_program.specs.Readings.{AreInputsOf, IsInputsFailure, IsInputsTextFailure, IsNetFailure, IsNetOf, IsNetTextFailure, IsOutside, IsReadFailure, IsTextOfInputs, IsTextOfNet, net_failure_of, text_failure_of};
 ghost use Rattle.kahn_program.specs.declared.failure.Failure.TheVariants.{Unreadable};
@@ -79,7 +78,6 @@ fn read_text<R: Read + Drop>(
 /// The network of a text.
 fn net_of_text(alloc: Global, text: &str) -> Result<Net, Failure>
     ensures net { IfOk result (IsNetOf text.now) }
-    ensures one_node { IfOk result (λ net. IsOnOneNode (network_of net.program)) }
     ensures err { IfErr result (IsNetTextFailure text.now) }
     ensures accepted { IsTextOfNet text.now → IsOkUnless result Failure.NoMemory }
 {
@@ -117,8 +115,6 @@ pub fn read_net<R: Read + Drop>(alloc: Global, reader: Option<R>) -> Result<Net,
     // The network is that of the reader's bytes.
     ensures net { IfOk result
         (λ net. IfSome (option_and_then R.remaining reader) (λ bytes. IsNetOf bytes net)) }
-    // There is one node.
-    ensures one_node { IfOk result (λ net. IsOnOneNode (network_of net.program)) }
     ensures absent { IsNone reader → result ≡ Err (Unreadable source.Net) }
     // What is refused has the fault, on its line.
     ensures err { IfErr result (IsNetFailure (option_and_then R.remaining reader)) }

@@ -1,13 +1,14 @@
 //! What the words of the command line ask for.
 
-ghost use Rattle.std.specs.Prelude.{◌≡◌, ◌∷◌, [], IfErr, IfOk, false, map};
-ghost use Rattle.clap.specs.Words.{HasKind, app_of, fault_of, matches_of, rule_of};
+ghost use Rattle.std.specs.Prelude.{◌≡◌, ◌∷◌, [], IfErr, IfOk, codes, false, map};
+ghost use Rattle.clap.specs.Words.{HasKind, app_of, fault_of, found_of, matches_of, one_text, rule_of};
 ghost use Rattle.clap.specs.declared.error.kind.ErrorKind.TheVariants as kind;
-ghost use Rattle.kahn_program.specs.CommandLine.{IsAsked, kahnrun, required};
+ghost use Rattle.kahn_program.specs.CommandLine.{IsAsked, IsNumber, by_default, flag, kahnrun, number, required};
 
-use crate::asked::Options;
+use crate::asked::{MAX_APPROXIMATION, MAX_ITEMS, MAX_ROUNDS, Options};
+use clap::builder::ValueParser;
 use clap::error::ErrorKind;
-use clap::{Arg, Command, Error};
+use clap::{Arg, ArgAction, ArgMatches, Command, Error};
 use std::alloc::{AllocError, Global};
 use std::convert::AsStr;
 
@@ -19,30 +20,92 @@ fn file<'a>(alloc: Global, name: &'a str) -> Arg<'a>
     Arg::new(alloc, name).required(true)
 }
 
-/// The command line: `kahnrun NET INPUTS`.
+/// An option with a number within these bounds.
+fn number<'a>(alloc: Global, name: &'a str, least: u64, most: u64) -> Arg<'a>
+    ensures rule { rule_of result ≡ number name.entry.now least most }
+    ensures here { result.global ≡ false }
+{
+    Arg::new(alloc, name)
+        .long(name)
+        .value_name("N")
+        .value_parser(ValueParser::unsigned(least, most))
+}
+
+/// How many rounds a run goes on at most.
+fn rounds<'a>(alloc: Global) -> Arg<'a>
+    ensures rule { rule_of result ≡ by_default (codes "1000") (number (codes "rounds") 1 MAX_ROUNDS) }
+    ensures here { result.global ≡ false }
+{
+    number(alloc, "rounds", 1, MAX_ROUNDS).default_value("1000")
+}
+
+/// An option without a value.
+fn flag<'a>(alloc: Global, name: &'a str) -> Arg<'a>
+    ensures rule { rule_of result ≡ flag name.entry.now }
+    ensures here { result.global ≡ false }
+{
+    Arg::new(alloc, name).long(name).action(ArgAction::SetTrue)
+}
+
+/// The command line: `kahnrun [--rounds N] [--items N] [--plain] [--approx N] NET INPUTS`.
 fn command<'a>(alloc: Global) -> Result<Command<'a>, AllocError>
     ensures { IfOk result (λ c. app_of c ≡ kahnrun) }
 {
     let command = Command::new(alloc, "kahnrun")
         .arg(file(alloc, "NET"))?
-        .arg(file(alloc, "INPUTS"))?;
+        .arg(file(alloc, "INPUTS"))?
+        .arg(rounds(alloc))?
+        .arg(number(alloc, "items", 0, MAX_ITEMS))?
+        .arg(flag(alloc, "plain"))?
+        .arg(number(alloc, "approx", 0, MAX_APPROXIMATION))?;
     Ok(command)
+}
+
+/// The number that an option was given. (Its parser let no other text through, so the error isn't met.)
+fn given(
+    matches: &ArgMatches<'_>,
+    name: &str,
+    least: u64,
+    most: u64,
+) -> Result<Option<u64>, AllocError>
+    ensures { IfOk result (IsNumber least most (one_text (found_of matches.now) name.now)) }
+{
+    match matches.try_get_one::<u64>(name) {
+        Ok(Some(number)) => {
+            if least <= number && number <= most {
+                Ok(Some(number))
+            } else {
+                Err(AllocError)
+            }
+        }
+        Ok(None) => Ok(None),
+        Err(_) => Err(AllocError),
+    }
 }
 
 /// What these words ask for, of which the first is the program's name. Refuses by `clap`'s error, whose text
 /// is for the user: also where they ask for help, and for want of memory.
 pub fn options<S: AsStr>(alloc: Global, words: &[S]) -> Result<Options, Error>
+    // Each value is that of the matches, defaults included, and within its bounds.
     ensures asked { IfOk result (IsAsked (matches_of kahnrun (map S.text words.now))) }
     // Words are refused for what is wrong with them, or for want of memory.
     ensures refused { IfErr result (HasKind (fault_of kahnrun (map S.text words.now))) }
 {
     let matches = command(alloc)?.try_get_matches_from(words)?;
-    let (Some(net), Some(inputs)) = (matches.get_str("NET"), matches.get_str("INPUTS")) else {
+    let (Some(net), Some(inputs), Some(rounds)) = (
+        matches.get_str("NET"),
+        matches.get_str("INPUTS"),
+        given(&matches, "rounds", 1, MAX_ROUNDS)?,
+    ) else {
         return Err(AllocError.into());
     };
     Ok(Options {
         net: String::from_str(alloc, net)?,
         inputs: String::from_str(alloc, inputs)?,
+        rounds,
+        items: given(&matches, "items", 0, MAX_ITEMS)?,
+        plain: matches.get_flag("plain"),
+        approx: given(&matches, "approx", 0, MAX_APPROXIMATION)?,
     })
 }
 

@@ -1,8 +1,9 @@
-//! `kahnrun NET INPUTS` runs the network of one file on the inputs of the other, and prints what each output
-//! released, and whether the run is complete.
+//! `kahnrun [--rounds N] [--items N] [--plain] [--approx N] NET INPUTS` runs the network of one file on the inputs of the
+//! other, and prints what each output released, and whether the run is complete. With `--approx` it runs nothing, and
+//! prints that approximation of each output's history, and whether it is a solution.
 //!
-//! The exit status is 0 where it is complete, 3 where it isn't, 2 where a text or the command line is refused (or help
-//! is asked for), and 1 for any other failure, as where a line can't be written.
+//! The exit status is 0 where the last line is `complete`, 3 where it is `partial`, 2 where a text or the command line is
+//! refused (or help is asked for), and 1 for any other failure, as where a line can't be written.
 #![tactic(auto)]
 
 use clap::Error;
@@ -65,7 +66,14 @@ fn status(rt: &HostRuntime, alloc: Global) -> u8 {
     let Ok(inputs) = open(rt, options.inputs.as_str()) else {
         return no_memory(rt);
     };
-    run(alloc, net, inputs, &mut rt.stdout(), &mut rt.stderr())
+    run(
+        alloc,
+        &options,
+        net,
+        inputs,
+        &mut rt.stdout(),
+        &mut rt.stderr(),
+    )
 }
 
 fn main(rt: HostRuntime) -> ExitCode {

@@ -63,6 +63,16 @@ fn failures_and_their_statuses(rt: HostRuntime) -> Result<(), Fail> {
             "inputs: cannot be read",
             1,
         ),
+        (
+            Failure::Approximation { number: 19 },
+            "approx: refusal 19",
+            1,
+        ),
+        (
+            Failure::Unsupported,
+            "run: several nodes, or channels between processes, are not supported yet; use --approx",
+            1,
+        ),
         (Failure::NoMemory, "no memory", 1),
         (Failure::Other { number: 44 }, "refusal 44", 1),
     ] {

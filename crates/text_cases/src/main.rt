@@ -6,7 +6,7 @@
 //! follow, and `-- status N` gives the status. A text that isn't there is empty.
 #![tactic(auto)]
 
-use kahn_program::run;
+use kahn_program::{Options, run};
 use std::alloc::{AllocError, Global};
 use std::fs::File;
 use std::io::Read;
@@ -80,7 +80,8 @@ impl Case {
         let mut err = Vec::new(alloc);
         let net = Some(self.net.as_bytes());
         let inputs = Some(self.inputs.as_bytes());
-        let status = run(alloc, net, inputs, &mut out, &mut err);
+        let options = Options::new(String::new(alloc), String::new(alloc));
+        let status = run(alloc, &options, net, inputs, &mut out, &mut err);
         status == self.status
             && out.as_slice() == self.out.as_bytes()
             && err.as_slice() == self.err.as_bytes()

@@ -3,7 +3,7 @@ use Rattle.std.specs.Prelude.{ℕ, ℤ, List, map, Option}
 use Rattle.kahn_net.specs.Syntax.{Network}
 use Rattle.node.specs.NodeView.{NodeView}
 use Rattle.world.specs.declared.output.Output.{Output}
-use Rattle.world.specs.declared.turns.RoundTurns.{RoundTurns}
+use Rattle.world.specs.declared.round_turns.RoundTurns.{RoundTurns}
 
 -- an outlet: its channel, what it took, the last round in which it failed, and how often it has failed
 pub record OutletView : Type 0 where

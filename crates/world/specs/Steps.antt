@@ -26,7 +26,7 @@ use Rattle.world.specs.declared.event.Event.{Event}
 use Rattle.world.specs.declared.event.Event.TheVariants as event
 use Rattle.world.specs.declared.event.Reply.{Reply}
 use Rattle.world.specs.declared.event.Reply.TheVariants as reply
-use Rattle.world.specs.declared.turns.RoundTurns.{RoundTurns}
+use Rattle.world.specs.declared.round_turns.RoundTurns.{RoundTurns}
 
 -- One station
 

@@ -3,7 +3,7 @@ use Rattle.std.specs.Prelude.{◌==◌, ℕ, ◌+◌, nat_lt, Bool, true, false,
 use Rattle.node.specs.JobView.{JobView}
 use Rattle.node.specs.declared.putting.Putting.{Putting}
 use Rattle.node.specs.declared.putting.Putting.TheVariants as putting
-use Rattle.world.specs.declared.turns.RoundTurns.{RoundTurns}
+use Rattle.world.specs.declared.round_turns.RoundTurns.{RoundTurns}
 use Rattle.world.specs.declared.turning.TheConstants.{MAX_GRANTS}
 
 -- nothing yet in this round

@@ -9,8 +9,8 @@ ghost use Rattle.world.specs.Steps.{IsSendOf, IsIdle, IsStationStep};
 ghost use Rattle.world.specs.WorldView.{station_view, IsCellUnchanged};
 
 use crate::event::{Event, Reply};
+use crate::round_turns::RoundTurns;
 use crate::station::Station;
-use crate::turns::RoundTurns;
 use node::StableCell;
 use outlet::Outlet;
 use std::alloc::{AllocError, Global};

@@ -8,8 +8,8 @@ ghost use Rattle.world.specs.Steps.{IsBegun, IsDecided};
 ghost use Rattle.world.specs.WorldView.{station_view, IsCellUnchanged};
 
 use crate::event::Reply;
+use crate::round_turns::RoundTurns;
 use crate::station::Station;
-use crate::turns::RoundTurns;
 use node::{Putting, StableCell};
 use outlet::Outlet;
 use std::alloc::{AllocError, Global};

@@ -14,14 +14,14 @@ mod picking;
 mod quiet;
 mod released;
 mod releasing;
+mod round_turns;
 mod station;
 mod turning;
-mod turns;
 mod world;
 
 pub use event::{Event, Freed, Refused, Reply};
 pub use opening::list_outputs;
 pub use output::Output;
+pub use round_turns::RoundTurns;
 pub use station::Station;
-pub use turns::RoundTurns;
 pub use world::World;

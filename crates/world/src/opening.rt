@@ -14,8 +14,8 @@ ghost use Rattle.world.specs.WorldView.{station_view, world_view, HasOutlets, Is
 ghost use Rattle.kahn_net.specs.declared.limits.TheConstants.{MAX_CHANNELS};
 
 use crate::output::Output;
+use crate::round_turns::RoundTurns;
 use crate::station::Station;
-use crate::turns::RoundTurns;
 use crate::world::World;
 use kahn_net::{Channel, Port};
 use net_check::{Inputs, Net};

@@ -6,7 +6,7 @@ ghost use Rattle.world.specs.OutputView.{outputs_view};
 ghost use Rattle.world.specs.Sound.{IsSound};
 
 use crate::output::Output;
-use crate::turns::RoundTurns;
+use crate::round_turns::RoundTurns;
 use net_check::{Inputs, Net};
 use node::{Node, StableCell};
 use outlet::Outlet;

@@ -11,8 +11,8 @@ ghost use Rattle.world.specs.Steps.{IsGrantReply, IsGrant, IsInstalled};
 ghost use Rattle.world.specs.WorldView.{station_view};
 
 use crate::event::Reply;
+use crate::round_turns::RoundTurns;
 use crate::station::Station;
-use crate::turns::RoundTurns;
 use node::StableCell;
 use outlet::Outlet;
 use proc_step::{Done, Job};

@@ -4,17 +4,18 @@ use Rattle.net_check.specs.declared.net.Net.{Net}
 use Rattle.world.specs.Released.{released_of}
 use Rattle.world.specs.WorldView.{station_view}
 use Rattle.kahn_program.specs.Report.{output_count, report_text}
+use Rattle.kahn_program.specs.Runs.{first_items}
 use Rattle.kahn_program.proofs.Released.{counted_streams, world_run, reported}
 use Rattle.world.specs.PairLaws.{every_map}
 use Rattle.kahn_program.proofs.Cells.{only_memory}
-use Rattle.kahn_program.proofs.turns.report_of_run.Goals as goal
+use Rattle.kahn_program.proofs.network_run.report_of_run.Goals as goal
 
 pub report-requires : goal.report-requires
 report-requires c =
-    let f = λ (channel : ℕ). released_of channel (map station_view c.take_turns.new.world.stations.items) in
-    ap (length {A = List ℤ}) (c.deref-4.ensures.value ∙ c.in-Ok-streams.ensures)
-    ∙ (counted_streams f 0 c.deref-2.result.now
-    ∙ ap output_count (c.deref-2.ensures.value ∙ ap (λ (n : Net). n.program.channels.items) (c.deref.ensures ∙ sym c.deref-3.ensures)))
+    let f = λ (channel : ℕ). first_items c.cut-cut.result (released_of channel (map station_view c.take_turns.new.world.stations.items)) in
+    ap (length {A = List ℤ}) (c.deref-3.ensures.value ∙ c.in-Ok-streams.ensures)
+    ∙ (counted_streams f 0 c.as_slice-channels.result.now
+    ∙ ap output_count (c.as_slice-channels.ensures.value ∙ ap (λ (n : Net). n.program.channels.items) (c.deref.ensures ∙ sym c.deref-2.ensures)))
 
 pub returns-in-Ok-report-clause-ok : goal.returns-in-Ok-report-clause-ok
 returns-in-Ok-report-clause-ok c =
@@ -22,15 +23,18 @@ returns-in-Ok-report-clause-ok c =
     let now = c.take_turns.new.world.stations.items in
     let first = c.in-Ok-new-3.world.stations.items in
     let shared = c.in-Ok-try_clone.ensures ∙ c.in-Ok-new.ensures.ok in
-    let seen : c.deref-3.result.now ≡ net = c.deref-3.ensures ∙ c.in-Ok-new.ensures.ok in
-    let run = world_run (network_of net.program) c.args.inputs first now c.complete-complete.result c.in-Ok-new-3.ensures.one
+    let seen : c.deref-2.result.now ≡ net = c.deref-2.ensures ∙ c.in-Ok-new.ensures.ok in
+    let told = c.is_whole-complete.result in
+    let run = world_run (network_of net.program) c.args.inputs first now c.complete.result c.in-Ok-new-3.ensures.one
     (every_map _ _ (λ station of. (ap (λ a. network_of a.value.program) of.0 ∙ ap (λ (n : Net). network_of n.program) shared, ap (λ a. a.value) of.1 ∙ c.in-Ok-new-2.ensures.ok)) first c.in-Ok-new-3.ensures.same)
-    c.take_turns.ensures.same c.complete-complete.ensures.whole in
-    reported net c.args.inputs c.deref-2.result.now c.in-Ok-streams.streams.items (map station_view now) c.in-Ok-report.bytes.items c.complete-complete.result
-    (c.deref-2.ensures.value ∙ ap (λ (n : Net). n.program.channels.items) (c.deref.ensures ∙ c.in-Ok-new.ensures.ok))
+    c.take_turns.ensures.same c.complete.ensures.whole in
+    reported net c.args.inputs c.as_slice-channels.result.now c.args.items c.cut-cut.result c.in-Ok-streams.streams.items (map station_view now) c.in-Ok-report.bytes.items c.complete.result told
+    (c.as_slice-channels.ensures.value ∙ ap (λ (n : Net). n.program.channels.items) (c.deref.ensures ∙ c.in-Ok-new.ensures.ok))
+    c.cut-cut.ensures
     c.in-Ok-streams.ensures
-    (c.in-Ok-report.ensures ∙ (ap (λ (n : Net). report_text n.program.channels.items n.channel_names.items c.deref-4.result.now c.complete-complete.result) seen
-    ∙ ap (λ (l : List (List ℤ)). report_text net.program.channels.items net.channel_names.items l c.complete-complete.result) c.deref-4.ensures.value))
+    c.is_whole-complete.ensures
+    (c.in-Ok-report.ensures ∙ (ap (λ (n : Net). report_text n.program.channels.items n.channel_names.items c.deref-3.result.now told) seen
+    ∙ ap (λ (l : List (List ℤ)). report_text net.program.channels.items net.channel_names.items l told) c.deref-3.ensures.value))
     run
 
 pub returns-in-Err-clause-err : goal.returns-in-Err-clause-err

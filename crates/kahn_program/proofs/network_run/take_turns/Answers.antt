@@ -1,5 +1,5 @@
 use Rattle.kahn_program.proofs.Released.{same_then, same_still}
-use Rattle.kahn_program.proofs.turns.take_turns.Goals as goal
+use Rattle.kahn_program.proofs.network_run.take_turns.Goals as goal
 
 pub loop-init : goal.loop-init
 loop-init c = same_still _

@@ -7,4 +7,8 @@ pub returns : goal.returns
 unfolding kahnrun
 returns c =
     let net = c.in_ok-arg.ensures.shape c.file.ensures.here ∙ ap₂ with_rule c.new.ensures.app c.file.ensures.rule in
-    c.in_ok-command.ensures.shape c.file-2.ensures.here ∙ ap₂ with_rule net c.file-2.ensures.rule
+    let inputs = c.in_ok-arg-2.ensures.shape c.file-2.ensures.here ∙ ap₂ with_rule net c.file-2.ensures.rule in
+    let rounds = c.in_ok-arg-3.ensures.shape c.rounds.ensures.here ∙ ap₂ with_rule inputs c.rounds.ensures.rule in
+    let items = c.in_ok-arg-4.ensures.shape c.number.ensures.here ∙ ap₂ with_rule rounds c.number.ensures.rule in
+    let plain = c.in_ok-arg-5.ensures.shape c.flag.ensures.here ∙ ap₂ with_rule items c.flag.ensures.rule in
+    c.in_ok-command.ensures.shape c.number-2.ensures.here ∙ ap₂ with_rule plain c.number-2.ensures.rule

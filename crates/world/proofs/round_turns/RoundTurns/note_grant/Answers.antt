@@ -4,7 +4,7 @@ use Rattle.proc_step.specs.declared.job.Job.{Job}
 use Rattle.node.specs.JobView.{job_view}
 use Rattle.world.specs.Steps.{IsGrantReply}
 use Rattle.world.specs.declared.event.Reply.TheVariants as reply
-use Rattle.world.proofs.turns.RoundTurns.note_grant.Goals as goal
+use Rattle.world.proofs.round_turns.RoundTurns.note_grant.Goals as goal
 
 pub returns-in-Some-clause-reply : goal.returns-in-Some-clause-reply
 returns-in-Some-clause-reply g =

@@ -1,0 +1,8 @@
+use Rattle.std.proofs.Common.{rules, ℕ}
+use Rattle.kahn_net.specs.Streams.{history_of}
+use Rattle.kahn_program.proofs.Released.{streams_next}
+use Rattle.kahn_program.proofs.approximating.output_histories.Goals as goal
+
+pub loop-number-preserved : goal.loop-number-preserved
+loop-number-preserved c =
+    streams_next (λ (channel : ℕ). history_of c.args.histories.now channel) c.args.channels.now c.loop-number.number _ _ _ _ (search rules) c.loop-number.invariant c.in_ok-add_history.ensures

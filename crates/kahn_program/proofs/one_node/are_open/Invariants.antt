@@ -1,0 +1,8 @@
+use Rattle.std.proofs.Common.{◌≡◌, drop}
+use Rattle.std.specs.List.{list_all}
+use Rattle.kahn_program.specs.Runnable.{is_open}
+use Rattle.kahn_program.proofs.one_node.are_open.Given as goal
+
+-- as those that weren't looked at yet
+abbrev pub invariant-loop-channel : goal.invariant-loop-channel
+invariant-loop-channel l = list_all is_open (drop l.channel-index l.channels) ≡ list_all is_open l.channels
