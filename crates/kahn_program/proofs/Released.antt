@@ -1,5 +1,5 @@
 -- What a world's outlets took are the streams of a run.
-use Rattle.std.proofs.Common.{◌≡◌, ◌≢◌, ◌⊎◌, inl, inr, Vec, Global, ℕ, zero, suc, ◌+◌, ◌<◌, Bool, true, false, ◌&&◌, eqb, cond, List, ℤ, [], ◌∷◌, ◌++◌, length, map, drop, get_or, Option, Some, None, refl, sym, ap, subst, ◌∙◌, append_assoc, arith}
+use Rattle.std.proofs.Common.{◌≡◌, ◌≢◌, ◌⊎◌, inl, inr, Vec, Global, ℕ, zero, suc, ◌+◌, ◌<◌, Bool, true, false, ◌&&◌, eqb, cond, List, ℤ, [], ◌∷◌, ◌++◌, length, map, drop, get_or, Option, Some, refl, sym, ap, subst, ◌∙◌, append_assoc, arith}
 use Rattle.std.specs.Prelude.{Result, Ok, Err, IfOk, IfSome, slice_get, find, IsTrue, if◌then◌else◌}
 use Rattle.std.specs.Io.KnownBytes.{Appends}
 use Rattle.std.proofs.Math.Logic.{∥∥₁_map}
@@ -30,12 +30,11 @@ use Rattle.net_check.specs.declared.net.Net.{Net}
 use Rattle.kahn_program.specs.Report.{one_if_output, output_count, report_text}
 use Rattle.kahn_program.specs.Readings.{IsNetOf, AreInputsOf}
 use Rattle.kahn_program.specs.Statuses.{status_of_run}
-use Rattle.kahn_program.specs.Runs.{released_streams, cut_at, first_items, is_whole, run_text, IsRun, IsReport, IsApproximated, IsReportOf, IsReported, HasWritten}
-use Rattle.kahn_program.specs.Runnable.{CanRun, IsApproximationFailure, IsReportFailure}
+use Rattle.kahn_program.specs.Runs.{released_streams, cut_at, first_items, is_whole, run_text, IsRun, IsReport, IsReportOf, IsReported, HasWritten}
+use Rattle.kahn_program.specs.Runnable.{IsReportFailure}
 use Rattle.kahn_program.specs.declared.failure.Failure.{Failure}
 use Rattle.std.specs.Prelude.{IfErr}
 use Rattle.kahn_program.specs.Readings.{IsRunFailure, of_report}
-use Rattle.kahn_program.specs.declared.failure.Failure.TheVariants.{NoMemory, Unsupported}
 
 -- The outlet of a channel
 
@@ -212,11 +211,6 @@ module _ (f : ℕ → List ℤ) (test : List ℤ → Bool) where
   one_passed true number rest passes is yes_it_is = ap (λ (p : Bool). p && list_all test (map f rest)) (sym is ∙ yes_it_is)
   one_passed false number rest passes is yes_it_is = refl
 
-  one_failed : (b : Bool) (number : ℕ) (rest : List ℕ) (passes : Bool) → passes ≡ (if b then test (f number) else true) → passes ≡ false
-      → list_all test (map f (if b then number ∷ rest else rest)) ≡ false
-  one_failed true number rest passes is fails = ap (λ (p : Bool). p && list_all test (map f rest)) (sym is ∙ fails)
-  one_failed false number rest passes is fails = absurd (cc)
-
   here : (channels : List Channel) (k : ℕ) (d : Channel) → k < length channels
       → list_all test (map f (output_channels k (drop k channels)))
       ≡ list_all test (map f (if goes_outside (get_or channels k d).consumer then k ∷ output_channels (suc k) (drop (suc k) channels) else output_channels (suc k) (drop (suc k) channels)))
@@ -232,39 +226,7 @@ module _ (f : ℕ → List ℤ) (test : List ℤ → Bool) where
       ∙ (sym (one_passed (goes_outside (get_or channels k d).consumer) k (output_channels (suc k) (drop (suc k) channels)) passes is yes_it_is)
       ∙ (sym (here channels k d within) ∙ so_far))
 
-  -- or has not
-  pub all_stop : (channels : List Channel) (k : ℕ) (d : Channel) (passes whole : Bool) → k < length channels → list_all test (map f (output_channels k (drop k channels))) ≡ whole
-      → passes ≡ (if goes_outside (get_or channels k d).consumer then test (f k) else true) → passes ≡ false → false ≡ whole
-  all_stop channels k d passes whole within so_far is fails =
-      sym (one_failed (goes_outside (get_or channels k d).consumer) k (output_channels (suc k) (drop (suc k) channels)) passes is fails)
-      ∙ (sym (here channels k d within) ∙ so_far)
-
--- The report that is asked for
-
-pub of_approximation : (approx items : Option ℕ) (n : ℕ) (net : Net) (inputs : List (List ℤ)) (result : Result (Vec ℕ Global × Bool) Failure) → approx ≡ Some n
-    → IfOk result (λ report. IsApproximated net inputs n report.0.items report.1) → IfOk result (λ report. IsReportOf approx items net inputs report.0.items report.1)
-of_approximation approx items n net inputs (Err e) is report = tt
-of_approximation approx items n net inputs (Ok r) is report = subst (λ (a : Option ℕ). IsReportOf a items net inputs r.0.items r.1) (sym is) report
-
-pub no_approximation : (approx : Option ℕ) (n : ℕ) (net : Network) (inputs : List (List ℤ)) (result : Result (Vec ℕ Global × Bool) Failure) → approx ≡ Some n
-    → IfErr result (IsApproximationFailure net inputs n) → IfErr result (IsReportFailure approx net inputs)
-no_approximation approx n net inputs (Ok r) is err = tt
-no_approximation approx n net inputs (Err failure) is err = subst (λ (a : Option ℕ). IsReportFailure a net inputs failure) (sym is) err
-
-pub of_run : (approx items : Option ℕ) (net : Net) (inputs : List (List ℤ)) (result : Result (Vec ℕ Global × Bool) Failure) → approx ≡ None → CanRun (network_of net.program)
-    → IfOk result (λ report. IsReport net items inputs report.0.items report.1) → IfOk result (λ report. IsReportOf approx items net inputs report.0.items report.1)
-of_run approx items net inputs (Err e) is can report = tt
-of_run approx items net inputs (Ok r) is can report = subst (λ (a : Option ℕ). IsReportOf a items net inputs r.0.items r.1) (sym is) (can, report)
-
-pub no_run : (approx : Option ℕ) (net : Network) (inputs : List (List ℤ)) (result : Result (Vec ℕ Global × Bool) Failure) → approx ≡ None
-    → IfErr result (λ failure. failure ≡ NoMemory) → IfErr result (IsReportFailure approx net inputs)
-no_run approx net inputs (Ok r) is err = tt
-no_run approx net inputs (Err failure) is err = subst (λ (a : Option ℕ). IsReportFailure a net inputs failure) (sym is) (inr err)
-
-pub not_run : (approx : Option ℕ) (net : Network) (inputs : List (List ℤ)) → approx ≡ None → ¬ (CanRun net) → IsReportFailure approx net inputs Unsupported
-not_run approx net inputs is can_not = subst (λ (a : Option ℕ). IsReportFailure a net inputs Unsupported) (sym is) (inl (refl, can_not))
-
--- of the texts of two readers
+-- The report that is asked for, of the texts of two readers
 pub run_of_readers : (approx items : Option ℕ) (net_bytes input_bytes : Option (List ℕ)) (net : Net) (inputs : List (List ℤ)) (result : Result (Vec ℕ Global × Bool) Failure) → IfSome net_bytes (λ bytes. IsNetOf bytes net) → IfSome input_bytes (λ bytes. AreInputsOf bytes net inputs)
     → IfOk result (λ report. IsReportOf approx items net inputs report.0.items report.1) → IfOk result (λ report. IsReported approx items net_bytes input_bytes report.0.items report.1)
 run_of_readers approx items net_bytes input_bytes net inputs (Err e) of_net of_inputs report = tt
