@@ -1,10 +1,9 @@
 -- A network without the pointers of its boxes and vectors: two networks that read alike are equal here.
 use Rattle.std.specs.Prelude.{ℕ, ℤ, List, [], ◌∷◌, map, Option, Some, None, Vec}
 use Rattle.kahn_net.specs.declared.program.Operator.{Operator}
-use Rattle.kahn_net.specs.declared.program.Expr.{Expr, Literal, Variable, Chain', Row_of-Link, end_of-Link, more_of-Link}
+use Rattle.kahn_net.specs.declared.program.Expr.{Expr, Literal, Variable, Negate', Chain', Row_of-Link, end_of-Link, more_of-Link}
 use Rattle.kahn_net.specs.declared.program.Link.{Link}
-use Rattle.kahn_net.specs.declared.program.Statement.{Statement}
-use Rattle.kahn_net.specs.declared.program.Statement.TheVariants.{Get, Assign, Put}
+use Rattle.kahn_net.specs.declared.program.Statement.{Statement, Get, Assign, Put, Stop, If', Row_of-Statement, end_of-Statement, more_of-Statement}
 use Rattle.kahn_net.specs.declared.program.Process.{Process}
 use Rattle.kahn_net.specs.declared.program.Channel.{Channel}
 use Rattle.kahn_net.specs.declared.program.Program.{Program}
@@ -14,6 +13,7 @@ mutual
   pub data Tree : Type 0 where
     Number : (value : ℤ) → Tree
     Name : (variable : ℕ) → Tree
+    Minus : (value : Tree) → Tree
     Chain : (first : Tree) (links : Links) → Tree
 
   pub data Links : Type 0 where
@@ -26,6 +26,8 @@ pub data Block : Type 0 where
   GetThen : (variable channel : ℕ) (rest : Block) → Block
   AssignThen : (variable : ℕ) (value : Tree) (rest : Block) → Block
   PutThen : (value : Tree) (channel : ℕ) (rest : Block) → Block
+  StopThen : (rest : Block) → Block
+  IfThen : (test : Tree) (first second rest : Block) → Block
 
 -- a process: its node, its variables' first values, its prelude and the body of its loop
 pub record Code : Type 0 where
@@ -43,6 +45,7 @@ abbrev mutual
   pub tree_of : Expr → Tree
   tree_of (Literal n) = Number n
   tree_of (Variable x) = Name x
+  tree_of (Negate' p value) = Minus (tree_of value)
   tree_of (Chain' p first shape links) = Chain (tree_of first) (row_of links)
 
   pub row_of : {m : _} → Row_of-Link m → Links
@@ -53,10 +56,17 @@ abbrev pub links_of : List Link → Links
 links_of [] = NoLinks
 links_of (l ∷ ls) = LinkThen l.operator (tree_of l.value) (links_of ls)
 
-abbrev pub then_of : Statement → Block → Block
-then_of (Get x channel) rest = GetThen x channel rest
-then_of (Assign x e) rest = AssignThen x (tree_of e) rest
-then_of (Put e channel) rest = PutThen (tree_of e) channel rest
+abbrev mutual
+  pub then_of : Statement → Block → Block
+  then_of (Get x channel) rest = GetThen x channel rest
+  then_of (Assign x e) rest = AssignThen x (tree_of e) rest
+  then_of (Put e channel) rest = PutThen (tree_of e) channel rest
+  then_of Stop rest = StopThen rest
+  then_of (If' test shape first shape' second) rest = IfThen (tree_of test) (row_block first) (row_block second) rest
+
+  pub row_block : {m : _} → Row_of-Statement m → Block
+  row_block end_of-Statement = Nothing
+  row_block (more_of-Statement s rest) = then_of s (row_block rest)
 
 abbrev pub block_of : List Statement → Block
 block_of [] = Nothing

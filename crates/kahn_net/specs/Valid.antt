@@ -1,22 +1,26 @@
 -- When a network is valid: a clause for each rule, over the network alone.
 use Rattle.std.specs.Prelude.{◌≡◌, ◌≢◌, ◌↔◌, ℕ, suc, ◌+◌, ◌<◌, ◌≤◌, Bool, true, false, ◌&&◌, ◌||◌, ◌==◌, nat_lt, length, slice_get, Option, Some, None, IsTrue}
-use Rattle.kahn_net.specs.Syntax.{Tree, Number, Name, Chain, Links, NoLinks, LinkThen, Block, Nothing, GetThen, AssignThen, PutThen, Code, Network}
+use Rattle.kahn_net.specs.Syntax.{Tree, Number, Name, Minus, Chain, Links, NoLinks, LinkThen, Block, Nothing, GetThen, AssignThen, PutThen, StopThen, IfThen, Code, Network}
 use Rattle.kahn_net.specs.declared.program.Channel.{Channel}
 use Rattle.kahn_net.specs.declared.program.Port.TheVariants.{Outside, Process}
 use Rattle.kahn_net.specs.declared.limits.TheConstants.{MAX_CHANNELS, MAX_NODES, MAX_PROCESSES, MAX_UNITS, MAX_VARIABLES}
 
--- Statements pass where one of them gets an item: the loop whose body passes can't go round without end on what is at hand.
+-- Statements pass where one of them passes: a get and a stop do, and an if both of whose blocks do. A loop whose body passes can't go
+-- round without end on what is at hand.
 abbrev pub is_passing : Block → Bool
 is_passing Nothing = false
 is_passing (GetThen x c rest) = true
 is_passing (AssignThen x e rest) = is_passing rest
 is_passing (PutThen e c rest) = is_passing rest
+is_passing (StopThen rest) = true
+is_passing (IfThen test first second rest) = (is_passing first && is_passing second) || is_passing rest
 
 -- each literal, each variable in an expression and each operator is one unit
 abbrev mutual
   pub expr_units : Tree → ℕ
   expr_units (Number n) = 1
   expr_units (Name x) = 1
+  expr_units (Minus value) = suc (expr_units value)
   expr_units (Chain first links) = expr_units first + links_units links
 
   pub links_units : Links → ℕ
@@ -29,6 +33,8 @@ block_units Nothing = 0
 block_units (GetThen x c rest) = suc (block_units rest)
 block_units (AssignThen x e rest) = suc (expr_units e + block_units rest)
 block_units (PutThen e c rest) = suc (expr_units e + block_units rest)
+block_units (StopThen rest) = suc (block_units rest)
+block_units (IfThen test first second rest) = suc (expr_units test + (block_units first + (block_units second + block_units rest)))
 
 abbrev pub body_units : Option Block → ℕ
 body_units None = 0
@@ -39,6 +45,7 @@ abbrev mutual
   pub expr_within : ℕ → Tree → Bool
   expr_within variables (Number n) = true
   expr_within variables (Name x) = nat_lt x variables
+  expr_within variables (Minus value) = expr_within variables value
   expr_within variables (Chain first links) = expr_within variables first && links_within variables links
 
   pub links_within : ℕ → Links → Bool
@@ -51,6 +58,9 @@ block_within variables channels Nothing = true
 block_within variables channels (GetThen x c rest) = nat_lt x variables && (nat_lt c channels && block_within variables channels rest)
 block_within variables channels (AssignThen x e rest) = nat_lt x variables && (expr_within variables e && block_within variables channels rest)
 block_within variables channels (PutThen e c rest) = expr_within variables e && (nat_lt c channels && block_within variables channels rest)
+block_within variables channels (StopThen rest) = block_within variables channels rest
+block_within variables channels (IfThen test first second rest) =
+    expr_within variables test && (block_within variables channels first && (block_within variables channels second && block_within variables channels rest))
 
 abbrev pub body_within : ℕ → ℕ → Option Block → Bool
 body_within variables channels None = true
@@ -62,6 +72,8 @@ block_gets channel Nothing = false
 block_gets channel (GetThen x c rest) = (c == channel) || block_gets channel rest
 block_gets channel (AssignThen x e rest) = block_gets channel rest
 block_gets channel (PutThen e c rest) = block_gets channel rest
+block_gets channel (StopThen rest) = block_gets channel rest
+block_gets channel (IfThen test first second rest) = block_gets channel first || (block_gets channel second || block_gets channel rest)
 
 -- some statement puts on this channel
 abbrev pub block_puts : ℕ → Block → Bool
@@ -69,6 +81,8 @@ block_puts channel Nothing = false
 block_puts channel (GetThen x c rest) = block_puts channel rest
 block_puts channel (AssignThen x e rest) = block_puts channel rest
 block_puts channel (PutThen e c rest) = (c == channel) || block_puts channel rest
+block_puts channel (StopThen rest) = block_puts channel rest
+block_puts channel (IfThen test first second rest) = block_puts channel first || (block_puts channel second || block_puts channel rest)
 
 abbrev pub body_gets : ℕ → Option Block → Bool
 body_gets channel None = false

@@ -16,4 +16,4 @@ pub use limits::{
 };
 pub use program::{Channel, Expr, Link, Operator, Port, Process, Program, Statement};
 pub use same::is_same_process;
-pub use state::{Place, ProcState};
+pub use state::{Mode, Place, ProcState};

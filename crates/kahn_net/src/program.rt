@@ -1,9 +1,18 @@
 //! A network with its channels and variables by number, in order of declaration, from 0.
 
-/// What joins two values in an expression.
+/// What joins two values in an expression. Sums, differences and products wrap modulo 2^64; a
+/// comparison gives 1 or 0.
 #[derive(Clone, Copy, Debug, PartialEq, Eq)]
 pub enum Operator {
     Add,
+    Subtract,
+    Multiply,
+    Equal,
+    NotEqual,
+    Less,
+    LessOrEqual,
+    Greater,
+    GreaterOrEqual,
 }
 
 /// An expression over the variables of a process.
@@ -12,6 +21,8 @@ pub enum Operator {
 pub enum Expr {
     Literal(i64),
     Variable(usize),
+    /// 0 less the value, modulo 2^64.
+    Negate(Box<Expr>),
     /// A value, and operators with the value to the right of each, which group from the left.
     Chain { first: Box<Expr>, links: Vec<Link> },
 }
@@ -27,9 +38,26 @@ pub struct Link {
 /// A statement of a process.
 #[derive(Debug, Drop)]
 pub enum Statement {
-    Get { variable: usize, channel: usize },
-    Assign { variable: usize, value: Expr },
-    Put { value: Expr, channel: usize },
+    Get {
+        variable: usize,
+        channel: usize,
+    },
+    Assign {
+        variable: usize,
+        value: Expr,
+    },
+    Put {
+        value: Expr,
+        channel: usize,
+    },
+    /// Finishes the process.
+    Stop,
+    /// Does the first statements where the test isn't 0, and else the second.
+    If {
+        test: Expr,
+        first: Vec<Statement>,
+        second: Vec<Statement>,
+    },
 }
 
 /// A process: its node, its variables' first values, what it does first, and what it does again and again.

@@ -18,6 +18,10 @@ fn is_same_expr(a: &Expr, b: &Expr) -> bool
             Expr::Variable(y) => x == y,
             _ => false,
         },
+        Expr::Negate(value) => match b {
+            Expr::Negate(other) => is_same_expr(value, other),
+            _ => false,
+        },
         Expr::Chain { first, links } => match b {
             Expr::Chain {
                 first: other,
@@ -43,6 +47,7 @@ fn is_same_links(a: &[Link], b: &[Link]) -> bool
     true
 }
 
+#[cycle(same_statements)]
 fn is_same_statement(a: &Statement, b: &Statement) -> bool
     ensures { IsTrue result ↔ (then_of a.now Nothing ≡ then_of b.now Nothing) }
 {
@@ -68,9 +73,34 @@ fn is_same_statement(a: &Statement, b: &Statement) -> bool
             } => is_same_expr(value, e) && channel == c,
             _ => false,
         },
+        Statement::Stop => match b {
+            Statement::Stop => true,
+            _ => false,
+        },
+        Statement::If {
+            test,
+            first,
+            second,
+        } => match b {
+            Statement::If {
+                test: e,
+                first: f,
+                second: g,
+            } => {
+                if !is_same_expr(test, e) {
+                    return false;
+                }
+                if !is_same_statements(first, f) {
+                    return false;
+                }
+                is_same_statements(second, g)
+            }
+            _ => false,
+        },
     }
 }
 
+#[cycle(same_statements)]
 fn is_same_statements(a: &[Statement], b: &[Statement]) -> bool
     ensures { IsTrue result ↔ (block_of a.now ≡ block_of b.now) }
 {
@@ -99,6 +129,13 @@ fn is_same_body(a: &Option<Vec<Statement>>, b: &Option<Vec<Statement>>) -> bool
 
 /// Whether the values of variables are the same.
 pub fn is_same_values(a: &[i64], b: &[i64]) -> bool
+    ensures { IsTrue result ↔ (a.now ≡ b.now) }
+{
+    a == b
+}
+
+/// Whether the passes that remain are the same.
+pub(crate) fn is_same_passes(a: &[u16], b: &[u16]) -> bool
     ensures { IsTrue result ↔ (a.now ≡ b.now) }
 {
     a == b

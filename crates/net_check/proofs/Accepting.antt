@@ -4,7 +4,7 @@ use Rattle.std.proofs.lemmas.Bool.{false≢true}
 use Rattle.std.proofs.lemmas.Option.{slice_get_within}
 use Rattle.std.proofs.lemmas.List.{length-map}
 use Rattle.net_text.specs.Names.{NameTree}
-use Rattle.net_text.specs.Trees.{ExprTree, LiteralTree, VariableTree, ChainTree, LinksTree, NoLinksTree, LinkThenTree, BlockTree, NothingTree, GetTree, AssignTree, PutTree, LoopTree, DeclarationTree, InputTree, ProcessTree}
+use Rattle.net_text.specs.Trees.{ExprTree, LiteralTree, VariableTree, MinusTree, ChainTree, LinksTree, NoLinksTree, LinkThenTree, BlockTree, NothingTree, GetTree, AssignTree, PutTree, StopTree, IfTree, LoopTree, DeclarationTree, InputTree, ProcessTree}
 use Rattle.net_text.specs.declared.tree.ChannelText.{ChannelText}
 use Rattle.net_text.specs.declared.tree.VariableText.{VariableText}
 use Rattle.net_text.specs.declared.tree.Role.TheVariants.{Input, Output}
@@ -13,12 +13,11 @@ use Rattle.net_check.specs.declared.fault.NetFault.TheVariants.{NoMemory, TwiceN
 use Rattle.kahn_net.specs.declared.program.Channel.{Channel}
 use Rattle.kahn_net.specs.declared.program.Port.{Port}
 use Rattle.kahn_net.specs.declared.program.Port.TheVariants.{Outside, Process}
-use Rattle.kahn_net.specs.Syntax.{Tree, Number, Name, Chain, Links, NoLinks, LinkThen, Block, Nothing, GetThen, AssignThen, PutThen, Code, Network}
+use Rattle.kahn_net.specs.Syntax.{Tree, Number, Name, Minus, Chain, Links, NoLinks, LinkThen, Block, Nothing, GetThen, AssignThen, PutThen, StopThen, IfThen, Code, Network}
 use Rattle.kahn_net.specs.Valid.{IsValid, code_gets, code_puts}
-use Rattle.kahn_net.specs.Nodes.{IsOnOneNode}
-use Rattle.net_check.specs.NetFaults.{HasFault, HasLoopWithoutGet, HasNoUser, HasPastLimit, HasTwiceNamed, HasTwoUsers, HasUnknownName, SecondUse, another_too, many_channels, many_processes, many_units, many_variables, name_of, other_node, outside_too, space_of, two_channels, two_processes, two_variables}
+use Rattle.net_check.specs.NetFaults.{HasFault, HasLoopWithoutGet, HasNoUser, HasPastLimit, HasTwiceNamed, HasTwoUsers, HasUnknownName, SecondUse, another_too, many_channels, many_processes, many_units, many_variables, name_of, high_node, outside_too, space_of, two_channels, two_processes, two_variables}
 use Rattle.net_check.specs.Uses.{Use, GetFrom, PutOn, Has, block_uses, expr_uses, links_uses, loop_uses, process_uses}
-use Rattle.net_check.specs.UseLaws.{has_cases}
+use Rattle.net_check.specs.UseLaws.{has_cases, by_test, by_first, by_second, by_rest, if_cases}
 use Rattle.net_check.specs.Resolution.{AllDifferent, Reads, Resolves, ResolvesBlock, ResolvesExpr, ResolvesLinks, ResolvesLoop, ResolvesProcess, channel_names, channels_of, processes_of, variable_names}
 use Rattle.net_check.specs.ResolutionLaws.{put_named, get_named, put_numbered, get_numbered, units_kept, passes_kept_text}
 use Rattle.net_check.specs.Binding.{Binds, HasInputFault, line_names}
@@ -40,22 +39,19 @@ record IsDeclared (channels variables : List NameTree) (u : Use) : Type 0 where
 
 mutual
   expr_declared : (cs vs : List NameTree) (e : ExprTree) (t : Tree) (u : Use) → ResolvesExpr vs e t → Has (expr_uses e) u → IsDeclared cs vs u
-  expr_declared cs vs (LiteralTree n) t u r h = absurd h
-  expr_declared cs vs (VariableTree v) (Number m) u r h = absurd r
+  expr_declared cs vs (LiteralTree n) (Number m) u r h = absurd h
   expr_declared cs vs (VariableTree v) (Name x) u r h = elim h [ inl e ↦ subst (IsDeclared cs vs) e record { i = x; reads = r } | inr k ↦ absurd k ]
-  expr_declared cs vs (VariableTree v) (Chain b more) u r h = absurd r
-  expr_declared cs vs (ChainTree a links) (Number m) u r h = absurd r
-  expr_declared cs vs (ChainTree a links) (Name x) u r h = absurd r
+  expr_declared cs vs (MinusTree a) (Minus b) u r h = expr_declared cs vs a b u r h
   expr_declared cs vs (ChainTree a links) (Chain b more) u r h = elim (has_cases (expr_uses a) (links_uses links) u h) [ inl k ↦ expr_declared cs vs a b u r.0 k | inr k ↦ links_declared cs vs links more u r.1 k ]
+  expr_declared cs vs _ _ u r h = absurd r
 
   links_declared : (cs vs : List NameTree) (links : LinksTree) (more : Links) (u : Use) → ResolvesLinks vs links more → Has (links_uses links) u → IsDeclared cs vs u
-  links_declared cs vs NoLinksTree more u r h = absurd h
-  links_declared cs vs (LinkThenTree o a rest) NoLinks u r h = absurd r
+  links_declared cs vs NoLinksTree NoLinks u r h = absurd h
   links_declared cs vs (LinkThenTree o a rest) (LinkThen p b more) u r h = elim (has_cases (expr_uses a) (links_uses rest) u h) [ inl k ↦ expr_declared cs vs a b u r.1 k | inr k ↦ links_declared cs vs rest more u r.2 k ]
+  links_declared cs vs _ _ u r h = absurd r
 
 block_declared : (cs vs : List NameTree) (tree : BlockTree) (block : Block) (u : Use) → ResolvesBlock cs vs tree block → Has (block_uses tree) u → IsDeclared cs vs u
-block_declared cs vs NothingTree block u r h = absurd h
-block_declared cs vs (GetTree v n rest) Nothing u r h = absurd r
+block_declared cs vs NothingTree Nothing u r h = absurd h
 block_declared cs vs (GetTree v n rest) (GetThen x d b) u r h = elim h [
   | inl e ↦ subst (IsDeclared cs vs) e record { i = x; reads = r.0 }
   | inr k ↦ elim k [
@@ -63,10 +59,6 @@ block_declared cs vs (GetTree v n rest) (GetThen x d b) u r h = elim h [
     | inr m ↦ block_declared cs vs rest b u r.2 m
   ]
 ]
-block_declared cs vs (GetTree v n rest) (AssignThen x t b) u r h = absurd r
-block_declared cs vs (GetTree v n rest) (PutThen t d b) u r h = absurd r
-block_declared cs vs (AssignTree v e rest) Nothing u r h = absurd r
-block_declared cs vs (AssignTree v e rest) (GetThen x d b) u r h = absurd r
 block_declared cs vs (AssignTree v e rest) (AssignThen x t b) u r h = elim h [
   | inl e' ↦ subst (IsDeclared cs vs) e' record { i = x; reads = r.0 }
   | inr k ↦ elim (has_cases (expr_uses e) (block_uses rest) u k) [
@@ -74,10 +66,6 @@ block_declared cs vs (AssignTree v e rest) (AssignThen x t b) u r h = elim h [
     | inr m ↦ block_declared cs vs rest b u r.2 m
   ]
 ]
-block_declared cs vs (AssignTree v e rest) (PutThen t d b) u r h = absurd r
-block_declared cs vs (PutTree e n rest) Nothing u r h = absurd r
-block_declared cs vs (PutTree e n rest) (GetThen x d b) u r h = absurd r
-block_declared cs vs (PutTree e n rest) (AssignThen x t b) u r h = absurd r
 block_declared cs vs (PutTree e n rest) (PutThen t d b) u r h = elim (has_cases (expr_uses e) (PutOn n ∷ block_uses rest) u h) [
   | inl m ↦ expr_declared cs vs e t u r.0 m
   | inr m ↦ elim m [
@@ -85,6 +73,14 @@ block_declared cs vs (PutTree e n rest) (PutThen t d b) u r h = elim (has_cases 
     | inr k ↦ block_declared cs vs rest b u r.2 k
   ]
 ]
+block_declared cs vs (StopTree rest) (StopThen b) u r h = block_declared cs vs rest b u r h
+block_declared cs vs (IfTree e first second rest) (IfThen t one other b) u r h = elim (if_cases (expr_uses e) (block_uses first) (block_uses second) (block_uses rest) u h) [
+  | by_test k ↦ expr_declared cs vs e t u r.0 k
+  | by_first k ↦ block_declared cs vs first one u r.1 k
+  | by_second k ↦ block_declared cs vs second other u r.2 k
+  | by_rest k ↦ block_declared cs vs rest b u r.3 k
+]
+block_declared cs vs _ _ u r h = absurd r
 
 loop_declared : (cs vs : List NameTree) (repeated : Option LoopTree) (body : Option Block) (u : Use) → ResolvesLoop cs vs repeated body → Has (loop_uses repeated) u → IsDeclared cs vs u
 loop_declared cs vs None body u r h = absurd h
@@ -106,7 +102,7 @@ port_either : (port : Port) → (port ≡ Outside) ⊎ ((q : ℕ) × (port ≡ P
 port_either Outside = inl refl
 port_either (Process q) = inr (q, refl)
 
-module _ (text : List DeclarationTree) (cs ps : List NameTree) (net : Network) (r : Resolves text cs ps net) (v : IsValid net) (one : IsOnOneNode net) where
+module _ (text : List DeclarationTree) (cs ps : List NameTree) (net : Network) (r : Resolves text cs ps net) (v : IsValid net) where
   names : channel_names (channels_of text) ≡ cs
   names = sym r.channels_named
 
@@ -202,7 +198,7 @@ module _ (text : List DeclarationTree) (cs ps : List NameTree) (net : Network) (
       let n = ap length x.2.vars ∙ length-map process.variables (λ (y : VariableText). y.initial) in
       let few = (v.codes p x.0 x.1).variables in
       absurd (omega arith)
-  no_limit line (other_node p process hp above at) = let x = code_of_process p process hp in let n = x.2.node in let z = one.node p x.0 x.1 in absurd (omega arith)
+  no_limit line (high_node p process hp above at) = let x = code_of_process p process hp in let n = x.2.node in let low = (v.codes p x.0 x.1).node in absurd (omega arith)
   no_limit line (many_units p process hp above at) = let x = code_of_process p process hp in let n = units_kept cs process x.0 x.2 in let few = (v.codes p x.0 x.1).units in absurd (omega arith)
 
   no_missing_producer : (line : ℕ) → HasNoUser Input PutOn text line → ⊥

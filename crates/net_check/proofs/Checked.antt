@@ -1,5 +1,5 @@
 -- The parts of a check together: the network is valid, and the resolution of the text.
-use Rattle.std.proofs.Common.{◌≡◌, ◌∙◌, sym, ap, subst, refl, ℕ, zero, suc, ◌≤◌, List, [], ◌∷◌, length, slice_get, Some, arith, inl, inr, ◌⊎◌, Bool, IsTrue}
+use Rattle.std.proofs.Common.{◌≡◌, ◌∙◌, sym, ap, subst, refl, ℕ, zero, suc, List, [], ◌∷◌, length, slice_get, Some, arith, inl, inr, ◌⊎◌, Bool, IsTrue}
 use Rattle.std.proofs.lemmas.Option.{slice_get_within}
 use Rattle.std.proofs.lemmas.List.{length-map}
 use Rattle.net_text.specs.Names.{NameTree}
@@ -17,7 +17,6 @@ use Rattle.kahn_net.specs.Valid.{IsValid, IsValidCode, block_within, body_within
 use Rattle.net_check.specs.Claims.{AreResolved}
 use Rattle.net_check.specs.Joints.{AreJoined, EndFaultAmong}
 use Rattle.net_check.specs.Ready.{AreDeclared, IsFit}
-use Rattle.kahn_net.specs.Nodes.{IsOnOneNode, nodes_above}
 use Rattle.net_check.specs.NetFaults.{HasFault}
 use Rattle.net_check.specs.Uses.{Use, GetFrom, PutOn, Has, process_uses}
 use Rattle.net_check.specs.Resolution.{AllDifferent, Resolves, ResolvesProcess, channel_names, channels_of, processes_of, process_names, variable_names}
@@ -61,7 +60,7 @@ module _ (channels : List ChannelText) (ps : List ProcessTree) (codes : List Cod
       let n : length vs ≡ length code.vars = length-map t.0.variables (λ (v : VariableText). v.name) ∙ sym (ap length rp.vars ∙ length-map t.0.variables (λ (v : VariableText). v.initial)) in
       let m : length (channel_names channels) ≡ length joined = length-map channels (λ (c : ChannelText). c.name) ∙ sym j.count in
       record {
-        node = let e = rp.node in let z = ready.node in omega arith;
+        node = let e = rp.node in let low = ready.node in omega arith;
         variables = let e = n in let few = ready.few in let k = length-map t.0.variables (λ (v : VariableText). v.name) in omega arith;
         prelude_within = subst (λ (x : ℕ). IsTrue (block_within x (length joined) code.prelude)) n (subst (λ (x : ℕ). IsTrue (block_within (length vs) x code.prelude)) m (block_kept_within (channel_names channels) vs t.0.prelude code.prelude rp.prelude));
         body_within = subst (λ (x : ℕ). IsTrue (body_within x (length joined) code.body)) n (subst (λ (x : ℕ). IsTrue (body_within (length vs) x code.body)) m (loop_kept_within (channel_names channels) vs t.0.repeated code.body rp.body));
@@ -120,16 +119,6 @@ module _ (channels : List ChannelText) (ps : List ProcessTree) (codes : List Cod
 
   pub resolves : (text : List DeclarationTree) → channels ≡ channels_of text → ps ≡ processes_of text → Resolves text (channel_names channels) (process_names ps) net
   resolves text e f = resolves_own text (channels_of text) (processes_of text) refl refl e f
-
-  pub node_zero : (p : ℕ) (code : Code) → slice_get codes p ≡ Some code → code.node ≡ 0
-  node_zero p code h = let t = process_there ps codes p code r.count h in (r.codes_of p t.0 code t.1 h).node ∙ (d.ready p t.0 t.1).node
-
-nodes_below : (codes : List Code) → ((p : ℕ) (code : Code) → slice_get codes p ≡ Some code → code.node ≡ 0) → nodes_above codes ≤ 1
-nodes_below [] h = omega arith
-nodes_below (code ∷ codes) h = let k = h zero code refl in let l = nodes_below codes (λ p x e. h (suc p) x e) in omega arith
-
-pub one_node : (net : Network) → ((p : ℕ) (code : Code) → slice_get net.codes p ≡ Some code → code.node ≡ 0) → IsOnOneNode net
-one_node net h = record { node = h; count = let k = nodes_below net.codes h in omega arith }
 
 -- a channel that nobody uses at an end
 unused_in : (text : List DeclarationTree) (channels : List ChannelText) (ps : List ProcessTree) (codes : List Code) (uses : ℕ → Code → Bool) (use' : NameTree → Use) (ports : List Port)

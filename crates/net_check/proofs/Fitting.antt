@@ -1,5 +1,5 @@
 -- Units counted, and processes within their limits.
-use Rattle.std.proofs.Common.{◌≡◌, ◌∙◌, sym, subst, ℕ, ◌<◌, ◌≤◌, List, length, get_or, map, slice_get, Some, Bool, false, IsTrue, arith, inl, inr}
+use Rattle.std.proofs.Common.{◌≡◌, ◌∙◌, sym, subst, ℕ, ◌<◌, ◌≤◌, List, length, get_or, map, slice_get, Some, Bool, false, IsTrue, inl, inr}
 use Rattle.std.proofs.lemmas.Bool.{false≢true, cases_lt}
 use Rattle.net_text.specs.Trees.{ProcessTree, process_tree}
 use Rattle.net_text.specs.declared.tree.ProcessText.{ProcessText}

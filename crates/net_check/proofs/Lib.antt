@@ -4,6 +4,8 @@ pub mod Claiming
 pub mod Using
 pub mod Resolving
 pub mod Chains
+pub mod Ifs
+pub mod Counting
 pub mod Joining
 pub mod Fitting
 pub mod Ending

@@ -5,8 +5,7 @@ use Rattle.std.proofs.lemmas.List.{take_more}
 use Rattle.net_text.specs.Names.{NameTree}
 use Rattle.net_text.specs.Trees.{NothingTree, block_tree, then_tree, expr_tree, link_tree, links_tree}
 use Rattle.net_text.specs.declared.tree.ChannelText.{ChannelText}
-use Rattle.net_text.specs.declared.tree.StatementText.{StatementText}
-use Rattle.net_text.specs.declared.tree.StatementText.TheVariants.{Get, Assign, Put}
+use Rattle.net_text.specs.declared.tree.StatementText.{StatementText, Get, Assign, Put, Stop, If'}
 use Rattle.net_text.specs.declared.tree.LinkText.{LinkText}
 use Rattle.net_text.specs.declared.tree.Role.{Role}
 use Rattle.net_text.specs.declared.tree.Role.TheVariants.{Input, Output}
@@ -15,9 +14,8 @@ use Rattle.net_check.specs.declared.fault.NetFault.TheVariants.{NoMemory, Unknow
 use Rattle.kahn_net.specs.declared.program.Port.{Port}
 use Rattle.kahn_net.specs.declared.program.Port.TheVariants.{Process}
 use Rattle.kahn_net.specs.declared.program.Link.{Link}
-use Rattle.kahn_net.specs.declared.program.Statement.{Statement}
-use Rattle.kahn_net.specs.declared.program.Statement.TheVariants.{Get as Gets, Assign as Assigns, Put as Puts}
-use Rattle.kahn_net.specs.Syntax.{Nothing, block_of, links_of, then_of, tree_of}
+use Rattle.kahn_net.specs.declared.program.Statement.{Statement, Get as Gets, Assign as Assigns, Put as Puts, Stop as Stops, If' as Ifs}
+use Rattle.kahn_net.specs.Syntax.{Nothing, block_of, links_of, row_block, then_of, tree_of}
 use Rattle.kahn_net.specs.Valid.{block_gets, block_puts}
 use Rattle.net_check.specs.Claims.{IsTaken, Claims, IsRefused, stands_outside, is_taken, UseFault}
 use Rattle.net_check.specs.Resolution.{ResolvesBlock, ResolvesExpr, ResolvesLinks}
@@ -27,21 +25,14 @@ use Rattle.net_check.specs.Uses.{Use}
 pub resolves_push : (cs vs : List NameTree) (ts : List StatementText) (ss : List Statement) (t : StatementText) (s : Statement) → ResolvesBlock cs vs (block_tree ts) (block_of ss) → ResolvesBlock cs vs (then_tree t NothingTree) (then_of s Nothing)
     → ResolvesBlock cs vs (block_tree (ts ++ t ∷ [])) (block_of (ss ++ s ∷ []))
 resolves_push cs vs [] [] t s h k = k
-resolves_push cs vs [] (Gets x c ∷ ss) t s h k = absurd h
-resolves_push cs vs [] (Assigns x e ∷ ss) t s h k = absurd h
-resolves_push cs vs [] (Puts e c ∷ ss) t s h k = absurd h
-resolves_push cs vs (Get v c ∷ ts) [] t s h k = absurd h
-resolves_push cs vs (Assign v e ∷ ts) [] t s h k = absurd h
-resolves_push cs vs (Put e c ∷ ts) [] t s h k = absurd h
+resolves_push cs vs [] (Stops ∷ ss) t s h k = absurd h
+resolves_push cs vs (Stop ∷ ts) [] t s h k = absurd h
 resolves_push cs vs (Get v c ∷ ts) (Gets x d ∷ ss) t s h k = (h.0, h.1, resolves_push cs vs ts ss t s h.2 k)
-resolves_push cs vs (Get v c ∷ ts) (Assigns x e ∷ ss) t s h k = absurd h
-resolves_push cs vs (Get v c ∷ ts) (Puts e d ∷ ss) t s h k = absurd h
-resolves_push cs vs (Assign v e ∷ ts) (Gets x d ∷ ss) t s h k = absurd h
 resolves_push cs vs (Assign v e ∷ ts) (Assigns x f ∷ ss) t s h k = (h.0, h.1, resolves_push cs vs ts ss t s h.2 k)
-resolves_push cs vs (Assign v e ∷ ts) (Puts f d ∷ ss) t s h k = absurd h
-resolves_push cs vs (Put e c ∷ ts) (Gets x d ∷ ss) t s h k = absurd h
-resolves_push cs vs (Put e c ∷ ts) (Assigns x f ∷ ss) t s h k = absurd h
 resolves_push cs vs (Put e c ∷ ts) (Puts f d ∷ ss) t s h k = (h.0, h.1, resolves_push cs vs ts ss t s h.2 k)
+resolves_push cs vs (Stop ∷ ts) (Stops ∷ ss) t s h k = resolves_push cs vs ts ss t s h k
+resolves_push cs vs (If' e p first q second ∷ ts) (Ifs f p' one q' other ∷ ss) t s h k = (h.0, h.1, h.2, resolves_push cs vs ts ss t s h.3 k)
+resolves_push cs vs _ _ t s h k = absurd h
 
 -- a link more
 links_push : (vs : List NameTree) (ts : List LinkText) (ls : List Link) (t : LinkText) (l : Link) → ResolvesLinks vs (links_tree (map link_tree ts)) (links_of ls) → t.operator ≡ l.operator → ResolvesExpr vs (expr_tree t.value) (tree_of l.value)
@@ -61,17 +52,29 @@ or_assoc : (a b c : Bool) → a || (b || c) ≡ (a || b) || c
 or_assoc true b c = refl
 or_assoc false b c = refl
 
+or_assoc_last : (a b c d : Bool) → a || (b || (c || d)) ≡ (a || (b || c)) || d
+or_assoc_last true b c d = refl
+or_assoc_last false b c d = or_assoc b c d
+
 pub puts_push : (c : ℕ) (ss : List Statement) (s : Statement) → block_puts c (block_of (ss ++ s ∷ [])) ≡ block_puts c (block_of ss) || block_puts c (then_of s Nothing)
 puts_push c [] s = refl
 puts_push c (Gets x d ∷ ss) s = puts_push c ss s
 puts_push c (Assigns x e ∷ ss) s = puts_push c ss s
 puts_push c (Puts e d ∷ ss) s = ap (λ (b : Bool). eqb d c || b) (puts_push c ss s) ∙ or_assoc (eqb d c) _ _
+puts_push c (Stops ∷ ss) s = puts_push c ss s
+puts_push c (Ifs e p one q other ∷ ss) s =
+    ap (λ (b : Bool). block_puts c (row_block one) || (block_puts c (row_block other) || b)) (puts_push c ss s)
+    ∙ or_assoc_last (block_puts c (row_block one)) (block_puts c (row_block other)) _ _
 
 pub gets_push : (c : ℕ) (ss : List Statement) (s : Statement) → block_gets c (block_of (ss ++ s ∷ [])) ≡ block_gets c (block_of ss) || block_gets c (then_of s Nothing)
 gets_push c [] s = refl
 gets_push c (Gets x d ∷ ss) s = ap (λ (b : Bool). eqb d c || b) (gets_push c ss s) ∙ or_assoc (eqb d c) _ _
 gets_push c (Assigns x e ∷ ss) s = gets_push c ss s
 gets_push c (Puts e d ∷ ss) s = gets_push c ss s
+gets_push c (Stops ∷ ss) s = gets_push c ss s
+gets_push c (Ifs e p one q other ∷ ss) s =
+    ap (λ (b : Bool). block_gets c (row_block one) || (block_gets c (row_block other) || b)) (gets_push c ss s)
+    ∙ or_assoc_last (block_gets c (row_block one)) (block_gets c (row_block other)) _ _
 
 pub bool_cases : (b : Bool) → (b ≡ true) ⊎ (b ≡ false)
 bool_cases true = inl refl

@@ -1,10 +1,9 @@
 -- Uses among more uses, and faults of uses with them.
 use Rattle.std.proofs.Common.{◌≡◌, ℕ, List, [], ◌∷◌, ◌++◌, length, get_or, map, subst, arith, inl, inr, suc, zero, ◌<◌}
 use Rattle.net_text.specs.Names.{NameTree}
-use Rattle.net_text.specs.Trees.{BlockTree, NothingTree, block_tree, then_tree, expr_tree, link_tree, links_tree}
+use Rattle.net_text.specs.Trees.{BlockTree, NothingTree, block_tree, row_block, then_tree, expr_tree, link_tree, links_tree}
 use Rattle.net_text.specs.declared.tree.ChannelText.{ChannelText}
-use Rattle.net_text.specs.declared.tree.StatementText.{StatementText}
-use Rattle.net_text.specs.declared.tree.StatementText.TheVariants.{Get, Assign, Put}
+use Rattle.net_text.specs.declared.tree.StatementText.{StatementText, Get, Assign, Put, Stop, If'}
 use Rattle.net_text.specs.declared.tree.LinkText.{LinkText}
 use Rattle.net_text.specs.declared.tree.Role.{Role}
 use Rattle.net_check.specs.declared.fault.NetFault.{NetFault}
@@ -13,7 +12,7 @@ use Rattle.kahn_net.specs.declared.program.Port.{Port}
 use Rattle.net_check.specs.Claims.{IsUnknown, IsRefused, stands_outside, is_taken, UseFault, NameFault}
 use Rattle.net_check.specs.Resolution.{channel_names, variable_names}
 use Rattle.net_text.specs.declared.tree.VariableText.{VariableText}
-use Rattle.net_check.specs.UseLaws.{has_left, has_right, has_cases}
+use Rattle.net_check.specs.UseLaws.{has_left, has_right, has_cases, has_after}
 use Rattle.net_check.specs.Uses.{Use, OfVariable, GetFrom, PutOn, Has, expr_uses, links_uses, block_uses}
 
 -- these uses are among those
@@ -69,15 +68,26 @@ has_front xs ys u h = elim (has_cases xs [] u h) [ inl k ↦ has_left xs ys u k 
 has_seam : (xs ys : List Use) (x u : Use) → Has (xs ++ x ∷ []) u → Has (xs ++ x ∷ ys) u
 has_seam xs ys x u h = elim (has_cases xs (x ∷ []) u h) [ inl k ↦ has_left xs (x ∷ ys) u k | inr k ↦ has_right xs (x ∷ ys) u (elim k [ inl e ↦ inl e | inr a ↦ absurd a ]) ]
 
+within_under : (xs ys zs : List Use) → Within ys zs → Within (xs ++ ys) (xs ++ zs)
+within_under xs ys zs w = record { all = λ u h. elim (has_cases xs ys u h) [ inl k ↦ has_left xs zs u k | inr k ↦ has_right xs zs u (w.all u k) ] }
+
+within_none : (xs : List Use) → Within [] xs
+within_none xs = record { all = λ u h. absurd h }
+
 within_statement_first : (t : StatementText) (rest : BlockTree) → Within (block_uses (then_tree t NothingTree)) (block_uses (then_tree t rest))
 within_statement_first (Get v c) rest = record { all = λ u h. has_front (OfVariable v ∷ GetFrom c ∷ []) (block_uses rest) u h }
 within_statement_first (Assign v e) rest = record { all = λ u h. has_front (OfVariable v ∷ expr_uses (expr_tree e)) (block_uses rest) u h }
 within_statement_first (Put e c) rest = record { all = λ u h. has_seam (expr_uses (expr_tree e)) (block_uses rest) (PutOn c) u h }
+within_statement_first Stop rest = within_none (block_uses rest)
+within_statement_first (If' test p first q second) rest =
+    within_under (expr_uses (expr_tree test)) _ _ (within_under (block_uses (row_block first)) _ _ (within_under (block_uses (row_block second)) [] (block_uses rest) (within_none (block_uses rest))))
 
 within_statement_after : (t : StatementText) (rest : BlockTree) → Within (block_uses rest) (block_uses (then_tree t rest))
 within_statement_after (Get v c) rest = record { all = λ u h. inr (inr h) }
 within_statement_after (Assign v e) rest = record { all = λ u h. inr (has_right (expr_uses (expr_tree e)) (block_uses rest) u h) }
 within_statement_after (Put e c) rest = record { all = λ u h. has_right (expr_uses (expr_tree e)) (PutOn c ∷ block_uses rest) u (inr h) }
+within_statement_after Stop rest = within_same (block_uses rest)
+within_statement_after (If' test p first q second) rest = record { all = has_after (expr_uses (expr_tree test)) (block_uses (row_block first)) (block_uses (row_block second)) (block_uses rest) }
 
 -- what a statement uses, its block uses
 pub within_statement : (ts : List StatementText) (i : ℕ) (t : StatementText) → i < length ts → t ≡ get_or ts i t → Within (block_uses (then_tree t NothingTree)) (block_uses (block_tree ts))

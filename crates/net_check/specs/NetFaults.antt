@@ -1,5 +1,5 @@
 -- What is wrong with a text where a fault is found: a clause for each, with the line on which it stands.
-use Rattle.std.specs.Prelude.{◌≡◌, ◌≢◌, ℕ, ◌<◌, List, slice_get, Some, false}
+use Rattle.std.specs.Prelude.{◌≡◌, ◌≢◌, ℕ, ◌<◌, ◌≤◌, List, slice_get, Some, false}
 use Rattle.net_text.specs.Names.{NameTree}
 use Rattle.net_text.specs.Trees.{LoopTree, ProcessTree, DeclarationTree}
 use Rattle.net_text.specs.declared.tree.ChannelText.{ChannelText}
@@ -11,7 +11,7 @@ use Rattle.net_check.specs.declared.fault.NetFault.TheVariants.{NoMemory, TwiceN
 use Rattle.net_check.specs.Uses.{Use, OfVariable, GetFrom, PutOn, process_uses, Has}
 use Rattle.net_check.specs.Resolution.{channels_of, processes_of, channel_names, process_names, variable_names, Reads}
 use Rattle.net_check.specs.Texts.{is_passing_text, process_units_text}
-use Rattle.kahn_net.specs.declared.limits.TheConstants.{MAX_CHANNELS, MAX_PROCESSES, MAX_UNITS, MAX_VARIABLES}
+use Rattle.kahn_net.specs.declared.limits.TheConstants.{MAX_CHANNELS, MAX_NODES, MAX_PROCESSES, MAX_UNITS, MAX_VARIABLES}
 
 -- among these names one stands on this line that reads like one before it
 pub record SecondUse (names : List NameTree) (line : ℕ) : Type 0 where
@@ -65,12 +65,12 @@ pub record HasLoopWithoutGet (text : List DeclarationTree) (line : ℕ) : Type 0
   pub idle : is_passing_text repeated.body ≡ false
   pub at : repeated.line ≡ line
 
--- 15: a channel, a process or a variable of a process past their limits, a node other than 0, a process of too many units
+-- 15: a channel, a process or a variable of a process past their limits, a node above 15, a process of too many units
 pub data HasPastLimit : List DeclarationTree → ℕ → Type 0 where
   many_channels : {text : List DeclarationTree} {line : ℕ} (channel : ChannelText) → slice_get (channels_of text) MAX_CHANNELS ≡ Some channel → channel.line ≡ line → HasPastLimit text line
   many_processes : {text : List DeclarationTree} {line : ℕ} (process : ProcessTree) → slice_get (processes_of text) MAX_PROCESSES ≡ Some process → process.line ≡ line → HasPastLimit text line
   many_variables : {text : List DeclarationTree} {line : ℕ} (p : ℕ) (process : ProcessTree) (variable : VariableText) → slice_get (processes_of text) p ≡ Some process → slice_get process.variables MAX_VARIABLES ≡ Some variable → variable.line ≡ line → HasPastLimit text line
-  other_node : {text : List DeclarationTree} {line : ℕ} (p : ℕ) (process : ProcessTree) → slice_get (processes_of text) p ≡ Some process → 0 < process.node.number → process.node.line ≡ line → HasPastLimit text line
+  high_node : {text : List DeclarationTree} {line : ℕ} (p : ℕ) (process : ProcessTree) → slice_get (processes_of text) p ≡ Some process → MAX_NODES ≤ process.node.number → process.node.line ≡ line → HasPastLimit text line
   many_units : {text : List DeclarationTree} {line : ℕ} (p : ℕ) (process : ProcessTree) → slice_get (processes_of text) p ≡ Some process → MAX_UNITS < process_units_text process → process.line ≡ line → HasPastLimit text line
 
 -- 16, with puts and inputs, and 17, with gets and outputs: a channel whose end stands inside, and that no process uses so

@@ -1,20 +1,20 @@
 -- What a process has to keep to before its statements are looked at, and how far a text has been read.
-use Rattle.std.specs.Prelude.{◌≡◌, ℕ, ◌≤◌, length, List, ◌∷◌, ◌++◌, slice_get, Some, true}
+use Rattle.std.specs.Prelude.{◌≡◌, ℕ, ◌<◌, ◌≤◌, length, List, ◌∷◌, ◌++◌, slice_get, Some, true}
 use Rattle.net_text.specs.Trees.{LoopTree, ProcessTree, DeclarationTree}
 use Rattle.net_check.specs.Texts.{is_passing_text, process_units_text}
 use Rattle.net_text.specs.declared.tree.ChannelText.{ChannelText}
 use Rattle.net_check.specs.declared.fault.NetFault.{NetFault}
 use Rattle.net_check.specs.Resolution.{AllDifferent, channels_of, processes_of, channel_names, process_names, variable_names}
 use Rattle.net_check.specs.NetFaults.{HasFault}
-use Rattle.kahn_net.specs.declared.limits.TheConstants.{MAX_CHANNELS, MAX_PROCESSES, MAX_UNITS, MAX_VARIABLES}
+use Rattle.kahn_net.specs.declared.limits.TheConstants.{MAX_CHANNELS, MAX_NODES, MAX_PROCESSES, MAX_UNITS, MAX_VARIABLES}
 
--- a process on node 0 with at most 64 variables, all different
+-- a process on a node up to 15 with at most 64 variables, all different
 pub record IsReady (process : ProcessTree) : Type 0 where
-  pub node : process.node.number ≡ 0
+  pub node : process.node.number < MAX_NODES
   pub few : length process.variables ≤ MAX_VARIABLES
   pub different : AllDifferent (variable_names process.variables)
 
--- a process of at most 4,096 units whose loop gets an item in each pass
+-- a process of at most 4,096 units whose loop passes
 pub record IsFit (process : ProcessTree) : Type 0 where
   pub units : process_units_text process ≤ MAX_UNITS
   pub passes : (repeated : LoopTree) → process.repeated ≡ Some repeated → is_passing_text repeated.body ≡ true

@@ -7,7 +7,6 @@ ghost use Rattle.net_check.specs.NetFaults.{HasFault};
 ghost use Rattle.net_check.specs.Resolution.{Resolves};
 ghost use Rattle.kahn_net.specs.Syntax.{Network, network_of};
 ghost use Rattle.kahn_net.specs.Valid.{IsValid};
-ghost use Rattle.kahn_net.specs.Nodes.{IsOnOneNode};
 
 use crate::declared::Declared;
 use crate::fault::NetFault;
@@ -29,13 +28,11 @@ pub fn check(alloc: Global, text: NetText) -> Result<Net, NetFault>
     ensures resolved { IfOk result
         (λ net. Resolves (net_tree text) net.channel_names.items net.process_names.items
         (network_of net.program)) }
-    // There is one node.
-    ensures one_node { IfOk result (λ net. IsOnOneNode (network_of net.program)) }
     // What is refused has the fault, on its line.
     ensures fault { IfErr result (HasFault (net_tree text)) }
-    // A text that has a valid resolution on one node is accepted.
+    // A text that has a valid resolution is accepted.
     ensures accepted { (channels processes : List NameTree) (net : Network) → Resolves
-        (net_tree text) channels processes net → IsValid net → IsOnOneNode net
+        (net_tree text) channels processes net → IsValid net
         → IsOkUnless result NetFault.NoMemory }
 {
     check_in_order(alloc, text)
@@ -45,7 +42,6 @@ fn check_in_order(alloc: Global, text: NetText) -> Result<Net, NetFault>
     ensures resolved { IfOk result
         (λ net. Resolves (net_tree text) net.channel_names.items net.process_names.items
         (network_of net.program)) }
-    ensures one_node { IfOk result (λ net. IsOnOneNode (network_of net.program)) }
     ensures fault { IfErr result (HasFault (net_tree text)) }
 {
     let declared = Declared::of(alloc, text)?;

@@ -8,7 +8,7 @@ ghost use Rattle.net_check.specs.Ready.{AreDeclared, IsReady, FaultAtChannel, Fa
 
 use crate::fault::NetFault;
 use crate::lookup::{find_channel, find_process, find_variable};
-use kahn_net::{MAX_CHANNELS, MAX_PROCESSES, MAX_VARIABLES};
+use kahn_net::{MAX_CHANNELS, MAX_NODES, MAX_PROCESSES, MAX_VARIABLES};
 use net_text::{ChannelText, Declaration, NetText, ProcessText, VariableText};
 use std::alloc::Global;
 
@@ -43,12 +43,13 @@ fn check_variables(variables: &[VariableText]) -> Result<(), NetFault>
     Ok(())
 }
 
-/// Whether a process stands on a node that may be, with variables that may be: this stage of the work has node 0 alone.
+/// Whether a process stands on a node that may be, with variables that may be: 15 at the node's number, then 10 and 15
+/// over the variables.
 fn check_process(process: &ProcessText) -> Result<(), NetFault>
     ensures ok { OnOk result (IsReady (process_tree process.now)) }
     ensures err { IfErr result (FaultOfProcess (process_tree process.now)) }
 {
-    if process.node.number > 0 {
+    if process.node.number >= u64::from(MAX_NODES) {
         return Err(NetFault::Limit {
             line: process.node.line,
         });

@@ -26,7 +26,7 @@ pub enum NetFault {
     /// Refusal 13, at the name used: it gets from a channel that is an output, or from which another process gets.
     #[error("line {line}: two consumers")]
     TwoConsumers { line: usize },
-    /// Refusal 14, at the word `loop`: a pass of the loop need not get an item.
+    /// Refusal 14, at the word `loop`: a pass of the loop need neither get an item nor stop.
     #[error("line {line}: a loop without a get")]
     LoopWithoutGet { line: usize },
     /// Refusal 15: more channels, processes, variables, units or items than there may be, or a node that may not be.

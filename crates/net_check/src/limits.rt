@@ -1,5 +1,6 @@
-//! What each process has to keep to: at most 4,096 units, and a loop that gets an item in each pass.
-//! Each statement is one unit, and so is each literal, each variable in an expression and each operator.
+//! What each process has to keep to: at most 4,096 units, and a loop each pass of which gets an item or stops.
+//! Each statement is one unit, and so is each literal, each variable in an expression, each operator and each minus of
+//! one value.
 
 ghost use Rattle.std.specs.Prelude.{◌≡◌, ◌+◌, ◌<◌, ◌≤◌, ◌↔◌, ℕ, map, slice_get, Some, IsTrue, IfErr, MatchOption, OnOk, true};
 ghost use Rattle.net_text.specs.Trees.{NothingTree, ProcessTree, block_tree, expr_tree, process_tree, repeated_tree, then_tree};
@@ -18,6 +19,10 @@ fn units_after_expr(expr: &ExprText, left: usize) -> Option<usize>
     match expr {
         ExprText::Literal(_) => left.checked_sub(1),
         ExprText::Variable(_) => left.checked_sub(1),
+        ExprText::Negate(value) => {
+            let rest = left.checked_sub(1)?;
+            units_after_expr(value, rest)
+        }
         ExprText::Chain { first, links } => {
             let mut rest = units_after_expr(first, left)?;
             for link in links {
@@ -32,6 +37,7 @@ fn units_after_expr(expr: &ExprText, left: usize) -> Option<usize>
 }
 
 /// What is left of so many units after a statement.
+#[cycle(units)]
 fn units_after_statement(statement: &StatementText, left: usize) -> Option<usize>
     ensures { MatchOption result (left < block_units_text (then_tree statement.now NothingTree))
         (λ r. r + block_units_text (then_tree statement.now NothingTree) ≡ left) }
@@ -43,10 +49,21 @@ fn units_after_statement(statement: &StatementText, left: usize) -> Option<usize
         StatementText::Get { .. } => Some(left - 1),
         StatementText::Assign { value, .. } => units_after_expr(value, left - 1),
         StatementText::Put { value, .. } => units_after_expr(value, left - 1),
+        StatementText::Stop => Some(left - 1),
+        StatementText::If {
+            test,
+            first,
+            second,
+        } => {
+            let rest = units_after_expr(test, left - 1)?;
+            let rest = units_after(first, rest)?;
+            units_after(second, rest)
+        }
     }
 }
 
 /// What is left of so many units after these statements.
+#[cycle(units)]
 fn units_after(statements: &[StatementText], left: usize) -> Option<usize>
     ensures { MatchOption result (left < block_units_text (block_tree statements.now))
         (λ r. r + block_units_text (block_tree statements.now) ≡ left) }
@@ -81,14 +98,31 @@ fn has_few_units(process: &ProcessText) -> bool
     }
 }
 
-/// Whether one of these statements gets an item.
+/// Whether a statement gets an item or stops, whatever it tests.
+#[cycle(passing)]
+fn is_passing_statement(statement: &StatementText) -> bool
+    ensures { result ≡ is_passing_text (then_tree statement.now NothingTree) }
+{
+    match statement {
+        StatementText::Get { .. } | StatementText::Stop => true,
+        StatementText::Assign { .. } | StatementText::Put { .. } => false,
+        StatementText::If { first, second, .. } => {
+            if !is_passing(first) {
+                return false;
+            }
+            is_passing(second)
+        }
+    }
+}
+
+/// Whether one of these statements gets an item or stops, whatever they test.
+#[cycle(passing)]
 fn is_passing(statements: &[StatementText]) -> bool
     ensures { result ≡ is_passing_text (block_tree statements.now) }
 {
     for statement in statements {
-        match statement {
-            StatementText::Get { .. } => return true,
-            StatementText::Assign { .. } | StatementText::Put { .. } => {}
+        if is_passing_statement(statement) {
+            return true;
         }
     }
     false

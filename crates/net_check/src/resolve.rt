@@ -1,4 +1,5 @@
-//! Names replaced by numbers, use by use in order of the text: 11, 12 and 13.
+//! Names replaced by numbers, use by use in order of the text: 11, 12 and 13. Of an `if` the test comes first, then the
+//! first block, then the second.
 
 ghost use Rattle.std.specs.Prelude.{◌≡◌, ◌<◌, ℕ, map, length, slice_get, Some, IfErr, IfOk};
 ghost use Rattle.net_text.specs.Trees.{NothingTree, block_tree, expr_tree, process_tree, then_tree, repeated_tree};
@@ -31,6 +32,11 @@ fn resolve_expr(alloc: Global, scope: &Scope, expr: &ExprText) -> Result<Expr, N
             let variable = scope.variable(name)?;
             Ok(Expr::Variable(variable))
         }
+        ExprText::Negate(value) => {
+            let value = resolve_expr(alloc, scope, value)?;
+            let value = Box::new(alloc, value)?;
+            Ok(Expr::Negate(value))
+        }
         ExprText::Chain { first, links } => {
             let first = resolve_expr(alloc, scope, first)?;
             let first = Box::new(alloc, first)?;
@@ -50,6 +56,7 @@ fn resolve_expr(alloc: Global, scope: &Scope, expr: &ExprText) -> Result<Expr, N
     }
 }
 
+#[cycle(statements)]
 fn resolve_statement(
     alloc: Global,
     scope: &Scope,
@@ -88,9 +95,25 @@ fn resolve_statement(
             let channel = ends.put_on(scope, channel)?;
             Ok(Statement::Put { value, channel })
         }
+        StatementText::Stop => Ok(Statement::Stop),
+        StatementText::If {
+            test,
+            first,
+            second,
+        } => {
+            let test = resolve_expr(alloc, scope, test)?;
+            let first = resolve_statements(alloc, scope, ends, first)?;
+            let second = resolve_statements(alloc, scope, ends, second)?;
+            Ok(Statement::If {
+                test,
+                first,
+                second,
+            })
+        }
     }
 }
 
+#[cycle(statements)]
 fn resolve_statements(
     alloc: Global,
     scope: &Scope,

@@ -5,6 +5,7 @@ use Rattle.net_text.specs.Tokens.{Lexeme}
 use Rattle.net_text.specs.Reading.{Read, begins, many, append_block}
 use Rattle.net_text.specs.declared.token.TokenKind.{TokenKind}
 use Rattle.net_text.proofs.Sequences.{same_on}
+use Rattle.net_text.proofs.Laws.{IsShortening, with_first}
 use Rattle.net_text.specs.Results.{◌>>=◌}
 
 -- what was read before, and what is read now
@@ -14,17 +15,9 @@ after_items front read = read >>= λ x. Ok (front ++ x.0, x.1)
 abbrev pub after_block : BlockTree → Read BlockTree → Read BlockTree
 after_block front read = read >>= λ x. Ok (append_block front x.0, x.1)
 
--- a reader that takes a token at least
-abbrev pub IsShortening : {A : Type 0} → (List Lexeme → Read A) → Type 0
-IsShortening {A} item = (ts : List Lexeme) (x : A × List Lexeme) → item ts ≡ Ok x → length x.1 < length ts
-
 cond_same : {A : Type 0} (b : Bool) (x y z : A) → x ≡ y → cond b x z ≡ cond b y z
 cond_same true x y z e = e
 cond_same false x y z e = refl
-
--- the turns after the first
-abbrev pub with_first : {A : Type 0} → A → Read (List A) → Read (List A)
-with_first first read = read >>= λ others. Ok (first ∷ others.0, others.1)
 
 abbrev turn : {A : Type 0} → (TokenKind → Bool) → (List Lexeme → Read A) → ℕ → A × List Lexeme → Read (List A)
 turn starts item i first = with_first first.0 (many starts item i first.1)

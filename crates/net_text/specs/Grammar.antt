@@ -1,15 +1,23 @@
 -- The grammar of a network's text, on tokens. What is written P >> Q is P's tokens and then Q's.
 --
---     text    = "kahn" "1" ";" "input" NAME ";" "output" NAME ";" process
+--     text    = "kahn" "1" ";" { decl }
+--     decl    = "input" NAME ";" | "chan" NAME ";" | "output" NAME ";" | process
 --     process = "process" NAME "on" NUMBER "{" { var } { stmt } [ "loop" block ] "}"
 --     var     = "var" NAME [ "=" [ "-" ] NUMBER ] ";"
 --     block   = "{" { stmt } "}"
 --     stmt    = NAME "=" "get" NAME ";" | NAME "=" expr ";" | "put" expr "to" NAME ";"
---     expr    = factor { "+" factor }
---     factor  = NUMBER | NAME
-use Rattle.std.specs.Prelude.{◌≡◌, ◌⊎◌, ℕ, ◌≤◌, List, [], ◌∷◌, ◌++◌, length, Option, Some, None, ℤ, pos, neg_ℤ}
+--             | "stop" ";" | "if" expr block [ "else" block ]
+--     expr    = sum [ ( "==" | "!=" | "<" | "<=" | ">" | ">=" ) sum ]
+--     sum     = term { ( "+" | "-" ) term }
+--     term    = factor { "*" factor }
+--     factor  = "-" factor | NUMBER | NAME | "(" expr ")"
+--
+-- A rule says which tokens are a part of the text, whole, and which are the beginning of one: those that stand so far, whatever may follow.
+-- A rule that another edition may change takes the edition, and one in which something may nest how many more may be opened: blocks, parentheses and
+-- minus signs. The braces of a process and the minus of a variable's first value are none of these. A minus is open through its factor.
+use Rattle.std.specs.Prelude.{◌≡◌, ◌⊎◌, ℕ, zero, suc, ◌≤◌, List, [], ◌∷◌, ◌++◌, length, Option, Some, None, ℤ, pos, neg_ℤ}
 use Rattle.net_text.specs.Names.{NameTree}
-use Rattle.net_text.specs.Trees.{ExprTree, LiteralTree, VariableTree, ChainTree, LinkTree, links_tree, BlockTree, NothingTree, GetTree, AssignTree, PutTree, LoopTree, ProcessTree, DeclarationTree, ChannelTree, ProcessDeclared}
+use Rattle.net_text.specs.Trees.{ExprTree, LiteralTree, VariableTree, MinusTree, ChainTree, LinkTree, links_tree, BlockTree, NothingTree, GetTree, AssignTree, PutTree, StopTree, IfTree, LoopTree, ProcessTree, DeclarationTree, ChannelTree, ProcessDeclared}
 use Rattle.net_text.specs.Tokens.{Lexeme, AreTokens}
 use Rattle.net_text.specs.declared.token.Keyword.{Keyword}
 use Rattle.net_text.specs.declared.token.Keyword.TheVariants as keyword
@@ -17,110 +25,248 @@ use Rattle.net_text.specs.declared.token.Symbol.{Symbol}
 use Rattle.net_text.specs.declared.token.Symbol.TheVariants as symbol
 use Rattle.net_text.specs.declared.token.TokenKind.TheVariants as kind
 use Rattle.kahn_net.specs.declared.program.Operator.{Operator}
-use Rattle.kahn_net.specs.declared.program.Operator.TheVariants.{Add}
+use Rattle.kahn_net.specs.declared.program.Operator.TheVariants.{Add, Subtract, Multiply, Equal, NotEqual, Less, LessOrEqual, Greater, GreaterOrEqual}
+use Rattle.net_text.specs.declared.parser.Level.{Level}
+use Rattle.net_text.specs.declared.parser.Level.TheVariants.{Product, Sum, Comparison}
 use Rattle.net_text.specs.declared.tree.Role.{Role}
 use Rattle.net_text.specs.declared.tree.Role.TheVariants.{Input, Inner, Output}
 use Rattle.net_text.specs.declared.tree.ChannelText.{ChannelText}
 use Rattle.net_text.specs.declared.tree.VariableText.{VariableText}
-use Rattle.net_text.specs.declared.limits.TheConstants.{MAX_TEXT_BYTES}
+use Rattle.net_text.specs.declared.tree.NodeText.{NodeText}
+use Rattle.net_text.specs.declared.limits.TheConstants.{MAX_TEXT_BYTES, MAX_NESTING}
 
+-- ---- rules
+
+pub data Extent : Type 0 where
+  Whole : Extent
+  Begun : Extent
+
+abbrev pub Rule : Type 1
+Rule = Extent → List Lexeme → Type 0
+
+-- these tokens, cut at some place
+abbrev pub IsCut : (List Lexeme → Type 0) → (List Lexeme → Type 0) → List Lexeme → Type 0
+IsCut P Q ts = (front : List Lexeme) × (back : List Lexeme) × (ts ≡ front ++ back) × P front × Q back
+
+-- One part, and then another. A beginning of both is one of the first, or the first one and a beginning of the second.
 infixr 6 ◌>>◌
-abbrev pub ◌>>◌ : (List Lexeme → Type 0) → (List Lexeme → Type 0) → List Lexeme → Type 0
-(P >> Q) ts = (front : List Lexeme) × (back : List Lexeme) × (ts ≡ front ++ back) × P front × Q back
+abbrev pub ◌>>◌ : Rule → Rule → Rule
+(P >> Q) Whole ts = IsCut (P Whole) (Q Whole) ts
+(P >> Q) Begun ts = P Begun ts ⊎ IsCut (P Whole) (Q Begun) ts
 
--- this word, on this line
-abbrev pub IsWordOn : Keyword → ℕ → List Lexeme → Type 0
-IsWordOn w line ts = (t : Lexeme) × (ts ≡ t ∷ []) × (t.kind ≡ kind.Word w) × (line ≡ t.line)
+infixr 5 ◌or◌
+abbrev pub ◌or◌ : Rule → Rule → Rule
+(P or Q) extent ts = P extent ts ⊎ Q extent ts
 
-abbrev pub IsWord : Keyword → List Lexeme → Type 0
-IsWord w ts = (line : ℕ) × IsWordOn w line ts
+-- a part for which a fact holds
+abbrev pub IsWhere : Type 0 → Rule → Rule
+IsWhere fact P extent ts = fact × P extent ts
 
-abbrev pub IsSymbol : Symbol → List Lexeme → Type 0
-IsSymbol s ts = (t : Lexeme) × (ts ≡ t ∷ []) × (t.kind ≡ kind.Symbol s)
+abbrev pub IsNothing : Rule
+IsNothing extent ts = ts ≡ []
 
-abbrev pub IsName : NameTree → List Lexeme → Type 0
-IsName name ts = (t : Lexeme) × (ts ≡ t ∷ []) × (t.kind ≡ kind.Name) × (name ≡ record { text = t.text; line = t.line })
+-- What may not be opened any more is awaited at its place, and no tokens are one.
+abbrev pub IsAwaited : Rule
+IsAwaited Whole ts = ⊥
+IsAwaited Begun ts = ts ≡ []
 
--- a number of this value, on this line
-abbrev pub IsNumberOn : ℕ → ℕ → List Lexeme → Type 0
-IsNumberOn n line ts = (t : Lexeme) × (ts ≡ t ∷ []) × (t.kind ≡ kind.Number n) × (line ≡ t.line)
-
-abbrev pub IsNumber : ℕ → List Lexeme → Type 0
-IsNumber n ts = (line : ℕ) × IsNumberOn n line ts
-
-abbrev pub IsNothing : List Lexeme → Type 0
-IsNothing ts = ts ≡ []
+-- one token
+abbrev pub IsOne : (Lexeme → Type 0) → Rule
+IsOne Is Whole ts = (t : Lexeme) × (ts ≡ t ∷ []) × Is t
+IsOne Is Begun ts = ts ≡ []
 
 -- one after another
-abbrev pub IsEach : {A : Type 0} → (A → List Lexeme → Type 0) → List A → List Lexeme → Type 0
+abbrev pub IsEach : {A : Type 0} → (A → Rule) → List A → Rule
 IsEach P [] = IsNothing
 IsEach P (x ∷ xs) = P x >> IsEach P xs
 
--- factor = NUMBER | NAME
-abbrev pub IsFactor : ExprTree → List Lexeme → Type 0
-IsFactor (LiteralTree v) ts = (n : ℕ) × IsNumber n ts × (v ≡ pos n)
-IsFactor (VariableTree name) ts = IsName name ts
-IsFactor (ChainTree first links) ts = ⊥
+abbrev pub IsAtMostOne : {A : Type 0} → (A → Rule) → List A → Rule
+IsAtMostOne P [] = IsNothing
+IsAtMostOne P (x ∷ []) = P x
+IsAtMostOne P (x ∷ y ∷ xs) = IsWhere ⊥ IsNothing
+
+-- ---- tokens
+
+-- this word, on this line
+abbrev pub IsWordOn : Keyword → ℕ → Rule
+IsWordOn w line = IsOne (λ t. (t.kind ≡ kind.Word w) × (line ≡ t.line))
+
+abbrev pub IsWord : Keyword → Rule
+IsWord w = IsOne (λ t. t.kind ≡ kind.Word w)
+
+abbrev pub IsSymbol : Symbol → Rule
+IsSymbol s = IsOne (λ t. t.kind ≡ kind.Symbol s)
+
+abbrev pub IsName : NameTree → Rule
+IsName name = IsOne (λ t. (t.kind ≡ kind.Name) × (name ≡ record { text = t.text; line = t.line }))
+
+-- a number of this value, on this line
+abbrev pub IsNumberOn : ℕ → ℕ → Rule
+IsNumberOn n line = IsOne (λ t. (t.kind ≡ kind.Number n) × (line ≡ t.line))
+
+abbrev pub IsNumber : ℕ → Rule
+IsNumber n = IsOne (λ t. t.kind ≡ kind.Number n)
+
+-- ---- operators
 
 -- how an operator is written
 abbrev pub operator_symbol : Operator → Symbol
 operator_symbol Add = symbol.Plus
+operator_symbol Subtract = symbol.Minus
+operator_symbol Multiply = symbol.Star
+operator_symbol Equal = symbol.Equal
+operator_symbol NotEqual = symbol.NotEqual
+operator_symbol Less = symbol.Less
+operator_symbol LessOrEqual = symbol.LessOrEqual
+operator_symbol Greater = symbol.Greater
+operator_symbol GreaterOrEqual = symbol.GreaterOrEqual
+
+-- how tightly an operator binds
+abbrev pub level_of : Operator → Level
+level_of Multiply = Product
+level_of Add = Sum
+level_of Subtract = Sum
+level_of Equal = Comparison
+level_of NotEqual = Comparison
+level_of Less = Comparison
+level_of LessOrEqual = Comparison
+level_of Greater = Comparison
+level_of GreaterOrEqual = Comparison
+
+abbrev pub IsOperator : Level → Operator → Rule
+IsOperator level operator = IsOne (λ t. (t.kind ≡ kind.Symbol (operator_symbol operator)) × (level_of operator ≡ level))
+
+-- ---- expressions
 
 -- a value with its links, which is the value itself where there are none
 abbrev pub chain_of : ExprTree → List LinkTree → ExprTree
 chain_of first [] = first
 chain_of first (link ∷ links) = ChainTree first (links_tree (link ∷ links))
 
--- an operator and the factor to its right
-abbrev pub IsLink : LinkTree → List Lexeme → Type 0
-IsLink link = IsSymbol (operator_symbol link.operator) >> IsFactor link.value
+-- an operator and the value to its right
+abbrev pub IsLink : Level → (ExprTree → Rule) → LinkTree → Rule
+IsLink level P link = IsOperator level link.operator >> P link.value
 
--- expr = factor { "+" factor }
-abbrev pub IsExpr : ExprTree → List Lexeme → Type 0
-IsExpr e ts = (first : ExprTree) × (links : List LinkTree) × (e ≡ chain_of first links) × (IsFactor first >> IsEach IsLink links) ts
+-- values and operators of one level between them
+abbrev pub IsChain : Level → (ExprTree → Rule) → ExprTree → Rule
+IsChain level P e extent ts = (first : ExprTree) × (links : List LinkTree) × (e ≡ chain_of first links) × (P first >> IsEach (IsLink level P) links) extent ts
 
--- stmt = NAME "=" "get" NAME ";" | NAME "=" expr ";" | "put" expr "to" NAME ";"
-abbrev pub IsGet : NameTree → NameTree → List Lexeme → Type 0
+-- term = factor { "*" factor }
+abbrev pub IsTermOf : ℕ → (ExprTree → Rule) → ExprTree → Rule
+IsTermOf edition IsFactor = IsChain Product IsFactor
+
+-- sum = term { ( "+" | "-" ) term }
+abbrev pub IsSumOf : ℕ → (ExprTree → Rule) → ExprTree → Rule
+IsSumOf edition IsFactor = IsChain Sum (IsTermOf edition IsFactor)
+
+-- expr = sum [ ( "==" | "!=" | "<" | "<=" | ">" | ">=" ) sum ]
+abbrev pub IsExprOf : ℕ → (ExprTree → Rule) → ExprTree → Rule
+IsExprOf edition IsFactor e extent ts =
+    (first : ExprTree) × (links : List LinkTree) × (e ≡ chain_of first links)
+    × (IsSumOf edition IsFactor first >> IsAtMostOne (IsLink Comparison (IsSumOf edition IsFactor)) links) extent ts
+
+-- NUMBER | NAME
+abbrev pub IsLiteral : ExprTree → Rule
+IsLiteral e extent ts = (n : ℕ) × (e ≡ LiteralTree (pos n)) × IsNumber n extent ts
+
+abbrev pub IsUse : ExprTree → Rule
+IsUse e extent ts = (name : NameTree) × (e ≡ VariableTree name) × IsName name extent ts
+
+abbrev pub IsAtom : ExprTree → Rule
+IsAtom e = IsLiteral e or IsUse e
+
+-- "(" expr ")", in which the factors are these
+abbrev pub IsParenthesised : ℕ → (ExprTree → Rule) → ExprTree → Rule
+IsParenthesised edition IsFactor e = IsSymbol symbol.LeftParenthesis >> IsExprOf edition IsFactor e >> IsSymbol symbol.RightParenthesis
+
+-- "-" factor
+abbrev pub IsMinus : (ExprTree → Rule) → ExprTree → Rule
+IsMinus IsFactor e extent ts = (value : ExprTree) × (e ≡ MinusTree value) × (IsSymbol symbol.Minus >> IsFactor value) extent ts
+
+-- factor = "-" factor | NUMBER | NAME | "(" expr ")"
+unfoldable pub IsFactor : ℕ → ℕ → ExprTree → Rule
+IsFactor edition zero e = IsAtom e
+IsFactor edition (suc left) e = IsParenthesised edition (IsFactor edition left) e or IsMinus (IsFactor edition left) e or IsAtom e
+
+abbrev pub IsExpr : ℕ → ℕ → ExprTree → Rule
+IsExpr edition left = IsExprOf edition (IsFactor edition left)
+
+-- ---- statements
+
+-- block = "{" { stmt } "}", by its statements where so many more may be opened
+abbrev pub IsBlockOf : ℕ → (ℕ → Rule) → Rule
+IsBlockOf zero AreStatements = IsAwaited
+IsBlockOf (suc left) AreStatements = IsSymbol symbol.LeftBrace >> AreStatements left >> IsSymbol symbol.RightBrace
+
+-- NAME "=" "get" NAME ";"
+abbrev pub IsGet : NameTree → NameTree → Rule
 IsGet variable channel = IsName variable >> IsSymbol symbol.Assign >> IsWord keyword.Get >> IsName channel >> IsSymbol symbol.Semicolon
 
-abbrev pub IsAssign : NameTree → ExprTree → List Lexeme → Type 0
-IsAssign variable value = IsName variable >> IsSymbol symbol.Assign >> IsExpr value >> IsSymbol symbol.Semicolon
+-- NAME "=" expr ";"
+abbrev pub IsAssign : ℕ → ℕ → NameTree → ExprTree → Rule
+IsAssign edition left variable value = IsName variable >> IsSymbol symbol.Assign >> IsExpr edition left value >> IsSymbol symbol.Semicolon
 
-abbrev pub IsPut : ExprTree → NameTree → List Lexeme → Type 0
-IsPut value channel = IsWord keyword.Put >> IsExpr value >> IsWord keyword.To >> IsName channel >> IsSymbol symbol.Semicolon
+-- "put" expr "to" NAME ";"
+abbrev pub IsPut : ℕ → ℕ → ExprTree → NameTree → Rule
+IsPut edition left value channel = IsWord keyword.Put >> IsExpr edition left value >> IsWord keyword.To >> IsName channel >> IsSymbol symbol.Semicolon
+
+-- "stop" ";"
+abbrev pub IsStop : Rule
+IsStop = IsWord keyword.Stop >> IsSymbol symbol.Semicolon
+
+-- [ "else" block ], where no statements stand for nothing too
+abbrev pub IsElse : BlockTree → Rule → Rule
+IsElse second IsSecond = IsWord keyword.Else >> IsSecond or IsWhere (second ≡ NothingTree) IsNothing
+
+-- "if" expr block [ "else" block ]
+abbrev pub IsIf : ℕ → ℕ → ExprTree → Rule → BlockTree → Rule → Rule
+IsIf edition left test IsFirst second IsSecond = IsWord keyword.If >> IsExpr edition left test >> IsFirst >> IsElse second IsSecond
 
 -- { stmt }
-abbrev pub IsStatements : BlockTree → List Lexeme → Type 0
-IsStatements NothingTree = IsNothing
-IsStatements (GetTree variable channel rest) = IsGet variable channel >> IsStatements rest
-IsStatements (AssignTree variable value rest) = IsAssign variable value >> IsStatements rest
-IsStatements (PutTree value channel rest) = IsPut value channel >> IsStatements rest
+unfoldable pub IsStatements : ℕ → ℕ → BlockTree → Rule
+IsStatements edition left NothingTree = IsNothing
+IsStatements edition left (GetTree variable channel rest) = IsGet variable channel >> IsStatements edition left rest
+IsStatements edition left (AssignTree variable value rest) = IsAssign edition left variable value >> IsStatements edition left rest
+IsStatements edition left (PutTree value channel rest) = IsPut edition left value channel >> IsStatements edition left rest
+IsStatements edition left (StopTree rest) = IsStop >> IsStatements edition left rest
+IsStatements edition left (IfTree test first second rest) =
+    IsIf edition left test (IsBlockOf left (λ inside. IsStatements edition inside first)) second (IsBlockOf left (λ inside. IsStatements edition inside second))
+    >> IsStatements edition left rest
 
--- block = "{" { stmt } "}"
-abbrev pub IsBlock : BlockTree → List Lexeme → Type 0
-IsBlock block = IsSymbol symbol.LeftBrace >> IsStatements block >> IsSymbol symbol.RightBrace
+abbrev pub IsBlock : ℕ → ℕ → BlockTree → Rule
+IsBlock edition left block = IsBlockOf left (λ inside. IsStatements edition inside block)
+
+-- ---- declarations
+
+-- [ "-" ] NUMBER
+abbrev pub IsPositive : ℤ → Rule
+IsPositive v extent ts = (n : ℕ) × (v ≡ pos n) × IsNumber n extent ts
+
+abbrev pub IsNegative : ℤ → Rule
+IsNegative v extent ts = (n : ℕ) × (v ≡ neg_ℤ (pos n)) × (IsSymbol symbol.Minus >> IsNumber n) extent ts
 
 -- [ "=" [ "-" ] NUMBER ], where 0 stands for nothing
-abbrev pub IsInitial : ℤ → List Lexeme → Type 0
-IsInitial v ts =
-    ((v ≡ pos 0) × IsNothing ts)
-    ⊎ (((n : ℕ) × (v ≡ pos n) × (IsSymbol symbol.Assign >> IsNumber n) ts)
-    ⊎ ((n : ℕ) × (v ≡ neg_ℤ (pos n)) × (IsSymbol symbol.Assign >> IsSymbol symbol.Minus >> IsNumber n) ts))
+abbrev pub IsInitial : ℤ → Rule
+IsInitial v = IsSymbol symbol.Assign >> (IsNegative v or IsPositive v) or IsWhere (v ≡ pos 0) IsNothing
 
 -- var = "var" NAME [ "=" [ "-" ] NUMBER ] ";"
-abbrev pub IsVariable : VariableText → List Lexeme → Type 0
+abbrev pub IsVariable : VariableText → Rule
 IsVariable v = IsWordOn keyword.Var v.line >> IsName v.name >> IsInitial v.initial >> IsSymbol symbol.Semicolon
 
 -- [ "loop" block ]
-abbrev pub IsLoop : Option LoopTree → List Lexeme → Type 0
-IsLoop None = IsNothing
-IsLoop (Some l) = IsWordOn keyword.Loop l.line >> IsBlock l.body
+abbrev pub IsLoop : ℕ → ℕ → Option LoopTree → Rule
+IsLoop edition left None = IsNothing
+IsLoop edition left (Some l) = IsWordOn keyword.Loop l.line >> IsBlock edition left l.body
+
+-- "process" NAME "on" NUMBER "{"
+abbrev pub IsHead : ℕ → NameTree → NodeText → Rule
+IsHead line name node = IsWordOn keyword.Process line >> IsName name >> IsWord keyword.On >> IsNumberOn node.number node.line >> IsSymbol symbol.LeftBrace
 
 -- process = "process" NAME "on" NUMBER "{" { var } { stmt } [ "loop" block ] "}"
-abbrev pub IsProcess : ProcessTree → List Lexeme → Type 0
-IsProcess p =
-    IsWordOn keyword.Process p.line >> IsName p.name >> IsWord keyword.On >> IsNumberOn p.node.number p.node.line >> IsSymbol symbol.LeftBrace
-    >> IsEach IsVariable p.variables >> IsStatements p.prelude >> IsLoop p.repeated >> IsSymbol symbol.RightBrace
+abbrev pub IsProcess : ℕ → ℕ → ProcessTree → Rule
+IsProcess edition left p =
+    IsHead p.line p.name p.node
+    >> IsEach IsVariable p.variables >> IsStatements edition left p.prelude >> IsLoop edition left p.repeated >> IsSymbol symbol.RightBrace
 
 -- the declaration of a channel, by its first word
 abbrev pub first_word : Role → Keyword
@@ -128,22 +274,30 @@ first_word Input = keyword.Input
 first_word Inner = keyword.Chan
 first_word Output = keyword.Output
 
-abbrev pub IsChannel : ChannelText → List Lexeme → Type 0
+abbrev pub IsChannel : ChannelText → Rule
 IsChannel c = IsWordOn (first_word c.role) c.line >> IsName c.name >> IsSymbol symbol.Semicolon
 
--- text = "kahn" "1" ";" "input" NAME ";" "output" NAME ";" process
-pub record IsText (declarations : List DeclarationTree) (ts : List Lexeme) : Type 0 where
-  pub input : ChannelText
-  pub output : ChannelText
-  pub process : ProcessTree
-  pub declared : declarations ≡ ChannelTree input ∷ ChannelTree output ∷ ProcessDeclared process ∷ []
-  pub input_role : input.role ≡ Input
-  pub output_role : output.role ≡ Output
-  pub tokens : (IsWord keyword.Kahn >> IsNumber 1 >> IsSymbol symbol.Semicolon >> IsChannel input >> IsChannel output >> IsProcess process) ts
+-- decl = "input" NAME ";" | "chan" NAME ";" | "output" NAME ";" | process
+abbrev pub IsDeclaration : ℕ → ℕ → DeclarationTree → Rule
+IsDeclaration edition left (ChannelTree c) = IsChannel c
+IsDeclaration edition left (ProcessDeclared p) = IsProcess edition left p
 
--- a text of this tree
+-- "kahn" "1" ";", where the number is the edition's
+abbrev pub IsEdition : ℕ → Rule
+IsEdition edition = IsWord keyword.Kahn >> IsNumber edition >> IsSymbol symbol.Semicolon
+
+-- text = "kahn" "1" ";" { decl }
+unfoldable pub IsText : ℕ → ℕ → List DeclarationTree → Rule
+IsText edition left declarations = IsEdition edition >> IsEach (IsDeclaration edition left) declarations
+
+-- a text of this tree, in which no more may be open than the limit says
 pub record IsTextOf (declarations : List DeclarationTree) (text : List ℕ) : Type 0 where
   pub small : length text ≤ MAX_TEXT_BYTES
   pub tokens : List Lexeme
   pub read : AreTokens text tokens
-  pub grammar : IsText declarations tokens
+  pub grammar : IsText 1 MAX_NESTING declarations Whole tokens
+
+-- With these tokens some text begins in which no more are open than the limit says.
+pub record Begins (edition limit : ℕ) (ts : List Lexeme) : Type 0 where
+  pub declarations : List DeclarationTree
+  pub begun : IsText edition limit declarations Begun ts

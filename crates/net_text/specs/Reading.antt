@@ -1,19 +1,22 @@
 -- Reading tokens from left to right, as the parser does: the value that is read and the tokens after it, or where the tokens can't go on.
--- The grammar itself stands in Grammar; these are its readers, which the parser's private functions cite.
-use Rattle.std.specs.Prelude.{◌≡◌, ℕ, zero, suc, Bool, true, false, ◌||◌, if◌then◌else◌, ◌==◌, List, [], ◌∷◌, length, Option, Some, None, Result, Ok, Err, ℤ, pos, neg_ℤ}
+-- The grammar itself stands in Grammar; these are its readers, which the parser's private functions cite. Where something may nest they take how many more may be opened.
+use Rattle.std.specs.Prelude.{◌≡◌, ◌⊎◌, ℕ, zero, suc, Bool, true, false, ◌||◌, if◌then◌else◌, ◌==◌, List, [], ◌∷◌, length, Option, Some, None, Result, Ok, Err, ℤ, pos, neg_ℤ}
+use Rattle.std.proofs.Common.{inl, inr}
 use Rattle.std.specs.Str.{bytes_eq}
 use Rattle.net_text.specs.Names.{NameTree}
 use Rattle.net_text.specs.Spellings.{keyword_spelling, symbol_spelling}
-use Rattle.net_text.specs.Trees.{ExprTree, LiteralTree, VariableTree, LinkTree, BlockTree, NothingTree, GetTree, AssignTree, PutTree, LoopTree, ProcessTree, DeclarationTree, ChannelTree, ProcessDeclared}
+use Rattle.net_text.specs.Trees.{ExprTree, LiteralTree, VariableTree, MinusTree, LinkTree, BlockTree, NothingTree, GetTree, AssignTree, PutTree, StopTree, IfTree, LoopTree, ProcessTree, DeclarationTree, ChannelTree, ProcessDeclared}
 use Rattle.net_text.specs.Tokens.{Lexeme}
-use Rattle.net_text.specs.Grammar.{chain_of, first_word}
+use Rattle.net_text.specs.Grammar.{chain_of, first_word, level_of}
 use Rattle.net_text.specs.declared.parser.Head.{Head}
+use Rattle.net_text.specs.declared.parser.Level.{Level}
+use Rattle.net_text.specs.declared.parser.Level.TheVariants.{Product, Sum, Comparison}
 use Rattle.net_text.specs.declared.parser.Stuck.{Stuck}
-use Rattle.net_text.specs.declared.parser.Stuck.TheVariants.{At, AtEnd}
+use Rattle.net_text.specs.declared.parser.Stuck.TheVariants.{At, TooDeep, AtEnd}
 use Rattle.net_text.specs.declared.parser.ParseError.{ParseError}
 use Rattle.net_text.specs.declared.parser.ParseError.TheVariants as error
 use Rattle.net_text.specs.declared.fault.TextFault.{TextFault}
-use Rattle.net_text.specs.declared.fault.TextFault.TheVariants.{Unexpected}
+use Rattle.net_text.specs.declared.fault.TextFault.TheVariants.{Unexpected, TooLong}
 use Rattle.net_text.specs.declared.lexer.End.{End}
 use Rattle.net_text.specs.declared.lexer.End.TheVariants as end
 use Rattle.net_text.specs.declared.token.Keyword.{Keyword}
@@ -22,16 +25,21 @@ use Rattle.net_text.specs.declared.token.Symbol.{Symbol}
 use Rattle.net_text.specs.declared.token.Symbol.TheVariants as symbol
 use Rattle.net_text.specs.declared.token.TokenKind.{TokenKind}
 use Rattle.net_text.specs.declared.token.TokenKind.TheVariants as kind
-use Rattle.kahn_net.specs.declared.program.Operator.TheVariants.{Add}
+use Rattle.kahn_net.specs.declared.program.Operator.{Operator}
+use Rattle.kahn_net.specs.declared.program.Operator.TheVariants.{Add, Subtract, Multiply, Equal, NotEqual, Less, LessOrEqual, Greater, GreaterOrEqual}
 use Rattle.net_text.specs.declared.tree.Role.{Role}
-use Rattle.net_text.specs.declared.tree.Role.TheVariants.{Input, Output}
+use Rattle.net_text.specs.declared.tree.Role.TheVariants.{Input, Inner, Output}
 use Rattle.net_text.specs.declared.tree.ChannelText.{ChannelText}
 use Rattle.net_text.specs.declared.tree.VariableText.{VariableText}
 use Rattle.net_text.specs.declared.tree.NodeText.{NodeText}
+use Rattle.net_text.specs.declared.limits.TheConstants.{MAX_NESTING}
 use Rattle.net_text.specs.Results.{◌>>=◌}
 
 abbrev pub Read : Type 0 → Type 0
 Read A = Result (A × List Lexeme) Stuck
+
+abbrev pub Reader : Type 0 → Type 0
+Reader A = List Lexeme → Read A
 
 -- A call that failed so did as its reader does, which is stuck there; for want of memory a reader is never stuck.
 abbrev pub Fails : {Y : Type 0} → ParseError → Result Y Stuck → Type 0
@@ -42,7 +50,8 @@ abbrev pub Gives : {X Y : Type 0} → (X → Y) → Result X ParseError → Resu
 Gives view (Ok x) read = read ≡ Ok (view x)
 Gives view (Err e) read = Fails e read
 
--- tests of a token's kind
+-- ---- tests of a token's kind
+
 abbrev pub has_word : Keyword → TokenKind → Bool
 has_word w (kind.Word v) = bytes_eq (keyword_spelling v) (keyword_spelling w)
 has_word w (kind.Symbol s) = false
@@ -61,101 +70,247 @@ is_name (kind.Symbol s) = false
 is_name (kind.Word w) = false
 is_name (kind.Number n) = false
 
+-- the operator that a symbol is
+abbrev pub operator_of : Symbol → Option Operator
+operator_of symbol.Plus = Some Add
+operator_of symbol.Minus = Some Subtract
+operator_of symbol.Star = Some Multiply
+operator_of symbol.Equal = Some Equal
+operator_of symbol.NotEqual = Some NotEqual
+operator_of symbol.Less = Some Less
+operator_of symbol.LessOrEqual = Some LessOrEqual
+operator_of symbol.Greater = Some Greater
+operator_of symbol.GreaterOrEqual = Some GreaterOrEqual
+operator_of symbol.Semicolon = None
+operator_of symbol.LeftBrace = None
+operator_of symbol.RightBrace = None
+operator_of symbol.LeftParenthesis = None
+operator_of symbol.RightParenthesis = None
+operator_of symbol.Assign = None
+
+abbrev pub is_level : Level → Level → Bool
+is_level Product Product = true
+is_level Product Sum = false
+is_level Product Comparison = false
+is_level Sum Product = false
+is_level Sum Sum = true
+is_level Sum Comparison = false
+is_level Comparison Product = false
+is_level Comparison Sum = false
+is_level Comparison Comparison = true
+
+abbrev pub if_level : Level → Option Operator → Option Operator
+if_level level None = None
+if_level level (Some operator) = if is_level (level_of operator) level then Some operator else None
+
+-- the operator of this level that a token is
+abbrev pub operator_in : Level → TokenKind → Option Operator
+operator_in level (kind.Symbol s) = if_level level (operator_of s)
+operator_in level (kind.Word w) = None
+operator_in level (kind.Number n) = None
+operator_in level kind.Name = None
+
+abbrev pub is_operator : Option Operator → Bool
+is_operator None = false
+is_operator (Some operator) = true
+
+abbrev pub has_operator : Level → TokenKind → Bool
+has_operator level k = is_operator (operator_in level k)
+
 -- the first token passes a test
 abbrev pub begins : (TokenKind → Bool) → List Lexeme → Bool
 begins test [] = false
 begins test (t ∷ ts) = test t.kind
 
+-- ---- readers made of others
+
+-- one, and then the other
+abbrev pub pair_at : {A B : Type 0} → Reader A → Reader B → Reader (A × B)
+pair_at first second ts = first ts >>= λ a. second a.1 >>= λ b. Ok ((a.0, b.0), b.1)
+
+-- what is read, seen so
+abbrev pub as_at : {A B : Type 0} → (A → B) → Reader A → Reader B
+as_at view reader ts = reader ts >>= λ x. Ok (view x.0, x.1)
+
+-- one where the first token passes a test, and else the other
+abbrev pub either_at : {A : Type 0} → (TokenKind → Bool) → Reader A → Reader A → Reader A
+either_at test first second ts = if begins test ts then first ts else second ts
+
+abbrev pub nothing_at : {A : Type 0} → A → Reader A
+nothing_at x ts = Ok (x, ts)
+
+-- one after another, as long as the next begins; so many at the most
+abbrev pub many : {A : Type 0} → (TokenKind → Bool) → Reader A → ℕ → Reader (List A)
+many starts item zero ts = Ok ([], ts)
+many starts item (suc n) ts = if begins starts ts then (item ts >>= λ first. many starts item n first.1 >>= λ others. Ok (first.0 ∷ others.0, others.1)) else Ok ([], ts)
+
+abbrev pub each_at : {A : Type 0} → (TokenKind → Bool) → Reader A → Reader (List A)
+each_at starts item ts = many starts item (length ts) ts
+
+abbrev pub at_most_one_at : {A : Type 0} → (TokenKind → Bool) → Reader A → Reader (List A)
+at_most_one_at starts item = either_at starts (as_at (λ x. x ∷ []) item) (nothing_at [])
+
+-- ---- single tokens
+
 -- a word, by its line
-unfoldable pub word_at : Keyword → List Lexeme → Read ℕ
+unfoldable pub word_on_at : Keyword → Reader ℕ
+word_on_at w [] = Err AtEnd
+word_on_at w (t ∷ ts) = if has_word w t.kind then Ok (t.line, ts) else Err (At t.line)
+
+unfoldable pub word_at : Keyword → Reader (Unit {0})
 word_at w [] = Err AtEnd
-word_at w (t ∷ ts) = if has_word w t.kind then Ok (t.line, ts) else Err (At t.line)
+word_at w (t ∷ ts) = if has_word w t.kind then Ok (tt, ts) else Err (At t.line)
 
-unfoldable pub symbol_at : Symbol → List Lexeme → Result (List Lexeme) Stuck
+unfoldable pub symbol_at : Symbol → Reader (Unit {0})
 symbol_at s [] = Err AtEnd
-symbol_at s (t ∷ ts) = if has_symbol s t.kind then Ok ts else Err (At t.line)
+symbol_at s (t ∷ ts) = if has_symbol s t.kind then Ok (tt, ts) else Err (At t.line)
 
-unfoldable pub name_at : List Lexeme → Read NameTree
+unfoldable pub name_at : Reader NameTree
 name_at [] = Err AtEnd
 name_at (t ∷ ts) = if is_name t.kind then Ok (record { text = t.text; line = t.line }, ts) else Err (At t.line)
 
 -- a number, with its line
-abbrev pub number_in : TokenKind → ℕ → List Lexeme → Read NodeText
+abbrev pub number_in : TokenKind → ℕ → Reader NodeText
 number_in (kind.Number n) line ts = Ok (record { number = n; line = line }, ts)
 number_in (kind.Word w) line ts = Err (At line)
 number_in (kind.Symbol s) line ts = Err (At line)
 number_in kind.Name line ts = Err (At line)
 
-unfoldable pub number_at : List Lexeme → Read NodeText
+unfoldable pub number_at : Reader NodeText
 number_at [] = Err AtEnd
 number_at (t ∷ ts) = number_in t.kind t.line ts
 
-abbrev pub factor_in : TokenKind → Lexeme → List Lexeme → Read ExprTree
-factor_in (kind.Number n) t ts = Ok (LiteralTree (pos n), ts)
-factor_in kind.Name t ts = Ok (VariableTree (record { text = t.text; line = t.line }), ts)
-factor_in (kind.Word w) t ts = Err (At t.line)
-factor_in (kind.Symbol s) t ts = Err (At t.line)
+abbrev pub picked : Option Operator → ℕ → Reader Operator
+picked (Some operator) line ts = Ok (operator, ts)
+picked None line ts = Err (At line)
 
-unfoldable pub factor_at : List Lexeme → Read ExprTree
-factor_at [] = Err AtEnd
-factor_at (t ∷ ts) = factor_in t.kind t ts
+-- an operator of this level
+unfoldable pub operator_at : Level → Reader Operator
+operator_at level [] = Err AtEnd
+operator_at level (t ∷ ts) = picked (operator_in level t.kind) t.line ts
 
--- one after another, as long as the next begins; so many at the most
-abbrev pub many : {A : Type 0} → (TokenKind → Bool) → (List Lexeme → Read A) → ℕ → List Lexeme → Read (List A)
-many starts item zero ts = Ok ([], ts)
-many starts item (suc n) ts = if begins starts ts then (item ts >>= λ first. many starts item n first.1 >>= λ others. Ok (first.0 ∷ others.0, others.1)) else Ok ([], ts)
+-- a symbol that opens what may not be opened any more
+unfoldable pub unopened_at : {A : Type 0} → Symbol → Reader A
+unopened_at s [] = Err AtEnd
+unopened_at s (t ∷ ts) = if has_symbol s t.kind then Err (TooDeep t.line) else Err (At t.line)
+
+-- a symbol that opens what may nest
+abbrev pub opening_at : Symbol → ℕ → Reader (Unit {0})
+opening_at s zero = unopened_at s
+opening_at s (suc left) = symbol_at s
+
+-- ---- expressions
+
+abbrev pub atom_in : TokenKind → Lexeme → Reader ExprTree
+atom_in (kind.Number n) t ts = Ok (LiteralTree (pos n), ts)
+atom_in kind.Name t ts = Ok (VariableTree (record { text = t.text; line = t.line }), ts)
+atom_in (kind.Word w) t ts = Err (At t.line)
+atom_in (kind.Symbol s) t ts = Err (At t.line)
+
+-- a number or a name
+unfoldable pub atom_at : Reader ExprTree
+atom_at [] = Err AtEnd
+atom_at (t ∷ ts) = atom_in t.kind t ts
 
 -- an operator and the value to its right
-unfoldable pub link_at : List Lexeme → Read LinkTree
-link_at ts = do
-  rest ← symbol_at symbol.Plus ts
-  value ← factor_at rest
-  Ok (record { operator = Add; value = value.0 }, value.1)
+abbrev pub link_of : Level → Reader ExprTree → Reader LinkTree
+link_of level value = as_at (λ x. record { operator = x.0; value = x.1 }) (pair_at (operator_at level) value)
 
-unfoldable pub links_at : List Lexeme → Read (List LinkTree)
-links_at ts = many (has_symbol symbol.Plus) link_at (length ts) ts
+abbrev pub links_of : Level → Reader ExprTree → Reader (List LinkTree)
+links_of level value = each_at (has_operator level) (link_of level value)
 
--- a value, and the operators that follow it
-unfoldable pub expr_at : List Lexeme → Read ExprTree
-expr_at ts = do
-  first ← factor_at ts
-  links ← links_at first.1
-  Ok (chain_of first.0 links.0, links.1)
+-- values and operators of one level between them
+abbrev pub chain_at : Level → Reader ExprTree → Reader ExprTree
+chain_at level value = as_at (λ x. chain_of x.0 x.1) (pair_at value (links_of level value))
 
--- a statement, as a block of one
-unfoldable pub get_at : NameTree → List Lexeme → Read BlockTree
-get_at variable ts = do
-  got ← word_at keyword.Get ts
-  channel ← name_at got.1
-  rest ← symbol_at symbol.Semicolon channel.1
-  Ok (GetTree variable channel.0 NothingTree, rest)
+-- the values that operators of a level join, by the factors that they are made of
+abbrev pub operand_of : Reader ExprTree → Level → Reader ExprTree
+operand_of factor Product = factor
+operand_of factor Sum = chain_at Product factor
+operand_of factor Comparison = chain_at Sum (chain_at Product factor)
 
-unfoldable pub assign_at : NameTree → List Lexeme → Read BlockTree
-assign_at variable ts = do
-  value ← expr_at ts
-  rest ← symbol_at symbol.Semicolon value.1
-  Ok (AssignTree variable value.0 NothingTree, rest)
+-- an expression, by its factors
+abbrev pub expr_of : Reader ExprTree → Reader ExprTree
+expr_of factor =
+    as_at (λ x. chain_of x.0 x.1)
+    (pair_at (operand_of factor Comparison) (at_most_one_at (has_operator Comparison) (link_of Comparison (operand_of factor Comparison))))
 
-unfoldable pub named_at : List Lexeme → Read BlockTree
-named_at ts = do
-  variable ← name_at ts
-  rest ← symbol_at symbol.Assign variable.1
-  if begins (has_word keyword.Get) rest then get_at variable.0 rest else assign_at variable.0 rest
+abbrev pub parenthesised_of : Reader ExprTree → Reader ExprTree
+parenthesised_of factor = as_at (λ x. x.1.0) (pair_at (symbol_at symbol.LeftParenthesis) (pair_at (expr_of factor) (symbol_at symbol.RightParenthesis)))
 
-unfoldable pub put_at : List Lexeme → Read BlockTree
-put_at ts = do
-  start ← word_at keyword.Put ts
-  value ← expr_at start.1
-  to ← word_at keyword.To value.1
-  channel ← name_at to.1
-  rest ← symbol_at symbol.Semicolon channel.1
-  Ok (PutTree value.0 channel.0 NothingTree, rest)
+abbrev pub minus_of : Reader ExprTree → Reader ExprTree
+minus_of factor = as_at (λ x. MinusTree x.1) (pair_at (symbol_at symbol.Minus) factor)
 
-unfoldable pub statement_at : List Lexeme → Read BlockTree
-statement_at ts = if begins is_name ts then named_at ts else put_at ts
+-- a factor, by what it is behind a ( and behind a -
+abbrev pub factor_of : Reader ExprTree → Reader ExprTree → Reader ExprTree
+factor_of parenthesised minus = either_at (has_symbol symbol.LeftParenthesis) parenthesised (either_at (has_symbol symbol.Minus) minus atom_at)
+
+unfoldable pub factor_at : ℕ → Reader ExprTree
+factor_at zero = factor_of (unopened_at symbol.LeftParenthesis) (unopened_at symbol.Minus)
+factor_at (suc left) = factor_of (parenthesised_of (factor_at left)) (minus_of (factor_at left))
+
+unfoldable pub parenthesised_at : ℕ → Reader ExprTree
+parenthesised_at zero = unopened_at symbol.LeftParenthesis
+parenthesised_at (suc left) = parenthesised_of (factor_at left)
+
+unfoldable pub minus_at : ℕ → Reader ExprTree
+minus_at zero = unopened_at symbol.Minus
+minus_at (suc left) = minus_of (factor_at left)
+
+unfoldable pub link_at : Level → ℕ → Reader LinkTree
+link_at level left = link_of level (operand_of (factor_at left) level)
+
+unfoldable pub links_at : Level → ℕ → Reader (List LinkTree)
+links_at level left = each_at (has_operator level) (link_at level left)
+
+unfoldable pub operand_at : Level → ℕ → Reader ExprTree
+operand_at level left = operand_of (factor_at left) level
+
+unfoldable pub expr_at : ℕ → Reader ExprTree
+expr_at left = expr_of (factor_at left)
+
+-- ---- statements, each as a block of one
+
+-- the channel of a get, past the =
+unfoldable pub got_at : Reader NameTree
+got_at = as_at (λ x. x.1.0) (pair_at (word_at keyword.Get) (pair_at name_at (symbol_at symbol.Semicolon)))
+
+-- the value of an assignment, past the =
+unfoldable pub assigned_at : ℕ → Reader ExprTree
+assigned_at left = as_at (λ x. x.0) (pair_at (expr_at left) (symbol_at symbol.Semicolon))
+
+abbrev pub named_tree : NameTree → NameTree ⊎ ExprTree → BlockTree
+named_tree variable (inl channel) = GetTree variable channel NothingTree
+named_tree variable (inr value) = AssignTree variable value NothingTree
+
+-- a statement that begins with a name
+unfoldable pub named_at : ℕ → Reader BlockTree
+named_at left =
+    as_at (λ x. named_tree x.0 x.1.1)
+    (pair_at name_at (pair_at (symbol_at symbol.Assign) (either_at (has_word keyword.Get) (as_at inl got_at) (as_at inr (assigned_at left)))))
+
+unfoldable pub put_at : ℕ → Reader BlockTree
+put_at left =
+    as_at (λ x. PutTree x.1.0 x.1.1.1.0 NothingTree)
+    (pair_at (word_at keyword.Put) (pair_at (expr_at left) (pair_at (word_at keyword.To) (pair_at name_at (symbol_at symbol.Semicolon)))))
+
+unfoldable pub stop_at : Reader BlockTree
+stop_at = as_at (λ x. StopTree NothingTree) (pair_at (word_at keyword.Stop) (symbol_at symbol.Semicolon))
+
+-- what stands behind else, by the reader of a block
+abbrev pub else_of : Reader BlockTree → Reader BlockTree
+else_of block = either_at (has_word keyword.Else) (as_at (λ x. x.1) (pair_at (word_at keyword.Else) block)) (nothing_at NothingTree)
+
+abbrev pub if_of : Reader ExprTree → Reader BlockTree → Reader BlockTree
+if_of test block = as_at (λ x. IfTree x.1.0 x.1.1.0 x.1.1.1 NothingTree) (pair_at (word_at keyword.If) (pair_at test (pair_at block (else_of block))))
+
+-- a statement, by the reader of a block, where so many more may be opened
+abbrev pub statement_of : ℕ → Reader BlockTree → Reader BlockTree
+statement_of left block =
+    either_at is_name (named_at left) (either_at (has_word keyword.Put) (put_at left) (either_at (has_word keyword.Stop) stop_at (if_of (expr_at left) block)))
 
 abbrev pub starts_statement : TokenKind → Bool
-starts_statement k = is_name k || has_word keyword.Put k
+starts_statement k = is_name k || (has_word keyword.Put k || (has_word keyword.Stop k || has_word keyword.If k))
 
 -- these statements, and then those
 abbrev pub append_block : BlockTree → BlockTree → BlockTree
@@ -163,50 +318,62 @@ append_block NothingTree more = more
 append_block (GetTree variable channel rest) more = GetTree variable channel (append_block rest more)
 append_block (AssignTree variable value rest) more = AssignTree variable value (append_block rest more)
 append_block (PutTree value channel rest) more = PutTree value channel (append_block rest more)
+append_block (StopTree rest) more = StopTree (append_block rest more)
+append_block (IfTree test first second rest) more = IfTree test first second (append_block rest more)
 
 abbrev pub joined : List BlockTree → BlockTree
 joined [] = NothingTree
 joined (block ∷ blocks) = append_block block (joined blocks)
 
-unfoldable pub statements_at : List Lexeme → Read BlockTree
-statements_at ts = many starts_statement statement_at (length ts) ts >>= λ each. Ok (joined each.0, each.1)
+abbrev pub statements_of : Reader BlockTree → Reader BlockTree
+statements_of statement = as_at joined (each_at starts_statement statement)
 
-unfoldable pub block_at : List Lexeme → Read BlockTree
-block_at ts = do
-  opened ← symbol_at symbol.LeftBrace ts
-  block ← statements_at opened
-  rest ← symbol_at symbol.RightBrace block.1
-  Ok (block.0, rest)
+abbrev pub braced_of : Reader BlockTree → Reader BlockTree
+braced_of statements = as_at (λ x. x.1.0) (pair_at (symbol_at symbol.LeftBrace) (pair_at statements (symbol_at symbol.RightBrace)))
+
+unfoldable pub block_at : ℕ → Reader BlockTree
+block_at zero = unopened_at symbol.LeftBrace
+block_at (suc left) = braced_of (statements_of (statement_of left (block_at left)))
+
+unfoldable pub else_at : ℕ → Reader BlockTree
+else_at left = else_of (block_at left)
+
+unfoldable pub if_at : ℕ → Reader BlockTree
+if_at left = if_of (expr_at left) (block_at left)
+
+unfoldable pub statement_at : ℕ → Reader BlockTree
+statement_at left = statement_of left (block_at left)
+
+unfoldable pub statements_at : ℕ → Reader BlockTree
+statements_at left = statements_of (statement_at left)
+
+-- ---- declarations
+
+-- a number, wherever it stands
+abbrev pub amount_at : Reader ℕ
+amount_at = as_at (λ n. n.number) number_at
 
 -- what follows the = of a variable's first value
-unfoldable pub value_at : List Lexeme → Read ℤ
-value_at ts =
-    if begins (has_symbol symbol.Minus) ts
-    then (symbol_at symbol.Minus ts >>= λ rest. number_at rest >>= λ n. Ok (neg_ℤ (pos n.0.number), n.1))
-    else (number_at ts >>= λ n. Ok (pos n.0.number, n.1))
+unfoldable pub value_at : Reader ℤ
+value_at = either_at (has_symbol symbol.Minus) (as_at (λ x. neg_ℤ (pos x.1)) (pair_at (symbol_at symbol.Minus) amount_at)) (as_at pos amount_at)
 
-unfoldable pub initial_at : List Lexeme → Read ℤ
-initial_at ts =
-    if begins (has_symbol symbol.Assign) ts
-    then (symbol_at symbol.Assign ts >>= λ rest. value_at rest)
-    else Ok (pos 0, ts)
+unfoldable pub initial_at : Reader ℤ
+initial_at = either_at (has_symbol symbol.Assign) (as_at (λ x. x.1) (pair_at (symbol_at symbol.Assign) value_at)) (nothing_at (pos 0))
 
-unfoldable pub variable_at : List Lexeme → Read VariableText
-variable_at ts = do
-  start ← word_at keyword.Var ts
-  name ← name_at start.1
-  initial ← initial_at name.1
-  rest ← symbol_at symbol.Semicolon initial.1
-  Ok (record { name = name.0; initial = initial.0; line = start.0 }, rest)
+abbrev pub variable_tree : ℕ × (NameTree × (ℤ × Unit {0})) → VariableText
+variable_tree x = record { name = x.1.0; initial = x.1.1.0; line = x.0 }
 
-unfoldable pub variables_at : List Lexeme → Read (List VariableText)
-variables_at ts = many (has_word keyword.Var) variable_at (length ts) ts
+unfoldable pub variable_at : Reader VariableText
+variable_at = as_at variable_tree (pair_at (word_on_at keyword.Var) (pair_at name_at (pair_at initial_at (symbol_at symbol.Semicolon))))
 
-unfoldable pub loop_at : List Lexeme → Read (Option LoopTree)
-loop_at ts =
-    if begins (has_word keyword.Loop) ts
-    then (word_at keyword.Loop ts >>= λ start. block_at start.1 >>= λ body. Ok (Some (record { body = body.0; line = start.0 }), body.1))
-    else Ok (None, ts)
+unfoldable pub variables_at : Reader (List VariableText)
+variables_at = each_at (has_word keyword.Var) variable_at
+
+abbrev pub loop_text : ℕ × BlockTree → Option LoopTree
+loop_text x = Some (record { body = x.1; line = x.0 })
+
+unfoldable pub loop_at : ℕ → Reader (Option LoopTree)
+loop_at left = either_at (has_word keyword.Loop) (as_at loop_text (pair_at (word_on_at keyword.Loop) (block_at left))) (nothing_at None)
 
 -- the head of a process: its line, its name and its node, up to the brace
 pub record HeadTree : Type 0 where
@@ -217,58 +384,60 @@ pub record HeadTree : Type 0 where
 abbrev pub head_tree : Head → HeadTree
 head_tree h = record { line = h.line; name = h.name; node = h.node }
 
-unfoldable pub head_at : List Lexeme → Read HeadTree
-head_at ts = do
-  start ← word_at keyword.Process ts
-  name ← name_at start.1
-  on ← word_at keyword.On name.1
-  node ← number_at on.1
-  rest ← symbol_at symbol.LeftBrace node.1
-  Ok (record { line = start.0; name = name.0; node = node.0 }, rest)
+abbrev pub head_made : ℕ × (NameTree × (Unit {0} × (NodeText × Unit {0}))) → HeadTree
+head_made x = record { line = x.0; name = x.1.0; node = x.1.1.1.0 }
 
-unfoldable pub process_at : List Lexeme → Read ProcessTree
-process_at ts = do
-  head ← head_at ts
-  variables ← variables_at head.1
-  prelude ← statements_at variables.1
-  repeated ← loop_at prelude.1
-  rest ← symbol_at symbol.RightBrace repeated.1
-  Ok (record { name = head.0.name; node = head.0.node; variables = variables.0; prelude = prelude.0; repeated = repeated.0; line = head.0.line }, rest)
+unfoldable pub head_at : Reader HeadTree
+head_at = as_at head_made (pair_at (word_on_at keyword.Process) (pair_at name_at (pair_at (word_at keyword.On) (pair_at number_at (symbol_at symbol.LeftBrace)))))
 
-unfoldable pub channel_at : Role → List Lexeme → Read ChannelText
-channel_at role ts = do
-  start ← word_at (first_word role) ts
-  name ← name_at start.1
-  rest ← symbol_at symbol.Semicolon name.1
-  Ok (record { role = role; name = name.0; line = start.0 }, rest)
+abbrev pub process_made : HeadTree × (List VariableText × (BlockTree × (Option LoopTree × Unit {0}))) → ProcessTree
+process_made x = record { name = x.0.name; node = x.0.node; variables = x.1.0; prelude = x.1.1.0; repeated = x.1.1.1.0; line = x.0.line }
 
--- the edition: a number of value 1
-unfoldable pub edition_at : List Lexeme → Result (List Lexeme) Stuck
-edition_at ts = do
-  start ← word_at keyword.Kahn ts
-  number ← number_at start.1
-  if number.0.number == 1 then symbol_at symbol.Semicolon number.1 else Err (At number.0.line)
+unfoldable pub process_at : ℕ → Reader ProcessTree
+process_at left = as_at process_made (pair_at head_at (pair_at variables_at (pair_at (statements_at left) (pair_at (loop_at left) (symbol_at symbol.RightBrace)))))
 
-unfoldable pub text_at : List Lexeme → Read (List DeclarationTree)
-text_at ts = do
-  declarations ← edition_at ts
-  input ← channel_at Input declarations
-  output ← channel_at Output input.1
-  process ← process_at output.1
-  Ok (ChannelTree input.0 ∷ ChannelTree output.0 ∷ ProcessDeclared process.0 ∷ [], process.1)
+abbrev pub channel_made : Role → ℕ × (NameTree × Unit {0}) → ChannelText
+channel_made role x = record { role = role; name = x.1.0; line = x.0 }
+
+unfoldable pub channel_at : Role → Reader ChannelText
+channel_at role = as_at (channel_made role) (pair_at (word_on_at (first_word role)) (pair_at name_at (symbol_at symbol.Semicolon)))
+
+unfoldable pub declaration_at : ℕ → Reader DeclarationTree
+declaration_at left =
+    either_at (has_word keyword.Process) (as_at ProcessDeclared (process_at left))
+    (either_at (has_word keyword.Input) (as_at ChannelTree (channel_at Input))
+    (either_at (has_word keyword.Output) (as_at ChannelTree (channel_at Output)) (as_at ChannelTree (channel_at Inner))))
+
+abbrev pub starts_declaration : TokenKind → Bool
+starts_declaration k = has_word keyword.Process k || (has_word keyword.Input k || (has_word keyword.Output k || has_word keyword.Chan k))
+
+unfoldable pub declarations_at : ℕ → Reader (List DeclarationTree)
+declarations_at left = each_at starts_declaration (declaration_at left)
+
+-- the number of an edition: a number of this value
+abbrev pub if_edition : ℕ → NodeText → Reader (Unit {0})
+if_edition edition number ts = if number.number == edition then Ok (tt, ts) else Err (At number.line)
+
+unfoldable pub edition_number_at : ℕ → Reader (Unit {0})
+edition_number_at edition ts = number_at ts >>= λ number. if_edition edition number.0 number.1
+
+unfoldable pub edition_at : ℕ → Reader (Unit {0})
+edition_at edition = as_at (λ x. tt) (pair_at (word_at keyword.Kahn) (pair_at (edition_number_at edition) (symbol_at symbol.Semicolon)))
+
+unfoldable pub text_at : ℕ → Reader (List DeclarationTree)
+text_at left = as_at (λ x. x.1) (pair_at (edition_at 1) (declarations_at left))
 
 -- all of the tokens
 abbrev pub no_more : List DeclarationTree → List Lexeme → Result (List DeclarationTree) Stuck
 no_more tree [] = Ok tree
 no_more tree (t ∷ ts) = Err (At t.line)
 
-unfoldable pub whole_text : List Lexeme → Result (List DeclarationTree) Stuck
-whole_text ts = do
-  text ← text_at ts
-  no_more text.0 text.1
+unfoldable pub whole_text : ℕ → List Lexeme → Result (List DeclarationTree) Stuck
+whole_text left ts = text_at left ts >>= λ text. no_more text.0 text.1
 
 -- the fault of a text whose tokens, which end so, are stuck there
 abbrev pub fault_at : Stuck → End → TextFault
 fault_at (At line) stop = Unexpected line
+fault_at (TooDeep line) stop = TooLong line
 fault_at AtEnd (end.Text line) = Unexpected line
 fault_at AtEnd (end.Bad fault) = fault

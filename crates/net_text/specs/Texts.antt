@@ -1,30 +1,57 @@
 -- What reading a network's text may answer.
-use Rattle.std.specs.Prelude.{◌≡◌, ◌⊎◌, ◌≤◌, ℕ, List, [], ◌∷◌, length, Result, Ok, Err}
-use Rattle.net_text.specs.Tokens.{Lexeme, line_at, AreTokensTo, EndsAt, IsTokensFault}
+use Rattle.std.specs.Prelude.{◌≡◌, ◌⊎◌, ◌<◌, ◌≤◌, ℕ, suc, List, [], ◌∷◌, ◌++◌, length, Result, Ok, Err}
+use Rattle.net_text.specs.Tokens.{Lexeme, line_at, AreTokensTo, IsTokenFrom, EndsAt, IsBadFrom}
 use Rattle.net_text.specs.Trees.{DeclarationTree}
-use Rattle.net_text.specs.Grammar.{IsTextOf}
+use Rattle.net_text.specs.Grammar.{Whole, IsText, IsTextOf, Begins}
 use Rattle.net_text.specs.declared.fault.TextFault.{TextFault}
 use Rattle.net_text.specs.declared.fault.TextFault.TheVariants.{NoMemory, BadToken, Unexpected, NumberRange, TooLong}
-use Rattle.net_text.specs.declared.limits.TheConstants.{MAX_TEXT_BYTES}
+use Rattle.net_text.specs.declared.limits.TheConstants.{MAX_TEXT_BYTES, MAX_NESTING}
 
 -- an answer that, seen so, is this value, unless memory ran out
 abbrev pub Answers : {X Y : Type 0} → (X → Y) → Result X TextFault → Y → Type 0
 Answers view (Ok x) y = view x ≡ y
 Answers view (Err fault) y = fault ≡ NoMemory
 
--- the line of one of these tokens
-abbrev pub IsLineAmong : ℕ → List Lexeme → Type 0
-IsLineAmong line [] = ⊥
-IsLineAmong line (t ∷ ts) = (line ≡ t.line) ⊎ IsLineAmong line ts
+-- these are the tokens of a text up to a place, and with them some text within the limits begins
+pub record BeginsTo (text : List ℕ) (ts : List Lexeme) (place : ℕ) : Type 0 where
+  pub read : AreTokensTo text 0 ts place
+  pub begins : Begins 1 MAX_NESTING ts
 
--- the line of one of a text's tokens, which stand before the first that is bad, or of its end, where all of them were read
-abbrev pub IsStopIn : List ℕ → ℕ → Type 0
-IsStopIn text line = (ts : List Lexeme) × (last : ℕ) × AreTokensTo text 0 ts last × (IsLineAmong line ts ⊎ (EndsAt text last × (line ≡ line_at text (length text))))
+-- on this line comes the token with which no text begins any more, however much may be open
+pub record IsStrayToken (text : List ℕ) (ts : List Lexeme) (place line : ℕ) : Type 0 where
+  pub token : Lexeme
+  pub next : IsTokenFrom text place token
+  pub line_is : line ≡ token.line
+  pub none : Begins 1 MAX_NESTING (ts ++ token ∷ []) → ⊥
+  pub none_deeper : Begins 1 (suc MAX_NESTING) (ts ++ token ∷ []) → ⊥
 
--- why a text isn't read: some token is bad, or the text isn't in the grammar
+-- on this line comes the token with which no text begins any more, but one would if one more might be open
+pub record IsOneTooDeep (text : List ℕ) (ts : List Lexeme) (place line : ℕ) : Type 0 where
+  pub token : Lexeme
+  pub next : IsTokenFrom text place token
+  pub line_is : line ≡ token.line
+  pub none : Begins 1 MAX_NESTING (ts ++ token ∷ []) → ⊥
+  pub deeper : Begins 1 (suc MAX_NESTING) (ts ++ token ∷ [])
+
+-- the text ends too early: there, on this line
+pub record IsCutShort (text : List ℕ) (ts : List Lexeme) (place line : ℕ) : Type 0 where
+  pub ends : EndsAt text place
+  pub line_is : line ≡ line_at text (length text)
+  pub none : (tree : List DeclarationTree) → IsText 1 MAX_NESTING tree Whole ts → ⊥
+
+-- some text within the limits begins with the tokens up to a place, where this comes next
+abbrev pub BeginsBefore : List ℕ → (List Lexeme → ℕ → Type 0) → Type 0
+BeginsBefore text Comes = (length text ≤ MAX_TEXT_BYTES) × ((ts : List Lexeme) × (place : ℕ) × BeginsTo text ts place × Comes ts place)
+
+abbrev pub IsBadNext : List ℕ → TextFault → Type 0
+IsBadNext text fault = BeginsBefore text (λ ts place. IsBadFrom text place fault)
+
+-- Why a text isn't read: the first token at which no text can go on is bad, or opens one more than may be open, or stands where it can't; or the text is over-long.
 abbrev pub IsParseFault : List ℕ → TextFault → Type 0
-IsParseFault text (Unexpected line) = (length text ≤ MAX_TEXT_BYTES) × ((tree : List DeclarationTree) → IsTextOf tree text → ⊥) × IsStopIn text line
+IsParseFault text (BadToken line) = IsBadNext text (BadToken line)
+IsParseFault text (NumberRange line) = IsBadNext text (NumberRange line)
+IsParseFault text (TooLong line) =
+    ((MAX_TEXT_BYTES < length text) × (line ≡ 1)) ⊎ (IsBadNext text (TooLong line) ⊎ BeginsBefore text (λ ts place. IsOneTooDeep text ts place line))
+IsParseFault text (Unexpected line) =
+    ((tree : List DeclarationTree) → IsTextOf tree text → ⊥) × BeginsBefore text (λ ts place. IsStrayToken text ts place line ⊎ IsCutShort text ts place line)
 IsParseFault text NoMemory = Unit {0}
-IsParseFault text (BadToken line) = IsTokensFault text (BadToken line)
-IsParseFault text (NumberRange line) = IsTokensFault text (NumberRange line)
-IsParseFault text (TooLong line) = IsTokensFault text (TooLong line)

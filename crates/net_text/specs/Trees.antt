@@ -2,10 +2,9 @@
 use Rattle.std.specs.Prelude.{ℕ, ℤ, List, [], ◌∷◌, map, Option, Some, None}
 use Rattle.net_text.specs.Names.{NameTree}
 use Rattle.kahn_net.specs.declared.program.Operator.{Operator}
-use Rattle.net_text.specs.declared.tree.ExprText.{ExprText, Literal, Variable, Chain', Row_of-LinkText, end_of-LinkText, more_of-LinkText}
+use Rattle.net_text.specs.declared.tree.ExprText.{ExprText, Literal, Variable, Negate', Chain', Row_of-LinkText, end_of-LinkText, more_of-LinkText}
 use Rattle.net_text.specs.declared.tree.LinkText.{LinkText}
-use Rattle.net_text.specs.declared.tree.StatementText.{StatementText}
-use Rattle.net_text.specs.declared.tree.StatementText.TheVariants.{Get, Assign, Put}
+use Rattle.net_text.specs.declared.tree.StatementText.{StatementText, Get, Assign, Put, Stop, If', Row_of-StatementText, end_of-StatementText, more_of-StatementText}
 use Rattle.net_text.specs.declared.tree.ChannelText.{ChannelText}
 use Rattle.net_text.specs.declared.tree.VariableText.{VariableText}
 use Rattle.net_text.specs.declared.tree.NodeText.{NodeText}
@@ -22,6 +21,7 @@ mutual
   pub data ExprTree : Type 0 where
     LiteralTree : (value : ℤ) → ExprTree
     VariableTree : (name : NameTree) → ExprTree
+    MinusTree : (value : ExprTree) → ExprTree
     ChainTree : (first : ExprTree) (links : LinksTree) → ExprTree
 
   pub data LinksTree : Type 0 where
@@ -39,6 +39,8 @@ pub data BlockTree : Type 0 where
   GetTree : (variable channel : NameTree) (rest : BlockTree) → BlockTree
   AssignTree : (variable : NameTree) (value : ExprTree) (rest : BlockTree) → BlockTree
   PutTree : (value : ExprTree) (channel : NameTree) (rest : BlockTree) → BlockTree
+  StopTree : (rest : BlockTree) → BlockTree
+  IfTree : (test : ExprTree) (first second rest : BlockTree) → BlockTree
 
 pub record LoopTree : Type 0 where
   pub body : BlockTree
@@ -60,6 +62,7 @@ abbrev mutual
   pub expr_tree : ExprText → ExprTree
   expr_tree (Literal n) = LiteralTree n
   expr_tree (Variable name) = VariableTree name
+  expr_tree (Negate' p value) = MinusTree (expr_tree value)
   expr_tree (Chain' p first shape links) = ChainTree (expr_tree first) (row_tree links)
 
   pub row_tree : {m : _} → Row_of-LinkText m → LinksTree
@@ -74,10 +77,17 @@ abbrev pub links_tree : List LinkTree → LinksTree
 links_tree [] = NoLinksTree
 links_tree (l ∷ ls) = LinkThenTree l.operator l.value (links_tree ls)
 
-abbrev pub then_tree : StatementText → BlockTree → BlockTree
-then_tree (Get variable channel) rest = GetTree variable channel rest
-then_tree (Assign variable value) rest = AssignTree variable (expr_tree value) rest
-then_tree (Put value channel) rest = PutTree (expr_tree value) channel rest
+abbrev mutual
+  pub then_tree : StatementText → BlockTree → BlockTree
+  then_tree (Get variable channel) rest = GetTree variable channel rest
+  then_tree (Assign variable value) rest = AssignTree variable (expr_tree value) rest
+  then_tree (Put value channel) rest = PutTree (expr_tree value) channel rest
+  then_tree Stop rest = StopTree rest
+  then_tree (If' test shape first shape' second) rest = IfTree (expr_tree test) (row_block first) (row_block second) rest
+
+  pub row_block : {m : _} → Row_of-StatementText m → BlockTree
+  row_block end_of-StatementText = NothingTree
+  row_block (more_of-StatementText s rest) = then_tree s (row_block rest)
 
 abbrev pub block_tree : List StatementText → BlockTree
 block_tree [] = NothingTree

@@ -1,14 +1,16 @@
 //! Reading a network's text: functions from a slice of tokens to what they say and the tokens after it.
 //! Each gives what its reader in specs/ gives; that the readers are those of the grammar stands in proofs/.
+//! What may nest takes how many more blocks, parentheses and minus signs may be opened.
 
-ghost use Rattle.std.specs.Prelude.{◌≡◌, IfOk, map, Option};
-ghost use Rattle.net_text.specs.Trees.{expr_tree, link_tree, then_tree, block_tree, repeated_tree, process_tree, net_tree, NothingTree};
+ghost use Rattle.std.specs.Prelude.{◌≡◌, ℕ, ◌<◌, IfOk, map, List, Option};
+ghost use Rattle.net_text.specs.Trees.{expr_tree, link_tree, then_tree, block_tree, repeated_tree, process_tree, declaration_tree, net_tree, NothingTree};
 ghost use Rattle.net_text.specs.Numbers.{IsInRange};
-ghost use Rattle.net_text.specs.Grammar.{chain_of, first_word};
+ghost use Rattle.net_text.specs.Grammar.{chain_of, first_word, level_of};
 ghost use Rattle.net_text.specs.Tokens.{lexemes};
-ghost use Rattle.net_text.specs.Reading.{Gives, has_word, has_symbol, is_name, begins, starts_statement, word_at, symbol_at, name_at, number_at, factor_at, link_at, links_at, expr_at, get_at, assign_at, named_at, put_at, statement_at, statements_at, block_at, value_at, initial_at, variable_at, variables_at, loop_at, head_at, head_tree, process_at, channel_at, edition_at, text_at, whole_text};
+ghost use Rattle.net_text.specs.Reading.{Gives, has_word, has_symbol, is_name, is_level, operator_of, operator_in, has_operator, begins, starts_statement, starts_declaration, word_on_at, word_at, symbol_at, name_at, number_at, operator_at, opening_at, atom_at, parenthesised_at, minus_at, factor_at, operand_at, link_at, links_at, chain_at, operand_of, expr_at, got_at, assigned_at, named_at, put_at, stop_at, else_at, if_at, statement_at, statements_at, block_at, value_at, initial_at, variable_at, variables_at, loop_at, head_at, head_tree, process_at, channel_at, declaration_at, declarations_at, edition_number_at, edition_at, text_at, whole_text};
 ghost use Rattle.net_text.specs.declared.parser.ParseError.TheVariants.{NoMemory};
 
+use crate::limits::MAX_NESTING;
 use crate::name::Name;
 use crate::token::{Keyword, Symbol, Token, TokenKind};
 use crate::tree::{
@@ -24,6 +26,8 @@ use std::marker::Model;
 pub(crate) enum Stuck {
     /// At a token on this line.
     At { line: usize },
+    /// At a token on this line that opens one more than may be open.
+    TooDeep { line: usize },
     /// At their end.
     AtEnd,
 }
@@ -33,6 +37,15 @@ pub(crate) enum Stuck {
 pub(crate) enum ParseError {
     NoMemory,
     Stuck(Stuck),
+}
+
+/// How tightly an operator binds.
+#[derive(Clone, Copy, Debug, PartialEq, Eq)]
+pub(crate) enum Level {
+    Product,
+    Sum,
+    /// No comparison is compared: there is at most one.
+    Comparison,
 }
 
 impl From<AllocError> for ParseError {
@@ -67,6 +80,63 @@ fn is_symbol(found: TokenKind, symbol: Symbol) -> bool
     ensures { result ≡ has_symbol symbol found }
 {
     found == TokenKind::Symbol(symbol)
+}
+
+fn level_of(operator: Operator) -> Level
+    ensures { result ≡ level_of operator }
+{
+    match operator {
+        Operator::Multiply => Level::Product,
+        Operator::Add | Operator::Subtract => Level::Sum,
+        Operator::Equal
+        | Operator::NotEqual
+        | Operator::Less
+        | Operator::LessOrEqual
+        | Operator::Greater
+        | Operator::GreaterOrEqual => Level::Comparison,
+    }
+}
+
+fn is_level(found: Level, level: Level) -> bool
+    ensures { result ≡ is_level found level }
+{
+    found == level
+}
+
+// The operator that a symbol is.
+fn operator_of(symbol: Symbol) -> Option<Operator>
+    ensures { result ≡ operator_of symbol }
+{
+    match symbol {
+        Symbol::Plus => Some(Operator::Add),
+        Symbol::Minus => Some(Operator::Subtract),
+        Symbol::Star => Some(Operator::Multiply),
+        Symbol::Equal => Some(Operator::Equal),
+        Symbol::NotEqual => Some(Operator::NotEqual),
+        Symbol::Less => Some(Operator::Less),
+        Symbol::LessOrEqual => Some(Operator::LessOrEqual),
+        Symbol::Greater => Some(Operator::Greater),
+        Symbol::GreaterOrEqual => Some(Operator::GreaterOrEqual),
+        Symbol::Semicolon
+        | Symbol::LeftBrace
+        | Symbol::RightBrace
+        | Symbol::LeftParenthesis
+        | Symbol::RightParenthesis
+        | Symbol::Assign => None,
+    }
+}
+
+// The operator of this level that a token is.
+fn operator_in(level: Level, found: TokenKind) -> Option<Operator>
+    ensures { result ≡ operator_in level found }
+{
+    match found {
+        TokenKind::Symbol(symbol) => match operator_of(symbol) {
+            Some(operator) if is_level(level_of(operator), level) => Some(operator),
+            _ => None,
+        },
+        _ => None,
+    }
 }
 
 fn name_of(alloc: Global, token: &Token) -> Result<Name, AllocError>
@@ -154,6 +224,15 @@ impl<'a> Parser<'a> {
         }
     }
 
+    fn begins_with_operator(&self, level: Level) -> bool
+        ensures { result ≡ begins (has_operator level) self.now }
+    {
+        match self.rest {
+            [] => false,
+            [token, ..] => operator_in(level, token.kind).is_some(),
+        }
+    }
+
     fn begins_with_name(&self) -> bool
         ensures { result ≡ begins is_name self.now }
     {
@@ -164,9 +243,9 @@ impl<'a> Parser<'a> {
     }
 
     // A word, by the line on which it stands.
-    #[tactic(auto, unfolding(crate::specs::Reading::word_at))]
-    fn word(&mut self, word: Keyword) -> Result<usize, ParseError>
-        ensures { Gives (λ line. (line, self.new)) result (word_at word self.old) }
+    #[tactic(auto, unfolding(crate::specs::Reading::word_on_at))]
+    fn word_on(&mut self, word: Keyword) -> Result<usize, ParseError>
+        ensures { Gives (λ line. (line, self.new)) result (word_on_at word self.old) }
     {
         match self.rest {
             [token, rest @ ..] if is_word(token.kind, word) => {
@@ -178,9 +257,23 @@ impl<'a> Parser<'a> {
         }
     }
 
+    #[tactic(auto, unfolding(crate::specs::Reading::word_at))]
+    fn word(&mut self, word: Keyword) -> Result<(), ParseError>
+        ensures { Gives (λ _. (tt, self.new)) result (word_at word self.old) }
+    {
+        match self.rest {
+            [token, rest @ ..] if is_word(token.kind, word) => {
+                self.rest = rest;
+                Ok(())
+            }
+            [token, ..] => Err(stuck_at(token)),
+            [] => Err(ParseError::Stuck(Stuck::AtEnd)),
+        }
+    }
+
     #[tactic(auto, unfolding(crate::specs::Reading::symbol_at))]
     fn symbol(&mut self, symbol: Symbol) -> Result<(), ParseError>
-        ensures { Gives (λ _. self.new) result (symbol_at symbol self.old) }
+        ensures { Gives (λ _. (tt, self.new)) result (symbol_at symbol self.old) }
     {
         match self.rest {
             [token, rest @ ..] if is_symbol(token.kind, symbol) => {
@@ -189,6 +282,24 @@ impl<'a> Parser<'a> {
             }
             [token, ..] => Err(stuck_at(token)),
             [] => Err(ParseError::Stuck(Stuck::AtEnd)),
+        }
+    }
+
+    // A symbol that opens what may nest, if one more may be opened.
+    #[tactic(auto, unfolding(crate::specs::Reading::unopened_at))]
+    fn opening(&mut self, symbol: Symbol, left: usize) -> Result<(), ParseError>
+        ensures gives { Gives (λ _. (tt, self.new)) result (opening_at symbol left self.old) }
+        ensures some { IfOk result (λ _. 0 < left) }
+    {
+        if left > 0 {
+            return self.symbol(symbol);
+        }
+        match self.rest {
+            [] => Err(ParseError::Stuck(Stuck::AtEnd)),
+            [token, ..] if is_symbol(token.kind, symbol) => {
+                Err(ParseError::Stuck(Stuck::TooDeep { line: token.line }))
+            }
+            [token, ..] => Err(stuck_at(token)),
         }
     }
 
@@ -228,9 +339,27 @@ impl<'a> Parser<'a> {
         }
     }
 
-    #[tactic(auto, unfolding(crate::specs::Reading::factor_at))]
-    fn factor(&mut self) -> Result<ExprText, ParseError>
-        ensures { Gives (λ e. (expr_tree e, self.new)) result (factor_at self.old) }
+    // An operator of this level.
+    #[tactic(auto, unfolding(crate::specs::Reading::operator_at))]
+    fn operator(&mut self, level: Level) -> Result<Operator, ParseError>
+        ensures { Gives (λ operator. (operator, self.new)) result (operator_at level self.old) }
+    {
+        match self.rest {
+            [] => Err(ParseError::Stuck(Stuck::AtEnd)),
+            [token, rest @ ..] => match operator_in(level, token.kind) {
+                Some(operator) => {
+                    self.rest = rest;
+                    Ok(operator)
+                }
+                None => Err(stuck_at(token)),
+            },
+        }
+    }
+
+    // A number or a name.
+    #[tactic(auto, unfolding(crate::specs::Reading::atom_at))]
+    fn atom(&mut self) -> Result<ExprText, ParseError>
+        ensures { Gives (λ e. (expr_tree e, self.new)) result (atom_at self.old) }
     {
         match self.rest {
             [] => Err(ParseError::Stuck(Stuck::AtEnd)),
@@ -248,124 +377,234 @@ impl<'a> Parser<'a> {
         }
     }
 
-    // An operator, and the value to its right.
-    #[tactic(auto, unfolding(crate::specs::Reading::link_at))]
-    fn link(&mut self) -> Result<LinkText, ParseError>
-        ensures { Gives (λ l. (link_tree l, self.new)) result (link_at self.old) }
+    #[cycle(expression)]
+    fn parenthesised(&mut self, left: usize) -> Result<ExprText, ParseError>
+        ensures { Gives (λ e. (expr_tree e, self.new)) result (parenthesised_at left self.old) }
     {
-        self.symbol(Symbol::Plus)?;
-        let value = self.factor()?;
-        Ok(LinkText {
-            operator: Operator::Add,
-            value,
-        })
+        self.opening(Symbol::LeftParenthesis, left)?;
+        let value = self.expr(left - 1)?;
+        self.symbol(Symbol::RightParenthesis)?;
+        Ok(value)
     }
 
+    #[cycle(expression)]
+    fn minus(&mut self, left: usize) -> Result<ExprText, ParseError>
+        ensures { Gives (λ e. (expr_tree e, self.new)) result (minus_at left self.old) }
+    {
+        self.opening(Symbol::Minus, left)?;
+        let value = self.factor(left - 1)?;
+        Ok(ExprText::Negate(Box::new(self.alloc, value)?))
+    }
+
+    #[cycle(expression)]
+    fn factor(&mut self, left: usize) -> Result<ExprText, ParseError>
+        ensures { Gives (λ e. (expr_tree e, self.new)) result (factor_at left self.old) }
+    {
+        if self.begins_with_symbol(Symbol::LeftParenthesis) {
+            return self.parenthesised(left);
+        }
+        if self.begins_with_symbol(Symbol::Minus) {
+            return self.minus(left);
+        }
+        self.atom()
+    }
+
+    // What the operators of a level join: factors, terms or sums.
+    #[cycle(expression)]
+    #[tactic(auto, unfolding(crate::specs::Reading::operand_at))]
+    fn operand(&mut self, level: Level, left: usize) -> Result<ExprText, ParseError>
+        ensures { Gives (λ e. (expr_tree e, self.new)) result (operand_at level left self.old) }
+    {
+        match level {
+            Level::Product => self.factor(left),
+            Level::Sum => self.chain(Level::Product, left),
+            Level::Comparison => self.chain(Level::Sum, left),
+        }
+    }
+
+    // An operator of this level, and the value to its right.
+    #[cycle(expression)]
+    #[tactic(auto, unfolding(crate::specs::Reading::link_at, crate::specs::Reading::operand_at))]
+    fn link(&mut self, level: Level, left: usize) -> Result<LinkText, ParseError>
+        ensures { Gives (λ l. (link_tree l, self.new)) result (link_at level left self.old) }
+    {
+        let operator = self.operator(level)?;
+        let value = self.operand(level, left)?;
+        Ok(LinkText { operator, value })
+    }
+
+    #[cycle(expression)]
     #[tactic(auto, unfolding(crate::specs::Reading::links_at))]
-    fn links(&mut self) -> Result<Vec<LinkText>, ParseError>
-        ensures { Gives (λ v. (map link_tree v.items, self.new)) result (links_at self.old) }
+    fn links(&mut self, level: Level, left: usize) -> Result<Vec<LinkText>, ParseError>
+        ensures { Gives (λ v. (map link_tree v.items, self.new)) result (links_at level left self.old) }
     {
         let mut links = Vec::new(self.alloc);
-        while self.begins_with_symbol(Symbol::Plus) {
-            let link = self.link()?;
+        while self.begins_with_operator(level) {
+            let link = self.link(level, left)?;
             links.push(link)?;
         }
         Ok(links)
     }
 
-    #[tactic(auto, unfolding(crate::specs::Reading::expr_at))]
-    fn expr(&mut self) -> Result<ExprText, ParseError>
-        ensures { Gives (λ e. (expr_tree e, self.new)) result (expr_at self.old) }
+    // Values with operators of one level between them: a term, or a sum.
+    #[cycle(expression)]
+    #[tactic(auto, unfolding(crate::specs::Reading::links_at, crate::specs::Reading::link_at, crate::specs::Reading::operand_at))]
+    fn chain(&mut self, level: Level, left: usize) -> Result<ExprText, ParseError>
+        ensures { Gives (λ e. (expr_tree e, self.new)) result
+            (chain_at level (operand_at level left) self.old) }
     {
-        let first = self.factor()?;
-        let links = self.links()?;
+        let first = self.operand(level, left)?;
+        let links = self.links(level, left)?;
         Ok(chain(self.alloc, first, links)?)
     }
 
-    // The rest of a get, past the `=`.
-    #[tactic(auto, unfolding(crate::specs::Reading::get_at))]
-    fn get(&mut self, variable: Name) -> Result<StatementText, ParseError>
-        ensures { Gives (λ s. (then_tree s NothingTree, self.new)) result
-            (get_at variable self.old) }
+    // A sum, or two with a comparison between them.
+    #[cycle(expression)]
+    #[tactic(auto, unfolding(crate::specs::Reading::expr_at, crate::specs::Reading::link_at, crate::specs::Reading::operand_at))]
+    fn expr(&mut self, left: usize) -> Result<ExprText, ParseError>
+        ensures { Gives (λ e. (expr_tree e, self.new)) result (expr_at left self.old) }
     {
-        let _line = self.word(Keyword::Get)?;
-        let channel = self.name()?;
-        self.symbol(Symbol::Semicolon)?;
-        Ok(StatementText::Get { variable, channel })
+        let first = self.operand(Level::Comparison, left)?;
+        let mut links = Vec::new(self.alloc);
+        if self.begins_with_operator(Level::Comparison) {
+            let link = self.link(Level::Comparison, left)?;
+            links.push(link)?;
+        }
+        Ok(chain(self.alloc, first, links)?)
     }
 
-    // The rest of an assignment, past the `=`.
-    #[tactic(auto, unfolding(crate::specs::Reading::assign_at))]
-    fn assign(&mut self, variable: Name) -> Result<StatementText, ParseError>
-        ensures { Gives (λ s. (then_tree s NothingTree, self.new)) result
-            (assign_at variable self.old) }
+    // The channel of a get, past the `=`.
+    #[tactic(auto, unfolding(crate::specs::Reading::got_at))]
+    fn got(&mut self) -> Result<Name, ParseError>
+        ensures { Gives (λ channel. (channel, self.new)) result (got_at self.old) }
     {
-        let value = self.expr()?;
+        self.word(Keyword::Get)?;
+        let channel = self.name()?;
         self.symbol(Symbol::Semicolon)?;
-        Ok(StatementText::Assign { variable, value })
+        Ok(channel)
+    }
+
+    // The value of an assignment, past the `=`.
+    #[tactic(auto, unfolding(crate::specs::Reading::assigned_at))]
+    fn assigned(&mut self, left: usize) -> Result<ExprText, ParseError>
+        ensures { Gives (λ e. (expr_tree e, self.new)) result (assigned_at left self.old) }
+    {
+        let value = self.expr(left)?;
+        self.symbol(Symbol::Semicolon)?;
+        Ok(value)
     }
 
     // A statement that begins with a name.
     #[tactic(auto, unfolding(crate::specs::Reading::named_at))]
-    fn named(&mut self) -> Result<StatementText, ParseError>
-        ensures { Gives (λ s. (then_tree s NothingTree, self.new)) result (named_at self.old) }
+    fn named(&mut self, left: usize) -> Result<StatementText, ParseError>
+        ensures { Gives (λ s. (then_tree s NothingTree, self.new)) result (named_at left self.old) }
     {
         let variable = self.name()?;
         self.symbol(Symbol::Assign)?;
         if self.begins_with_word(Keyword::Get) {
-            self.get(variable)
-        } else {
-            self.assign(variable)
+            let channel = self.got()?;
+            return Ok(StatementText::Get { variable, channel });
         }
+        let value = self.assigned(left)?;
+        Ok(StatementText::Assign { variable, value })
     }
 
     #[tactic(auto, unfolding(crate::specs::Reading::put_at))]
-    fn put(&mut self) -> Result<StatementText, ParseError>
-        ensures { Gives (λ s. (then_tree s NothingTree, self.new)) result (put_at self.old) }
+    fn put(&mut self, left: usize) -> Result<StatementText, ParseError>
+        ensures { Gives (λ s. (then_tree s NothingTree, self.new)) result (put_at left self.old) }
     {
-        let _put = self.word(Keyword::Put)?;
-        let value = self.expr()?;
-        let _to = self.word(Keyword::To)?;
+        self.word(Keyword::Put)?;
+        let value = self.expr(left)?;
+        self.word(Keyword::To)?;
         let channel = self.name()?;
         self.symbol(Symbol::Semicolon)?;
         Ok(StatementText::Put { value, channel })
     }
 
-    #[tactic(auto, unfolding(crate::specs::Reading::statement_at))]
-    fn statement(&mut self) -> Result<StatementText, ParseError>
-        ensures { Gives (λ s. (then_tree s NothingTree, self.new)) result (statement_at self.old) }
+    #[tactic(auto, unfolding(crate::specs::Reading::stop_at))]
+    fn stop(&mut self) -> Result<StatementText, ParseError>
+        ensures { Gives (λ s. (then_tree s NothingTree, self.new)) result (stop_at self.old) }
+    {
+        self.word(Keyword::Stop)?;
+        self.symbol(Symbol::Semicolon)?;
+        Ok(StatementText::Stop)
+    }
+
+    // The statements behind `else`, which are none where there is none.
+    #[cycle(statement)]
+    #[tactic(auto, unfolding(crate::specs::Reading::else_at))]
+    fn otherwise(&mut self, left: usize) -> Result<Vec<StatementText>, ParseError>
+        ensures { Gives (λ v. (block_tree v.items, self.new)) result (else_at left self.old) }
+    {
+        if !self.begins_with_word(Keyword::Else) {
+            return Ok(Vec::new(self.alloc));
+        }
+        self.word(Keyword::Else)?;
+        self.block(left)
+    }
+
+    #[cycle(statement)]
+    #[tactic(auto, unfolding(crate::specs::Reading::if_at, crate::specs::Reading::else_at))]
+    fn conditional(&mut self, left: usize) -> Result<StatementText, ParseError>
+        ensures { Gives (λ s. (then_tree s NothingTree, self.new)) result (if_at left self.old) }
+    {
+        self.word(Keyword::If)?;
+        let test = self.expr(left)?;
+        let first = self.block(left)?;
+        let second = self.otherwise(left)?;
+        Ok(StatementText::If {
+            test,
+            first,
+            second,
+        })
+    }
+
+    #[cycle(statement)]
+    #[tactic(auto, unfolding(crate::specs::Reading::statement_at, crate::specs::Reading::if_at))]
+    fn statement(&mut self, left: usize) -> Result<StatementText, ParseError>
+        ensures { Gives (λ s. (then_tree s NothingTree, self.new)) result
+            (statement_at left self.old) }
     {
         if self.begins_with_name() {
-            self.named()
+            self.named(left)
+        } else if self.begins_with_word(Keyword::Put) {
+            self.put(left)
+        } else if self.begins_with_word(Keyword::Stop) {
+            self.stop()
         } else {
-            self.put()
+            self.conditional(left)
         }
     }
 
     fn begins_with_statement(&self) -> bool
         ensures { result ≡ begins starts_statement self.now }
     {
-        self.begins_with_name() || self.begins_with_word(Keyword::Put)
+        self.begins_with_name()
+            || self.begins_with_word(Keyword::Put)
+            || self.begins_with_word(Keyword::Stop)
+            || self.begins_with_word(Keyword::If)
     }
 
+    #[cycle(statement)]
     #[tactic(auto, unfolding(crate::specs::Reading::statements_at))]
-    fn statements(&mut self) -> Result<Vec<StatementText>, ParseError>
-        ensures { Gives (λ v. (block_tree v.items, self.new)) result (statements_at self.old) }
+    fn statements(&mut self, left: usize) -> Result<Vec<StatementText>, ParseError>
+        ensures { Gives (λ v. (block_tree v.items, self.new)) result
+            (statements_at left self.old) }
     {
         let mut statements = Vec::new(self.alloc);
         while self.begins_with_statement() {
-            let statement = self.statement()?;
+            let statement = self.statement(left)?;
             statements.push(statement)?;
         }
         Ok(statements)
     }
 
-    #[tactic(auto, unfolding(crate::specs::Reading::block_at))]
-    fn block(&mut self) -> Result<Vec<StatementText>, ParseError>
-        ensures { Gives (λ v. (block_tree v.items, self.new)) result (block_at self.old) }
+    #[cycle(statement)]
+    fn block(&mut self, left: usize) -> Result<Vec<StatementText>, ParseError>
+        ensures { Gives (λ v. (block_tree v.items, self.new)) result (block_at left self.old) }
     {
-        self.symbol(Symbol::LeftBrace)?;
-        let statements = self.statements()?;
+        self.opening(Symbol::LeftBrace, left)?;
+        let statements = self.statements(left - 1)?;
         self.symbol(Symbol::RightBrace)?;
         Ok(statements)
     }
@@ -399,7 +638,7 @@ impl<'a> Parser<'a> {
     fn variable(&mut self) -> Result<VariableText, ParseError>
         ensures { Gives (λ v. (v, self.new)) result (variable_at self.old) }
     {
-        let line = self.word(Keyword::Var)?;
+        let line = self.word_on(Keyword::Var)?;
         let name = self.name()?;
         let initial = self.initial()?;
         self.symbol(Symbol::Semicolon)?;
@@ -424,14 +663,14 @@ impl<'a> Parser<'a> {
 
     // The loop, if there is one.
     #[tactic(auto, unfolding(crate::specs::Reading::loop_at))]
-    fn repeated(&mut self) -> Result<Option<LoopText>, ParseError>
-        ensures { Gives (λ l. (repeated_tree l, self.new)) result (loop_at self.old) }
+    fn repeated(&mut self, left: usize) -> Result<Option<LoopText>, ParseError>
+        ensures { Gives (λ l. (repeated_tree l, self.new)) result (loop_at left self.old) }
     {
         if !self.begins_with_word(Keyword::Loop) {
             return Ok(None);
         }
-        let line = self.word(Keyword::Loop)?;
-        let body = self.block()?;
+        let line = self.word_on(Keyword::Loop)?;
+        let body = self.block(left)?;
         Ok(Some(LoopText { body, line }))
     }
 
@@ -440,22 +679,22 @@ impl<'a> Parser<'a> {
     fn head(&mut self) -> Result<Head, ParseError>
         ensures { Gives (λ h. (head_tree h, self.new)) result (head_at self.old) }
     {
-        let line = self.word(Keyword::Process)?;
+        let line = self.word_on(Keyword::Process)?;
         let name = self.name()?;
-        let _on = self.word(Keyword::On)?;
+        self.word(Keyword::On)?;
         let node = self.number()?;
         self.symbol(Symbol::LeftBrace)?;
         Ok(Head { line, name, node })
     }
 
     #[tactic(auto, unfolding(crate::specs::Reading::process_at))]
-    fn process(&mut self) -> Result<ProcessText, ParseError>
-        ensures { Gives (λ p. (process_tree p, self.new)) result (process_at self.old) }
+    fn process(&mut self, left: usize) -> Result<ProcessText, ParseError>
+        ensures { Gives (λ p. (process_tree p, self.new)) result (process_at left self.old) }
     {
         let head = self.head()?;
         let variables = self.variables()?;
-        let prelude = self.statements()?;
-        let repeated = self.repeated()?;
+        let prelude = self.statements(left)?;
+        let repeated = self.repeated(left)?;
         self.symbol(Symbol::RightBrace)?;
         Ok(ProcessText {
             name: head.name,
@@ -471,43 +710,85 @@ impl<'a> Parser<'a> {
     fn channel(&mut self, role: Role) -> Result<ChannelText, ParseError>
         ensures { Gives (λ c. (c, self.new)) result (channel_at role self.old) }
     {
-        let line = self.word(first_word(role))?;
+        let line = self.word_on(first_word(role))?;
         let name = self.name()?;
         self.symbol(Symbol::Semicolon)?;
         Ok(ChannelText { role, name, line })
     }
 
+    #[tactic(auto, unfolding(crate::specs::Reading::declaration_at))]
+    fn declaration(&mut self, left: usize) -> Result<Declaration, ParseError>
+        ensures { Gives (λ d. (declaration_tree d, self.new)) result
+            (declaration_at left self.old) }
+    {
+        if self.begins_with_word(Keyword::Process) {
+            return Ok(Declaration::Process(self.process(left)?));
+        }
+        if self.begins_with_word(Keyword::Input) {
+            return Ok(Declaration::Channel(self.channel(Role::Input)?));
+        }
+        if self.begins_with_word(Keyword::Output) {
+            return Ok(Declaration::Channel(self.channel(Role::Output)?));
+        }
+        Ok(Declaration::Channel(self.channel(Role::Inner)?))
+    }
+
+    fn begins_with_declaration(&self) -> bool
+        ensures { result ≡ begins starts_declaration self.now }
+    {
+        self.begins_with_word(Keyword::Process)
+            || self.begins_with_word(Keyword::Input)
+            || self.begins_with_word(Keyword::Output)
+            || self.begins_with_word(Keyword::Chan)
+    }
+
+    #[tactic(auto, unfolding(crate::specs::Reading::declarations_at))]
+    fn declarations(&mut self, left: usize) -> Result<Vec<Declaration>, ParseError>
+        ensures { Gives (λ v. (map declaration_tree v.items, self.new)) result
+            (declarations_at left self.old) }
+    {
+        let mut declarations = Vec::new(self.alloc);
+        while self.begins_with_declaration() {
+            let declaration = self.declaration(left)?;
+            declarations.push(declaration)?;
+        }
+        Ok(declarations)
+    }
+
+    // The number of this edition.
+    #[tactic(auto, unfolding(crate::specs::Reading::edition_number_at))]
+    fn edition_number(&mut self, edition: u64) -> Result<(), ParseError>
+        ensures { Gives (λ _. (tt, self.new)) result (edition_number_at edition self.old) }
+    {
+        let number = self.number()?;
+        if number.number != edition {
+            return Err(ParseError::Stuck(Stuck::At { line: number.line }));
+        }
+        Ok(())
+    }
+
     #[tactic(auto, unfolding(crate::specs::Reading::edition_at))]
     fn edition(&mut self) -> Result<(), ParseError>
-        ensures { Gives (λ _. self.new) result (edition_at self.old) }
+        ensures { Gives (λ _. (tt, self.new)) result (edition_at 1 self.old) }
     {
-        let _kahn = self.word(Keyword::Kahn)?;
-        let edition = self.number()?;
-        if edition.number != 1 {
-            return Err(ParseError::Stuck(Stuck::At { line: edition.line }));
-        }
+        self.word(Keyword::Kahn)?;
+        self.edition_number(1)?;
         self.symbol(Symbol::Semicolon)
     }
 
     #[tactic(auto, unfolding(crate::specs::Reading::text_at))]
     fn text(&mut self) -> Result<NetText, ParseError>
-        ensures { Gives (λ n. (net_tree n, self.new)) result (text_at self.old) }
+        ensures { Gives (λ n. (net_tree n, self.new)) result (text_at MAX_NESTING self.old) }
     {
         self.edition()?;
-        let input = self.channel(Role::Input)?;
-        let output = self.channel(Role::Output)?;
-        let process = self.process()?;
-        let mut declarations = Vec::with_capacity(self.alloc, 3)?;
-        declarations.push(Declaration::Channel(input))?;
-        declarations.push(Declaration::Channel(output))?;
-        declarations.push(Declaration::Process(process))?;
+        let declarations = self.declarations(MAX_NESTING)?;
         Ok(NetText { declarations })
     }
 
     /// The text that the tokens are, all of them.
     #[tactic(auto, unfolding(crate::specs::Reading::whole_text))]
     pub(crate) fn whole(&mut self) -> Result<NetText, ParseError>
-        ensures { Gives net_tree result (whole_text self.old) }
+        ensures { Gives net_tree result (whole_text MAX_NESTING self.old) }
     {
         let text = self.text()?;
         match self.rest {

@@ -65,6 +65,7 @@ fn fault_at(stuck: Stuck, end: End) -> TextFault
 {
     match stuck {
         Stuck::At { line } => TextFault::Unexpected { line },
+        Stuck::TooDeep { line } => TextFault::TooLong { line },
         Stuck::AtEnd => match end {
             End::Text { line } => TextFault::Unexpected { line },
             End::Bad(fault) => fault,

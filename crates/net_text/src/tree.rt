@@ -38,6 +38,8 @@ pub struct VariableText {
 pub enum ExprText {
     Literal(i64),
     Variable(Name),
+    /// 0 less the value, modulo 2^64.
+    Negate(Box<ExprText>),
     /// A value, and operators with the value to the right of each, which group from the left.
     Chain {
         first: Box<ExprText>,
@@ -56,9 +58,27 @@ pub struct LinkText {
 /// A statement.
 #[derive(Debug, Drop)]
 pub enum StatementText {
-    Get { variable: Name, channel: Name },
-    Assign { variable: Name, value: ExprText },
-    Put { value: ExprText, channel: Name },
+    Get {
+        variable: Name,
+        channel: Name,
+    },
+    Assign {
+        variable: Name,
+        value: ExprText,
+    },
+    Put {
+        value: ExprText,
+        channel: Name,
+    },
+    /// Finishes the process.
+    Stop,
+    /// Does the first statements where the test isn't 0, and else the second, which are none
+    /// where the text has no `else`.
+    If {
+        test: ExprText,
+        first: Vec<StatementText>,
+        second: Vec<StatementText>,
+    },
 }
 
 /// A loop's body, repeated without end.

@@ -1,5 +1,5 @@
-pub mod Going
 pub mod Stages
 pub mod Units
 pub mod Counts
 pub mod Lifting
+pub mod Few

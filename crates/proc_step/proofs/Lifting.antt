@@ -6,7 +6,7 @@ use Rattle.std.proofs.lemmas.List.{length-append}
 use Rattle.std.proofs.Math.Seq.{drop-append_seam}
 use Rattle.kahn_net.specs.Streams.{history_of, IsPrefix, ArePrefixes}
 use Rattle.kahn_net.specs.Syntax.{Code}
-use Rattle.kahn_net.specs.Statements.{Act, Got, Sent, Step, Trace, End, Ended, Waits}
+use Rattle.kahn_net.specs.Statements.{Act, Got, Sent, Step, Trace, End, Ended, Waits, Stopped}
 use Rattle.kahn_net.specs.Processes.{Standing, NotBegun, At, Done, standing_at, IsHere, HasPassingLoop, process_trace, sent_on, got_on}
 use Rattle.kahn_net.specs.Resuming.{trace_from, left_after}
 use Rattle.kahn_net.specs.Laws.Streams.{still_stands}
@@ -21,6 +21,7 @@ not_begun : (vars : List ℤ) (steps : List Step) (end : End) → NotBegun vars 
 not_begun vars (s ∷ steps) end e = cc
 not_begun vars [] (Ended v u) e = cc
 not_begun vars [] (Waits s v c) e = cc
+not_begun vars [] (Stopped v) e = cc
 
 here_of : (code : Code) (t : Trace) (m : ℕ) (standing : Standing) → standing ≡ standing_at (drop m t.steps) t.end → IsHere code t m standing
 here_of code t m (NotBegun vars) e = absurd (not_begun vars (drop m t.steps) t.end e)
@@ -54,13 +55,14 @@ get_held_back c (s ∷ more) room left sent h g = at s.act g
 -- the next act of the whole can't be made either
 held_back : (code : Code) (before : Standing) (items whole : List (List ℤ)) (passing : HasPassingLoop code) (p : ArePrefixes items whole) (room : List ℕ) (sent : List (List ℤ)) (done rest more : List Step)
     → (trace_from code before items).steps ≡ done ++ rest → (trace_from code before whole).steps ≡ (trace_from code before items).steps ++ more
-    → ((v : List ℤ) (u : List (List ℤ)) → (trace_from code before items).end ≡ Ended v u → more ≡ [])
+    → ((v : List ℤ) (u : List (List ℤ)) → (trace_from code before items).end ≡ Ended v u → more ≡ []) → ((v : List ℤ) → (trace_from code before items).end ≡ Stopped v → more ≡ [])
     → IsNextHeldBack rest room (left_after done items) sent → IsNextHeldBack (rest ++ more) room (left_after done items) sent
-held_back code before items whole passing p room sent done (s ∷ rest) more is long ends h = h
-held_back code before items whole passing p room sent done [] more is long ends h = at (trace_from code before items).end refl
+held_back code before items whole passing p room sent done (s ∷ rest) more is long ends stops h = h
+held_back code before items whole passing p room sent done [] more is long ends stops h = at (trace_from code before items).end refl
   where
     at : (e : End) → (trace_from code before items).end ≡ e → IsNextHeldBack more room (left_after done items) sent
     at (Ended v u) e = subst (λ (x : List Step). IsNextHeldBack x room (left_after done items) sent) (sym (ends v u e)) tt
+    at (Stopped v) e = subst (λ (x : List Step). IsNextHeldBack x room (left_after done items) sent) (sym (stops v e)) tt
     at (Waits site v c) e =
         let all : (trace_from code before items).steps ≡ done = is ∙ append-nil done in
         let empty = subst (λ (x : List Step). history_of (left_after x items) c ≡ []) all (waits_empty code before items site v c e) in
@@ -93,18 +95,18 @@ lifted code before items room after left sent passing played inputs m stands nex
     let done = played.done in
     let later = played.rest ++ l.more in
     let is : drop m t.steps ≡ done ++ later =
-    sym (ap (λ (x : Trace). x.steps) r) ∙ (l.steps ∙ (ap (λ (x : List Step). x ++ l.more) played.whole ∙ append_assoc done played.rest l.more)) in
+    sym r.steps_are ∙ (l.steps ∙ (ap (λ (x : List Step). x ++ l.more) played.whole ∙ append_assoc done played.rest l.more)) in
     let reading : IsReading done items = reading_first done played.rest items (subst (λ (x : List Step). IsReading x items) played.whole (reads_from code before items).reading) in
     let cut : drop (m + length done) t.steps ≡ later = past m done later t.steps stands.within is in
     let stays : after ≡ standing_at (drop (m + length done) t.steps) t.end =
-    played.stands ∙ (sym (still_stands small long l played.rest) ∙ (ap (λ (x : Trace). standing_at later x.end) r ∙ ap (λ (x : List Step). standing_at x t.end) (sym cut))) in
+    played.stands ∙ (sym (still_stands small long l played.rest) ∙ (r.stands later ∙ ap (λ (x : List Step). standing_at x t.end) (sym cut))) in
     record {
       acts = done;
       later = later;
       split = is;
       made = played.made;
       held_back = subst (λ (x : List (List ℤ)). IsNextHeldBack later room (left_after done items) x) refl
-          (held_back code before items whole passing p room sent done played.rest l.more played.whole l.steps (λ v u e. (l.ends v u e).0) (subst (λ (x : List (List ℤ)). IsNextHeldBack played.rest room x sent) played.left played.held_back));
+          (held_back code before items whole passing p room sent done played.rest l.more played.whole l.steps (λ v u e. (l.ends v u e).0) (λ v e. (l.stops v e).0) (subst (λ (x : List (List ℤ)). IsNextHeldBack played.rest room x sent) played.left played.held_back));
       stands = record { within = reaches m done later t.steps stands.within is; here = here_of code t (m + length done) after stays };
       begun = begun_of after (drop (m + length done) t.steps) t.end stays;
       taken_is = λ c. ap (λ (x : List (List ℤ)). slice_index (taken_of items x) c) played.left ∙ taken_is items done (λ d. got_on d done) c (λ d. got_and_left done items d reading);

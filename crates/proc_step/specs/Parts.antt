@@ -1,17 +1,24 @@
 -- Parts of traces: what the walk over a process's statements has made so far, and how it stopped.
 use Rattle.std.specs.Prelude.{◌≡◌, ◌-◌, ℕ, ℤ, List, [], ◌∷◌, ◌++◌, length}
-use Rattle.kahn_net.specs.Statements.{Step, Trace, End, Ended}
-use Rattle.kahn_net.specs.Processes.{Standing, At, standing_at}
+use Rattle.kahn_net.specs.Statements.{Step, Trace, End, Ended, Stopped as StopsAt, point_at}
+use Rattle.kahn_net.specs.Processes.{Standing, At, Done, standing_at}
 use Rattle.kahn_net.specs.Puts.{put_after}
 use Rattle.kahn_net.specs.Resuming.{left_after}
 use Rattle.proc_step.specs.declared.statements.Flow.{Flow}
-use Rattle.proc_step.specs.declared.statements.Flow.TheVariants.{RanOut, Stands}
+use Rattle.proc_step.specs.declared.statements.Flow.TheVariants.{RanOut, Stopped, Stands}
 use Rattle.proc_step.specs.Turns.{CanAllBeMade, IsNextHeldBack}
 
 -- how a part of a trace stopped: it was the whole, or the next act can't be made
 abbrev pub StopsAs : Flow → End → List Step → List ℤ → List ℕ → List (List ℤ) → List (List ℤ) → Type 0
 StopsAs RanOut end rest vars room unread sent = (rest ≡ []) × (end ≡ Ended vars unread)
-StopsAs (Stands site) end rest vars room unread sent = (standing_at rest end ≡ At site vars) × IsNextHeldBack rest room unread sent
+StopsAs Stopped end rest vars room unread sent = (rest ≡ []) × (end ≡ StopsAt vars)
+StopsAs (Stands site) end rest vars room unread sent = (standing_at rest end ≡ At (point_at site []) vars) × IsNextHeldBack rest room unread sent
+
+-- where a process stands that stopped so, with these variables
+abbrev pub stands_as : Flow → List ℤ → Standing
+stands_as RanOut vars = Done vars
+stands_as Stopped vars = Done vars
+stands_as (Stands site) vars = At (point_at site []) vars
 
 -- a beginning of a trace was made, and then it stopped
 pub record Part (t : Trace) (room : List ℕ) (unread sent : List (List ℤ)) (flow : Flow) (vars' : List ℤ) (unread' sent' : List (List ℤ)) : Type 0 where

@@ -1,18 +1,19 @@
 //! What a turn comes to.
 
-ghost use Rattle.std.specs.Prelude.{◌≡◌, ◌≤◌, ◌+◌, ℕ, length, IfOk};
+ghost use Rattle.std.specs.Prelude.{◌≡◌, ◌≤◌, ◌+◌, ℕ, ℤ, List, length, IfOk};
 ghost use Rattle.kahn_net.specs.Streams.{history_of};
 ghost use Rattle.kahn_net.specs.Syntax.{code_of};
 ghost use Rattle.kahn_net.specs.Processes.{HasPassingLoop};
 ghost use Rattle.kahn_net.specs.States.{standing_in, standing_of};
 ghost use Rattle.kahn_net.specs.Valid.{block_units, body_units};
 ghost use Rattle.proc_step.specs.Turns.{IsTurn, nothing_sent};
-ghost use Rattle.proc_step.specs.Parts.{taken_of};
+ghost use Rattle.proc_step.specs.Parts.{stands_as, taken_of};
 ghost use Rattle.kahn_net.specs.declared.limits.TheConstants.{MAX_UNITS};
 
 use crate::room::empty_histories;
+use crate::statements::Flow;
 use crate::turn::play;
-use kahn_net::{History, Place, ProcState, Process};
+use kahn_net::{History, Mode, Place, ProcState, Process};
 use std::alloc::{AllocError, Global};
 use stream_eq::{Unread, all_unread};
 
@@ -43,18 +44,32 @@ fn count_taken(
     Ok(taken)
 }
 
-/// Where a process stands after a turn, and how many items it took from each channel.
+/// How far a process is that stopped so.
+fn mode_of(alloc: Global, flow: Flow) -> Mode
+    ensures { (vars : List ℤ) → standing_in result vars ≡ stands_as flow vars }
+{
+    match flow {
+        Flow::RanOut => Mode::Finished,
+        Flow::Stopped => Mode::Finished,
+        Flow::Stands(site) => Mode::At(Place {
+            site,
+            left: Vec::new(alloc),
+        }),
+    }
+}
+
+/// How far a process is after a turn, and how many items it took from each channel.
 #[derive(Debug, Drop)]
 struct Stop {
-    place: Place,
+    mode: Mode,
     taken: Vec<usize>,
 }
 
-/// Makes a turn from a place, with nothing taken and nothing sent so far.
+/// Makes a turn, with nothing taken and nothing sent so far.
 fn turn_from(
     alloc: Global,
     process: &Process,
-    place: Place,
+    mode: &Mode,
     variables: &mut [i64],
     items: &[History],
     left: &mut [Unread<'_>],
@@ -67,13 +82,13 @@ fn turn_from(
     requires untaken { left.old ≡ items.now }
     requires unsent { sent.old ≡ nothing_sent room.now }
     ensures { IfOk result (λ stop. IsTurn (code_of process.now)
-        (standing_in place variables.old) items.now room.now
-        (standing_in stop.place variables.new) stop.taken.items sent.new) }
+        (standing_in mode.now variables.old) items.now room.now
+        (standing_in stop.mode variables.new) stop.taken.items sent.new) }
 {
-    let after = play(process, place, variables, left, room, sent)?;
+    let flow = play(process, mode, variables, left, room, sent)?;
     let taken = count_taken(alloc, items, left)?;
     Ok(Stop {
-        place: after,
+        mode: mode_of(alloc, flow),
         taken,
     })
 }
@@ -99,7 +114,7 @@ pub fn take_turn(
     let stop = turn_from(
         alloc,
         process,
-        state.place,
+        &state.mode,
         &mut variables,
         items,
         &mut left,
@@ -108,7 +123,7 @@ pub fn take_turn(
     )?;
     Ok(Outcome {
         state: ProcState {
-            place: stop.place,
+            mode: stop.mode,
             variables,
         },
         taken: stop.taken,

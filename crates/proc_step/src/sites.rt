@@ -1,50 +1,35 @@
 //! Sites: the gets and puts of a process, numbered from 0 in order of the text.
 
-ghost use Rattle.std.specs.Prelude.{◌≡◌, ◌+◌, ◌<◌, ◌≤◌, ◌^◌, length, drop};
-ghost use Rattle.kahn_net.specs.Syntax.{block_of};
+ghost use Rattle.std.specs.Prelude.{◌≡◌, ◌<◌, ◌^◌};
+ghost use Rattle.kahn_net.specs.Syntax.{Nothing, block_of, then_of};
 ghost use Rattle.kahn_net.specs.Statements.{sites_of};
-ghost use Rattle.kahn_net.specs.Resuming.{from_site};
 
 use kahn_net::Statement;
 
+/// How many sites a statement has, with those of its blocks.
+#[cycle(count)]
+pub fn count_in(statement: &Statement) -> usize
+    requires { sites_of (then_of statement.now Nothing) < 2 ^ 64 }
+    ensures { result ≡ sites_of (then_of statement.now Nothing) }
+{
+    match statement {
+        Statement::Get { .. } => 1,
+        Statement::Assign { .. } => 0,
+        Statement::Put { .. } => 1,
+        Statement::Stop => 0,
+        Statement::If { first, second, .. } => count_sites(first) + count_sites(second),
+    }
+}
+
 /// How many sites these statements have.
+#[cycle(count)]
 pub fn count_sites(statements: &[Statement]) -> usize
+    requires { sites_of (block_of statements.now) < 2 ^ 64 }
     ensures { result ≡ sites_of (block_of statements.now) }
 {
     let mut count = 0;
     for statement in statements {
-        if let Statement::Get { .. } | Statement::Put { .. } = statement {
-            count += 1;
-        }
+        count += count_in(statement);
     }
     count
-}
-
-/// Where a site is among these statements, whose first site has this number; their end, where it
-/// isn't there.
-fn find_site(statements: &[Statement], first: usize, site: usize) -> usize
-    requires { first + sites_of (block_of statements.now) < 2 ^ 64 }
-    ensures within { result ≤ length statements.now }
-    ensures found { block_of (drop result statements.now)
-        ≡ from_site first site (block_of statements.now) }
-{
-    let mut number = first;
-    for (index, statement) in statements.iter().enumerate() {
-        if let Statement::Get { .. } | Statement::Put { .. } = statement {
-            if number == site {
-                return index;
-            }
-            number += 1;
-        }
-    }
-    statements.len()
-}
-
-/// The statements from a site on.
-pub fn statements_from(statements: &[Statement], first: usize, site: usize) -> &[Statement]
-    requires { first + sites_of (block_of statements.now) < 2 ^ 64 }
-    ensures rest { block_of result.now ≡ from_site first site (block_of statements.now) }
-    ensures few { site + sites_of (block_of result.now) < 2 ^ 64 }
-{
-    &statements[find_site(statements, first, site)..]
 }

@@ -1,51 +1,74 @@
 -- One statement after another.
-use Rattle.std.proofs.Common.{◌≡◌, ℕ, ◌+◌, ◌<◌, ◌≤◌, false, List, ℤ, [], ◌∷◌, ◌++◌, length, set, refl, sym, subst}
-use Rattle.std.specs.Prelude.{slice_index}
-use Rattle.kahn_net.specs.Streams.{history_of}
-use Rattle.kahn_net.specs.Syntax.{Tree, Block, GetThen, AssignThen, PutThen}
-use Rattle.kahn_net.specs.Statements.{Trace, End, trace_of, on_get, value_of}
+use Rattle.std.proofs.Common.{◌≡◌, ℕ, ◌+◌, Bool, true, false, List, ℤ, [], ◌++◌, refl, sym, ap, ◌∙◌, subst, append-nil}
+use Rattle.kahn_net.specs.Syntax.{Block, Nothing, then_of}
+use Rattle.kahn_net.specs.Statements.{Step, Trace, End, Ended, Waits, Stopped, trace_of, from_end, then_do, sites_of}
+use Rattle.kahn_net.specs.declared.program.Statement.{Statement}
 use Rattle.kahn_net.specs.Puts.{put_after}
+use Rattle.kahn_net.specs.Laws.Puts.{put_after-append}
+use Rattle.kahn_net.specs.Laws.Traces.{first_then_rest}
 use Rattle.stream_eq.specs.Limits.{GoesPast}
 use Rattle.stream_eq.specs.Play.{EndsAs, IsPlayed}
-use Rattle.stream_eq.proofs.Puts.{past_more, past_put}
+use Rattle.stream_eq.proofs.Loops.{ended_is, past_then}
 
 -- what is left to do leads where the first trace leads
 pub record Going (first : Trace) (start : List (List ℤ)) (rest : Block) (vars : List ℤ) (unread sent : List (List ℤ)) : Type 0 where
   pub site : ℕ
-  pub put : put_after (trace_of site rest vars unread).steps sent ≡ put_after first.steps start
-  pub end : (trace_of site rest vars unread).end ≡ first.end
+  pub left : List ℕ
+  pub put : put_after (trace_of site left rest vars unread).steps sent ≡ put_after first.steps start
+  pub end : (trace_of site left rest vars unread).end ≡ first.end
 
-module _ {first : Trace} {start : List (List ℤ)} where
-  pub going_at : {b b' : Block} {vars vars' : List ℤ} {unread unread' sent sent' : List (List ℤ)} → Going first start b vars unread sent → b ≡ b' → vars' ≡ vars → unread' ≡ unread → sent' ≡ sent → Going first start b' vars' unread' sent'
-  going_at {b} {b'} {vars} {vars'} {unread} {unread'} {sent} {sent'} g d e f h =
-      subst (λ (x : Block). Going first start x vars' unread' sent') d
-      (subst (λ (x : List ℤ). Going first start b x unread' sent') (sym e)
-      (subst (λ (x : List (List ℤ)). Going first start b vars x sent') (sym f)
-      (subst (λ (x : List (List ℤ)). Going first start b vars unread x) (sym h) g)))
+-- one statement is played, and then the rest is left to do
+module _ {first : Trace} {start : List (List ℤ)} (s : Statement) (rest : Block) {vars : List ℤ} {unread sent : List (List ℤ)} (g : Going first start (then_of s rest) vars unread sent)
+    {ended : Bool} {vars' : List ℤ} {unread' sent' : List (List ℤ)} (played : (site : ℕ) (left : List ℕ) → IsPlayed (trace_of site left (then_of s Nothing) vars unread) sent sent' ended vars' unread') where
+  abbrev one : Trace
+  one = trace_of g.site g.left (then_of s Nothing) vars unread
 
-  pub going_assign : {x : ℕ} {e : Tree} {rest : Block} {vars : List ℤ} {unread sent : List (List ℤ)} → Going first start (AssignThen x e rest) vars unread sent → Going first start rest (set vars x (value_of e vars)) unread sent
-  going_assign g = record { site = g.site; put = g.put; end = g.end }
+  abbrev behind : List ℤ → List (List ℤ) → Trace
+  behind = trace_of (g.site + sites_of (then_of s Nothing)) g.left rest
 
-  pub going_put : {e : Tree} {c : ℕ} {rest : Block} {vars : List ℤ} {unread sent : List (List ℤ)} → Going first start (PutThen e c rest) vars unread sent → Going first start rest vars unread (set sent c (history_of sent c ++ value_of e vars ∷ []))
-  going_put g = record { site = g.site + 1; put = g.put; end = g.end }
+  in_two : trace_of g.site g.left (then_of s rest) vars unread ≡ then_do one behind
+  in_two = first_then_rest g.site g.left s rest vars unread
 
-  got_with : (history : List ℤ) (x c : ℕ) (rest : Block) (vars : List ℤ) (unread sent : List (List ℤ)) (item : ℤ) (left : List ℤ) (site : ℕ) → history ≡ item ∷ left
-      → (put_after (on_get history site c vars (λ i l. trace_of (site + 1) rest (set vars x i) (set unread c l))).steps sent ≡ put_after first.steps start)
-      → ((on_get history site c vars (λ i l. trace_of (site + 1) rest (set vars x i) (set unread c l))).end ≡ first.end)
-      → Going first start rest (set vars x item) (set unread c left) sent
-  got_with history x c rest vars unread sent item left site h s e = record { site = site + 1; put = rw h at s; end = rw h at e }
+  put_in_two : put_after (then_do one behind).steps sent ≡ put_after first.steps start
+  put_in_two = ap (λ (t : Trace). put_after t.steps sent) (sym in_two) ∙ g.put
 
-  pub going_get : {x c : ℕ} {rest : Block} {vars : List ℤ} {unread sent : List (List ℤ)} (item : ℤ) (left : List ℤ) → history_of unread c ≡ item ∷ left → Going first start (GetThen x c rest) vars unread sent → Going first start rest (set vars x item) (set unread c left) sent
-  going_get {x} {c} {rest} {vars} {unread} {sent} item left h g = got_with (history_of unread c) x c rest vars unread sent item left g.site h g.put g.end
+  end_in_two : (then_do one behind).end ≡ first.end
+  end_in_two = ap (λ (t : Trace). t.end) (sym in_two) ∙ g.end
 
-  waits_with : (history : List ℤ) (x c : ℕ) (rest : Block) (vars vars' : List ℤ) (unread unread' sent : List (List ℤ)) (site : ℕ) → history ≡ []
-      → (put_after (on_get history site c vars (λ i l. trace_of (site + 1) rest (set vars x i) (set unread c l))).steps sent ≡ put_after first.steps start)
-      → ((on_get history site c vars (λ i l. trace_of (site + 1) rest (set vars x i) (set unread c l))).end ≡ first.end)
-      → IsPlayed first start sent false vars' unread'
-  waits_with history x c rest vars vars' unread unread' sent site h s e =
-      record { put = rw h at s; end = subst (λ (d : End). EndsAs d false vars' unread') (rw h at e) refl }
+  -- it ended
+  pub goes_further : ended ≡ true → Going first start rest vars' unread' sent'
+  goes_further holds =
+      let m = played g.site g.left in
+      let after : from_end one.end behind ≡ behind vars' unread' = ap (λ (e : End). from_end e behind) (ended_is one.end ended vars' unread' holds m.end) in
+      record {
+        site = g.site + sites_of (then_of s Nothing);
+        left = g.left;
+        put = ap (put_after (behind vars' unread').steps) m.put ∙ (ap (λ (t : Trace). put_after t.steps (put_after one.steps sent)) (sym after)
+            ∙ (sym (put_after-append one.steps (from_end one.end behind).steps sent) ∙ put_in_two));
+        end = ap (λ (t : Trace). t.end) (sym after) ∙ end_in_two;
+      }
 
-  -- a put on a channel that is at its limit leads past it
-  pub going_past : {e : Tree} {c : ℕ} {rest : Block} {vars : List ℤ} {unread sent : List (List ℤ)} (limits : List ℕ) → c < length sent → slice_index limits c ≤ length (history_of sent c) → Going first start (PutThen e c rest) vars unread sent → GoesPast limits (put_after first.steps start)
-  going_past {e} {c} {rest} {vars} {unread} {sent} limits l h g =
-      subst (λ (x : List (List ℤ)). GoesPast limits x) g.put (past_more limits (trace_of (g.site + 1) rest vars unread).steps (set sent c (history_of sent c ++ value_of e vars ∷ [])) (past_put limits sent c (value_of e vars) l h))
+  -- it didn't, so the whole doesn't
+  pub stays : {vars'' : List ℤ} {unread'' : List (List ℤ)} → ended ≡ false → IsPlayed first start sent' false vars'' unread''
+  stays {vars''} {unread''} fails = at one.end refl (played g.site g.left).end
+    where
+      put_is : (from_end one.end behind).steps ≡ [] → sent' ≡ put_after first.steps start
+      put_is none = (played g.site g.left).put ∙ (ap (λ (x : List Step). put_after x sent) (sym (append-nil one.steps) ∙ ap (λ (x : List Step). one.steps ++ x) (sym none)) ∙ put_in_two)
+
+      end_is : (e : End) → one.end ≡ e → (from_end e behind).end ≡ first.end
+      end_is e same = ap (λ (x : End). (from_end x behind).end) (sym same) ∙ end_in_two
+
+      at : (e : End) → one.end ≡ e → EndsAs e ended vars' unread' → IsPlayed first start sent' false vars'' unread''
+      at (Ended w x) same h = absurd (cc)
+      at (Waits p w c) same h = record { put = put_is (ap (λ (x : End). (from_end x behind).steps) same); end = subst (λ (d : End). EndsAs d false vars'' unread'') (end_is (Waits p w c) same) refl }
+      at (Stopped w) same h = record { put = put_is (ap (λ (x : End). (from_end x behind).steps) same); end = subst (λ (d : End). EndsAs d false vars'' unread'') (end_is (Stopped w) same) refl }
+
+-- what a statement puts past a limit is past it whatever comes behind
+pub past_behind : {first : Trace} {start : List (List ℤ)} (s : Statement) (rest : Block) {vars : List ℤ} {unread sent : List (List ℤ)} (limits : List ℕ) (g : Going first start (then_of s rest) vars unread sent)
+    → ((site : ℕ) (left : List ℕ) → GoesPast limits (put_after (trace_of site left (then_of s Nothing) vars unread).steps sent)) → GoesPast limits (put_after first.steps start)
+past_behind {first} {start} s rest {vars} {unread} {sent} limits g past =
+    subst (GoesPast limits) (ap (λ (t : Trace). put_after t.steps sent) (sym (first_then_rest g.site g.left s rest vars unread)) ∙ g.put)
+    (past_then limits (trace_of g.site g.left (then_of s Nothing) vars unread) (trace_of (g.site + sites_of (then_of s Nothing)) g.left rest) sent (past g.site g.left))
+
+pub going_at : {first : Trace} {start : List (List ℤ)} {b b' : Block} {vars : List ℤ} {unread sent : List (List ℤ)} → Going first start b vars unread sent → b ≡ b' → Going first start b' vars unread sent
+going_at {first} {start} {b} {b'} {vars} {unread} {sent} g d = subst (λ (x : Block). Going first start x vars unread sent) d g

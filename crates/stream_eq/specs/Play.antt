@@ -2,14 +2,15 @@
 use Rattle.std.specs.Prelude.{◌≡◌, ℕ, suc, Bool, true, false, List, ℤ, [], ◌∷◌, slice_get, Some}
 use Rattle.kahn_net.specs.Streams.{total}
 use Rattle.kahn_net.specs.Syntax.{Block, Code}
-use Rattle.kahn_net.specs.Statements.{Trace, End, Ended, Waits}
+use Rattle.kahn_net.specs.Statements.{Trace, End, Ended, Waits, Stopped}
 use Rattle.kahn_net.specs.Processes.{HasPassingLoop, passes, process_trace}
 use Rattle.kahn_net.specs.Puts.{put_after}
 
 -- whether statements ended, and with which variables and unread items
 abbrev pub EndsAs : End → Bool → List ℤ → List (List ℤ) → Type 0
 EndsAs (Ended vars unread) ended vars' unread' = (ended ≡ true) × (vars' ≡ vars) × (unread' ≡ unread)
-EndsAs (Waits site vars channel) ended vars' unread' = ended ≡ false
+EndsAs (Waits point vars channel) ended vars' unread' = ended ≡ false
+EndsAs (Stopped vars) ended vars' unread' = ended ≡ false
 
 -- the acts of a trace were made: its items were put on these histories, and it ended so
 pub record IsPlayed (t : Trace) (before after : List (List ℤ)) (ended : Bool) (vars : List ℤ) (unread : List (List ℤ)) : Type 0 where

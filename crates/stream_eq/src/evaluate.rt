@@ -1,10 +1,18 @@
 //! Expressions and variables.
 
-ghost use Rattle.std.specs.Prelude.{◌≡◌, slice_set};
+ghost use Rattle.std.specs.Prelude.{◌≡◌, pos, slice_set};
+ghost use Rattle.std.specs.Ordering.{int_eq};
 ghost use Rattle.kahn_net.specs.Syntax.{tree_of};
-ghost use Rattle.kahn_net.specs.Statements.{apply, value_of};
+ghost use Rattle.kahn_net.specs.Statements.{apply, one_if_so, value_of};
 
 use kahn_net::{Expr, Operator};
+
+/// 1 where it holds, else 0.
+fn one_if_so(holds: bool) -> i64
+    ensures { result ≡ one_if_so holds }
+{
+    if holds { 1 } else { 0 }
+}
 
 /// The value of an operator on two values.
 fn operate(operator: Operator, left: i64, right: i64) -> i64
@@ -12,6 +20,14 @@ fn operate(operator: Operator, left: i64, right: i64) -> i64
 {
     match operator {
         Operator::Add => left.wrapping_add(right),
+        Operator::Subtract => left.wrapping_sub(right),
+        Operator::Multiply => left.wrapping_mul(right),
+        Operator::Equal => one_if_so(left == right),
+        Operator::NotEqual => one_if_so(left != right),
+        Operator::Less => one_if_so(left < right),
+        Operator::LessOrEqual => one_if_so(left <= right),
+        Operator::Greater => one_if_so(left > right),
+        Operator::GreaterOrEqual => one_if_so(left >= right),
     }
 }
 
@@ -22,6 +38,7 @@ pub fn value(expr: &Expr, variables: &[i64]) -> i64
     match expr {
         Expr::Literal(number) => *number,
         Expr::Variable(variable) => variables.get(*variable).copied().unwrap_or(0),
+        Expr::Negate(negated) => value(negated, variables).wrapping_neg(),
         Expr::Chain { first, links } => {
             let mut total = value(first, variables);
             for link in links {
@@ -30,6 +47,13 @@ pub fn value(expr: &Expr, variables: &[i64]) -> i64
             total
         }
     }
+}
+
+/// Whether the value of an expression is 0, so that an `if` on it takes its second block.
+pub fn is_zero(expr: &Expr, variables: &[i64]) -> bool
+    ensures { result ≡ int_eq (value_of (tree_of expr.now) variables.now) (pos 0) }
+{
+    value(expr, variables) == 0
 }
 
 /// Writes a variable, if it is there.

@@ -1,9 +1,9 @@
 //! A process on whole histories: what it puts on each channel.
 
-ghost use Rattle.std.specs.Prelude.{◌≡◌, ℕ, ◌<◌, ◌≤◌, [], ◌∷◌, ◌++◌, length, slice_index, slice_set};
+ghost use Rattle.std.specs.Prelude.{◌≡◌, ℕ, List, ◌<◌, ◌≤◌, [], ◌∷◌, ◌++◌, length, slice_index, slice_set};
 ghost use Rattle.std.specs.Prelude.{IsTrue, IfOk, OnOk, IsErrOf};
 ghost use Rattle.kahn_net.specs.Streams.{history_of};
-ghost use Rattle.kahn_net.specs.Syntax.{block_of, code_of};
+ghost use Rattle.kahn_net.specs.Syntax.{Nothing, block_of, code_of, then_of};
 ghost use Rattle.kahn_net.specs.Valid.{is_passing};
 ghost use Rattle.kahn_net.specs.Statements.{trace_of};
 ghost use Rattle.kahn_net.specs.Processes.{HasPassingLoop};
@@ -11,7 +11,7 @@ ghost use Rattle.kahn_net.specs.Puts.{put_after};
 ghost use Rattle.stream_eq.specs.Limits.{IsWithin, GoesPast};
 ghost use Rattle.stream_eq.specs.Play.{IsPlayed, put_by_passes, put_by_process};
 
-use crate::evaluate::{set_variable, value};
+use crate::evaluate::{is_zero, set_variable, value};
 use crate::fault::Fault;
 use crate::unread::{Unread, all_unread, take_item};
 use kahn_net::{History, Process, Statement};
@@ -40,8 +40,69 @@ fn put_item(sent: &mut [History], limits: &[usize], channel: usize, item: i64) -
     Ok(())
 }
 
-/// Makes the acts of these statements until one waits, and puts their items. Answers whether they
+/// Makes the acts of a statement until one waits or stops, and puts their items. Answers whether it
 /// ended.
+#[cycle(play)]
+fn play_statement(
+    statement: &Statement,
+    variables: &mut [i64],
+    unread: &mut [Unread<'_>],
+    limits: &[usize],
+    sent: &mut [History],
+) -> Result<bool, Fault>
+    requires { length limits.now ≡ length sent.old }
+    ensures played { IfOk result
+        (λ ended. (site : ℕ) (left : List ℕ) → IsPlayed
+        (trace_of site left (then_of statement.now Nothing) variables.old unread.old) sent.old
+        sent.new ended variables.new unread.new) }
+    ensures within { OnOk result (IsWithin limits.now sent.old → IsWithin limits.now sent.new) }
+    ensures long { IsErrOf result Fault.Long
+        → (site : ℕ) (left : List ℕ) → GoesPast limits.now
+        (put_after (trace_of site left
+        (then_of statement.now Nothing) variables.old unread.old).steps sent.old) }
+{
+    match statement {
+        Statement::Get { variable, channel } => {
+            let Some(item) = take_item(unread, *channel) else {
+                return Ok(false);
+            };
+            set_variable(variables, *variable, item);
+            Ok(true)
+        }
+        Statement::Assign {
+            variable,
+            value: expr,
+        } => {
+            let item = value(expr, variables);
+            set_variable(variables, *variable, item);
+            Ok(true)
+        }
+        Statement::Put {
+            value: expr,
+            channel,
+        } => {
+            let item = value(expr, variables);
+            put_item(sent, limits, *channel, item)?;
+            Ok(true)
+        }
+        Statement::Stop => Ok(false),
+        Statement::If {
+            test,
+            first,
+            second,
+        } => {
+            if is_zero(test, variables) {
+                play_statements(second, variables, unread, limits, sent)
+            } else {
+                play_statements(first, variables, unread, limits, sent)
+            }
+        }
+    }
+}
+
+/// Makes the acts of these statements until one waits or stops, and puts their items. Answers
+/// whether they ended.
+#[cycle(play)]
 fn play_statements(
     statements: &[Statement],
     variables: &mut [i64],
@@ -51,43 +112,24 @@ fn play_statements(
 ) -> Result<bool, Fault>
     requires { length limits.now ≡ length sent.old }
     ensures played { IfOk result
-        (λ ended. (site : ℕ) → IsPlayed
-        (trace_of site (block_of statements.now) variables.old unread.old) sent.old sent.new ended
-        variables.new unread.new) }
+        (λ ended. (site : ℕ) (left : List ℕ) → IsPlayed
+        (trace_of site left (block_of statements.now) variables.old unread.old) sent.old sent.new
+        ended variables.new unread.new) }
     ensures within { OnOk result (IsWithin limits.now sent.old → IsWithin limits.now sent.new) }
     ensures long { IsErrOf result Fault.Long
-        → (site : ℕ) → GoesPast limits.now
-        (put_after (trace_of site
+        → (site : ℕ) (left : List ℕ) → GoesPast limits.now
+        (put_after (trace_of site left
         (block_of statements.now) variables.old unread.old).steps sent.old) }
 {
     for statement in statements {
-        match statement {
-            Statement::Get { variable, channel } => {
-                let Some(item) = take_item(unread, *channel) else {
-                    return Ok(false);
-                };
-                set_variable(variables, *variable, item);
-            }
-            Statement::Assign {
-                variable,
-                value: expr,
-            } => {
-                let item = value(expr, variables);
-                set_variable(variables, *variable, item);
-            }
-            Statement::Put {
-                value: expr,
-                channel,
-            } => {
-                let item = value(expr, variables);
-                put_item(sent, limits, *channel, item)?;
-            }
+        if !play_statement(statement, variables, unread, limits, sent)? {
+            return Ok(false);
         }
     }
     Ok(true)
 }
 
-/// Makes the acts of a loop's body again and again until a get waits, and puts their items.
+/// Makes the acts of a loop's body again and again until one waits or stops, and puts their items.
 fn play_loop(
     body: &[Statement],
     variables: &mut [i64],

@@ -1,28 +1,65 @@
 -- Laws of what is got: what a trace got from a channel is a front of what was unread there, and what is left is the rest. Where it waits,
 -- nothing is left on the channel at which it waits.
-use Rattle.std.proofs.Common.{true, false, cond, eqb, Bool, ◌≡◌, ◌≢◌, ◌⊎◌, ℕ, zero, suc, ◌+◌, ◌≤◌, List, ℤ, [], ◌∷◌, ◌++◌, refl, sym, ap, ◌∙◌, subst, set, drop, append_assoc, append-nil, arith, length, Option, Some, None, inl, inr, ◌==◌}
+use Rattle.std.proofs.Common.{true, false, cond, pos, eqb, Bool, ◌≡◌, ◌≢◌, ◌⊎◌, ℕ, zero, suc, ◌+◌, ◌≤◌, List, ℤ, [], ◌∷◌, ◌++◌, refl, sym, ap, ◌∙◌, subst, set, drop, append_assoc, append-nil, arith, length, Option, Some, None, inl, inr, ◌==◌}
 use Rattle.std.proofs.lemmas.List.{get_or-set_same, get_or-set_other, take-append-drop, append_cancel_left, length-append}
 use Rattle.std.proofs.lemmas.Bool.Decides.{eqb_tells, nat_tests}
-use Rattle.std.specs.Prelude.{take, IsTrue}
+use Rattle.std.specs.Prelude.{take, nat_lt, IsTrue}
+use Rattle.std.specs.Ordering.{int_eq}
 use Rattle.kahn_net.specs.Streams.{history_of, total, ArePrefixes}
-use Rattle.kahn_net.specs.Syntax.{Block, Nothing, GetThen, AssignThen, PutThen, Code}
+use Rattle.kahn_net.specs.Syntax.{Block, Nothing, GetThen, AssignThen, PutThen, StopThen, IfThen, Code}
 use Rattle.kahn_net.specs.Valid.{is_passing}
-use Rattle.kahn_net.specs.Statements.{Act, Got, Sent, Step, Trace, End, Ended, Waits, trace_of, on_get, from_end, then_do, value_of, sites_of}
+use Rattle.kahn_net.specs.Statements.{Act, Got, Sent, Point, Step, Trace, End, Ended, Waits, Stopped, trace_of, point_at, choose, on_get, from_end, then_do, value_of, sites_of}
 use Rattle.kahn_net.specs.Processes.{Standing, NotBegun, At, Done, standing_at, HasPassingLoop, passes, loop_trace, process_trace, got_by, got_on}
-use Rattle.kahn_net.specs.Resuming.{statements_from, trace_from, left_by, left_after}
+use Rattle.kahn_net.specs.Resuming.{trace_on, body_on, code_on, trace_from, left_by, left_after}
+use Rattle.kahn_net.specs.Laws.Traces.{one_of, both_of}
 use Rattle.kahn_net.specs.Laws.Passes.{fewer_left}
 use Rattle.kahn_net.specs.Laws.Streams.{IsLonger, within, prefixes_set, not_done, longer, longer_then, longer_loop, longer_process}
 use Rattle.kahn_net.specs.Laws.Prefixes.{IsFollowed, followed, prefix_of}
 
--- where more is unread, a process does from where it stands what it did, and then more
+-- where more is unread, statements do from a site on what they did, and then more
+longer_on : (number : ℕ) (left : List ℕ) (b : Block) (site : ℕ) (inner : List ℕ) (v : List ℤ) (u w : List (List ℤ)) → ArePrefixes u w → IsLonger (trace_on number left b site inner v u) (trace_on number left b site inner v w)
+longer_on number left Nothing site inner v u w p = longer 0 [] Nothing v u w p
+longer_on number left (AssignThen x e b) site inner v u w p = longer_on number left b site inner v u w p
+longer_on number left (StopThen b) site inner v u w p = longer_on number left b site inner v u w p
+longer_on number left (PutThen e c b) site inner v u w p =
+    both_of IsLonger (number == site) (trace_of number left (PutThen e c b) v u) (trace_on (number + 1) left b site inner v u) (trace_of number left (PutThen e c b) v w) (trace_on (number + 1) left b site inner v w)
+    (longer number left (PutThen e c b) v u w p) (longer_on (number + 1) left b site inner v u w p)
+longer_on number left (GetThen x c b) site inner v u w p =
+    both_of IsLonger (number == site) (trace_of number left (GetThen x c b) v u) (trace_on (number + 1) left b site inner v u) (trace_of number left (GetThen x c b) v w) (trace_on (number + 1) left b site inner v w)
+    (longer number left (GetThen x c b) v u w p) (longer_on (number + 1) left b site inner v u w p)
+longer_on number left (IfThen test first second b) site inner v u w p =
+    let m = number + sites_of first in
+    let n = number + sites_of first + sites_of second in
+    let behind = trace_of n left b in
+    let one = λ (y : List (List ℤ)). then_do (trace_on number left first site inner v y) behind in
+    let two = λ (y : List (List ℤ)). then_do (trace_on m left second site inner v y) behind in
+    let three = trace_on n left b site inner v in
+    both_of IsLonger (nat_lt site m) (one u) (cond (nat_lt site n) (two u) (three u)) (one w) (cond (nat_lt site n) (two w) (three w))
+    (longer_then (trace_on number left first site inner v u) (trace_on number left first site inner v w) behind behind (longer_on number left first site inner v u w p) (λ v' u' w' e e' p'. longer n left b v' u' w' p'))
+    (both_of IsLonger (nat_lt site n) (two u) (three u) (two w) (three w)
+    (longer_then (trace_on m left second site inner v u) (trace_on m left second site inner v w) behind behind (longer_on m left second site inner v u w p) (λ v' u' w' e e' p'. longer n left b v' u' w' p'))
+    (longer_on n left b site inner v u w p))
+
+longer_body_on : (number : ℕ) (body : Option Block) (point : Point) (v : List ℤ) (u w : List (List ℤ)) → ArePrefixes u w → IsLonger (body_on number body point v u) (body_on number body point v w)
+longer_body_on number None point v u w p = longer 0 [] Nothing v u w p
+longer_body_on number (Some b) point v u w p = longer_on number [] b point.site point.left v u w p
+
+longer_code_on : (code : Code) (point : Point) (v : List ℤ) (u w : List (List ℤ)) → ArePrefixes u w → IsLonger (code_on code point v u) (code_on code point v w)
+longer_code_on code point v u w p =
+    let in_prelude = trace_on 0 [] code.prelude point.site point.left v in
+    let in_body = body_on (sites_of code.prelude) code.body point v in
+    both_of IsLonger (nat_lt point.site (sites_of code.prelude)) (in_prelude u) (in_body u) (in_prelude w) (in_body w)
+    (longer_on 0 [] code.prelude point.site point.left v u w p) (longer_body_on (sites_of code.prelude) code.body point v u w p)
+
+-- and so does a process from where it stands
 pub longer_from : (code : Code) (standing : Standing) (small big : List (List ℤ)) → HasPassingLoop code → ArePrefixes small big → IsLonger (trace_from code standing small) (trace_from code standing big)
 longer_from code (NotBegun vars) small big passing p =
-    longer_then (trace_of 0 code.prelude vars small) (trace_of 0 code.prelude vars big) (loop_trace (sites_of code.prelude) code.body) (loop_trace (sites_of code.prelude) code.body)
-    (longer 0 code.prelude vars small big p) (λ v u w e e' p'. longer_loop (sites_of code.prelude) code.body v u w passing p')
-longer_from code (At site vars) small big passing p =
-    longer_then (trace_of site (statements_from code site) vars small) (trace_of site (statements_from code site) vars big) (loop_trace (sites_of code.prelude) code.body) (loop_trace (sites_of code.prelude) code.body)
-    (longer site (statements_from code site) vars small big p) (λ v u w e e' p'. longer_loop (sites_of code.prelude) code.body v u w passing p')
-longer_from code (Done vars) small big passing p = longer 0 Nothing vars small big p
+    longer_then (trace_of 0 [] code.prelude vars small) (trace_of 0 [] code.prelude vars big) (loop_trace (sites_of code.prelude) code.body) (loop_trace (sites_of code.prelude) code.body)
+    (longer 0 [] code.prelude vars small big p) (λ v u w e e' p'. longer_loop (sites_of code.prelude) code.body v u w passing p')
+longer_from code (At point vars) small big passing p =
+    longer_then (code_on code point vars small) (code_on code point vars big) (loop_trace (sites_of code.prelude) code.body) (loop_trace (sites_of code.prelude) code.body)
+    (longer_code_on code point vars small big p) (λ v u w e e' p'. longer_loop (sites_of code.prelude) code.body v u w passing p')
+longer_from code (Done vars) small big passing p = longer 0 [] Nothing vars small big p
 
 -- After steps and then others
 pub got_on-append : (channel : ℕ) (xs ys : List Step) → got_on channel (xs ++ ys) ≡ got_on channel xs ++ got_on channel ys
@@ -56,7 +93,7 @@ IsReading (step ∷ steps) unread = IsNextItem step.act unread × IsReading step
 pub record Reads (t : Trace) (unread : List (List ℤ)) : Type 0 where
   pub reading : IsReading t.steps unread
   pub left : (v : List ℤ) (u : List (List ℤ)) → t.end ≡ Ended v u → left_after t.steps unread ≡ u
-  pub empty : (site : ℕ) (v : List ℤ) (c : ℕ) → t.end ≡ Waits site v c → history_of (left_after t.steps unread) c ≡ []
+  pub empty : (point : Point) (v : List ℤ) (c : ℕ) → t.end ≡ Waits point v c → history_of (left_after t.steps unread) c ≡ []
 
 pub reading-append : (xs ys : List Step) (unread : List (List ℤ)) → IsReading xs unread → IsReading ys (left_after xs unread) → IsReading (xs ++ ys) unread
 reading-append [] ys unread h k = k
@@ -89,29 +126,6 @@ got_and_left (s ∷ steps) unread c h = at_act s.act h.0 (got_and_left steps (le
         at_got d item n.0 (history_of (left_after steps (left_by (Got d item) unread)) c) n.1 (eqb_tells d c)
         (ap (λ (x : List (List ℤ)). history_of x c) (sym same) ∙ later)
 
--- what statements do
-pub reads_block : (site : ℕ) (b : Block) (vars : List ℤ) (unread : List (List ℤ)) → Reads (trace_of site b vars unread) unread
-reads_block site Nothing vars unread = record { reading = tt; left = λ v u e. same v u e; empty = λ s v c e. absurd (cc) }
-  where
-    same : (v : List ℤ) (u : List (List ℤ)) → Ended vars unread ≡ Ended v u → unread ≡ u
-    same v u e = cc
-reads_block site (AssignThen x e rest) vars unread =
-    let r = reads_block site rest (set vars x (value_of e vars)) unread in record { reading = r.reading; left = r.left; empty = r.empty }
-reads_block site (PutThen e c rest) vars unread =
-    let r = reads_block (site + 1) rest vars unread in record { reading = (tt, r.reading); left = r.left; empty = r.empty }
-reads_block site (GetThen x c rest) vars unread =
-    at_get (history_of unread c) refl (λ item left. reads_block (site + 1) rest (set vars x item) (set unread c left))
-  where
-    at_get : (history : List ℤ) → history_of unread c ≡ history → ((item : ℤ) (left : List ℤ) → Reads (trace_of (site + 1) rest (set vars x item) (set unread c left)) (set unread c left))
-        → Reads (on_get history site c vars (λ item left. trace_of (site + 1) rest (set vars x item) (set unread c left))) unread
-    at_get [] is later = record { reading = tt; left = λ v u e. absurd (cc); empty = λ s v d e. (let same : c ≡ d = cc in subst (λ (n : ℕ). history_of unread n ≡ []) same is) }
-    at_get (item ∷ left) is later =
-        let r = later item left in
-        let same : set unread c left ≡ set unread c (drop 1 (history_of unread c)) = sym (ap (λ (z : List ℤ). set unread c (drop 1 z)) is) in
-        let t = trace_of (site + 1) rest (set vars x item) (set unread c left) in
-        let r2 : Reads t (set unread c (drop 1 (history_of unread c))) = subst (λ (z : List (List ℤ)). Reads t z) same r in
-        record { reading = ((left, is), r2.reading); left = r2.left; empty = r2.empty }
-
 -- what one does after the other
 pub reads_then : (t : Trace) (go : List ℤ → List (List ℤ) → Trace) (unread : List (List ℤ)) → Reads t unread → ((v : List ℤ) (u : List (List ℤ)) → t.end ≡ Ended v u → Reads (go v u) u) → Reads (then_do t go) unread
 reads_then t go unread r next = at_end t.end refl
@@ -124,6 +138,9 @@ reads_then t go unread r next = at_end t.end refl
           left = λ v u e. absurd (cc);
           empty = λ s' v d e. ap (λ (x : List Step). history_of (left_after x unread) d) (append-nil t.steps) ∙ r.empty s' v d (is ∙ e);
         }
+    at_end (Stopped y) is =
+        let same : t.steps ≡ t.steps ++ [] = sym (append-nil t.steps) in
+        record { reading = subst (λ (x : List Step). IsReading x unread) same r.reading; left = λ v u e. absurd (cc); empty = λ s' v d e. absurd (cc) }
     at_end (Ended v u) is =
         let n = next v u is in
         let l = r.left v u is in
@@ -134,24 +151,86 @@ reads_then t go unread r next = at_end t.end refl
           empty = λ s' v' d e. ap (λ (x : List (List ℤ)). history_of x d) after ∙ n.empty s' v' d e;
         }
 
+-- what statements do
+pub reads_block : (site : ℕ) (left : List ℕ) (b : Block) (vars : List ℤ) (unread : List (List ℤ)) → Reads (trace_of site left b vars unread) unread
+reads_block site left Nothing vars unread = record { reading = tt; left = λ v u e. same v u e; empty = λ s v c e. absurd (cc) }
+  where
+    same : (v : List ℤ) (u : List (List ℤ)) → Ended vars unread ≡ Ended v u → unread ≡ u
+    same v u e = cc
+reads_block site left (AssignThen x e rest) vars unread =
+    let r = reads_block site left rest (set vars x (value_of e vars)) unread in record { reading = r.reading; left = r.left; empty = r.empty }
+reads_block site left (PutThen e c rest) vars unread =
+    let r = reads_block (site + 1) left rest vars unread in record { reading = (tt, r.reading); left = r.left; empty = r.empty }
+reads_block site left (StopThen rest) vars unread = record { reading = tt; left = λ v u e. absurd (cc); empty = λ s v c e. absurd (cc) }
+reads_block site left (IfThen test first second rest) vars unread =
+    let one = trace_of site left first vars unread in
+    let other = trace_of (site + sites_of first) left second vars unread in
+    reads_then (choose (value_of test vars) one other) (trace_of (site + sites_of first + sites_of second) left rest) unread
+    (one_of (λ (t : Trace). Reads t unread) (int_eq (value_of test vars) (pos 0)) other one (reads_block (site + sites_of first) left second vars unread) (reads_block site left first vars unread))
+    (λ v u e. reads_block (site + sites_of first + sites_of second) left rest v u)
+reads_block site left (GetThen x c rest) vars unread =
+    at_get (history_of unread c) refl (λ item later. reads_block (site + 1) left rest (set vars x item) (set unread c later))
+  where
+    at_get : (history : List ℤ) → history_of unread c ≡ history → ((item : ℤ) (later : List ℤ) → Reads (trace_of (site + 1) left rest (set vars x item) (set unread c later)) (set unread c later))
+        → Reads (on_get history (point_at site left) c vars (λ item later. trace_of (site + 1) left rest (set vars x item) (set unread c later))) unread
+    at_get [] is reads_later = record { reading = tt; left = λ v u e. absurd (cc); empty = λ s v d e. (let same : c ≡ d = cc in subst (λ (n : ℕ). history_of unread n ≡ []) same is) }
+    at_get (item ∷ later) is reads_later =
+        let r = reads_later item later in
+        let same : set unread c later ≡ set unread c (drop 1 (history_of unread c)) = sym (ap (λ (z : List ℤ). set unread c (drop 1 z)) is) in
+        let t = trace_of (site + 1) left rest (set vars x item) (set unread c later) in
+        let r2 : Reads t (set unread c (drop 1 (history_of unread c))) = subst (λ (z : List (List ℤ)). Reads t z) same r in
+        record { reading = ((later, is), r2.reading); left = r2.left; empty = r2.empty }
+
 -- whole passes
 pub reads_passes : (n site : ℕ) (b : Block) (vars : List ℤ) (unread : List (List ℤ)) → Reads (passes n site b vars unread) unread
-reads_passes zero site b vars unread = reads_block 0 Nothing vars unread
-reads_passes (suc n) site b vars unread = reads_then (trace_of site b vars unread) (passes n site b) unread (reads_block site b vars unread) (λ v u e. reads_passes n site b v u)
+reads_passes zero site b vars unread = reads_block 0 [] Nothing vars unread
+reads_passes (suc n) site b vars unread = reads_then (trace_of site [] b vars unread) (passes n site b) unread (reads_block site [] b vars unread) (λ v u e. reads_passes n site b v u)
 
 -- the loop
 pub reads_loop : (site : ℕ) (body : Option Block) (vars : List ℤ) (unread : List (List ℤ)) → Reads (loop_trace site body vars unread) unread
-reads_loop site None vars unread = reads_block 0 Nothing vars unread
+reads_loop site None vars unread = reads_block 0 [] Nothing vars unread
 reads_loop site (Some b) vars unread = reads_passes (suc (total unread)) site b vars unread
+
+-- statements from a site on
+reads_on : (number : ℕ) (left : List ℕ) (b : Block) (site : ℕ) (inner : List ℕ) (vars : List ℤ) (unread : List (List ℤ)) → Reads (trace_on number left b site inner vars unread) unread
+reads_on number left Nothing site inner vars unread = reads_block 0 [] Nothing vars unread
+reads_on number left (AssignThen x e b) site inner vars unread = reads_on number left b site inner vars unread
+reads_on number left (StopThen b) site inner vars unread = reads_on number left b site inner vars unread
+reads_on number left (PutThen e c b) site inner vars unread =
+    one_of (λ (t : Trace). Reads t unread) (number == site) (trace_of number left (PutThen e c b) vars unread) (trace_on (number + 1) left b site inner vars unread)
+    (reads_block number left (PutThen e c b) vars unread) (reads_on (number + 1) left b site inner vars unread)
+reads_on number left (GetThen x c b) site inner vars unread =
+    one_of (λ (t : Trace). Reads t unread) (number == site) (trace_of number left (GetThen x c b) vars unread) (trace_on (number + 1) left b site inner vars unread)
+    (reads_block number left (GetThen x c b) vars unread) (reads_on (number + 1) left b site inner vars unread)
+reads_on number left (IfThen test first second b) site inner vars unread =
+    let m = number + sites_of first in
+    let n = number + sites_of first + sites_of second in
+    let behind = trace_of n left b in
+    let one = then_do (trace_on number left first site inner vars unread) behind in
+    let two = then_do (trace_on m left second site inner vars unread) behind in
+    let three = trace_on n left b site inner vars unread in
+    one_of (λ (t : Trace). Reads t unread) (nat_lt site m) one (cond (nat_lt site n) two three)
+    (reads_then (trace_on number left first site inner vars unread) behind unread (reads_on number left first site inner vars unread) (λ v u e. reads_block n left b v u))
+    (one_of (λ (t : Trace). Reads t unread) (nat_lt site n) two three
+    (reads_then (trace_on m left second site inner vars unread) behind unread (reads_on m left second site inner vars unread) (λ v u e. reads_block n left b v u))
+    (reads_on n left b site inner vars unread))
+
+reads_body_on : (number : ℕ) (body : Option Block) (point : Point) (vars : List ℤ) (unread : List (List ℤ)) → Reads (body_on number body point vars unread) unread
+reads_body_on number None point vars unread = reads_block 0 [] Nothing vars unread
+reads_body_on number (Some b) point vars unread = reads_on number [] b point.site point.left vars unread
+
+reads_code_on : (code : Code) (point : Point) (vars : List ℤ) (unread : List (List ℤ)) → Reads (code_on code point vars unread) unread
+reads_code_on code point vars unread =
+    one_of (λ (t : Trace). Reads t unread) (nat_lt point.site (sites_of code.prelude)) (trace_on 0 [] code.prelude point.site point.left vars unread) (body_on (sites_of code.prelude) code.body point vars unread)
+    (reads_on 0 [] code.prelude point.site point.left vars unread) (reads_body_on (sites_of code.prelude) code.body point vars unread)
 
 -- a process from where it stands
 pub reads_from : (code : Code) (standing : Standing) (unread : List (List ℤ)) → Reads (trace_from code standing unread) unread
 reads_from code (NotBegun vars) unread =
-    reads_then (trace_of 0 code.prelude vars unread) (loop_trace (sites_of code.prelude) code.body) unread (reads_block 0 code.prelude vars unread) (λ v u e. reads_loop (sites_of code.prelude) code.body v u)
-reads_from code (At site vars) unread =
-    reads_then (trace_of site (statements_from code site) vars unread) (loop_trace (sites_of code.prelude) code.body) unread (reads_block site (statements_from code site) vars unread)
-    (λ v u e. reads_loop (sites_of code.prelude) code.body v u)
-reads_from code (Done vars) unread = reads_block 0 Nothing vars unread
+    reads_then (trace_of 0 [] code.prelude vars unread) (loop_trace (sites_of code.prelude) code.body) unread (reads_block 0 [] code.prelude vars unread) (λ v u e. reads_loop (sites_of code.prelude) code.body v u)
+reads_from code (At point vars) unread =
+    reads_then (code_on code point vars unread) (loop_trace (sites_of code.prelude) code.body) unread (reads_code_on code point vars unread) (λ v u e. reads_loop (sites_of code.prelude) code.body v u)
+reads_from code (Done vars) unread = reads_block 0 [] Nothing vars unread
 
 -- a process
 pub reads_process : (code : Code) (inputs : List (List ℤ)) → Reads (process_trace code inputs) inputs
@@ -167,12 +246,12 @@ pub reads : (code : Code) (inputs : List (List ℤ)) (m c : ℕ) → history_of 
 reads code inputs m c = reads_steps (process_trace code inputs) inputs m c (reads_process code inputs)
 
 -- where it waits at a get, nothing is left on its channel
-pub waits_empty : (code : Code) (standing : Standing) (unread : List (List ℤ)) (site : ℕ) (v : List ℤ) (c : ℕ) → (trace_from code standing unread).end ≡ Waits site v c → history_of (left_after (trace_from code standing unread).steps unread) c ≡ []
-waits_empty code standing unread site v c e = (reads_from code standing unread).empty site v c e
+pub waits_empty : (code : Code) (standing : Standing) (unread : List (List ℤ)) (point : Point) (v : List ℤ) (c : ℕ) → (trace_from code standing unread).end ≡ Waits point v c → history_of (left_after (trace_from code standing unread).steps unread) c ≡ []
+waits_empty code standing unread point v c e = (reads_from code standing unread).empty point v c e
 
 -- the same of a process from its beginning
-pub process_waits_empty : (code : Code) (inputs : List (List ℤ)) (site : ℕ) (v : List ℤ) (c : ℕ) → (process_trace code inputs).end ≡ Waits site v c → history_of (left_after (process_trace code inputs).steps inputs) c ≡ []
-process_waits_empty code inputs site v c e = (reads_process code inputs).empty site v c e
+pub process_waits_empty : (code : Code) (inputs : List (List ℤ)) (point : Point) (v : List ℤ) (c : ℕ) → (process_trace code inputs).end ≡ Waits point v c → history_of (left_after (process_trace code inputs).steps inputs) c ≡ []
+process_waits_empty code inputs point v c e = (reads_process code inputs).empty point v c e
 
 -- the act gets from this channel
 abbrev pub IsGetFrom : ℕ → Act → Type 0
@@ -186,49 +265,7 @@ GetsNext channel (step ∷ steps) = IsGetFrom channel step.act
 
 -- what a longer trace does beyond one that waits begins with the get at which that one waits
 pub record NextIsGet (t long : Trace) : Type 0 where
-  pub next : (site : ℕ) (v : List ℤ) (c : ℕ) → t.end ≡ Waits site v c → (more : List Step) → long.steps ≡ t.steps ++ more → GetsNext c more
-
--- what statements do
-pub next_block : (site : ℕ) (b : Block) (v : List ℤ) (u w : List (List ℤ)) → ArePrefixes u w → NextIsGet (trace_of site b v u) (trace_of site b v w)
-next_block site Nothing v u w p = record { next = λ s v' d e more h. absurd (cc) }
-next_block site (AssignThen x e b) v u w p =
-    let r = next_block site b (set v x (value_of e v)) u w p in record { next = r.next }
-next_block site (PutThen e c b) v u w p =
-    let r = next_block (site + 1) b v u w p in
-    record { next = λ s v' d is more h. r.next s v' d is more (later more h) }
-  where
-    later : (more : List Step) → (trace_of site (PutThen e c b) v w).steps ≡ (trace_of site (PutThen e c b) v u).steps ++ more → (trace_of (site + 1) b v w).steps ≡ (trace_of (site + 1) b v u).steps ++ more
-    later more h = cc
-next_block site (GetThen x c b) v u w p = at_get (history_of u c) (history_of w c) refl refl (followed (history_of u c) (history_of w c) (p.at c))
-    (λ item l l' q. next_block (site + 1) b (set v x item) (set u c l) (set w c l') q)
-  where
-    first : (d : ℕ) (s' : ℕ) (v' : List ℤ) (ys : List ℤ) (more : List Step) → Waits site v c ≡ Waits s' v' d → (on_get ys site c v (λ item left. trace_of (site + 1) b (set v x item) (set w c left))).steps ≡ more → GetsNext d more
-    first d s' v' ys [] is h = tt
-    first d s' v' [] (z ∷ more) is h = absurd (cc)
-    first d s' v' (y ∷ ys) (z ∷ more) is h =
-        let same : c ≡ d = cc in
-        let step : Step = record { site = site; vars = v; act = Got c y } in
-        let head : step ≡ z = cc in
-        subst (λ (k : Step). IsGetFrom d k.act) head same
-
-    at_get : (h h' : List ℤ) → history_of u c ≡ h → history_of w c ≡ h' → IsFollowed (history_of u c) (history_of w c)
-        → ((item : ℤ) (l l' : List ℤ) → ArePrefixes (set u c l) (set w c l') → NextIsGet (trace_of (site + 1) b (set v x item) (set u c l)) (trace_of (site + 1) b (set v x item) (set w c l')))
-        → NextIsGet (on_get h site c v (λ item left. trace_of (site + 1) b (set v x item) (set u c left))) (on_get h' site c v (λ item left. trace_of (site + 1) b (set v x item) (set w c left)))
-    at_get [] ys hu hw m later = record { next = λ s' v' d is more e. first d s' v' ys more is e }
-    at_get (z ∷ zs) [] hu hw m later = let bad : [] ≡ (z ∷ zs) ++ m.rest = sym hw ∙ (m.is ∙ ap (λ (q : List ℤ). q ++ m.rest) hu) in absurd (cc)
-    at_get (z ∷ zs) (y ∷ ys) hu hw m later =
-        let both : y ∷ ys ≡ z ∷ (zs ++ m.rest) = sym hw ∙ (m.is ∙ ap (λ (q : List ℤ). q ++ m.rest) hu) in
-        let same : z ≡ y = cc in
-        let tail : ys ≡ zs ++ m.rest = cc in
-        let r = later z zs ys (prefixes_set u w c z y zs m.rest ys p hu hw tail) in
-        let r2 : NextIsGet (on_get (z ∷ zs) site c v (λ item left. trace_of (site + 1) b (set v x item) (set u c left))) (on_get (z ∷ ys) site c v (λ item left. trace_of (site + 1) b (set v x item) (set w c left))) =
-        record { next = λ s' v' d is more e. r.next s' v' d is more (after z zs ys more e) } in
-        subst (λ (i : ℤ). NextIsGet (on_get (z ∷ zs) site c v (λ item left. trace_of (site + 1) b (set v x item) (set u c left))) (on_get (i ∷ ys) site c v (λ item left. trace_of (site + 1) b (set v x item) (set w c left)))) same r2
-      where
-        after : (z : ℤ) (zs ys : List ℤ) (more : List Step)
-            → (on_get (z ∷ ys) site c v (λ item left. trace_of (site + 1) b (set v x item) (set w c left))).steps ≡ (on_get (z ∷ zs) site c v (λ item left. trace_of (site + 1) b (set v x item) (set u c left))).steps ++ more
-            → (trace_of (site + 1) b (set v x z) (set w c ys)).steps ≡ (trace_of (site + 1) b (set v x z) (set u c zs)).steps ++ more
-        after z zs ys more e = cc
+  pub next : (point : Point) (v : List ℤ) (c : ℕ) → t.end ≡ Waits point v c → (more : List Step) → long.steps ≡ t.steps ++ more → GetsNext c more
 
 -- what begins the first part begins the whole
 gets_first : (c : ℕ) (xs ys more : List Step) → GetsNext c xs → (xs ≡ [] → ys ≡ []) → xs ++ ys ≡ more → GetsNext c more
@@ -240,9 +277,10 @@ pub next_then : (t long : Trace) (go go' : List ℤ → List (List ℤ) → Trac
     → ((v : List ℤ) (u w : List (List ℤ)) → t.end ≡ Ended v u → long.end ≡ Ended v w → ArePrefixes u w → NextIsGet (go v u) (go' v w)) → NextIsGet (then_do t go) (then_do long go')
 next_then t long go go' l g next = at_end t.end refl
   where
-    nothing_after : (e : End) (s : ℕ) (y : List ℤ) → standing_at [] e ≡ At s y → (from_end e go').steps ≡ []
+    nothing_after : (e : End) (s : Point) (y : List ℤ) → standing_at [] e ≡ At s y → (from_end e go').steps ≡ []
     nothing_after (Waits s' y' c') s y h = refl
     nothing_after (Ended y' z) s y h = absurd (not_done y' y s h)
+    nothing_after (Stopped y') s y h = absurd (not_done y' y s h)
 
     at_end : (e : End) → t.end ≡ e → NextIsGet (record { steps = t.steps ++ (from_end e go).steps; end = (from_end e go).end }) (then_do long go')
     at_end (Waits s y c) is = record {
@@ -254,6 +292,7 @@ next_then t long go go' l g next = at_end t.end refl
           (append_cancel_left t.steps (l.more ++ (from_end long.end go').steps) more
           (sym (append_assoc t.steps l.more (from_end long.end go').steps) ∙ (ap (λ (x : List Step). x ++ (from_end long.end go').steps) (sym l.steps) ∙ (h ∙ ap (λ (x : List Step). x ++ more) (append-nil t.steps)))));
     }
+    at_end (Stopped y) is = record { next = λ s' y' d e more h. absurd (cc) }
     at_end (Ended v u) is =
         let e = l.ends v u is in
         let w = e.1.0 in
@@ -268,37 +307,126 @@ next_then t long go go' l g next = at_end t.end refl
               (ap (λ (x : List Step). x ++ (from_end long.end go').steps) (sym whole) ∙ (h ∙ append_assoc t.steps (go v u).steps more)));
         }
 
+-- what statements do
+pub next_block : (site : ℕ) (left : List ℕ) (b : Block) (v : List ℤ) (u w : List (List ℤ)) → ArePrefixes u w → NextIsGet (trace_of site left b v u) (trace_of site left b v w)
+next_block site left Nothing v u w p = record { next = λ s v' d e more h. absurd (cc) }
+next_block site left (AssignThen x e b) v u w p =
+    let r = next_block site left b (set v x (value_of e v)) u w p in record { next = r.next }
+next_block site left (PutThen e c b) v u w p =
+    let r = next_block (site + 1) left b v u w p in
+    record { next = λ s v' d is more h. r.next s v' d is more (later more h) }
+  where
+    later : (more : List Step) → (trace_of site left (PutThen e c b) v w).steps ≡ (trace_of site left (PutThen e c b) v u).steps ++ more → (trace_of (site + 1) left b v w).steps ≡ (trace_of (site + 1) left b v u).steps ++ more
+    later more h = cc
+next_block site left (StopThen b) v u w p = record { next = λ s v' d e more h. absurd (cc) }
+next_block site left (IfThen test first second b) v u w p =
+    let one = trace_of site left first v in
+    let other = trace_of (site + sites_of first) left second v in
+    let go = trace_of (site + sites_of first + sites_of second) left b in
+    let zero = int_eq (value_of test v) (pos 0) in
+    next_then (choose (value_of test v) (one u) (other u)) (choose (value_of test v) (one w) (other w)) go go
+    (both_of IsLonger zero (other u) (one u) (other w) (one w) (longer (site + sites_of first) left second v u w p) (longer site left first v u w p))
+    (both_of NextIsGet zero (other u) (one u) (other w) (one w) (next_block (site + sites_of first) left second v u w p) (next_block site left first v u w p))
+    (λ v' u' w' e e' p'. next_block (site + sites_of first + sites_of second) left b v' u' w' p')
+next_block site left (GetThen x c b) v u w p = at_get (history_of u c) (history_of w c) refl refl (followed (history_of u c) (history_of w c) (p.at c))
+    (λ item l l' q. next_block (site + 1) left b (set v x item) (set u c l) (set w c l') q)
+  where
+    first : (d : ℕ) (s' : Point) (v' : List ℤ) (ys : List ℤ) (more : List Step) → Waits (point_at site left) v c ≡ Waits s' v' d → (on_get ys (point_at site left) c v (λ item later. trace_of (site + 1) left b (set v x item) (set w c later))).steps ≡ more → GetsNext d more
+    first d s' v' ys [] is h = tt
+    first d s' v' [] (z ∷ more) is h = absurd (cc)
+    first d s' v' (y ∷ ys) (z ∷ more) is h =
+        let same : c ≡ d = cc in
+        let step : Step = record { point = point_at site left; vars = v; act = Got c y } in
+        let head : step ≡ z = cc in
+        subst (λ (k : Step). IsGetFrom d k.act) head same
+
+    at_get : (h h' : List ℤ) → history_of u c ≡ h → history_of w c ≡ h' → IsFollowed (history_of u c) (history_of w c)
+        → ((item : ℤ) (l l' : List ℤ) → ArePrefixes (set u c l) (set w c l') → NextIsGet (trace_of (site + 1) left b (set v x item) (set u c l)) (trace_of (site + 1) left b (set v x item) (set w c l')))
+        → NextIsGet (on_get h (point_at site left) c v (λ item later. trace_of (site + 1) left b (set v x item) (set u c later))) (on_get h' (point_at site left) c v (λ item later. trace_of (site + 1) left b (set v x item) (set w c later)))
+    at_get [] ys hu hw m later = record { next = λ s' v' d is more e. first d s' v' ys more is e }
+    at_get (z ∷ zs) [] hu hw m later = let bad : [] ≡ (z ∷ zs) ++ m.rest = sym hw ∙ (m.is ∙ ap (λ (q : List ℤ). q ++ m.rest) hu) in absurd (cc)
+    at_get (z ∷ zs) (y ∷ ys) hu hw m later =
+        let both : y ∷ ys ≡ z ∷ (zs ++ m.rest) = sym hw ∙ (m.is ∙ ap (λ (q : List ℤ). q ++ m.rest) hu) in
+        let same : z ≡ y = cc in
+        let tail : ys ≡ zs ++ m.rest = cc in
+        let r = later z zs ys (prefixes_set u w c z y zs m.rest ys p hu hw tail) in
+        let r2 : NextIsGet (on_get (z ∷ zs) (point_at site left) c v (λ item later. trace_of (site + 1) left b (set v x item) (set u c later))) (on_get (z ∷ ys) (point_at site left) c v (λ item later. trace_of (site + 1) left b (set v x item) (set w c later))) =
+        record { next = λ s' v' d is more e. r.next s' v' d is more (after z zs ys more e) } in
+        subst (λ (i : ℤ). NextIsGet (on_get (z ∷ zs) (point_at site left) c v (λ item later. trace_of (site + 1) left b (set v x item) (set u c later))) (on_get (i ∷ ys) (point_at site left) c v (λ item later. trace_of (site + 1) left b (set v x item) (set w c later)))) same r2
+      where
+        after : (z : ℤ) (zs ys : List ℤ) (more : List Step)
+            → (on_get (z ∷ ys) (point_at site left) c v (λ item later. trace_of (site + 1) left b (set v x item) (set w c later))).steps ≡ (on_get (z ∷ zs) (point_at site left) c v (λ item later. trace_of (site + 1) left b (set v x item) (set u c later))).steps ++ more
+            → (trace_of (site + 1) left b (set v x z) (set w c ys)).steps ≡ (trace_of (site + 1) left b (set v x z) (set u c zs)).steps ++ more
+        after z zs ys more e = cc
+
 -- whole passes
 pub next_passes : (n m site : ℕ) (b : Block) (v : List ℤ) (u w : List (List ℤ)) → IsTrue (is_passing b) → total u ≤ n → total w ≤ m → ArePrefixes u w → NextIsGet (passes (suc n) site b v u) (passes (suc m) site b v w)
 next_passes zero m site b v u w passing h h' p =
-    next_then (trace_of site b v u) (trace_of site b v w) (passes zero site b) (passes m site b) (longer site b v u w p) (next_block site b v u w p)
-    (λ v' u' w' e e' p'. let fewer = fewer_left site b v u v' u' passing e in absurd (omega arith))
+    next_then (trace_of site [] b v u) (trace_of site [] b v w) (passes zero site b) (passes m site b) (longer site [] b v u w p) (next_block site [] b v u w p)
+    (λ v' u' w' e e' p'. let fewer = fewer_left site [] b v u v' u' passing e in absurd (omega arith))
 next_passes (suc n) zero site b v u w passing h h' p =
-    next_then (trace_of site b v u) (trace_of site b v w) (passes (suc n) site b) (passes zero site b) (longer site b v u w p) (next_block site b v u w p)
-    (λ v' u' w' e e' p'. let fewer = fewer_left site b v w v' w' passing e' in absurd (omega arith))
+    next_then (trace_of site [] b v u) (trace_of site [] b v w) (passes (suc n) site b) (passes zero site b) (longer site [] b v u w p) (next_block site [] b v u w p)
+    (λ v' u' w' e e' p'. let fewer = fewer_left site [] b v w v' w' passing e' in absurd (omega arith))
 next_passes (suc n) (suc m) site b v u w passing h h' p =
-    next_then (trace_of site b v u) (trace_of site b v w) (passes (suc n) site b) (passes (suc m) site b) (longer site b v u w p) (next_block site b v u w p)
-    (λ v' u' w' e e' p'. let fewer = fewer_left site b v u v' u' passing e in let fewer' = fewer_left site b v w v' w' passing e' in next_passes n m site b v' u' w' passing (omega arith) (omega arith) p')
+    next_then (trace_of site [] b v u) (trace_of site [] b v w) (passes (suc n) site b) (passes (suc m) site b) (longer site [] b v u w p) (next_block site [] b v u w p)
+    (λ v' u' w' e e' p'. let fewer = fewer_left site [] b v u v' u' passing e in let fewer' = fewer_left site [] b v w v' w' passing e' in next_passes n m site b v' u' w' passing (omega arith) (omega arith) p')
 
 -- the loop
 pub next_loop : (site : ℕ) (body : Option Block) (v : List ℤ) (u w : List (List ℤ)) → ((b : Block) → body ≡ Some b → IsTrue (is_passing b)) → ArePrefixes u w → NextIsGet (loop_trace site body v u) (loop_trace site body v w)
-next_loop site None v u w passing p = next_block 0 Nothing v u w p
+next_loop site None v u w passing p = next_block 0 [] Nothing v u w p
 next_loop site (Some b) v u w passing p = next_passes (total u) (total w) site b v u w (passing b refl) (omega arith) (omega arith) p
+
+-- statements from a site on
+next_on_block : (number : ℕ) (left : List ℕ) (b : Block) (site : ℕ) (inner : List ℕ) (v : List ℤ) (u w : List (List ℤ)) → ArePrefixes u w → NextIsGet (trace_on number left b site inner v u) (trace_on number left b site inner v w)
+next_on_block number left Nothing site inner v u w p = next_block 0 [] Nothing v u w p
+next_on_block number left (AssignThen x e b) site inner v u w p = next_on_block number left b site inner v u w p
+next_on_block number left (StopThen b) site inner v u w p = next_on_block number left b site inner v u w p
+next_on_block number left (PutThen e c b) site inner v u w p =
+    both_of NextIsGet (number == site) (trace_of number left (PutThen e c b) v u) (trace_on (number + 1) left b site inner v u) (trace_of number left (PutThen e c b) v w) (trace_on (number + 1) left b site inner v w)
+    (next_block number left (PutThen e c b) v u w p) (next_on_block (number + 1) left b site inner v u w p)
+next_on_block number left (GetThen x c b) site inner v u w p =
+    both_of NextIsGet (number == site) (trace_of number left (GetThen x c b) v u) (trace_on (number + 1) left b site inner v u) (trace_of number left (GetThen x c b) v w) (trace_on (number + 1) left b site inner v w)
+    (next_block number left (GetThen x c b) v u w p) (next_on_block (number + 1) left b site inner v u w p)
+next_on_block number left (IfThen test first second b) site inner v u w p =
+    let m = number + sites_of first in
+    let n = number + sites_of first + sites_of second in
+    let behind = trace_of n left b in
+    let one = λ (y : List (List ℤ)). then_do (trace_on number left first site inner v y) behind in
+    let two = λ (y : List (List ℤ)). then_do (trace_on m left second site inner v y) behind in
+    let three = trace_on n left b site inner v in
+    both_of NextIsGet (nat_lt site m) (one u) (cond (nat_lt site n) (two u) (three u)) (one w) (cond (nat_lt site n) (two w) (three w))
+    (next_then (trace_on number left first site inner v u) (trace_on number left first site inner v w) behind behind (longer_on number left first site inner v u w p) (next_on_block number left first site inner v u w p)
+    (λ v' u' w' e e' p'. next_block n left b v' u' w' p'))
+    (both_of NextIsGet (nat_lt site n) (two u) (three u) (two w) (three w)
+    (next_then (trace_on m left second site inner v u) (trace_on m left second site inner v w) behind behind (longer_on m left second site inner v u w p) (next_on_block m left second site inner v u w p)
+    (λ v' u' w' e e' p'. next_block n left b v' u' w' p'))
+    (next_on_block n left b site inner v u w p))
+
+next_body_on : (number : ℕ) (body : Option Block) (point : Point) (v : List ℤ) (u w : List (List ℤ)) → ArePrefixes u w → NextIsGet (body_on number body point v u) (body_on number body point v w)
+next_body_on number None point v u w p = next_block 0 [] Nothing v u w p
+next_body_on number (Some b) point v u w p = next_on_block number [] b point.site point.left v u w p
+
+next_code_on : (code : Code) (point : Point) (v : List ℤ) (u w : List (List ℤ)) → ArePrefixes u w → NextIsGet (code_on code point v u) (code_on code point v w)
+next_code_on code point v u w p =
+    let in_prelude = trace_on 0 [] code.prelude point.site point.left v in
+    let in_body = body_on (sites_of code.prelude) code.body point v in
+    both_of NextIsGet (nat_lt point.site (sites_of code.prelude)) (in_prelude u) (in_body u) (in_prelude w) (in_body w)
+    (next_on_block 0 [] code.prelude point.site point.left v u w p) (next_body_on (sites_of code.prelude) code.body point v u w p)
 
 -- a process from where it stands
 pub next_is_get : (code : Code) (standing : Standing) (small big : List (List ℤ)) → HasPassingLoop code → ArePrefixes small big → NextIsGet (trace_from code standing small) (trace_from code standing big)
 next_is_get code (NotBegun vars) small big passing p =
-    next_then (trace_of 0 code.prelude vars small) (trace_of 0 code.prelude vars big) (loop_trace (sites_of code.prelude) code.body) (loop_trace (sites_of code.prelude) code.body)
-    (longer 0 code.prelude vars small big p) (next_block 0 code.prelude vars small big p) (λ v u w e e' p'. next_loop (sites_of code.prelude) code.body v u w passing p')
-next_is_get code (At site vars) small big passing p =
-    next_then (trace_of site (statements_from code site) vars small) (trace_of site (statements_from code site) vars big) (loop_trace (sites_of code.prelude) code.body) (loop_trace (sites_of code.prelude) code.body)
-    (longer site (statements_from code site) vars small big p) (next_block site (statements_from code site) vars small big p) (λ v u w e e' p'. next_loop (sites_of code.prelude) code.body v u w passing p')
-next_is_get code (Done vars) small big passing p = next_block 0 Nothing vars small big p
+    next_then (trace_of 0 [] code.prelude vars small) (trace_of 0 [] code.prelude vars big) (loop_trace (sites_of code.prelude) code.body) (loop_trace (sites_of code.prelude) code.body)
+    (longer 0 [] code.prelude vars small big p) (next_block 0 [] code.prelude vars small big p) (λ v u w e e' p'. next_loop (sites_of code.prelude) code.body v u w passing p')
+next_is_get code (At point vars) small big passing p =
+    next_then (code_on code point vars small) (code_on code point vars big) (loop_trace (sites_of code.prelude) code.body) (loop_trace (sites_of code.prelude) code.body)
+    (longer_code_on code point vars small big p) (next_code_on code point vars small big p) (λ v u w e e' p'. next_loop (sites_of code.prelude) code.body v u w passing p')
+next_is_get code (Done vars) small big passing p = next_block 0 [] Nothing vars small big p
 
 -- where it waited, the next act on more, if there is one, gets from the channel at which it waited
-pub next_from : (code : Code) (standing : Standing) (small big : List (List ℤ)) → (passing : HasPassingLoop code) → (p : ArePrefixes small big) → (site : ℕ) (v : List ℤ) (c : ℕ)
-    → (trace_from code standing small).end ≡ Waits site v c → (more : List Step) → (trace_from code standing big).steps ≡ (trace_from code standing small).steps ++ more → GetsNext c more
-next_from code standing small big passing p site v c e more h = (next_is_get code standing small big passing p).next site v c e more h
+pub next_from : (code : Code) (standing : Standing) (small big : List (List ℤ)) → (passing : HasPassingLoop code) → (p : ArePrefixes small big) → (point : Point) (v : List ℤ) (c : ℕ)
+    → (trace_from code standing small).end ≡ Waits point v c → (more : List Step) → (trace_from code standing big).steps ≡ (trace_from code standing small).steps ++ more → GetsNext c more
+next_from code standing small big passing p point v c e more h = (next_is_get code standing small big passing p).next point v c e more h
 
 -- two parts of the same steps: the first ends inside these, or past them
 pub data Split (xs ys done rest : List Step) : Type 0 where
@@ -380,6 +508,7 @@ function_of_got code inputs gots m passing few no_put got =
       where
         at_end : (d : End) → (process_trace code gots).end ≡ d → (process_trace code gots).steps ≡ done
         at_end (Ended v u) is = let none : [] ≡ y ∷ (past ++ rest) = sym (l.ends v u is).0 ∙ f in absurd (cc)
+        at_end (Stopped v) is = let none : [] ≡ y ∷ (past ++ rest) = sym (l.stops v is).0 ∙ f in absurd (cc)
         at_end (Waits s v c) is =
             let first : GetsNext c (y ∷ (past ++ rest)) = subst (GetsNext c) f (next_from code (NotBegun code.vars) gots inputs passing p s v c is l.more l.steps) in
             let one = one_got c y.act (got_on c past) first in

@@ -1,14 +1,16 @@
 -- Laws of a process at rest: where it has got all of the channel at which it waits, what it has done by now is all that it does.
-use Rattle.std.proofs.Common.{◌≡◌, ◌==◌, ◌||◌, ℕ, zero, suc, ◌+◌, ◌<◌, ◌≤◌, Bool, true, false, cond, List, ℤ, [], ◌∷◌, ◌++◌, length, take, drop, set, Option, Some, None, refl, sym, ap, ◌∙◌, subst, arith, append-nil}
+use Rattle.std.proofs.Common.{◌≡◌, ◌==◌, ◌||◌, ℕ, zero, suc, ◌+◌, ◌<◌, ◌≤◌, Bool, true, false, cond, pos, List, ℤ, [], ◌∷◌, ◌++◌, length, take, drop, set, Option, Some, None, refl, sym, ap, ◌∙◌, subst, arith, append-nil}
 use Rattle.std.proofs.lemmas.List.{take-append-drop, length-append}
 use Rattle.std.proofs.lemmas.Bool.Decides.{nat_tests}
 use Rattle.std.specs.Prelude.{IsTrue, slice_get}
+use Rattle.std.specs.Ordering.{int_eq}
 use Rattle.kahn_net.specs.Streams.{history_of, total, ArePrefixes}
-use Rattle.kahn_net.specs.Syntax.{Block, Nothing, GetThen, AssignThen, PutThen, Code}
+use Rattle.kahn_net.specs.Syntax.{Block, Nothing, GetThen, AssignThen, PutThen, StopThen, IfThen, Code}
 use Rattle.kahn_net.specs.Valid.{block_gets, body_gets, code_gets}
-use Rattle.kahn_net.specs.Statements.{Act, Got, Sent, Step, Trace, End, Ended, Waits, trace_of, on_get, from_end, then_do, value_of, sites_of}
+use Rattle.kahn_net.specs.Statements.{Act, Got, Sent, Step, Trace, End, Ended, Waits, Stopped, trace_of, point_at, choose, on_get, from_end, then_do, value_of, sites_of}
 use Rattle.kahn_net.specs.Processes.{Standing, NotBegun, StandsAt, HasPassingLoop, passes, loop_trace, process_trace, got_by, got_on}
 use Rattle.kahn_net.specs.Resuming.{left_after}
+use Rattle.kahn_net.specs.Laws.Traces.{one_of}
 use Rattle.kahn_net.specs.Laws.Streams.{IsLonger, longer_process}
 use Rattle.kahn_net.specs.Laws.Got.{got_on-append, got_and_left, reads_process, process_waits_empty, IsGetFrom, GetsNext, next_from, Split, Within, Beyond, split}
 use Rattle.kahn_net.specs.NextActs.{Next, Begins, Gets, Puts, NoNext, next_of, IsNextAct}
@@ -20,34 +22,46 @@ either_false : (a b : Bool) → (a || b) ≡ false → (a ≡ false) × (b ≡ f
 either_false true b h = absurd (cc)
 either_false false b h = (refl, h)
 
--- statements without a get from a channel get nothing there
-deaf_block : (channel site : ℕ) (b : Block) (vars : List ℤ) (unread : List (List ℤ)) → block_gets channel b ≡ false → got_on channel (trace_of site b vars unread).steps ≡ []
-deaf_block channel site Nothing vars unread h = refl
-deaf_block channel site (AssignThen x e rest) vars unread h = deaf_block channel site rest (set vars x (value_of e vars)) unread h
-deaf_block channel site (PutThen e c rest) vars unread h = deaf_block channel (site + 1) rest vars unread h
-deaf_block channel site (GetThen x c rest) vars unread h =
-    let both = either_false (c == channel) (block_gets channel rest) h in
-    at_get (history_of unread c) both.0 (λ item left. deaf_block channel (site + 1) rest (set vars x item) (set unread c left) both.1)
-  where
-    at_get : (history : List ℤ) → (c == channel) ≡ false → ((item : ℤ) (left : List ℤ) → got_on channel (trace_of (site + 1) rest (set vars x item) (set unread c left)).steps ≡ [])
-        → got_on channel (on_get history site c vars (λ item left. trace_of (site + 1) rest (set vars x item) (set unread c left))).steps ≡ []
-    at_get [] other later = refl
-    at_get (item ∷ left) other later =
-        let after = got_on channel (trace_of (site + 1) rest (set vars x item) (set unread c left)).steps in
-        ap (λ (t : Bool). cond t (item ∷ after) after) other ∙ later item left
-
--- and so on, one after another
+-- what one does after the other
 deaf_then : (channel : ℕ) (t : Trace) (go : List ℤ → List (List ℤ) → Trace) → got_on channel t.steps ≡ [] → ((v : List ℤ) (u : List (List ℤ)) → got_on channel (go v u).steps ≡ []) → got_on channel (then_do t go).steps ≡ []
 deaf_then channel t go h later = got_on-append channel t.steps (from_end t.end go).steps ∙ (ap (λ (x : List ℤ). x ++ got_on channel (from_end t.end go).steps) h ∙ at_end t.end)
   where
     at_end : (e : End) → got_on channel (from_end e go).steps ≡ []
     at_end (Ended v u) = later v u
     at_end (Waits s v c) = refl
+    at_end (Stopped v) = refl
 
+-- statements without a get from a channel get nothing there
+deaf_block : (channel site : ℕ) (left : List ℕ) (b : Block) (vars : List ℤ) (unread : List (List ℤ)) → block_gets channel b ≡ false → got_on channel (trace_of site left b vars unread).steps ≡ []
+deaf_block channel site left Nothing vars unread h = refl
+deaf_block channel site left (AssignThen x e rest) vars unread h = deaf_block channel site left rest (set vars x (value_of e vars)) unread h
+deaf_block channel site left (PutThen e c rest) vars unread h = deaf_block channel (site + 1) left rest vars unread h
+deaf_block channel site left (StopThen rest) vars unread h = refl
+deaf_block channel site left (IfThen test first second rest) vars unread h =
+    let in_first = either_false (block_gets channel first) (block_gets channel second || block_gets channel rest) h in
+    let in_second = either_false (block_gets channel second) (block_gets channel rest) in_first.1 in
+    let one = trace_of site left first vars unread in
+    let other = trace_of (site + sites_of first) left second vars unread in
+    deaf_then channel (choose (value_of test vars) one other) (trace_of (site + sites_of first + sites_of second) left rest)
+    (one_of (λ (t : Trace). got_on channel t.steps ≡ []) (int_eq (value_of test vars) (pos 0)) other one
+    (deaf_block channel (site + sites_of first) left second vars unread in_second.0) (deaf_block channel site left first vars unread in_first.0))
+    (λ v u. deaf_block channel (site + sites_of first + sites_of second) left rest v u in_second.1)
+deaf_block channel site left (GetThen x c rest) vars unread h =
+    let both = either_false (c == channel) (block_gets channel rest) h in
+    at_get (history_of unread c) both.0 (λ item later. deaf_block channel (site + 1) left rest (set vars x item) (set unread c later) both.1)
+  where
+    at_get : (history : List ℤ) → (c == channel) ≡ false → ((item : ℤ) (later : List ℤ) → got_on channel (trace_of (site + 1) left rest (set vars x item) (set unread c later)).steps ≡ [])
+        → got_on channel (on_get history (point_at site left) c vars (λ item later. trace_of (site + 1) left rest (set vars x item) (set unread c later))).steps ≡ []
+    at_get [] other silent = refl
+    at_get (item ∷ later) other silent =
+        let after = got_on channel (trace_of (site + 1) left rest (set vars x item) (set unread c later)).steps in
+        ap (λ (t : Bool). cond t (item ∷ after) after) other ∙ silent item later
+
+-- again and again
 deaf_passes : (channel n site : ℕ) (b : Block) (vars : List ℤ) (unread : List (List ℤ)) → block_gets channel b ≡ false → got_on channel (passes n site b vars unread).steps ≡ []
 deaf_passes channel zero site b vars unread h = refl
 deaf_passes channel (suc n) site b vars unread h =
-    deaf_then channel (trace_of site b vars unread) (passes n site b) (deaf_block channel site b vars unread h) (λ v u. deaf_passes channel n site b v u h)
+    deaf_then channel (trace_of site [] b vars unread) (passes n site b) (deaf_block channel site [] b vars unread h) (λ v u. deaf_passes channel n site b v u h)
 
 deaf_loop : (channel site : ℕ) (body : Option Block) (vars : List ℤ) (unread : List (List ℤ)) → body_gets channel body ≡ false → got_on channel (loop_trace site body vars unread).steps ≡ []
 deaf_loop channel site None vars unread h = refl
@@ -57,8 +71,8 @@ deaf_loop channel site (Some b) vars unread h = deaf_passes channel (suc (total 
 pub deaf : (code : Code) (inputs : List (List ℤ)) (channel : ℕ) → code_gets channel code ≡ false → got_on channel (process_trace code inputs).steps ≡ []
 deaf code inputs channel h =
     let both = either_false (block_gets channel code.prelude) (body_gets channel code.body) h in
-    deaf_then channel (trace_of 0 code.prelude code.vars inputs) (loop_trace (sites_of code.prelude) code.body)
-    (deaf_block channel 0 code.prelude code.vars inputs both.0) (λ v u. deaf_loop channel (sites_of code.prelude) code.body v u both.1)
+    deaf_then channel (trace_of 0 [] code.prelude code.vars inputs) (loop_trace (sites_of code.prelude) code.body)
+    (deaf_block channel 0 [] code.prelude code.vars inputs both.0) (λ v u. deaf_loop channel (sites_of code.prelude) code.body v u both.1)
 
 -- so one that got an item has a get
 pub gets_where_got : (code : Code) (inputs : List (List ℤ)) (channel : ℕ) → 0 < length (got_on channel (process_trace code inputs).steps) → IsTrue (code_gets channel code)
@@ -154,6 +168,7 @@ acts_at_rest code here whole m standing passing p stands few stuck =
     -- and it doesn't stop before: the item for which it would wait is one that it got
     no_less : (y : Step) (past : List Step) → done ≡ own ++ y ∷ past → l.more ≡ y ∷ (past ++ rest) → (e : End) → (process_trace code here).end ≡ e → ⊥
     no_less y past is more (Ended v u) ends = let none : [] ≡ y ∷ (past ++ rest) = sym (l.ends v u ends).0 ∙ more in cc
+    no_less y past is more (Stopped v) ends = let none : [] ≡ y ∷ (past ++ rest) = sym (l.stops v ends).0 ∙ more in cc
     no_less y past is more (Waits s v c) ends =
         let gets : GetsNext c (y ∷ (past ++ rest)) = subst (GetsNext c) more (next_from code (NotBegun code.vars) here whole passing p s v c ends l.more l.steps) in
         let count : length (got_on c done) ≡ length (got_on c own) + suc (length (got_on c past)) = ap (λ (steps : List Step). length (got_on c steps)) is ∙ got_past c own y past gets in

@@ -1,23 +1,27 @@
 -- A process's function is monotone: where more is unread, it does what it did, and then more.
-use Rattle.std.proofs.Common.{true, false, eqb, ◌≡◌, ◌≢◌, ◌⊎◌, ℕ, zero, suc, ◌+◌, ◌<◌, ◌≤◌, List, ℤ, [], ◌∷◌, ◌++◌, refl, sym, ap, ◌∙◌, subst, arith, set, length, append-nil, append_assoc, length-append, drop, Option, Some, None, inl, inr}
+use Rattle.std.proofs.Common.{true, false, pos, eqb, ◌≡◌, ◌≢◌, ◌⊎◌, ℕ, zero, suc, ◌+◌, ◌<◌, ◌≤◌, List, ℤ, [], ◌∷◌, ◌++◌, refl, sym, ap, ◌∙◌, subst, arith, set, length, append-nil, append_assoc, length-append, drop, Option, Some, None, inl, inr}
 use Rattle.std.proofs.lemmas.List.{get_or-set_same, get_or-set_other, drop-append-le}
 use Rattle.std.proofs.lemmas.Bool.Decides.{eqb_tells}
 use Rattle.std.specs.Prelude.{IsTrue}
+use Rattle.std.specs.Ordering.{int_eq}
 use Rattle.kahn_net.specs.Streams.{history_of, total, IsPrefix, ArePrefixes}
-use Rattle.kahn_net.specs.Syntax.{Block, Nothing, GetThen, AssignThen, PutThen, Code}
+use Rattle.kahn_net.specs.Syntax.{Block, Nothing, GetThen, AssignThen, PutThen, StopThen, IfThen, Code}
 use Rattle.kahn_net.specs.Valid.{is_passing}
-use Rattle.kahn_net.specs.Statements.{Got, Sent, Step, Trace, End, Ended, Waits, trace_of, on_get, from_end, then_do, value_of, sites_of}
+use Rattle.kahn_net.specs.Statements.{Got, Sent, Point, Step, Trace, End, Ended, Waits, Stopped, no_steps, trace_of, point_at, choose, on_get, from_end, then_do, value_of, sites_of}
 use Rattle.kahn_net.specs.Processes.{Standing, NotBegun, At, Done, standing_at, IsHere, StandsAt, HasPassingLoop, passes, loop_trace, process_trace, sent_on, output_of}
+use Rattle.kahn_net.specs.Laws.Traces.{both_of}
 use Rattle.kahn_net.specs.Laws.Passes.{fewer_left}
 use Rattle.kahn_net.specs.Laws.Puts.{sent_on-append}
 use Rattle.kahn_net.specs.Laws.Prefixes.{IsFollowed, followed, prefix_of}
 
--- A longer trace does the same and goes on: where this one waits it stands at the same place, and where this one ended it ends too.
+-- A longer trace does the same and goes on: where this one waits it stands at the same point, and where this one ended or stopped it does so
+-- too.
 pub record IsLonger (t long : Trace) : Type 0 where
   pub more : List Step
   pub steps : long.steps ≡ t.steps ++ more
-  pub stands : (site : ℕ) (v : List ℤ) → standing_at [] t.end ≡ At site v → standing_at more long.end ≡ At site v
+  pub stands : (point : Point) (v : List ℤ) → standing_at [] t.end ≡ At point v → standing_at more long.end ≡ At point v
   pub ends : (v : List ℤ) (u : List (List ℤ)) → t.end ≡ Ended v u → (more ≡ []) × ((u' : List (List ℤ)) × (long.end ≡ Ended v u') × ArePrefixes u u')
+  pub stops : (v : List ℤ) → t.end ≡ Stopped v → (more ≡ []) × (long.end ≡ Stopped v)
 
 -- a channel on which there is an item is there
 pub within : (all : List (List ℤ)) (c : ℕ) (x : ℤ) (xs : List ℤ) → history_of all c ≡ x ∷ xs → c < length all
@@ -39,47 +43,15 @@ prefixes_set small big c x y left rest ys p h k e = record { at = λ d. at d (eq
         let m = followed (history_of small d) (history_of big d) (p.at d) in
         prefix_of (record { rest = m.rest; is = get_or-set_other big c d ys [] s.1 ∙ (m.is ∙ ap (λ (z : List ℤ). z ++ m.rest) (sym (get_or-set_other small c d left [] s.1))) })
 
-pub not_done : (v v' : List ℤ) (site : ℕ) → Done v ≡ At site v' → ⊥
-not_done v v' site e = cc
-
--- what statements do
-pub longer : (site : ℕ) (b : Block) (v : List ℤ) (u w : List (List ℤ)) → ArePrefixes u w → IsLonger (trace_of site b v u) (trace_of site b v w)
-longer site Nothing v u w p = record { more = []; steps = refl; stands = λ site' v' h. absurd (not_done v v' site' h); ends = λ v' u' h. (refl, (w, ended v' u' h, subst (λ (x : List (List ℤ)). ArePrefixes x w) (same_unread v' u' h) p)) }
-  where
-    ended : (v' : List ℤ) (u' : List (List ℤ)) → Ended v u ≡ Ended v' u' → Ended v w ≡ Ended v' w
-    ended v' u' h = let same : v ≡ v' = cc in ap (λ (x : List ℤ). Ended x w) same
-
-    same_unread : (v' : List ℤ) (u' : List (List ℤ)) → Ended v u ≡ Ended v' u' → u ≡ u'
-    same_unread v' u' h = cc
-longer site (AssignThen x e b) v u w p =
-    let r = longer site b (set v x (value_of e v)) u w p in record { more = r.more; steps = r.steps; stands = r.stands; ends = r.ends }
-longer site (PutThen e c b) v u w p =
-    let r = longer (site + 1) b v u w p in
-    let s : Step = record { site = site; vars = v; act = Sent c (value_of e v) } in
-    record { more = r.more; steps = ap (λ (x : List Step). s ∷ x) r.steps; stands = r.stands; ends = r.ends }
-longer site (GetThen x c b) v u w p = at_get (history_of u c) (history_of w c) refl refl (followed (history_of u c) (history_of w c) (p.at c))
-    (λ item l l' q. longer (site + 1) b (set v x item) (set u c l) (set w c l') q)
-  where
-    at_get : (h h' : List ℤ) → history_of u c ≡ h → history_of w c ≡ h' → IsFollowed (history_of u c) (history_of w c)
-        → ((item : ℤ) (l l' : List ℤ) → ArePrefixes (set u c l) (set w c l') → IsLonger (trace_of (site + 1) b (set v x item) (set u c l)) (trace_of (site + 1) b (set v x item) (set w c l')))
-        → IsLonger (on_get h site c v (λ item left. trace_of (site + 1) b (set v x item) (set u c left))) (on_get h' site c v (λ item left. trace_of (site + 1) b (set v x item) (set w c left)))
-    at_get [] [] hu hw m later = record { more = []; steps = refl; stands = λ site' v' h. h; ends = λ v' u' h. absurd (cc) }
-    at_get [] (y ∷ ys) hu hw m later = record { more = (on_get (y ∷ ys) site c v (λ item left. trace_of (site + 1) b (set v x item) (set w c left))).steps; steps = refl; stands = λ site' v' h. h; ends = λ v' u' h. absurd (cc) }
-    at_get (z ∷ zs) [] hu hw m later = let bad : [] ≡ (z ∷ zs) ++ m.rest = sym hw ∙ (m.is ∙ ap (λ (q : List ℤ). q ++ m.rest) hu) in absurd (cc)
-    at_get (z ∷ zs) (y ∷ ys) hu hw m later =
-        let both : y ∷ ys ≡ z ∷ (zs ++ m.rest) = sym hw ∙ (m.is ∙ ap (λ (q : List ℤ). q ++ m.rest) hu) in
-        let same : z ≡ y = cc in
-        let tail : ys ≡ zs ++ m.rest = cc in
-        let r = later z zs ys (prefixes_set u w c z y zs m.rest ys p hu hw tail) in
-        let s : Step = record { site = site; vars = v; act = Got c z } in
-        let r2 : IsLonger (on_get (z ∷ zs) site c v (λ item left. trace_of (site + 1) b (set v x item) (set u c left))) (on_get (z ∷ ys) site c v (λ item left. trace_of (site + 1) b (set v x item) (set w c left))) = record { more = r.more; steps = ap (λ (q : List Step). s ∷ q) r.steps; stands = r.stands; ends = r.ends } in
-        subst (λ (i : ℤ). IsLonger (on_get (z ∷ zs) site c v (λ item left. trace_of (site + 1) b (set v x item) (set u c left))) (on_get (i ∷ ys) site c v (λ item left. trace_of (site + 1) b (set v x item) (set w c left)))) same r2
+pub not_done : (v v' : List ℤ) (point : Point) → Done v ≡ At point v' → ⊥
+not_done v v' point e = cc
 
 -- what stands before more still stands
-keeps : (rest : List Step) (e : End) (go : List ℤ → List (List ℤ) → Trace) (site : ℕ) (v : List ℤ) → standing_at rest e ≡ At site v → standing_at (rest ++ (from_end e go).steps) (from_end e go).end ≡ At site v
-keeps (x ∷ rest) e go site v h = h
-keeps [] (Waits s y c) go site v h = h
-keeps [] (Ended y z) go site v h = absurd (not_done y v site h)
+keeps : (rest : List Step) (e : End) (go : List ℤ → List (List ℤ) → Trace) (point : Point) (v : List ℤ) → standing_at rest e ≡ At point v → standing_at (rest ++ (from_end e go).steps) (from_end e go).end ≡ At point v
+keeps (x ∷ rest) e go point v h = h
+keeps [] (Waits s y c) go point v h = h
+keeps [] (Ended y z) go point v h = absurd (not_done y v point h)
+keeps [] (Stopped y) go point v h = absurd (not_done y v point h)
 
 -- what one does after the other
 pub longer_then : (t long : Trace) (go go' : List ℤ → List (List ℤ) → Trace) → IsLonger t long
@@ -92,7 +64,18 @@ longer_then t long go go' l next = at_end t.end refl
       steps = ap (λ (x : List Step). x ++ (from_end long.end go').steps) l.steps ∙ (append_assoc t.steps l.more (from_end long.end go').steps ∙ ap (λ (x : List Step). x ++ (l.more ++ (from_end long.end go').steps)) (sym (append-nil t.steps)));
       stands = λ site v h. keeps l.more long.end go' site v (l.stands site v (ap (standing_at []) is ∙ h));
       ends = λ v u h. absurd (cc);
+      stops = λ v h. absurd (cc);
     }
+    at_end (Stopped y) is =
+        let e = l.stops y is in
+        let same : from_end long.end go' ≡ no_steps (Stopped y) = ap (λ (x : End). from_end x go') e.1 in
+        record {
+          more = (from_end long.end go').steps;
+          steps = ap (λ (x : List Step). x ++ (from_end long.end go').steps) (l.steps ∙ ap (λ (x : List Step). t.steps ++ x) e.0);
+          stands = λ point v h. absurd (not_done y v point h);
+          ends = λ v u h. absurd (cc);
+          stops = λ v h. (ap (λ (x : Trace). x.steps) same, ap (λ (x : Trace). x.end) same ∙ h);
+        }
     at_end (Ended v u) is =
         let e = l.ends v u is in
         let w = e.1.0 in
@@ -104,30 +87,73 @@ longer_then t long go go' l next = at_end t.end refl
           steps = ap (λ (x : List Step). x ++ (from_end long.end go').steps) (l.steps ∙ (ap (λ (x : List Step). t.steps ++ x) e.0 ∙ append-nil t.steps)) ∙ (ap (λ (x : List Step). t.steps ++ x) n2.steps ∙ sym (append_assoc t.steps (go v u).steps n2.more));
           stands = n2.stands;
           ends = n2.ends;
+          stops = n2.stops;
         }
+
+-- what statements do
+pub longer : (site : ℕ) (left : List ℕ) (b : Block) (v : List ℤ) (u w : List (List ℤ)) → ArePrefixes u w → IsLonger (trace_of site left b v u) (trace_of site left b v w)
+longer site left Nothing v u w p = record { more = []; steps = refl; stands = λ point v' h. absurd (not_done v v' point h); ends = λ v' u' h. (refl, (w, ended v' u' h, subst (λ (x : List (List ℤ)). ArePrefixes x w) (same_unread v' u' h) p)); stops = λ v' h. absurd (cc) }
+  where
+    ended : (v' : List ℤ) (u' : List (List ℤ)) → Ended v u ≡ Ended v' u' → Ended v w ≡ Ended v' w
+    ended v' u' h = let same : v ≡ v' = cc in ap (λ (x : List ℤ). Ended x w) same
+
+    same_unread : (v' : List ℤ) (u' : List (List ℤ)) → Ended v u ≡ Ended v' u' → u ≡ u'
+    same_unread v' u' h = cc
+longer site left (AssignThen x e b) v u w p =
+    let r = longer site left b (set v x (value_of e v)) u w p in record { more = r.more; steps = r.steps; stands = r.stands; ends = r.ends; stops = r.stops }
+longer site left (PutThen e c b) v u w p =
+    let r = longer (site + 1) left b v u w p in
+    let s : Step = record { point = point_at site left; vars = v; act = Sent c (value_of e v) } in
+    record { more = r.more; steps = ap (λ (x : List Step). s ∷ x) r.steps; stands = r.stands; ends = r.ends; stops = r.stops }
+longer site left (StopThen b) v u w p =
+    record { more = []; steps = refl; stands = λ point v' h. absurd (not_done v v' point h); ends = λ v' u' h. absurd (cc); stops = λ v' h. (refl, h) }
+longer site left (IfThen test first second b) v u w p =
+    let one = trace_of site left first v in
+    let other = trace_of (site + sites_of first) left second v in
+    let go = trace_of (site + sites_of first + sites_of second) left b in
+    longer_then (choose (value_of test v) (one u) (other u)) (choose (value_of test v) (one w) (other w)) go go
+    (both_of IsLonger (int_eq (value_of test v) (pos 0)) (other u) (one u) (other w) (one w) (longer (site + sites_of first) left second v u w p) (longer site left first v u w p))
+    (λ v' u' w' e e' p'. longer (site + sites_of first + sites_of second) left b v' u' w' p')
+longer site left (GetThen x c b) v u w p = at_get (history_of u c) (history_of w c) refl refl (followed (history_of u c) (history_of w c) (p.at c))
+    (λ item l l' q. longer (site + 1) left b (set v x item) (set u c l) (set w c l') q)
+  where
+    at_get : (h h' : List ℤ) → history_of u c ≡ h → history_of w c ≡ h' → IsFollowed (history_of u c) (history_of w c)
+        → ((item : ℤ) (l l' : List ℤ) → ArePrefixes (set u c l) (set w c l') → IsLonger (trace_of (site + 1) left b (set v x item) (set u c l)) (trace_of (site + 1) left b (set v x item) (set w c l')))
+        → IsLonger (on_get h (point_at site left) c v (λ item later. trace_of (site + 1) left b (set v x item) (set u c later))) (on_get h' (point_at site left) c v (λ item later. trace_of (site + 1) left b (set v x item) (set w c later)))
+    at_get [] [] hu hw m later = record { more = []; steps = refl; stands = λ point v' h. h; ends = λ v' u' h. absurd (cc); stops = λ v' h. absurd (cc) }
+    at_get [] (y ∷ ys) hu hw m later = record { more = (on_get (y ∷ ys) (point_at site left) c v (λ item later. trace_of (site + 1) left b (set v x item) (set w c later))).steps; steps = refl; stands = λ point v' h. h; ends = λ v' u' h. absurd (cc); stops = λ v' h. absurd (cc) }
+    at_get (z ∷ zs) [] hu hw m later = let bad : [] ≡ (z ∷ zs) ++ m.rest = sym hw ∙ (m.is ∙ ap (λ (q : List ℤ). q ++ m.rest) hu) in absurd (cc)
+    at_get (z ∷ zs) (y ∷ ys) hu hw m later =
+        let both : y ∷ ys ≡ z ∷ (zs ++ m.rest) = sym hw ∙ (m.is ∙ ap (λ (q : List ℤ). q ++ m.rest) hu) in
+        let same : z ≡ y = cc in
+        let tail : ys ≡ zs ++ m.rest = cc in
+        let r = later z zs ys (prefixes_set u w c z y zs m.rest ys p hu hw tail) in
+        let s : Step = record { point = point_at site left; vars = v; act = Got c z } in
+        let r2 : IsLonger (on_get (z ∷ zs) (point_at site left) c v (λ item later. trace_of (site + 1) left b (set v x item) (set u c later))) (on_get (z ∷ ys) (point_at site left) c v (λ item later. trace_of (site + 1) left b (set v x item) (set w c later))) = record { more = r.more; steps = ap (λ (q : List Step). s ∷ q) r.steps; stands = r.stands; ends = r.ends; stops = r.stops } in
+        subst (λ (i : ℤ). IsLonger (on_get (z ∷ zs) (point_at site left) c v (λ item later. trace_of (site + 1) left b (set v x item) (set u c later))) (on_get (i ∷ ys) (point_at site left) c v (λ item later. trace_of (site + 1) left b (set v x item) (set w c later)))) same r2
 
 -- whole passes
 pub longer_passes : (n m site : ℕ) (b : Block) (v : List ℤ) (u w : List (List ℤ)) → IsTrue (is_passing b) → total u ≤ n → total w ≤ m → ArePrefixes u w → IsLonger (passes (suc n) site b v u) (passes (suc m) site b v w)
 longer_passes zero m site b v u w passing h h' p =
-    longer_then (trace_of site b v u) (trace_of site b v w) (passes zero site b) (passes m site b) (longer site b v u w p)
-    (λ v' u' w' e e' p'. let fewer = fewer_left site b v u v' u' passing e in absurd (omega arith))
+    longer_then (trace_of site [] b v u) (trace_of site [] b v w) (passes zero site b) (passes m site b) (longer site [] b v u w p)
+    (λ v' u' w' e e' p'. let fewer = fewer_left site [] b v u v' u' passing e in absurd (omega arith))
 longer_passes (suc n) zero site b v u w passing h h' p =
-    longer_then (trace_of site b v u) (trace_of site b v w) (passes (suc n) site b) (passes zero site b) (longer site b v u w p)
-    (λ v' u' w' e e' p'. let fewer = fewer_left site b v w v' w' passing e' in absurd (omega arith))
+    longer_then (trace_of site [] b v u) (trace_of site [] b v w) (passes (suc n) site b) (passes zero site b) (longer site [] b v u w p)
+    (λ v' u' w' e e' p'. let fewer = fewer_left site [] b v w v' w' passing e' in absurd (omega arith))
 longer_passes (suc n) (suc m) site b v u w passing h h' p =
-    longer_then (trace_of site b v u) (trace_of site b v w) (passes (suc n) site b) (passes (suc m) site b) (longer site b v u w p)
-    (λ v' u' w' e e' p'. let fewer = fewer_left site b v u v' u' passing e in let fewer' = fewer_left site b v w v' w' passing e' in longer_passes n m site b v' u' w' passing (omega arith) (omega arith) p')
+    longer_then (trace_of site [] b v u) (trace_of site [] b v w) (passes (suc n) site b) (passes (suc m) site b) (longer site [] b v u w p)
+    (λ v' u' w' e e' p'. let fewer = fewer_left site [] b v u v' u' passing e in let fewer' = fewer_left site [] b v w v' w' passing e' in longer_passes n m site b v' u' w' passing (omega arith) (omega arith) p')
 
 -- the loop
 pub longer_loop : (site : ℕ) (body : Option Block) (v : List ℤ) (u w : List (List ℤ)) → ((b : Block) → body ≡ Some b → IsTrue (is_passing b)) → ArePrefixes u w → IsLonger (loop_trace site body v u) (loop_trace site body v w)
-longer_loop site None v u w passing p = longer 0 Nothing v u w p
+longer_loop site None v u w passing p = longer 0 [] Nothing v u w p
 longer_loop site (Some b) v u w passing p = longer_passes (total u) (total w) site b v u w (passing b refl) (omega arith) (omega arith) p
 
 -- a process
 pub longer_process : (code : Code) (small big : List (List ℤ)) → HasPassingLoop code → ArePrefixes small big → IsLonger (process_trace code small) (process_trace code big)
 longer_process code small big passing p =
-    longer_then (trace_of 0 code.prelude code.vars small) (trace_of 0 code.prelude code.vars big) (loop_trace (sites_of code.prelude) code.body) (loop_trace (sites_of code.prelude) code.body)
-    (longer 0 code.prelude code.vars small big p) (λ v u w e e' p'. longer_loop (sites_of code.prelude) code.body v u w passing p')
+    longer_then (trace_of 0 [] code.prelude code.vars small) (trace_of 0 [] code.prelude code.vars big) (loop_trace (sites_of code.prelude) code.body) (loop_trace (sites_of code.prelude) code.body)
+    (longer 0 [] code.prelude code.vars small big p) (λ v u w e e' p'. longer_loop (sites_of code.prelude) code.body v u w passing p')
 
 -- more unread gives the same, and then more
 pub monotone : (code : Code) (small big : List (List ℤ)) (channel : ℕ) → HasPassingLoop code → ArePrefixes small big → IsPrefix (output_of code small channel) (output_of code big channel)
@@ -143,6 +169,7 @@ still_stands t long l [] = at t.end refl
     at : (e : End) → t.end ≡ e → standing_at l.more long.end ≡ standing_at [] t.end
     at (Waits s v c) is = l.stands s v (ap (standing_at []) is) ∙ ap (standing_at []) (sym is)
     at (Ended v u) is = let e = l.ends v u is in ap (λ (m : List Step). standing_at m long.end) e.0 ∙ (ap (standing_at []) e.1.1 ∙ ap (standing_at []) (sym is))
+    at (Stopped v) is = let e = l.stops v is in ap (λ (m : List Step). standing_at m long.end) e.0 ∙ (ap (standing_at []) e.1 ∙ ap (standing_at []) (sym is))
 
 -- where a process stands after m acts doesn't depend on what comes later on its inputs
 pub stands_on : (code : Code) (small big : List (List ℤ)) (m : ℕ) (standing : Standing) → HasPassingLoop code → ArePrefixes small big → StandsAt code small m standing → StandsAt code big m standing
@@ -161,5 +188,5 @@ stands_on code small big m standing passing p s =
         → standing_at (drop m (process_trace code small).steps) (process_trace code small).end ≡ standing_at (drop m (process_trace code big).steps) (process_trace code big).end
         → IsHere code (process_trace code big) m standing
     on (NotBegun vars) h same = h
-    on (At site vars) h same = h ∙ same
+    on (At point vars) h same = h ∙ same
     on (Done vars) h same = h ∙ same

@@ -8,7 +8,7 @@ use Rattle.net_check.specs.Joints.{AreJoined, EndFaultAmong}
 use Rattle.net_check.specs.Ready.{IsFit}
 use Rattle.net_check.specs.Resolution.{AllDifferent}
 use Rattle.kahn_net.specs.Syntax.{code_of}
-use Rattle.net_check.proofs.Checked.{end_fault_in, node_zero, one_node, resolves, valid}
+use Rattle.net_check.proofs.Checked.{end_fault_in, resolves, valid}
 use Rattle.net_check.proofs.checks.check_in_order.Goals as goal
 
 pub returns-in_err-channels-clause-fault : goal.returns-in_err-channels-clause-fault
@@ -42,12 +42,3 @@ returns-clause-resolved c =
     let fit = subst (λ (xs : List ProcessText). (p : ℕ) (process : ProcessTree) → slice_get (map process_tree xs) p ≡ Some process → IsFit process) c.deref.ensures.value c.in_ok-check_all_limits.ensures.ok in
     let j = subst (λ (xs : List ChannelText). AreJoined xs ends.producers ends.consumers c.in_ok-channels.channels.items) c.deref-2.ensures.value c.in_ok-channels.ensures.ok in
     rw (c.in_ok-channel_names.ensures, c.in_ok-process_names.ensures) (resolves _ _ _ _ _ _ d.declared r fit j (net_tree c.args.text) d.channels d.processes)
-
-pub returns-clause-one_node : goal.returns-clause-one_node
-returns-clause-one_node c =
-    let d = c.in_ok-declared.ensures in
-    let ends = c.in_ok-resolved.resolved.ends in
-    let r = c.in_ok-resolved.ensures.ok in
-    let fit = subst (λ (xs : List ProcessText). (p : ℕ) (process : ProcessTree) → slice_get (map process_tree xs) p ≡ Some process → IsFit process) c.deref.ensures.value c.in_ok-check_all_limits.ensures.ok in
-    let j = subst (λ (xs : List ChannelText). AreJoined xs ends.producers ends.consumers c.in_ok-channels.channels.items) c.deref-2.ensures.value c.in_ok-channels.ensures.ok in
-    one_node _ (node_zero _ _ _ _ _ _ d.declared r fit j)

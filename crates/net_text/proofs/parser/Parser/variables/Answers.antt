@@ -1,5 +1,5 @@
 use Rattle.std.proofs.Common.{sym, ◌∙◌}
-use Rattle.net_text.proofs.Sound.{variable_shortens}
+use Rattle.net_text.proofs.Loops.{variable_shortens}
 use Rattle.net_text.proofs.Loops.{variables_more}
 use Rattle.net_text.proofs.parser.Parser.variables.Goals as goal
 
