@@ -4,7 +4,7 @@
 use kahn_net::History;
 use net_check::{Net, check};
 use net_text::parse;
-use proc_step::{Job, Place, ProcState};
+use proc_step::{Job, Mode, Place, ProcState};
 use std::alloc::Global;
 use std::env;
 use std::sync::Arc;
@@ -41,7 +41,10 @@ fn job(alloc: Global, net: &Arc<Net>, items: usize) -> anyhow::Result<Job> {
         process: 0,
         version: 0,
         state: ProcState {
-            place: Place::At(0),
+            mode: Mode::At(Place {
+                site: 0,
+                left: Vec::new(alloc),
+            }),
             variables: vec![in alloc; 0; 2]?,
         },
         items: all,

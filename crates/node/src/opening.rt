@@ -10,7 +10,7 @@ use crate::cell::StableCell;
 use crate::node::Node;
 use crate::state::NodeState;
 use gate_cell::CellFault;
-use kahn_net::{Channel, Place, Port, ProcState, Process};
+use kahn_net::{Channel, Mode, Port, ProcState, Process};
 use net_check::Net;
 use record::{End, Image, Record, SavedEnd, SavedProcess};
 use retained::Log;
@@ -26,7 +26,7 @@ fn open_processes(alloc: Global, processes: &[Process]) -> Result<Vec<SavedProce
         saved.push(SavedProcess {
             number: number as u8,
             state: ProcState {
-                place: Place::NotBegun,
+                mode: Mode::NotBegun,
                 variables: Vec::from_slice(alloc, process.variables.as_slice())?,
             },
         })?;

@@ -8,7 +8,7 @@ ghost use Rattle.node.specs.Granting.{is_process};
 ghost use Rattle.record.specs.Changes.{LogTakes};
 ghost use Rattle.node.specs.Installing.{taken_from, put_on, EndTakes, ImageTakes};
 
-use kahn_net::{Channel, History, MAX_COUNT, Place, Port, ProcState};
+use kahn_net::{Channel, History, MAX_COUNT, Mode, Place, Port, ProcState};
 use net_check::{Inputs, Net, bind, check};
 use net_text::{parse, parse_inputs};
 use node::{CellFault, MemCell, NodeState, StableCell};
@@ -29,16 +29,24 @@ fn log_from(alloc: Global, items: &[i64], base: u64) -> Result<Log, Fail> {
     Ok(log)
 }
 
+// Before the get or put of this site.
+fn at(alloc: Global, site: usize) -> Mode {
+    Mode::At(Place {
+        site,
+        left: Vec::new(alloc),
+    })
+}
+
 fn saved_process(
     alloc: Global,
     number: u8,
-    place: Place,
+    mode: Mode,
     variables: &[i64],
 ) -> Result<SavedProcess, Fail> {
     Ok(SavedProcess {
         number,
         state: ProcState {
-            place,
+            mode,
             variables: Vec::from_slice(alloc, variables)?,
         },
     })
@@ -54,8 +62,8 @@ fn saved_ends(alloc: Global, first: SavedEnd, second: SavedEnd) -> Result<Vec<Sa
 // Two processes; 9 items were got from channel 2, and of five items put on channel 5 the last three are retained.
 fn permanent_image(alloc: Global) -> Result<Image, Fail> {
     let mut processes = Vec::new(alloc);
-    processes.push(saved_process(alloc, 0, Place::At(1), &[5, -6])?)?;
-    processes.push(saved_process(alloc, 3, Place::Finished, &[])?)?;
+    processes.push(saved_process(alloc, 0, at(alloc, 1), &[5, -6])?)?;
+    processes.push(saved_process(alloc, 3, Mode::Finished, &[])?)?;
     let received = SavedEnd {
         channel: 2,
         end: End::Receives { received: 9 },
@@ -75,7 +83,7 @@ fn permanent_image(alloc: Global) -> Result<Image, Fail> {
 // One process, later: channel 5 has a sixth item, and channel 7 stays on the node.
 fn tentative_image(alloc: Global) -> Result<Image, Fail> {
     let mut processes = Vec::new(alloc);
-    processes.push(saved_process(alloc, 0, Place::NotBegun, &[i64::MIN])?)?;
+    processes.push(saved_process(alloc, 0, Mode::NotBegun, &[i64::MIN])?)?;
     let sent = SavedEnd {
         channel: 5,
         end: End::Sends {
@@ -218,9 +226,9 @@ fn states_of_processes(rt: HostRuntime) -> Result<(), Fail> {
     match image.processes.as_slice() {
         [first, second] => {
             assert_eq!(rt; (first.number, second.number), (0, 3));
-            assert_eq!(rt; first.state.place, Place::At(1));
+            assert!(rt; first.state.mode.is_same(&at(alloc, 1)));
             assert_eq!(rt; first.state.variables.as_slice(), [5, -6].as_slice());
-            assert_eq!(rt; second.state.place, Place::Finished);
+            assert!(rt; second.state.mode.is_same(&Mode::Finished));
         }
         _ => return Err("not two processes".into()),
     }
@@ -272,9 +280,9 @@ fn items_in(alloc: Global, net: &Net, text: &str) -> Result<Inputs, Fail> {
 }
 
 // The node of the running sum, with its process here, so many items received and this log of its output.
-fn sum_node(alloc: Global, place: Place, received: u64, log: Log) -> Result<NodeState, Fail> {
+fn sum_node(alloc: Global, mode: Mode, received: u64, log: Log) -> Result<NodeState, Fail> {
     let mut processes = Vec::new(alloc);
-    processes.push(saved_process(alloc, 0, place, &[0, 0])?)?;
+    processes.push(saved_process(alloc, 0, mode, &[0, 0])?)?;
     let input = SavedEnd {
         channel: 0,
         end: End::Receives { received },
@@ -425,7 +433,7 @@ fn a_turn_of_the_running_sum(rt: HostRuntime) -> Result<(), Fail> {
     let alloc = rt.alloc();
     let net = sum_net(alloc)?;
     let inputs = items_in(alloc, &net, "i: 5 -2 4")?;
-    let mut node = sum_node(alloc, Place::NotBegun, 0, Log::new(alloc))?;
+    let mut node = sum_node(alloc, Mode::NotBegun, 0, Log::new(alloc))?;
     assert!(rt; node.has_job(&net, &inputs));
     let job = granted(alloc, &mut node, &net, &inputs)?;
     assert_eq!(rt; (job.process, job.version), (0, 7));
@@ -461,12 +469,12 @@ fn where_a_process_stands_after_a_turn(rt: HostRuntime) -> Result<(), Fail> {
     let alloc = rt.alloc();
     let net = sum_net(alloc)?;
     let inputs = items_in(alloc, &net, "i: 5 -2 4")?;
-    let mut node = sum_node(alloc, Place::NotBegun, 0, Log::new(alloc))?;
+    let mut node = sum_node(alloc, Mode::NotBegun, 0, Log::new(alloc))?;
     let done = granted(alloc, &mut node, &net, &inputs)?.run(alloc)?;
     take_in(alloc, &mut node, &net, &done)?;
     match node.current.processes.as_slice() {
         [sum] => {
-            assert_eq!(rt; sum.state.place, Place::At(0));
+            assert!(rt; sum.state.mode.is_same(&at(alloc, 0)));
             assert_eq!(rt; sum.state.variables.as_slice(), [7, 4].as_slice());
         }
         _ => return Err("not one process".into()),
@@ -480,7 +488,7 @@ fn what_came_of_another_job_is_left(rt: HostRuntime) -> Result<(), Fail> {
     let alloc = rt.alloc();
     let net = sum_net(alloc)?;
     let inputs = items_in(alloc, &net, "i: 5 -2 4")?;
-    let mut node = sum_node(alloc, Place::NotBegun, 0, Log::new(alloc))?;
+    let mut node = sum_node(alloc, Mode::NotBegun, 0, Log::new(alloc))?;
     let stale = granted(alloc, &mut node, &net, &inputs)?.run(alloc)?;
     // As after a crash, and then the same job again.
     node.out = None;
@@ -492,7 +500,7 @@ fn what_came_of_another_job_is_left(rt: HostRuntime) -> Result<(), Fail> {
         false,
         "another version"
     );
-    let mut other = sum_node(alloc, Place::NotBegun, 0, Log::new(alloc))?;
+    let mut other = sum_node(alloc, Mode::NotBegun, 0, Log::new(alloc))?;
     other.version = 8;
     let others = items_in(alloc, &net, "i: 5 -2 9")?;
     let foreign = granted(alloc, &mut other, &net, &others)?.run(alloc)?;
@@ -516,10 +524,10 @@ fn a_get_waits_for_an_item(rt: HostRuntime) -> Result<(), Fail> {
     let alloc = rt.alloc();
     let net = sum_net(alloc)?;
     let inputs = items_in(alloc, &net, "i: 5 -2 4")?;
-    let mut node = sum_node(alloc, Place::At(0), 3, Log::new(alloc))?;
+    let mut node = sum_node(alloc, at(alloc, 0), 3, Log::new(alloc))?;
     assert!(rt; !node.has_job(&net, &inputs));
     assert!(rt; node.grant(alloc, &net, &inputs)?.is_none());
-    let mut node = sum_node(alloc, Place::At(0), 2, Log::new(alloc))?;
+    let mut node = sum_node(alloc, at(alloc, 0), 2, Log::new(alloc))?;
     let job = granted(alloc, &mut node, &net, &inputs)?;
     assert_eq!(rt;
         job.items.first().map(|items| items.as_slice()),
@@ -534,11 +542,11 @@ fn a_put_waits_for_room(rt: HostRuntime) -> Result<(), Fail> {
     let net = sum_net(alloc)?;
     let inputs = items_in(alloc, &net, "i: 5 -2 4")?;
     let full = Log::starting_at(alloc, MAX_COUNT);
-    let mut node = sum_node(alloc, Place::At(1), 0, full)?;
+    let mut node = sum_node(alloc, at(alloc, 1), 0, full)?;
     assert!(rt; !node.has_job(&net, &inputs));
     assert!(rt; node.grant(alloc, &net, &inputs)?.is_none());
     let one_place = Log::starting_at(alloc, MAX_COUNT - 1);
-    let mut node = sum_node(alloc, Place::At(1), 0, one_place)?;
+    let mut node = sum_node(alloc, at(alloc, 1), 0, one_place)?;
     let job = granted(alloc, &mut node, &net, &inputs)?;
     assert_eq!(rt; job.room.as_slice(), [0, 1].as_slice());
     Ok(())

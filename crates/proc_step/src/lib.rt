@@ -12,5 +12,5 @@ mod statements;
 mod turn;
 
 pub use job::{Done, Job, JobFault};
-pub use kahn_net::{Place, ProcState};
+pub use kahn_net::{Mode, Place, ProcState};
 pub use next::{NextAct, next_act};

@@ -3,7 +3,7 @@
 //! came out as written.
 //!
 //! A line `== TITLE` begins a case, `-- net`, `-- inputs`, `-- out` and `-- err` begin its texts, which are the lines that
-//! follow, and `-- status N` gives the status. A text that isn't there is empty.
+//! follow, `-- status N` gives the status, and `-- approx N` and `-- items N` the options. A text that isn't there is empty.
 #![tactic(auto)]
 
 use kahn_program::{Options, run};
@@ -30,6 +30,8 @@ struct Case {
     out: String,
     err: String,
     status: u8,
+    approx: Option<u64>,
+    items: Option<u64>,
     part: Part,
 }
 
@@ -42,6 +44,8 @@ impl Case {
             out: String::new(alloc),
             err: String::new(alloc),
             status: 0,
+            approx: None,
+            items: None,
             part: Part::Net,
         })
     }
@@ -61,6 +65,14 @@ impl Case {
 
     /// A further line of the case.
     fn add(&mut self, line: &str) -> Result<(), AllocError> {
+        if let Some(number) = line.strip_prefix("-- approx ") {
+            self.approx = number.parse::<u64>().ok();
+            return Ok(());
+        }
+        if let Some(number) = line.strip_prefix("-- items ") {
+            self.items = number.parse::<u64>().ok();
+            return Ok(());
+        }
         match line {
             "-- net" => self.part = Part::Net,
             "-- inputs" => self.part = Part::Inputs,
@@ -80,7 +92,9 @@ impl Case {
         let mut err = Vec::new(alloc);
         let net = Some(self.net.as_bytes());
         let inputs = Some(self.inputs.as_bytes());
-        let options = Options::new(String::new(alloc), String::new(alloc));
+        let mut options = Options::new(String::new(alloc), String::new(alloc));
+        options.approx = self.approx;
+        options.items = self.items;
         let status = run(alloc, &options, net, inputs, &mut out, &mut err);
         status == self.status
             && out.as_slice() == self.out.as_bytes()

@@ -4,7 +4,7 @@ use crate::asserting::{same, same_at, same_items, same_items_at};
 use kahn_net::History;
 use net_check::{Net, check};
 use net_text::parse;
-use proc_step::{Done, Job, NextAct, Place, ProcState, next_act};
+use proc_step::{Done, Job, Mode, NextAct, Place, ProcState, next_act};
 use std::alloc::{AllocError, Global};
 use std::process::Abort;
 use std::sync::Arc;
@@ -27,9 +27,39 @@ fn net_of(alloc: Global, text: &str) -> Result<Arc<Net>, Fail> {
     Ok(Arc::new(alloc, net)?)
 }
 
-fn state(alloc: Global, place: Place, variables: &[i64]) -> Result<ProcState, AllocError> {
+/// How far a process is, by its site alone.
+#[derive(Clone, Copy, Debug, PartialEq, Eq)]
+enum Where {
+    NotBegun,
+    At(usize),
+    Finished,
+}
+
+fn mode_at(alloc: Global, place: Where) -> Mode {
+    match place {
+        Where::NotBegun => Mode::NotBegun,
+        Where::At(site) => Mode::At(Place {
+            site,
+            left: Vec::new(alloc),
+        }),
+        Where::Finished => Mode::Finished,
+    }
+}
+
+fn where_is(mode: &Mode) -> Where {
+    match mode {
+        Mode::NotBegun => Where::NotBegun,
+        Mode::At(place) => Where::At(place.site),
+        Mode::Finished => Where::Finished,
+    }
+}
+
+fn state(alloc: Global, place: Where, variables: &[i64]) -> Result<ProcState, AllocError> {
     let variables = Vec::from_slice(alloc, variables)?;
-    Ok(ProcState { place, variables })
+    Ok(ProcState {
+        mode: mode_at(alloc, place),
+        variables,
+    })
 }
 
 /// These items at hand on channel 0, none on channel 1.
@@ -79,7 +109,7 @@ fn taken(done: &Done) -> usize {
 fn turn(
     alloc: Global,
     net: &Arc<Net>,
-    place: Place,
+    place: Where,
     variables: &[i64],
     items: &[i64],
     room: usize,
@@ -99,7 +129,7 @@ fn cut(
     room: usize,
 ) -> Result<Vec<i64>, Fail> {
     let mut out = Vec::new(alloc);
-    let mut before = state(alloc, Place::NotBegun, variables)?;
+    let mut before = state(alloc, Where::NotBegun, variables)?;
     let mut next = 0;
     for _ in 0..100 {
         let rest = items.get(next..).unwrap_or(&[]);
@@ -115,7 +145,7 @@ fn cut(
 }
 
 /// What a network's first process does next from a place.
-fn next(alloc: Global, net: &Net, place: Place) -> Result<NextAct, Fail> {
+fn next(alloc: Global, net: &Net, place: Where) -> Result<NextAct, Fail> {
     if net.program.processes.is_empty() {
         return Err(Fail::new("the network has no process"));
     }
@@ -132,7 +162,7 @@ fn sendable<T: Send + Drop>(value: T) -> T {
 /// Where a turn begins, and what it has.
 #[derive(Clone, Copy)]
 struct Start<'a> {
-    place: Place,
+    place: Where,
     variables: &'a [i64],
     items: &'a [i64],
     room: usize,
@@ -141,7 +171,7 @@ struct Start<'a> {
 /// What a turn comes to.
 #[derive(Clone, Copy)]
 struct End<'a> {
-    place: Place,
+    place: Where,
     variables: &'a [i64],
     taken: usize,
     sent: &'a [i64],
@@ -163,7 +193,7 @@ fn goes(
         start.items,
         start.room,
     )?;
-    same(rt, &done.state.place, &end.place, "place");
+    same(rt, &where_is(&done.state.mode), &end.place, "place");
     same_items(rt, &done.state.variables, end.variables, "variables");
     same(rt, &taken(&done), &end.taken, "taken");
     same_items(rt, sent(&done), end.sent, "sent");
@@ -175,65 +205,65 @@ fn turns_of_the_running_sum(rt: HostRuntime) -> Result<(), Fail> {
     let alloc = rt.alloc();
     let net = net_of(alloc, SUM)?;
     let start = Start {
-        place: Place::NotBegun,
+        place: Where::NotBegun,
         variables: &[0, 0],
         items: &[],
         room: 1,
     };
     let end = End {
-        place: Place::At(0),
+        place: Where::At(0),
         variables: &[0, 0],
         taken: 0,
         sent: &[],
     };
     goes(&rt, alloc, &net, start, end)?;
     let start = Start {
-        place: Place::NotBegun,
+        place: Where::NotBegun,
         variables: &[0, 0],
         items: &[5],
         room: 0,
     };
     let end = End {
-        place: Place::At(1),
+        place: Where::At(1),
         variables: &[5, 5],
         taken: 1,
         sent: &[],
     };
     goes(&rt, alloc, &net, start, end)?;
     let start = Start {
-        place: Place::At(1),
+        place: Where::At(1),
         variables: &[5, 5],
         items: &[],
         room: 1,
     };
     let end = End {
-        place: Place::At(0),
+        place: Where::At(0),
         variables: &[5, 5],
         taken: 0,
         sent: &[5],
     };
     goes(&rt, alloc, &net, start, end)?;
     let start = Start {
-        place: Place::NotBegun,
+        place: Where::NotBegun,
         variables: &[0, 0],
         items: &[1, 2, 3],
         room: 64,
     };
     let end = End {
-        place: Place::At(0),
+        place: Where::At(0),
         variables: &[6, 3],
         taken: 3,
         sent: &[1, 3, 6],
     };
     goes(&rt, alloc, &net, start, end)?;
     let start = Start {
-        place: Place::NotBegun,
+        place: Where::NotBegun,
         variables: &[0, 0],
         items: &[1, 2, 3],
         room: 2,
     };
     let end = End {
-        place: Place::At(1),
+        place: Where::At(1),
         variables: &[6, 3],
         taken: 3,
         sent: &[1, 3],
@@ -246,52 +276,52 @@ fn turns_that_finish(rt: HostRuntime) -> Result<(), Fail> {
     let alloc = rt.alloc();
     let net = net_of(alloc, ONCE)?;
     let start = Start {
-        place: Place::NotBegun,
+        place: Where::NotBegun,
         variables: &[5],
         items: &[4],
         room: 0,
     };
     let end = End {
-        place: Place::At(0),
+        place: Where::At(0),
         variables: &[6],
         taken: 0,
         sent: &[],
     };
     goes(&rt, alloc, &net, start, end)?;
     let start = Start {
-        place: Place::At(1),
+        place: Where::At(1),
         variables: &[6],
         items: &[],
         room: 2,
     };
     let end = End {
-        place: Place::At(1),
+        place: Where::At(1),
         variables: &[6],
         taken: 0,
         sent: &[],
     };
     goes(&rt, alloc, &net, start, end)?;
     let start = Start {
-        place: Place::NotBegun,
+        place: Where::NotBegun,
         variables: &[5],
         items: &[4],
         room: 2,
     };
     let end = End {
-        place: Place::Finished,
+        place: Where::Finished,
         variables: &[4],
         taken: 1,
         sent: &[6, 8],
     };
     goes(&rt, alloc, &net, start, end)?;
     let start = Start {
-        place: Place::Finished,
+        place: Where::Finished,
         variables: &[4],
         items: &[9],
         room: 2,
     };
     let end = End {
-        place: Place::Finished,
+        place: Where::Finished,
         variables: &[4],
         taken: 0,
         sent: &[],
@@ -304,26 +334,26 @@ fn turns_from_prelude_to_loop(rt: HostRuntime) -> Result<(), Fail> {
     let alloc = rt.alloc();
     let net = net_of(alloc, LED)?;
     let start = Start {
-        place: Place::NotBegun,
+        place: Where::NotBegun,
         variables: &[7],
         items: &[1, 2],
         room: 4,
     };
     let end = End {
-        place: Place::At(3),
+        place: Where::At(3),
         variables: &[2],
         taken: 2,
         sent: &[7, 1, 1, 2],
     };
     goes(&rt, alloc, &net, start, end)?;
     let start = Start {
-        place: Place::At(3),
+        place: Where::At(3),
         variables: &[2],
         items: &[],
         room: 9,
     };
     let end = End {
-        place: Place::At(1),
+        place: Where::At(1),
         variables: &[2],
         taken: 0,
         sent: &[2],
@@ -365,7 +395,7 @@ fn job_at(
     items: &[i64],
     room: usize,
 ) -> Result<Job, Fail> {
-    let before = state(alloc, Place::At(0), variables)?;
+    let before = state(alloc, Where::At(0), variables)?;
     let mut job = job(alloc, net, before, items, room)?;
     job.version = version;
     Ok(job)
@@ -387,7 +417,7 @@ fn is_same_as(
 
 /// Whether a job is the same as the one at the sum's put.
 fn is_same_at_put(alloc: Global, one: &Job, net: &Arc<Net>) -> Result<bool, Fail> {
-    let elsewhere = state(alloc, Place::At(1), &[1, 2])?;
+    let elsewhere = state(alloc, Where::At(1), &[1, 2])?;
     let other = job(alloc, net, elsewhere, &[7, 8], 5)?;
     Ok(one.is_same(&other))
 }
@@ -434,7 +464,7 @@ fn jobs_are_compared_whole(rt: HostRuntime) -> Result<(), Fail> {
 fn jobs_and_what_they_come_to_go_to_other_threads(rt: HostRuntime) -> Result<(), Fail> {
     let alloc = rt.alloc();
     let net = net_of(alloc, SUM)?;
-    let before = state(alloc, Place::NotBegun, &[0, 0])?;
+    let before = state(alloc, Where::NotBegun, &[0, 0])?;
     let job = sendable(job(alloc, &net, before, &[2], 1)?);
     same(&rt, &job.node(), &0, "node");
     let done = sendable(job.run(alloc)?);
@@ -451,12 +481,12 @@ fn what_comes_next(rt: HostRuntime) -> Result<(), Fail> {
     let put = NextAct::Put { channel: 1 };
     let get = NextAct::Get { channel: 0 };
     for (place, wanted) in [
-        (Place::NotBegun, NextAct::Begin),
-        (Place::At(0), put),
-        (Place::At(1), get),
-        (Place::At(3), put),
-        (Place::At(4), NextAct::Nothing),
-        (Place::Finished, NextAct::Nothing),
+        (Where::NotBegun, NextAct::Begin),
+        (Where::At(0), put),
+        (Where::At(1), get),
+        (Where::At(3), put),
+        (Where::At(4), NextAct::Nothing),
+        (Where::Finished, NextAct::Nothing),
     ] {
         same_at(&rt, &next(alloc, &led, place)?, &wanted, &place);
     }
