@@ -6,6 +6,8 @@ pub mod Numerals
 pub mod Steps
 pub mod Readings
 pub mod Rules
+pub mod Beginnings
+pub mod Growth
 pub mod Many
 pub mod Loops
 pub mod Depth

@@ -1,10 +1,10 @@
 -- The parser's loops: a turn leaves what is read as it was, and so do their ends.
 use Rattle.std.proofs.Common.{◌≡◌, ℕ, Bool, true, false, List, [], ◌∷◌, ◌++◌, length, map, Ok, Err, refl, sym, ap, ◌∙◌, append_assoc, ◌<◌, arith, Vec, Global}
 use Rattle.std.proofs.lemmas.List.{map-append}
-use Rattle.net_text.specs.Trees.{ExprTree, ChainTree, LinkTree, links_tree, BlockTree, NothingTree, GetTree, AssignTree, PutTree, StopTree, IfTree, DeclarationTree, link_tree, then_tree, row_block, block_tree, expr_tree, declaration_tree}
+use Rattle.net_text.specs.Trees.{ExprTree, ChainTree, links_tree, BlockTree, NothingTree, GetTree, AssignTree, PutTree, StopTree, IfTree, link_tree, then_tree, row_block, block_tree, expr_tree, declaration_tree}
 use Rattle.net_text.specs.Tokens.{Lexeme}
 use Rattle.net_text.specs.Grammar.{chain_of}
-use Rattle.net_text.specs.Reading.{Read, Reader, begins, has_word, has_operator, many, operand_of, link_of, factor_at, link_at, links_at, statement_at, starts_statement, append_block, joined, statements_at, variable_at, variables_at, starts_declaration, declaration_at, declarations_at}
+use Rattle.net_text.specs.Reading.{Read, Reader, begins, has_word, has_operator, many, link_at, links_at, statement_at, starts_statement, append_block, joined, statements_at, variable_at, variables_at, starts_declaration, declaration_at, declarations_at}
 use Rattle.net_text.proofs.Laws.{IsShortening, with_first, shortens}
 use Rattle.net_text.proofs.Rules.{link_at_reads, statement_reads, variable_reads, declaration_reads}
 use Rattle.net_text.proofs.Many.{after_items, after_block, many_step, many_stop}

@@ -1,11 +1,10 @@
 -- Readers of what nests, as the parser goes through them: a symbol that opens, and what stands behind it.
-use Rattle.std.proofs.Common.{◌≡◌, ℕ, zero, suc, ◌-◌, Bool, true, false, cond, List, [], ◌∷◌, Ok, Err, refl, sym, ap, ◌∙◌, sub-one}
-use Rattle.net_text.specs.Trees.{ExprTree, MinusTree, BlockTree}
+use Rattle.std.proofs.Common.{◌≡◌, ℕ, zero, suc, ◌-◌, Bool, true, false, cond, List, [], ◌∷◌, Ok, Err, refl, sym, ◌∙◌, sub-one}
+use Rattle.net_text.specs.Trees.{MinusTree}
 use Rattle.net_text.specs.Tokens.{Lexeme}
-use Rattle.net_text.specs.Reading.{Read, Reader, has_symbol, begins, pair_at, as_at, symbol_at, unopened_at, opening_at, atom_at, expr_of, parenthesised_of, minus_of, factor_of, factor_at, parenthesised_at, minus_at, expr_at, statement_of, statement_at, statements_of, statements_at, braced_of, block_at}
+use Rattle.net_text.specs.Reading.{Read, Reader, has_symbol, begins, pair_at, as_at, symbol_at, unopened_at, opening_at, atom_at, expr_of, factor_of, factor_at, parenthesised_at, minus_at, expr_at, statement_at, statements_at, block_at}
 use Rattle.net_text.proofs.Laws.{cond_true, cond_false}
-use Rattle.net_text.specs.declared.parser.Stuck.{Stuck}
-use Rattle.net_text.specs.declared.parser.Stuck.TheVariants.{At, TooDeep, AtEnd}
+use Rattle.net_text.specs.declared.parser.Stuck.TheVariants.{At, TooDeep}
 use Rattle.net_text.specs.declared.token.Symbol.{Symbol}
 use Rattle.net_text.specs.declared.token.Symbol.TheVariants as symbol
 use Rattle.net_text.specs.Results.{◌>>=◌}

@@ -1,20 +1,19 @@
--- The readers of the grammar's rules owe their rules nothing.
-use Rattle.std.proofs.Common.{◌≡◌, ℕ, zero, suc, ◌⊎◌, inl, inr, Bool, true, false, cond, List, [], ◌∷◌, ◌++◌, length, Option, Some, None, Result, Ok, Err, ℤ, pos, neg_ℤ, refl, sym, ap, subst, ◌∙◌, append_assoc}
-use Rattle.std.specs.Prelude.{◌==◌, ◌||◌}
+-- Each reader of the grammar keeps the law for its rule.
+use Rattle.std.proofs.Common.{◌≡◌, ℕ, zero, suc, ◌⊎◌, inl, inr, Bool, true, false, cond, List, [], ◌∷◌, ◌++◌, Option, Some, None, Ok, Err, pos, neg_ℤ, refl, sym, ap, subst, ◌∙◌}
+use Rattle.std.specs.Prelude.{◌==◌}
 use Rattle.std.proofs.lemmas.Slice.Eq.{bytes_eq-Decides}
 use Rattle.std.proofs.lemmas.Bool.{eqb-true, eq-eqb}
 use Rattle.net_text.specs.Names.{NameTree}
 use Rattle.net_text.specs.Spellings.{keyword_spelling, symbol_spelling}
-use Rattle.net_text.specs.Trees.{ExprTree, LiteralTree, VariableTree, MinusTree, LinkTree, BlockTree, NothingTree, GetTree, AssignTree, PutTree, StopTree, IfTree, LoopTree, ProcessTree, DeclarationTree, ChannelTree, ProcessDeclared}
+use Rattle.net_text.specs.Trees.{ExprTree, LiteralTree, VariableTree, MinusTree, LinkTree, BlockTree, NothingTree, GetTree, AssignTree, PutTree, StopTree, IfTree, LoopTree, DeclarationTree, ChannelTree, ProcessDeclared}
 use Rattle.net_text.specs.Tokens.{Lexeme}
-use Rattle.net_text.specs.Grammar.{Extent, Whole, Begun, Rule, ◌>>◌, ◌or◌, IsWhere, IsNothing, IsAwaited, IsOne, IsEach, IsAtMostOne, IsWordOn, IsWord, IsSymbol, IsName, IsNumberOn, IsNumber, operator_symbol, level_of, IsOperator, chain_of, IsLink, IsChain, IsTermOf, IsSumOf, IsExprOf, IsLiteral, IsUse, IsAtom, IsParenthesised, IsMinus, IsFactor, IsExpr, IsBlockOf, IsGet, IsAssign, IsPut, IsStop, IsElse, IsIf, IsStatements, IsBlock, IsPositive, IsNegative, IsInitial, IsVariable, IsLoop, IsHead, IsProcess, first_word, IsChannel, IsDeclaration, IsEdition, IsText}
-use Rattle.net_text.specs.Reading.{Read, Reader, has_word, has_symbol, is_name, operator_of, is_level, if_level, operator_in, has_operator, begins, pair_at, as_at, either_at, nothing_at, each_at, at_most_one_at, word_on_at, word_at, symbol_at, name_at, number_in, number_at, picked, operator_at, unopened_at, atom_in, atom_at, link_of, links_of, chain_at, operand_of, expr_of, parenthesised_of, minus_of, factor_of, factor_at, link_at, expr_at, got_at, assigned_at, named_tree, named_at, put_at, stop_at, else_of, if_of, statement_of, starts_statement, append_block, joined, statements_of, braced_of, block_at, else_at, if_at, statement_at, statements_at, amount_at, value_at, initial_at, variable_tree, variable_at, variables_at, loop_text, loop_at, HeadTree, head_made, head_at, process_made, process_at, channel_made, channel_at, declaration_at, starts_declaration, declarations_at, if_edition, edition_number_at, edition_at, text_at}
+use Rattle.net_text.specs.Grammar.{Extent, Whole, Begun, Rule, ◌>>◌, ◌or◌, IsWhere, IsNothing, IsAwaited, IsOne, IsEach, IsAtMostOne, IsWordOn, IsWord, IsSymbol, IsName, IsNumberOn, IsNumber, operator_symbol, level_of, IsOperator, chain_of, IsLink, IsChain, IsTermOf, IsSumOf, IsExprOf, IsAtom, IsParenthesised, IsMinus, IsFactor, IsExpr, IsGet, IsAssign, IsPut, IsStop, IsElse, IsIf, IsStatements, IsBlock, IsPositive, IsNegative, IsInitial, IsVariable, IsLoop, IsHead, IsProcess, first_word, IsChannel, IsDeclaration, IsEdition, IsText}
+use Rattle.net_text.specs.Reading.{Read, Reader, has_word, has_symbol, is_name, operator_of, is_level, if_level, operator_in, has_operator, pair_at, as_at, either_at, at_most_one_at, word_on_at, word_at, symbol_at, name_at, number_in, number_at, picked, operator_at, atom_in, atom_at, link_of, chain_at, expr_of, parenthesised_of, minus_of, factor_of, factor_at, link_at, expr_at, got_at, assigned_at, named_tree, named_at, put_at, stop_at, else_of, if_of, statement_of, starts_statement, append_block, joined, statements_of, braced_of, block_at, statement_at, statements_at, amount_at, value_at, initial_at, variable_tree, variable_at, variables_at, loop_text, loop_at, HeadTree, head_made, head_at, process_made, process_at, channel_made, channel_at, declaration_at, starts_declaration, declarations_at, if_edition, edition_number_at, edition_at, text_at}
 use Rattle.net_text.proofs.Readings.{one_keyword, one_symbol}
-use Rattle.net_text.proofs.Laws.{Class, AWord, ASymbol, AName, ANumber, IsOf, Tests, Reads, never, cond_true, cond_false, one_reads, pair_starts, pair_empty, pair_continues, many_continues, either_continues, pair_reads, either_reads, nothing_reads, IsSeen, as_reads, IsImage, image_reads, ruled_reads, seen_by, IsOpening, unopened_reads, each_reads}
+use Rattle.net_text.proofs.Laws.{Class, AWord, ASymbol, AName, ANumber, IsOf, Tests, Reads, never, cond_true, cond_false, one_reads, pair_starts, pair_empty, pair_continues, many_continues, either_continues, pair_reads, either_reads, nothing_reads, as_reads, IsImage, image_reads, ruled_reads, seen_by, IsOpening, unopened_reads, each_reads}
 use Rattle.net_text.specs.declared.parser.Level.{Level}
 use Rattle.net_text.specs.declared.parser.Level.TheVariants.{Product, Sum, Comparison}
-use Rattle.net_text.specs.declared.parser.Stuck.{Stuck}
-use Rattle.net_text.specs.declared.parser.Stuck.TheVariants.{At, TooDeep, AtEnd}
+use Rattle.net_text.specs.declared.parser.Stuck.TheVariants.{At, AtEnd}
 use Rattle.net_text.specs.declared.token.Keyword.{Keyword}
 use Rattle.net_text.specs.declared.token.Keyword.TheVariants as keyword
 use Rattle.net_text.specs.declared.token.Symbol.{Symbol}
@@ -26,7 +25,6 @@ use Rattle.kahn_net.specs.declared.program.Operator.TheVariants.{Add, Subtract, 
 use Rattle.net_text.specs.declared.tree.Role.{Role}
 use Rattle.net_text.specs.declared.tree.Role.TheVariants.{Input, Inner, Output}
 use Rattle.net_text.specs.declared.tree.ChannelText.{ChannelText}
-use Rattle.net_text.specs.declared.tree.VariableText.{VariableText}
 use Rattle.net_text.specs.declared.tree.NodeText.{NodeText}
 use Rattle.net_text.specs.Results.{◌>>=◌}
 
@@ -113,7 +111,7 @@ symbol_reads s =
       class = λ x t is. inl is;
     })
 
-some_name : NameTree
+pub some_name : NameTree
 some_name = record { text = []; line = 1 }
 
 pub name_reads : Reads (λ name. IsName name) (AName ∷ []) false never name_at name_at
@@ -278,7 +276,7 @@ operator_found : (level : Level) (o : Operator) → level_of o ≡ level → ope
 operator_found level o h =
     ap (if_level level) (operator_is o) ∙ cond_true (is_level (level_of o) level) (Some o) None (ap (λ (l : Level). is_level l level) h ∙ level_is level)
 
-some_operator : Level → Operator
+abbrev pub some_operator : Level → Operator
 some_operator Product = Multiply
 some_operator Sum = Add
 some_operator Comparison = Equal
@@ -373,14 +371,14 @@ chain_reads {P} level h starts apart =
       back_begun = λ z l is. ((is.0, is.1), is.3);
     })
 
-abbrev SingletonOr : {A : Type 0} → (A → Rule) → List A → Rule
+abbrev pub SingletonOr : {A : Type 0} → (A → Rule) → List A → Rule
 SingletonOr P xs = IsImage (λ x. x ∷ []) P xs or IsWhere (xs ≡ []) IsNothing
 
-single_whole : {A : Type 0} (P : A → Rule) (xs : List A) (extent : Extent) (l : List Lexeme) → SingletonOr P xs extent l → IsAtMostOne P xs extent l
+pub single_whole : {A : Type 0} (P : A → Rule) (xs : List A) (extent : Extent) (l : List Lexeme) → SingletonOr P xs extent l → IsAtMostOne P xs extent l
 single_whole P xs extent l (inl one) = subst (λ (ys : List _). IsAtMostOne P ys extent l) (sym one.1) one.2
 single_whole P xs extent l (inr none) = subst (λ (ys : List _). IsAtMostOne P ys extent l) (sym none.0) none.1
 
-single_back : {A : Type 0} (P : A → Rule) (xs : List A) (extent : Extent) (l : List Lexeme) → IsAtMostOne P xs extent l → SingletonOr P xs extent l
+pub single_back : {A : Type 0} (P : A → Rule) (xs : List A) (extent : Extent) (l : List Lexeme) → IsAtMostOne P xs extent l → SingletonOr P xs extent l
 single_back P [] extent l is = inr (refl, is)
 single_back P (x ∷ []) extent l is = inl (x, refl, is)
 single_back P (x ∷ y ∷ xs) extent l is = absurd is.0
@@ -527,19 +525,19 @@ assigned_reads edition left =
     (seen_by (λ x. x.0) (λ z. (z, tt)) (λ x extent l is. is) (λ z extent l is. is) (λ z. refl))
 
 -- what follows a name and =
-abbrev IsGiven : ℕ → ℕ → NameTree ⊎ ExprTree → Rule
+abbrev pub IsGiven : ℕ → ℕ → NameTree ⊎ ExprTree → Rule
 IsGiven edition left (inl channel) = IsWord keyword.Get >> IsName channel >> IsSymbol symbol.Semicolon
 IsGiven edition left (inr value) = IsExpr edition left value >> IsSymbol symbol.Semicolon
 
-abbrev GivenEither : ℕ → ℕ → NameTree ⊎ ExprTree → Rule
+abbrev pub GivenEither : ℕ → ℕ → NameTree ⊎ ExprTree → Rule
 GivenEither edition left g =
     IsImage inl (λ channel. IsWord keyword.Get >> IsName channel >> IsSymbol symbol.Semicolon) g or IsImage inr (λ e. IsExpr edition left e >> IsSymbol symbol.Semicolon) g
 
-given_there : (edition left : ℕ) (g : NameTree ⊎ ExprTree) (extent : Extent) (l : List Lexeme) → GivenEither edition left g extent l → IsGiven edition left g extent l
+pub given_there : (edition left : ℕ) (g : NameTree ⊎ ExprTree) (extent : Extent) (l : List Lexeme) → GivenEither edition left g extent l → IsGiven edition left g extent l
 given_there edition left g extent l (inl is) = subst (λ (h : NameTree ⊎ ExprTree). IsGiven edition left h extent l) (sym is.1) is.2
 given_there edition left g extent l (inr is) = subst (λ (h : NameTree ⊎ ExprTree). IsGiven edition left h extent l) (sym is.1) is.2
 
-given_back : (edition left : ℕ) (g : NameTree ⊎ ExprTree) (extent : Extent) (l : List Lexeme) → IsGiven edition left g extent l → GivenEither edition left g extent l
+pub given_back : (edition left : ℕ) (g : NameTree ⊎ ExprTree) (extent : Extent) (l : List Lexeme) → IsGiven edition left g extent l → GivenEither edition left g extent l
 given_back edition left (inl channel) extent l is = inl (channel, refl, is)
 given_back edition left (inr value) extent l is = inr (value, refl, is)
 
@@ -551,7 +549,7 @@ given_reads edition left =
     (seen_by (λ g. g) (λ g. g) (given_there edition left) (given_back edition left) (λ g. refl))
 
 -- a statement alone that begins with a name
-abbrev IsNamed : ℕ → ℕ → BlockTree → Rule
+abbrev pub IsNamed : ℕ → ℕ → BlockTree → Rule
 IsNamed edition left NothingTree = IsWhere ⊥ IsNothing
 IsNamed edition left (GetTree variable channel rest) = IsWhere (rest ≡ NothingTree) (IsGet variable channel)
 IsNamed edition left (AssignTree variable value rest) = IsWhere (rest ≡ NothingTree) (IsAssign edition left variable value)
@@ -559,14 +557,14 @@ IsNamed edition left (PutTree value channel rest) = IsWhere ⊥ IsNothing
 IsNamed edition left (StopTree rest) = IsWhere ⊥ IsNothing
 IsNamed edition left (IfTree test first second rest) = IsWhere ⊥ IsNothing
 
-abbrev NamedParts : ℕ → ℕ → NameTree × (Unit {0} × (NameTree ⊎ ExprTree)) → Rule
+abbrev pub NamedParts : ℕ → ℕ → NameTree × (Unit {0} × (NameTree ⊎ ExprTree)) → Rule
 NamedParts edition left x = IsName x.0 >> IsSymbol symbol.Assign >> IsGiven edition left x.1.1
 
-named_there : (edition left : ℕ) (variable : NameTree) (g : NameTree ⊎ ExprTree) (extent : Extent) (l : List Lexeme) → NamedParts edition left (variable, (tt, g)) extent l → IsNamed edition left (named_tree variable g) extent l
+pub named_there : (edition left : ℕ) (variable : NameTree) (g : NameTree ⊎ ExprTree) (extent : Extent) (l : List Lexeme) → NamedParts edition left (variable, (tt, g)) extent l → IsNamed edition left (named_tree variable g) extent l
 named_there edition left variable (inl channel) extent l is = (refl, is)
 named_there edition left variable (inr value) extent l is = (refl, is)
 
-named_back : (edition left : ℕ) (z : BlockTree) (extent : Extent) (l : List Lexeme) → IsNamed edition left z extent l
+pub named_back : (edition left : ℕ) (z : BlockTree) (extent : Extent) (l : List Lexeme) → IsNamed edition left z extent l
     → (x : NameTree × (Unit {0} × (NameTree ⊎ ExprTree))) × (z ≡ named_tree x.0 x.1.1) × NamedParts edition left x extent l
 named_back edition left NothingTree extent l is = absurd is.0
 named_back edition left (GetTree variable channel rest) extent l is = ((variable, (tt, inl channel)), ap (GetTree variable channel) is.0, is.1)
@@ -586,10 +584,10 @@ named_reads edition left =
       back_begun = λ z l is. let x = named_back edition left z Begun l is in (x.0, x.2);
     })
 
-abbrev PutParts : ℕ → ℕ → Unit {0} × (ExprTree × (Unit {0} × (NameTree × Unit {0}))) → Rule
+abbrev pub PutParts : ℕ → ℕ → Unit {0} × (ExprTree × (Unit {0} × (NameTree × Unit {0}))) → Rule
 PutParts edition left x = IsPut edition left x.1.0 x.1.1.1.0
 
-abbrev put_made : Unit {0} × (ExprTree × (Unit {0} × (NameTree × Unit {0}))) → BlockTree
+abbrev pub put_made : Unit {0} × (ExprTree × (Unit {0} × (NameTree × Unit {0}))) → BlockTree
 put_made x = PutTree x.1.0 x.1.1.1.0 NothingTree
 
 put_reads : (edition left : ℕ) → Reads (IsImage put_made (PutParts edition left)) (AWord keyword.Put ∷ []) false never (put_at left) (put_at (suc left))
@@ -599,7 +597,7 @@ put_reads edition left =
     (then_reads (word_reads keyword.Put)
     (pair_reads (expr_reads edition left) (then_reads (word_reads keyword.To) (then_reads name_reads (symbol_reads symbol.Semicolon))) (refl, tt)))
 
-abbrev stop_made : Unit {0} × Unit {0} → BlockTree
+abbrev pub stop_made : Unit {0} × Unit {0} → BlockTree
 stop_made x = StopTree NothingTree
 
 stop_reads : Reads (IsImage stop_made (λ x. IsStop)) (AWord keyword.Stop ∷ []) false never stop_at stop_at
@@ -619,10 +617,10 @@ else_reads h =
     (as_reads (λ x. x.1) (then_reads (word_reads keyword.Else) h) (seen_by (λ x. x.1) (λ z. (tt, z)) (λ x extent l is. is) (λ z extent l is. is) (λ z. refl)))
     (nothing_reads NothingTree) (refl, tt) tt
 
-abbrev IfParts : ℕ → ℕ → (BlockTree → Rule) → Unit {0} × (ExprTree × (BlockTree × BlockTree)) → Rule
+abbrev pub IfParts : ℕ → ℕ → (BlockTree → Rule) → Unit {0} × (ExprTree × (BlockTree × BlockTree)) → Rule
 IfParts edition left P x = IsIf edition left x.1.0 (P x.1.1.0) x.1.1.1 (P x.1.1.1)
 
-abbrev if_parts : Unit {0} × (ExprTree × (BlockTree × BlockTree)) → BlockTree
+abbrev pub if_parts : Unit {0} × (ExprTree × (BlockTree × BlockTree)) → BlockTree
 if_parts x = IfTree x.1.0 x.1.1.0 x.1.1.1 NothingTree
 
 if_reads : {P : BlockTree → Rule} {r d : Reader BlockTree} (edition left : ℕ) → BlockReads P r d
@@ -639,7 +637,7 @@ IsSingle edition left (PutTree value channel rest) = IsWhere (rest ≡ NothingTr
 IsSingle edition left (StopTree rest) = IsWhere (rest ≡ NothingTree) IsStop
 IsSingle edition left (IfTree test first second rest) = IsWhere (rest ≡ NothingTree) (IsIf edition left test (IsBlock edition left first) second (IsBlock edition left second))
 
-abbrev SingleEither : ℕ → ℕ → BlockTree → Rule
+abbrev pub SingleEither : ℕ → ℕ → BlockTree → Rule
 SingleEither edition left z =
     IsNamed edition left z or IsImage put_made (PutParts edition left) z or IsImage stop_made (λ x. IsStop) z or IsImage if_parts (IfParts edition left (λ b. IsBlock edition left b)) z
 
@@ -652,14 +650,14 @@ named_single edition left (PutTree value channel rest) extent l is = absurd is.0
 named_single edition left (StopTree rest) extent l is = absurd is.0
 named_single edition left (IfTree test first second rest) extent l is = absurd is.0
 
-single_there : (edition left : ℕ) (z : BlockTree) (extent : Extent) (l : List Lexeme) → SingleEither edition left z extent l → IsSingle edition left z extent l
+pub single_there : (edition left : ℕ) (z : BlockTree) (extent : Extent) (l : List Lexeme) → SingleEither edition left z extent l → IsSingle edition left z extent l
 unfolding IsSingle
 single_there edition left z extent l (inl is) = named_single edition left z extent l is
 single_there edition left z extent l (inr (inl is)) = subst (λ (b : BlockTree). IsSingle edition left b extent l) (sym is.1) (refl, is.2)
 single_there edition left z extent l (inr (inr (inl is))) = subst (λ (b : BlockTree). IsSingle edition left b extent l) (sym is.1) (refl, is.2)
 single_there edition left z extent l (inr (inr (inr is))) = subst (λ (b : BlockTree). IsSingle edition left b extent l) (sym is.1) (refl, is.2)
 
-single_from : (edition left : ℕ) (z : BlockTree) (extent : Extent) (l : List Lexeme) → IsSingle edition left z extent l → SingleEither edition left z extent l
+pub single_from : (edition left : ℕ) (z : BlockTree) (extent : Extent) (l : List Lexeme) → IsSingle edition left z extent l → SingleEither edition left z extent l
 unfolding IsSingle
 single_from edition left NothingTree extent l is = inl is
 single_from edition left (GetTree variable channel rest) extent l is = inl is
@@ -699,7 +697,7 @@ where_in : (fact : Type 0) (P Q Q' : Rule) → fact → ((extent : Extent) (l : 
 where_in fact P Q Q' h g extent l is = then_map P (IsWhere fact P) Q Q' (λ x k p. (h, p)) g extent l is
 
 -- the statements of a block, each alone
-singles_of : BlockTree → List BlockTree
+unfoldable pub singles_of : BlockTree → List BlockTree
 singles_of NothingTree = []
 singles_of (GetTree variable channel rest) = GetTree variable channel NothingTree ∷ singles_of rest
 singles_of (AssignTree variable value rest) = AssignTree variable value NothingTree ∷ singles_of rest
@@ -707,7 +705,7 @@ singles_of (PutTree value channel rest) = PutTree value channel NothingTree ∷ 
 singles_of (StopTree rest) = StopTree NothingTree ∷ singles_of rest
 singles_of (IfTree test first second rest) = IfTree test first second NothingTree ∷ singles_of rest
 
-singles_joined : (block : BlockTree) → block ≡ joined (singles_of block)
+pub singles_joined : (block : BlockTree) → block ≡ joined (singles_of block)
 unfolding singles_of
 singles_joined NothingTree = refl
 singles_joined (GetTree variable channel rest) = ap (GetTree variable channel) (singles_joined rest)
@@ -716,7 +714,7 @@ singles_joined (PutTree value channel rest) = ap (PutTree value channel) (single
 singles_joined (StopTree rest) = ap StopTree (singles_joined rest)
 singles_joined (IfTree test first second rest) = ap (IfTree test first second) (singles_joined rest)
 
-singles_back : (edition left : ℕ) (block : BlockTree) (extent : Extent) (l : List Lexeme) → IsStatements edition left block extent l → IsEach (IsSingle edition left) (singles_of block) extent l
+pub singles_back : (edition left : ℕ) (block : BlockTree) (extent : Extent) (l : List Lexeme) → IsStatements edition left block extent l → IsEach (IsSingle edition left) (singles_of block) extent l
 unfolding IsStatements IsSingle singles_of
 singles_back edition left NothingTree extent l is = is
 singles_back edition left (GetTree variable channel rest) extent l is = where_in _ (IsGet variable channel) (IsStatements edition left rest) _ refl (singles_back edition left rest) extent l is
@@ -734,7 +732,7 @@ then_rest edition left P rest blocks more extent l is =
     subst (λ (r : BlockTree). (P >> IsStatements edition left (append_block r (joined blocks))) extent l) (sym out.0)
     (then_map P P (IsEach (IsSingle edition left) blocks) (IsStatements edition left (joined blocks)) (λ x k p. p) more extent l out.1)
 
-singles_there : (edition left : ℕ) (blocks : List BlockTree) (extent : Extent) (l : List Lexeme) → IsEach (IsSingle edition left) blocks extent l → IsStatements edition left (joined blocks) extent l
+pub singles_there : (edition left : ℕ) (blocks : List BlockTree) (extent : Extent) (l : List Lexeme) → IsEach (IsSingle edition left) blocks extent l → IsStatements edition left (joined blocks) extent l
 unfolding IsStatements IsSingle
 singles_there edition left [] extent l is = is
 singles_there edition left (NothingTree ∷ blocks) extent l is = absurd (where_out ⊥ IsNothing (IsEach (IsSingle edition left) blocks) extent l is).0
@@ -808,14 +806,14 @@ variables_reads : Reads (λ vs. IsEach IsVariable vs) (AWord keyword.Var ∷ [])
 unfolding variables_at
 variables_reads = each_reads (has_word keyword.Var) variable_reads (refl, tt) (refl, tt)
 
-abbrev LoopEither : ℕ → ℕ → Option LoopTree → Rule
+abbrev pub LoopEither : ℕ → ℕ → Option LoopTree → Rule
 LoopEither edition left o = IsImage loop_text (λ x. IsWordOn keyword.Loop x.0 >> IsBlock edition left x.1) o or IsWhere (o ≡ None) IsNothing
 
-loop_there : (edition left : ℕ) (o : Option LoopTree) (extent : Extent) (l : List Lexeme) → LoopEither edition left o extent l → IsLoop edition left o extent l
+pub loop_there : (edition left : ℕ) (o : Option LoopTree) (extent : Extent) (l : List Lexeme) → LoopEither edition left o extent l → IsLoop edition left o extent l
 loop_there edition left o extent l (inl is) = subst (λ (p : Option LoopTree). IsLoop edition left p extent l) (sym is.1) is.2
 loop_there edition left o extent l (inr is) = subst (λ (p : Option LoopTree). IsLoop edition left p extent l) (sym is.0) is.1
 
-loop_back : (edition left : ℕ) (o : Option LoopTree) (extent : Extent) (l : List Lexeme) → IsLoop edition left o extent l → LoopEither edition left o extent l
+pub loop_back : (edition left : ℕ) (o : Option LoopTree) (extent : Extent) (l : List Lexeme) → IsLoop edition left o extent l → LoopEither edition left o extent l
 loop_back edition left None extent l is = inr (refl, is)
 loop_back edition left (Some p) extent l is = inl ((p.line, p.body), refl, is)
 
@@ -841,7 +839,7 @@ process_reads edition left =
     (pair_reads variables_reads (pair_reads (statements_reads edition left) (pair_reads (loop_reads edition left) (symbol_reads symbol.RightBrace) (refl, tt)) (refl, (refl, tt))) (refl, (refl, (refl, (refl, (refl, (refl, tt))))))))
     (seen_by process_made (λ p. (record { line = p.line; name = p.name; node = p.node }, (p.variables, (p.prelude, (p.repeated, tt))))) (λ x extent l is. is) (λ z extent l is. is) (λ z. refl))
 
-channel_parts : (role : Role) (z : ChannelText) (extent : Extent) (l : List Lexeme) → IsWhere (z.role ≡ role) (IsChannel z) extent l → (IsWordOn (first_word role) z.line >> IsName z.name >> IsSymbol symbol.Semicolon) extent l
+pub channel_parts : (role : Role) (z : ChannelText) (extent : Extent) (l : List Lexeme) → IsWhere (z.role ≡ role) (IsChannel z) extent l → (IsWordOn (first_word role) z.line >> IsName z.name >> IsSymbol symbol.Semicolon) extent l
 channel_parts role z extent l is = subst (λ (r : Role). (IsWordOn (first_word r) z.line >> IsName z.name >> IsSymbol symbol.Semicolon) extent l) is.0 is.1
 
 channel_reads : (role : Role) → Reads (λ (c : ChannelText). IsWhere (c.role ≡ role) (IsChannel c)) (AWord (first_word role) ∷ []) false never (channel_at role) (channel_at role)
@@ -855,13 +853,13 @@ channel_reads role =
       back_begun = λ z l is. ((z.line, (z.name, tt)), channel_parts role z Begun l is);
     })
 
-abbrev ChannelOf : Role → DeclarationTree → Rule
+abbrev pub ChannelOf : Role → DeclarationTree → Rule
 ChannelOf role = IsImage ChannelTree (λ c. IsWhere (c.role ≡ role) (IsChannel c))
 
-abbrev DeclarationEither : ℕ → ℕ → DeclarationTree → Rule
+abbrev pub DeclarationEither : ℕ → ℕ → DeclarationTree → Rule
 DeclarationEither edition left d = IsImage ProcessDeclared (λ p. IsProcess edition left p) d or ChannelOf Input d or ChannelOf Output d or ChannelOf Inner d
 
-declaration_there : (edition left : ℕ) (d : DeclarationTree) (extent : Extent) (l : List Lexeme) → DeclarationEither edition left d extent l → IsDeclaration edition left d extent l
+pub declaration_there : (edition left : ℕ) (d : DeclarationTree) (extent : Extent) (l : List Lexeme) → DeclarationEither edition left d extent l → IsDeclaration edition left d extent l
 declaration_there edition left d extent l (inl is) = subst (λ (t : DeclarationTree). IsDeclaration edition left t extent l) (sym is.1) is.2
 declaration_there edition left d extent l (inr (inl is)) = subst (λ (t : DeclarationTree). IsDeclaration edition left t extent l) (sym is.1) is.2.1
 declaration_there edition left d extent l (inr (inr (inl is))) = subst (λ (t : DeclarationTree). IsDeclaration edition left t extent l) (sym is.1) is.2.1
@@ -872,7 +870,7 @@ channel_back edition left c Input extent l e is = inr (inl (c, refl, (e, is)))
 channel_back edition left c Output extent l e is = inr (inr (inl (c, refl, (e, is))))
 channel_back edition left c Inner extent l e is = inr (inr (inr (c, refl, (e, is))))
 
-declaration_back : (edition left : ℕ) (d : DeclarationTree) (extent : Extent) (l : List Lexeme) → IsDeclaration edition left d extent l → DeclarationEither edition left d extent l
+pub declaration_back : (edition left : ℕ) (d : DeclarationTree) (extent : Extent) (l : List Lexeme) → IsDeclaration edition left d extent l → DeclarationEither edition left d extent l
 declaration_back edition left (ChannelTree c) extent l is = channel_back edition left c c.role extent l refl is
 declaration_back edition left (ProcessDeclared p) extent l is = inl (p, refl, is)
 

@@ -1,15 +1,16 @@
 -- A text in the grammar has one reading, and that reading gives its tree. What isn't read is refused where no text goes on.
-use Rattle.std.proofs.Common.{◌≡◌, ℕ, suc, ◌+◌, ◌≤◌, ◌⊎◌, inl, inr, List, [], ◌∷◌, ◌++◌, length, Result, Ok, Err, refl, sym, ap, subst, ◌∙◌}
+use Rattle.std.proofs.Common.{◌≡◌, ℕ, suc, ◌+◌, ◌≤◌, inl, inr, List, [], ◌∷◌, ◌++◌, length, Result, Ok, Err, refl, sym, ap, subst, ◌∙◌}
 use Rattle.std.proofs.lemmas.List.{append-nil}
 use Rattle.net_text.specs.Trees.{DeclarationTree}
-use Rattle.net_text.specs.Tokens.{Lexeme, line_at, AreTokens, AreTokensTo, IsTokenFrom, EndsAt, IsBadFrom, IsReading}
+use Rattle.net_text.specs.Tokens.{Lexeme, line_at, AreTokens, AreTokensTo, IsTokenFrom, IsReading}
 use Rattle.net_text.specs.Grammar.{Whole, Begun, IsText, IsTextOf, Begins}
-use Rattle.net_text.specs.Texts.{BeginsTo, IsStrayToken, IsOneTooDeep, IsCutShort, BeginsBefore, IsParseFault}
-use Rattle.net_text.specs.Reading.{Read, Reader, text_at, no_more, whole_text, Fails, fault_at}
-use Rattle.net_text.proofs.Sequences.{went_on, same_value}
+use Rattle.net_text.specs.Texts.{BeginsTo, IsParseFault}
+use Rattle.net_text.specs.Reading.{Read, text_at, no_more, whole_text, Fails, fault_at}
+use Rattle.net_text.proofs.Sequences.{went_on}
 use Rattle.net_text.proofs.Readings.{one_reading}
-use Rattle.net_text.proofs.Laws.{Took, Stops, Ends, GoesOn, IsOnLine, next, raised}
+use Rattle.net_text.proofs.Laws.{Took, Stops, Ends, GoesOn, next}
 use Rattle.net_text.proofs.Rules.{text_reads, text_goes_on}
+use Rattle.net_text.proofs.Growth.{begins_front, front_begins}
 use Rattle.net_text.specs.declared.lexer.End.{End}
 use Rattle.net_text.specs.declared.lexer.End.TheVariants as end
 use Rattle.net_text.specs.declared.fault.TextFault.{TextFault}
@@ -190,13 +191,16 @@ stuck_here left ts stuck e = whole_here left ts stuck (text_at left ts) ((text_r
 
 -- ---- faults
 
+begins_to : (text : List ℕ) (ts : List Lexeme) (place : ℕ) → AreTokensTo text 0 ts place → Begins 1 MAX_NESTING ts → BeginsTo text ts place
+begins_to text ts place read begins = record { read = read; begins = begins; front = begins_front MAX_NESTING ts begins }
+
 -- a bad token comes where a text goes on
 bad_fault : (text : List ℕ) (ts : List Lexeme) (fault : TextFault) → length text ≤ MAX_TEXT_BYTES → IsReading text ts (end.Bad fault) → Begins 1 MAX_NESTING ts → IsParseFault text fault
 bad_fault text ts NoMemory small g begins = tt
-bad_fault text ts (BadToken line) small g begins = (small, (ts, g.place, record { read = g.read; begins = begins }, g.stops))
+bad_fault text ts (BadToken line) small g begins = (small, (ts, g.place, begins_to text ts g.place g.read begins, g.stops))
 bad_fault text ts (Unexpected line) small g begins = absurd g.stops.bad
-bad_fault text ts (NumberRange line) small g begins = (small, (ts, g.place, record { read = g.read; begins = begins }, g.stops))
-bad_fault text ts (TooLong line) small g begins = inr (inl (small, (ts, g.place, record { read = g.read; begins = begins }, g.stops)))
+bad_fault text ts (NumberRange line) small g begins = (small, (ts, g.place, begins_to text ts g.place g.read begins, g.stops))
+bad_fault text ts (TooLong line) small g begins = inr (inl (small, (ts, g.place, begins_to text ts g.place g.read begins, g.stops)))
 
 -- the first bad token of a text is why it has no tokens
 pub tokens_fault : (text : List ℕ) (ts : List Lexeme) (tree : List DeclarationTree) (fault : TextFault) → length text ≤ MAX_TEXT_BYTES → IsReading text ts (end.Bad fault) → whole_text MAX_NESTING ts ≡ Ok tree → IsParseFault text fault
@@ -213,8 +217,8 @@ stuck_fault text ts stop (At line) small g read here =
         (
           here.front,
           at.middle,
-          record { read = at.read; begins = here.begins },
-          inl (record { token = here.token; next = at.token; line_is = here.line_is; none = here.none; none_deeper = here.none_deeper }),
+          begins_to text here.front at.middle at.read here.begins,
+          inl (record { token = here.token; next = at.token; line_is = here.line_is; none = here.none; none_deeper = here.none_deeper; no_front = λ f. here.none_deeper (front_begins (suc MAX_NESTING) (here.front ++ here.token ∷ []) f) }),
         ),
       ),
     )
@@ -222,7 +226,7 @@ stuck_fault text ts stop (TooDeep line) small g read here =
     let at = up_to text 0 here.front here.token here.more g.place (subst (λ (l : List Lexeme). AreTokensTo text 0 l g.place) here.parts g.read) in
     inr
     (inr
-    (small, (here.front, at.middle, record { read = at.read; begins = here.begins }, record { token = here.token; next = at.token; line_is = here.line_is; none = here.none; deeper = here.deeper })))
+    (small, (here.front, at.middle, begins_to text here.front at.middle at.read here.begins, record { token = here.token; next = at.token; line_is = here.line_is; none = here.none; no_front = λ f. here.none (front_begins MAX_NESTING (here.front ++ here.token ∷ []) f); deeper = here.deeper })))
 stuck_fault text ts (end.Text line) AtEnd small g read here = (
   stuck_tree text ts (end.Text line) AtEnd g read,
   (
@@ -230,7 +234,7 @@ stuck_fault text ts (end.Text line) AtEnd small g read here = (
     (
       ts,
       g.place,
-      record { read = g.read; begins = here },
+      begins_to text ts g.place g.read here,
       inr (record {
         ends = g.stops.0;
         line_is = g.stops.1;

@@ -297,7 +297,13 @@ pub record IsTextOf (declarations : List DeclarationTree) (text : List ℕ) : Ty
   pub read : AreTokens text tokens
   pub grammar : IsText 1 MAX_NESTING declarations Whole tokens
 
--- With these tokens some text begins in which no more are open than the limit says.
+-- with these tokens some text begins, in which no more are open so far than the limit says
 pub record Begins (edition limit : ℕ) (ts : List Lexeme) : Type 0 where
   pub declarations : List DeclarationTree
   pub begun : IsText edition limit declarations Begun ts
+
+-- these tokens stand at the front of a whole text, in which no more are open than the limit says
+pub record IsFront (edition limit : ℕ) (ts : List Lexeme) : Type 0 where
+  pub declarations : List DeclarationTree
+  pub more : List Lexeme
+  pub whole : IsText edition limit declarations Whole (ts ++ more)

@@ -32,7 +32,6 @@ use Rattle.net_text.specs.declared.tree.Role.TheVariants.{Input, Inner, Output}
 use Rattle.net_text.specs.declared.tree.ChannelText.{ChannelText}
 use Rattle.net_text.specs.declared.tree.VariableText.{VariableText}
 use Rattle.net_text.specs.declared.tree.NodeText.{NodeText}
-use Rattle.net_text.specs.declared.limits.TheConstants.{MAX_NESTING}
 use Rattle.net_text.specs.Results.{◌>>=◌}
 
 abbrev pub Read : Type 0 → Type 0

@@ -2,7 +2,7 @@
 use Rattle.std.specs.Prelude.{◌≡◌, ◌⊎◌, ◌<◌, ◌≤◌, ℕ, suc, List, [], ◌∷◌, ◌++◌, length, Result, Ok, Err}
 use Rattle.net_text.specs.Tokens.{Lexeme, line_at, AreTokensTo, IsTokenFrom, EndsAt, IsBadFrom}
 use Rattle.net_text.specs.Trees.{DeclarationTree}
-use Rattle.net_text.specs.Grammar.{Whole, IsText, IsTextOf, Begins}
+use Rattle.net_text.specs.Grammar.{Whole, IsText, IsTextOf, Begins, IsFront}
 use Rattle.net_text.specs.declared.fault.TextFault.{TextFault}
 use Rattle.net_text.specs.declared.fault.TextFault.TheVariants.{NoMemory, BadToken, Unexpected, NumberRange, TooLong}
 use Rattle.net_text.specs.declared.limits.TheConstants.{MAX_TEXT_BYTES, MAX_NESTING}
@@ -12,18 +12,20 @@ abbrev pub Answers : {X Y : Type 0} → (X → Y) → Result X TextFault → Y �
 Answers view (Ok x) y = view x ≡ y
 Answers view (Err fault) y = fault ≡ NoMemory
 
--- these are the tokens of a text up to a place, and with them some text within the limits begins
+-- These are the tokens of a text up to a place, and with them some text within the limits begins. It may want a block that is one too many.
 pub record BeginsTo (text : List ℕ) (ts : List Lexeme) (place : ℕ) : Type 0 where
   pub read : AreTokensTo text 0 ts place
   pub begins : Begins 1 MAX_NESTING ts
+  pub front : IsFront 1 (suc MAX_NESTING) ts
 
--- on this line comes the token with which no text begins any more, however much may be open
+-- on this line comes the token with which no text begins any more, and none would if one more might be open
 pub record IsStrayToken (text : List ℕ) (ts : List Lexeme) (place line : ℕ) : Type 0 where
   pub token : Lexeme
   pub next : IsTokenFrom text place token
   pub line_is : line ≡ token.line
   pub none : Begins 1 MAX_NESTING (ts ++ token ∷ []) → ⊥
   pub none_deeper : Begins 1 (suc MAX_NESTING) (ts ++ token ∷ []) → ⊥
+  pub no_front : IsFront 1 (suc MAX_NESTING) (ts ++ token ∷ []) → ⊥
 
 -- on this line comes the token with which no text begins any more, but one would if one more might be open
 pub record IsOneTooDeep (text : List ℕ) (ts : List Lexeme) (place line : ℕ) : Type 0 where
@@ -31,6 +33,7 @@ pub record IsOneTooDeep (text : List ℕ) (ts : List Lexeme) (place line : ℕ) 
   pub next : IsTokenFrom text place token
   pub line_is : line ≡ token.line
   pub none : Begins 1 MAX_NESTING (ts ++ token ∷ []) → ⊥
+  pub no_front : IsFront 1 MAX_NESTING (ts ++ token ∷ []) → ⊥
   pub deeper : Begins 1 (suc MAX_NESTING) (ts ++ token ∷ [])
 
 -- the text ends too early: there, on this line

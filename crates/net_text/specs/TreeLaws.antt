@@ -1,5 +1,5 @@
 -- Trees of the text, as code finds them: a chain, a negation and an if are those of their parts.
-use Rattle.std.proofs.Common.{◌≡◌, List, map, ap, refl, Box, Vec, Global, rules}
+use Rattle.std.proofs.Common.{◌≡◌, map, ap, refl, Box, Vec, Global, rules}
 use mathlib.Core.Former.{Count}
 use Rattle.net_text.specs.Trees.{MinusTree, ChainTree, LinkThenTree, BlockTree, IfTree, expr_tree, row_tree, link_tree, links_tree, then_tree, row_block, block_tree}
 use Rattle.net_text.specs.declared.tree.LinkText.{LinkText}

@@ -22,7 +22,8 @@ pub enum TextFault {
     /// Refusal 4: a number that doesn't fit the signed 64 bits.
     #[error("line {line}: number out of range")]
     NumberRange { line: usize },
-    /// Refusal 5: a name of more than 64 bytes, or a text past its limit.
+    /// Refusal 5: a name of more than 64 bytes, a text past its limit, or a token that opens the
+    /// 65th block, parenthesis or minus sign.
     #[error("line {line}: too long")]
     TooLong { line: usize },
 }

@@ -436,7 +436,8 @@ impl<'a> Parser<'a> {
     #[cycle(expression)]
     #[tactic(auto, unfolding(crate::specs::Reading::links_at))]
     fn links(&mut self, level: Level, left: usize) -> Result<Vec<LinkText>, ParseError>
-        ensures { Gives (λ v. (map link_tree v.items, self.new)) result (links_at level left self.old) }
+        ensures { Gives (λ v. (map link_tree v.items, self.new)) result
+            (links_at level left self.old) }
     {
         let mut links = Vec::new(self.alloc);
         while self.begins_with_operator(level) {

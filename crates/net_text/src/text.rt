@@ -37,7 +37,7 @@ pub fn tokens(alloc: Global, text: &str) -> Result<Vec<Token<'_>>, TextFault>
 }
 
 /// The tree of a network's text, edition 1. Refuses at the first token at which the text can't go on: by the
-/// bad token's own number, or by 3.
+/// bad token's own number, by 5 where it opens one more than may be open, or else by 3.
 pub fn parse(alloc: Global, text: &str) -> Result<NetText, TextFault>
     ensures ok { IfOk result (λ net. IsTextOf (net_tree net) text.now) }
     ensures err { IfErr result (IsParseFault text.now) }

@@ -27,7 +27,7 @@ abbrev pub decreases-chain : goal.decreases-chain
 decreases-chain l = at_level l.left l.level 5
 
 abbrev pub decreases-expr : goal.decreases-expr
-decreases-expr l = 16 * l.left + 12
+decreases-expr l = 16 * l.left + 15
 
 abbrev pub invariant-links-loop-level : goal.invariant-links-loop-level
 invariant-links-loop-level l = after_items (map link_tree l.links.items) (links_at l.level l.left l.self) ≡ links_at l.level l.left l.initial.self
