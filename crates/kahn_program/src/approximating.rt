@@ -47,7 +47,8 @@ fn add_history<'a>(
     histories: &'a [History],
 ) -> Result<(), AllocError>
     ensures { OnOk result (streams.new.items ≡ streams.old.items
-        ++ (if goes_outside channel.now.consumer then history_of histories.now number ∷ [] else [])) }
+        ++ (if goes_outside channel.now.consumer
+        then history_of histories.now number ∷ [] else [])) }
 {
     if let Port::Outside = channel.consumer {
         streams.push(Stream::new(items_of(histories, number)))?;

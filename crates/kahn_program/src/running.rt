@@ -30,7 +30,8 @@ fn report_of(
     requires fitting { Fits (network_of net.program) inputs }
     ensures ok { IfOk result (λ report. IsReportOf
         options.now.approx options.now.items net inputs report.0.items report.1) }
-    ensures err { IfErr result (IsReportFailure options.now.approx (network_of net.program) inputs) }
+    ensures err { IfErr result
+        (IsReportFailure options.now.approx (network_of net.program) inputs) }
 {
     match options.approx {
         Some(n) => report_of_approximation(alloc, &net, &inputs, n),

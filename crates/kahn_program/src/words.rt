@@ -33,7 +33,8 @@ fn number<'a>(alloc: Global, name: &'a str, least: u64, most: u64) -> Arg<'a>
 
 /// How many rounds a run goes on at most.
 fn rounds<'a>(alloc: Global) -> Arg<'a>
-    ensures rule { rule_of result ≡ by_default (codes "1000") (number (codes "rounds") 1 MAX_ROUNDS) }
+    ensures rule { rule_of result
+        ≡ by_default (codes "1000") (number (codes "rounds") 1 MAX_ROUNDS) }
     ensures here { result.global ≡ false }
 {
     number(alloc, "rounds", 1, MAX_ROUNDS).default_value("1000")
