@@ -8,7 +8,7 @@ use outlet::ListOutlet;
 use record::{Image, Record};
 use std::alloc::Global;
 use std::sync::Arc;
-use world::{Event, Reply, World, list_outputs};
+use world::{Event, Reply, World, can_run, list_outputs};
 
 const NET: &str = "kahn 1; input i; output o;
 process sum on 0 { var a; var v; loop { v = get i; a = a + v; put a to o; } }";
@@ -58,6 +58,10 @@ fn step(alloc: Global, world: &mut World<MemCell, ListOutlet>) -> anyhow::Result
 fn main(rt: HostRuntime) -> anyhow::Result<()> {
     let alloc = rt.alloc();
     let net = check(alloc, parse(alloc, NET)?)?;
+    anyhow::ensure!(
+        can_run(&net),
+        "several nodes, or channels between processes"
+    );
     let inputs = bind(alloc, &net, parse_inputs(alloc, "i: 1 2 3")?)?;
     let outputs = list_outputs(alloc, &net)?;
     let net = Arc::new(alloc, net)?;

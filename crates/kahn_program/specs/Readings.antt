@@ -10,7 +10,6 @@ use Rattle.net_text.specs.Trees.{DeclarationTree, InputTree}
 use Rattle.net_text.specs.declared.fault.TextFault.{TextFault}
 use Rattle.net_check.specs.Binding.{Binds, HasInputFault}
 use Rattle.net_check.specs.NetFaults.{HasFault}
-use Rattle.kahn_net.specs.Nodes.{IsOnOneNode}
 use Rattle.net_check.specs.Resolution.{Resolves}
 use Rattle.kahn_net.specs.Syntax.{Network, network_of}
 use Rattle.kahn_net.specs.Valid.{IsValid}
@@ -45,7 +44,6 @@ pub record IsTextOfNet (bytes : List ℕ) : Type 0 where
   pub text : IsTextOf tree bytes
   pub resolved : Resolves tree channels processes network
   pub valid : IsValid network
-  pub one_node : IsOnOneNode network
 
 -- this text gives the network's inputs their items
 pub record IsTextOfInputs (net : Net) (bytes : List ℕ) : Type 0 where

@@ -11,7 +11,7 @@ use Rattle.world.specs.Released.{released_of}
 use Rattle.world.specs.StationView.{StationView}
 use Rattle.kahn_program.specs.Readings.{IsNetOf, AreInputsOf}
 use Rattle.kahn_program.specs.Report.{report_text}
-use Rattle.kahn_program.specs.Runnable.{CanRun}
+use Rattle.world.specs.Runnable.{CanRun}
 
 -- what the stations' outlets took, for each of a network's outputs in order
 abbrev pub released_streams : Network → List StationView → List (List ℤ)

@@ -5,7 +5,6 @@ mod approximating;
 mod asked;
 mod failure;
 mod network_run;
-mod one_node;
 mod printing;
 mod reading;
 mod reporting;
@@ -14,7 +13,6 @@ mod words;
 
 pub use asked::{DEFAULT_ROUNDS, MAX_APPROXIMATION, MAX_ITEMS, MAX_ROUNDS, Options};
 pub use failure::{Failure, Source};
-pub use one_node::can_run;
 pub use printing::{print_failure, print_report};
 pub use reading::{read_inputs, read_net};
 pub use reporting::{Stream, count_outputs, report};

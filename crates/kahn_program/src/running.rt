@@ -12,12 +12,12 @@ use crate::approximating::report_of_approximation;
 use crate::asked::Options;
 use crate::failure::Failure;
 use crate::network_run::report_of_run;
-use crate::one_node::can_run;
 use crate::printing::{print_failure, print_report};
 use crate::reading::{read_inputs, read_net};
 use net_check::{Inputs, Net};
 use std::alloc::Global;
 use std::io::{Read, Write};
+use world::can_run;
 
 /// The report that is asked for of a network on its inputs, and whether it tells `complete`: of an approximation, or of a
 /// run, which is there so far for a network of one node without channels between processes.

@@ -277,10 +277,10 @@ fn refuses_declarations(rt: HostRuntime) {
     refused(&rt, alloc, &processes, (10, Some(3)), "two processes");
     let variables = [(2, Process("p", 0)), (3, Variable("v")), (4, Variable("v"))];
     refused(&rt, alloc, &variables, (10, Some(4)), "two variables");
-    // Only node 0, for now.
-    for node in [1, 15, 16] {
+    // Nodes are numbered from 0 to 15.
+    for (node, wanted) in [(0, (0, None)), (15, (0, None)), (16, (15, Some(2)))] {
         let found = outcome_of(alloc, &[(2, Process("p", node))]);
-        same_at(&rt, &found, &Ok((15, Some(2))), &node);
+        same_at(&rt, &found, &Ok(wanted), &node);
     }
     let both = [(2, Process("p", 0)), (3, Process("p", 1))];
     refused(

@@ -22,6 +22,10 @@ const ONCE: &str =
 const LED: &str =
     "kahn 1; input i; output o; process led on 0 { var v = 7; put v to o; loop { v = get i; put v to o; put v to o; } }";
 
+/// Gets and puts in both blocks of an if, one behind it, and a stop.
+const BRANCHES: &str =
+    "kahn 1; input i; output o; process p on 0 { var v; var w; loop { v = get i; if v == 7 { put 1 to o; w = get i; put w to o; } else { put 2 to o; if v == 0 { stop; } } put 3 to o; } }";
+
 fn net_of(alloc: Global, text: &str) -> Result<Arc<Net>, Fail> {
     let net = check(alloc, parse(alloc, text)?)?;
     Ok(Arc::new(alloc, net)?)
@@ -368,6 +372,7 @@ fn cut_at_every_length(rt: HostRuntime) -> Result<(), Fail> {
     let sum = net_of(alloc, SUM)?;
     let once = net_of(alloc, ONCE)?;
     let led = net_of(alloc, LED)?;
+    let branches = net_of(alloc, BRANCHES)?;
     for at_once in 1..5 {
         for room in 1..5 {
             let row = (at_once, room);
@@ -377,6 +382,9 @@ fn cut_at_every_length(rt: HostRuntime) -> Result<(), Fail> {
             same_items_at(&rt, &two, &[6, 8], &row);
             let five = cut(alloc, &led, &[7], &[1, 2], at_once, room)?;
             same_items_at(&rt, &five, &[7, 1, 1, 2, 2], &row);
+            let items = [7, 5, 8, 0, 9];
+            let six = cut(alloc, &branches, &[0, 0], &items, at_once, room)?;
+            same_items_at(&rt, &six, &[1, 5, 3, 2, 3, 2], &row);
         }
     }
     Ok(())

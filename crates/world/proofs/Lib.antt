@@ -5,3 +5,4 @@ mod Views
 mod Showing
 mod Rests
 mod Quieting
+mod Places

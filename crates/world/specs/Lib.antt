@@ -20,3 +20,4 @@ pub mod QuietLaws
 pub mod WorldView
 pub mod Released
 pub mod OpeningWorld
+pub mod Runnable

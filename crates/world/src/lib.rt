@@ -8,6 +8,7 @@
 mod acting;
 mod checkpoints;
 mod event;
+mod one_node;
 mod opening;
 mod output;
 mod picking;
@@ -20,6 +21,7 @@ mod turning;
 mod world;
 
 pub use event::{Event, Freed, Refused, Reply};
+pub use one_node::can_run;
 pub use opening::list_outputs;
 pub use output::Output;
 pub use round_turns::RoundTurns;

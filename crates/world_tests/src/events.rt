@@ -21,7 +21,7 @@ use std::alloc::Global;
 use std::process::Abort;
 use std::sync::Arc;
 use std::test::Fail;
-use world::{Event, Freed, Output, Reply, World, list_outputs};
+use world::{Event, Freed, Output, Reply, World, can_run, list_outputs};
 
 // The running sum: input 0, output 1.
 const SUM: &str =
@@ -34,7 +34,11 @@ const ITEMS: &str = "i: 1 2 3";
 fn sum_net(alloc: Global) -> Result<Net, Fail>
     ensures { IfOk result (λ net. IsOnOneNode (network_of net.program)) }
 {
-    Ok(check(alloc, parse(alloc, SUM)?)?)
+    let net = check(alloc, parse(alloc, SUM)?)?;
+    if !can_run(&net) {
+        return Err("the network can't be run".into());
+    }
+    Ok(net)
 }
 
 fn items_in(alloc: Global, net: &Net, text: &str) -> Result<Inputs, Fail>

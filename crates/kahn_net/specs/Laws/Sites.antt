@@ -44,7 +44,6 @@ module _ (number : ℕ) (left : List ℕ) (site : ℕ) (inner : List ℕ) (v : L
   on_plain Stop rest plain below = absurd (omega (arith, above, below))
   on_plain (If' e p first q second) rest plain below = absurd plain
 
-
   abbrev on_if : Block → Block → Block → Trace
   on_if first second rest =
       cond (nat_lt site (number + sites_of first)) (then_do (trace_on number left first site inner v u) (trace_of (number + sites_of first + sites_of second) left rest))

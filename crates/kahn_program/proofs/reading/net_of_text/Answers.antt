@@ -17,4 +17,4 @@ returns-in-Err-check-clause-err c = bad_net _ c.in-Err-check.fault c.in-Ok.ensur
 pub returns-in-Err-check-clause-accepted : goal.returns-in-Err-check-clause-accepted
 returns-in-Err-check-clause-accepted c = λ good.
     let resolved = subst (λ (tree : List DeclarationTree). Resolves tree good.channels good.processes good.network) (sym (c.in-Ok.ensures.only good.tree good.text)) good.resolved in
-    c.net_failure.ensures ∙ ap (net_failure_of source.Net) (c.in-Err-check.ensures.accepted good.channels good.processes good.network resolved good.valid good.one_node)
+    c.net_failure.ensures ∙ ap (net_failure_of source.Net) (c.in-Err-check.ensures.accepted good.channels good.processes good.network resolved good.valid)

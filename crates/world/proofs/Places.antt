@@ -9,7 +9,7 @@ use Rattle.kahn_net.specs.declared.program.Channel.{Channel}
 use Rattle.kahn_net.specs.declared.program.Process.{Process}
 use Rattle.kahn_net.specs.declared.program.Program.{Program}
 use Rattle.node.specs.ImageLaws.{map_got}
-use Rattle.kahn_program.specs.Runnable.{CanRun, is_open}
+use Rattle.world.specs.Runnable.{CanRun, is_open}
 
 both : (a b : Bool) → (a && b) ≡ true → (a ≡ true) × (b ≡ true)
 both true b h = (refl, h)

@@ -1,7 +1,7 @@
 use Rattle.std.proofs.Common.{◌≡◌, drop}
 use Rattle.std.specs.List.{list_all}
-use Rattle.kahn_program.specs.Runnable.{is_open}
-use Rattle.kahn_program.proofs.one_node.are_open.Given as goal
+use Rattle.world.specs.Runnable.{is_open}
+use Rattle.world.proofs.one_node.are_open.Given as goal
 
 -- as those that weren't looked at yet
 abbrev pub invariant-loop-channel : goal.invariant-loop-channel

@@ -1,6 +1,6 @@
 use Rattle.std.proofs.Common.{◌∙◌, sym}
-use Rattle.kahn_program.proofs.Places.{never_else, where_open}
-use Rattle.kahn_program.proofs.one_node.can_run.Goals as goal
+use Rattle.world.proofs.Places.{never_else, where_open}
+use Rattle.world.proofs.one_node.can_run.Goals as goal
 
 pub returns-then-are_on_first_node : goal.returns-then-are_on_first_node
 returns-then-are_on_first_node c =

@@ -1,7 +1,7 @@
 use Rattle.std.proofs.Common.{◌≡◌, ◌==◌, drop}
 use Rattle.std.specs.List.{list_all}
 use Rattle.kahn_net.specs.declared.program.Process.{Process}
-use Rattle.kahn_program.proofs.one_node.are_on_first_node.Given as goal
+use Rattle.world.proofs.one_node.are_on_first_node.Given as goal
 
 -- as those that weren't looked at yet
 abbrev pub invariant-loop-process : goal.invariant-loop-process
