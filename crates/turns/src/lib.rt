@@ -30,8 +30,9 @@ fn least_from(start: usize, ready: &[bool]) -> Option<u8>
     None
 }
 
-/// The ready process with the least number after the last one granted, beginning again at the least; the last is `None`
-/// at first. Entry p of `ready` tells whether process p is ready here. `None` where none is.
+/// The process whose turn is next: of those that are ready, the first one past `last`, and where there is none past it the
+/// first of all. `last` is `None` where no turn was granted yet. Entry p of `ready` tells whether process p is ready here.
+/// `None` where none is.
 pub fn next_ready(last: Option<u8>, ready: &[bool]) -> Option<u8>
     requires { length ready.now ≤ MAX_PROCESSES }
     // As a function of what was handed in.
