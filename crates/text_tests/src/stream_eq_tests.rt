@@ -2,6 +2,7 @@
 
 ghost use Rattle.std.specs.Prelude.{◌≡◌, pos, negsuc, [], ◌∷◌, ◌++◌};
 ghost use Rattle.kahn_net.specs.Approximations.{approximation, Belongs, IsReached};
+ghost use Rattle.kahn_net.specs.Statements.{point_at};
 ghost use Rattle.kahn_net.specs.Processes.{At, StandsAt};
 ghost use Rattle.text_tests.specs.Examples.{summing_code, sum_net, sum_inputs, sum_solution};
 ghost use Rattle.text_tests.specs.Examples.{at_the_end, pair_net, pair_inputs, one_two, tens};
@@ -29,9 +30,9 @@ fn running_sum_by_definition()
 
 /// After its first act the running sum stands at its put, and after all six at its get.
 fn standing_by_definition()
-    ensures at_first { StandsAt (summing_code 0 1) sum_inputs 0 (At 0 (pos 0 ∷ pos 0 ∷ [])) }
-    ensures then { StandsAt (summing_code 0 1) sum_inputs 1 (At 1 (pos 1 ∷ pos 1 ∷ [])) }
-    ensures at_last { StandsAt (summing_code 0 1) sum_inputs 6 (At 0 (pos 6 ∷ pos 3 ∷ [])) }
+    ensures at_first { StandsAt (summing_code 0 1) sum_inputs 0 (At (point_at 0 []) (pos 0 ∷ pos 0 ∷ [])) }
+    ensures then { StandsAt (summing_code 0 1) sum_inputs 1 (At (point_at 1 []) (pos 1 ∷ pos 1 ∷ [])) }
+    ensures at_last { StandsAt (summing_code 0 1) sum_inputs 6 (At (point_at 0 []) (pos 6 ∷ pos 3 ∷ [])) }
 {}
 
 /// A sum that leaves the range wraps round.
