@@ -1,11 +1,12 @@
 //! The program behind its words.
 
-use kahn_program::{Options, can_run, read_net, run};
+use kahn_program::{Options, read_net, run};
 use std::alloc::{AllocError, Global};
 use std::io;
 use std::io::{Read, Write};
 use std::process::Abort;
 use std::test::Fail;
+use world::can_run;
 
 const SUM: &[u8] =
     b"kahn 1;\ninput i;\noutput o;\nprocess sum on 0 {\n  var a;\n  var v;\n  loop { v = get i; a = a + v; put a to o; }\n}\n";
