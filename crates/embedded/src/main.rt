@@ -22,6 +22,7 @@ fn cell(alloc: Global) -> MemCell {
     MemCell::new(
         alloc,
         Record {
+            node: 0,
             epoch: 0,
             highest: Vec::new(alloc),
             decision: None,

@@ -30,6 +30,7 @@ fn empty_cell(alloc: Global) -> MemCell {
     MemCell::new(
         alloc,
         Record {
+            node: NODE,
             epoch: 0,
             highest: Vec::new(alloc),
             decision: None,

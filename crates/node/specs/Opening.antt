@@ -32,9 +32,9 @@ opening_ends number (channel ∷ channels) = record { channel = number; end = op
 abbrev pub opening_image : Network → ImageView
 opening_image net = record { processes = opening_processes 0 net.codes; ends = opening_ends 0 net.channels }
 
--- the record of a node of so many nodes
-abbrev pub opening_record : Network → ℕ → RecordView
-opening_record net nodes = record { epoch = 0; highest = replicate nodes 0; decision = None; permanent = opening_image net; tentative = None }
+-- the record of the node of this number, of so many nodes
+abbrev pub opening_record : Network → ℕ → ℕ → RecordView
+opening_record net nodes number = record { node = number; epoch = 0; highest = replicate nodes 0; decision = None; permanent = opening_image net; tentative = None }
 
-abbrev pub opening_node : Network → ℕ → NodeView
-opening_node net nodes = record { kept = opening_record net nodes; current = opening_image net; out = None; version = 0; last = None; up = true; restart = 0 }
+abbrev pub opening_node : Network → ℕ → ℕ → NodeView
+opening_node net nodes number = record { kept = opening_record net nodes number; current = opening_image net; out = None; version = 0; last = None; up = true; restart = 0 }

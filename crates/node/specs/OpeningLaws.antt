@@ -108,8 +108,8 @@ image_opening net histories = record { processes = processes; ends = ends }
         empty log b i = record { count = omega (arith, b, ap (length {A = ℤ}) i); items = i ∙ sym (ap (λ (n : ℕ). drop n none) b) }
 
 -- a node before its first event stands where no process has made an act
-pub reached_opening : (net : Network) (inputs : List (List ℤ)) (nodes : ℕ) → HasReached net inputs (opening_node net nodes)
-reached_opening net inputs nodes = record {
+pub reached_opening : (net : Network) (inputs : List (List ℤ)) (nodes number : ℕ) → HasReached net inputs (opening_node net nodes number)
+reached_opening net inputs nodes number = record {
   n = 0;
   permanent_acts = none_made;
   held_acts = none_made;

@@ -28,6 +28,7 @@ highest_used node kept = slice_index kept.highest node
 -- the record with this image as a tentative one of the node's own, under its next number
 abbrev pub with_own : ℕ → ImageView → RecordView → RecordView
 with_own node image kept = record {
+  node = kept.node;
   epoch = kept.epoch;
   highest = slice_set kept.highest node (highest_used node kept + 1);
   decision = kept.decision;
@@ -47,7 +48,7 @@ may_decide number node = node.up && is_own number node.kept.tentative
 -- the record with its tentative image, if there is one, as the permanent one
 abbrev pub decided_with : RecordView → Option Tentative → RecordView
 decided_with kept None = kept
-decided_with kept (Some held) = record { epoch = kept.epoch; highest = kept.highest; decision = None; permanent = held.image; tentative = None }
+decided_with kept (Some held) = record { node = kept.node; epoch = kept.epoch; highest = kept.highest; decision = None; permanent = held.image; tentative = None }
 
 abbrev pub decided : RecordView → RecordView
 decided kept = decided_with kept kept.tentative

@@ -75,12 +75,18 @@ fn open_image(alloc: Global, net: &Net) -> Result<Image, AllocError>
 }
 
 // What a node of so many nodes has before its first event.
-fn open_state(alloc: Global, net: &Net, nodes: usize) -> Result<NodeState, AllocError>
+fn open_state(
+    alloc: Global,
+    net: &Net,
+    nodes: usize,
+    number: u8,
+) -> Result<NodeState, AllocError>
     ensures { IfOk result (λ state. node_view state
-        ≡ opening_node (network_of net.now.program) nodes) }
+        ≡ opening_node (network_of net.now.program) nodes number) }
 {
     Ok(NodeState {
         kept: Record {
+            node: number,
             epoch: 0,
             highest: vec![in alloc; 0; nodes]?,
             decision: None,
@@ -110,16 +116,16 @@ impl<C: StableCell> Node<C> {
         requires listed { number < nodes }
         ensures number { IfOk result (λ node. node.number ≡ number) }
         ensures state { IfOk result
-            (λ node. node_view node.state ≡ opening_node (network_of net.now.program) nodes) }
+            (λ node. node_view node.state ≡ opening_node (network_of net.now.program) nodes number) }
         ensures fits { IfOk result
-            (λ node. IsTrue (C.fits cell (opening_record (network_of net.now.program) nodes))
+            (λ node. IsTrue (C.fits cell (opening_record (network_of net.now.program) nodes number))
             × (C.failure_count node.cell ≡ C.failure_count cell)) }
         ensures too_large { IsErrOf result CellFault.TooLarge
-            → C.fits cell (opening_record (network_of net.now.program) nodes) ≡ false }
+            → C.fits cell (opening_record (network_of net.now.program) nodes number) ≡ false }
         ensures device { IsErrOf result CellFault.Device → HasFailed C.failure_count cell }
         ensures reopen { ¬ (IsErrOf result CellFault.Reopen) }
     {
-        let state = open_state(alloc, net, nodes)?;
+        let state = open_state(alloc, net, nodes, number)?;
         cell.put(&state.kept)?;
         Ok(Node {
             number,

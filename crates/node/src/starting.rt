@@ -132,6 +132,7 @@ fn decided_record(alloc: Global, kept: &Record, node: u8) -> Result<Option<Recor
 {
     match &kept.tentative {
         Some(held) if held.initiator == node => Ok(Some(Record {
+            node: kept.node,
             epoch: kept.epoch,
             highest: Vec::from_slice(alloc, kept.highest.as_slice())?,
             decision: None,

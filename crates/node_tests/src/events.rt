@@ -105,6 +105,7 @@ fn tentative_image(alloc: Global) -> Result<Image, Fail> {
 
 fn sample(alloc: Global) -> Result<Record, Fail> {
     Ok(Record {
+        node: 0,
         epoch: 12,
         highest: Vec::from_slice(alloc, &[4, 7])?,
         decision: Some(Decision {
@@ -123,6 +124,7 @@ fn sample(alloc: Global) -> Result<Record, Fail> {
 // A node's record at its start.
 fn first_record(alloc: Global) -> Record {
     Record {
+        node: 0,
         epoch: 0,
         highest: Vec::new(alloc),
         decision: None,

@@ -5,6 +5,7 @@ use Rattle.record.specs.ImageView.{ImageView}
 use Rattle.record.specs.declared.record.Tentative.{Tentative}
 
 pub record RecordView : Type 0 where
+  pub node : ℕ
   pub epoch : ℕ
   pub highest : List ℕ
   pub decision : Option DecisionView

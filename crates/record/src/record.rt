@@ -55,6 +55,8 @@ impl Tentative {
 /// All that a node keeps over a crash.
 #[derive(Drop)]
 pub struct Record {
+    /// The node that keeps it.
+    pub node: u8,
     pub epoch: u64,
     /// The highest number seen of each initiator, by node.
     pub highest: Vec<u64>,
@@ -70,6 +72,7 @@ impl Model for Record {
     ghost Value = { RecordView };
 
     ghost view = { λ kept. record {
+      node = kept.node;
       epoch = kept.epoch;
       highest = kept.highest.items;
       decision = kept.decision;
@@ -104,6 +107,7 @@ impl Record {
         ensures { IfOk result (λ copy. copy ≡ self.now) }
     {
         Ok(Record {
+            node: self.node,
             epoch: self.epoch,
             highest: Vec::from_slice(alloc, self.highest.as_slice())?,
             decision: copy_decision(alloc, &self.decision)?,

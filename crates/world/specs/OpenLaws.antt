@@ -33,13 +33,13 @@ begins_from number c (x ∷ channels) = at (eqb number c) (begins_from (suc numb
     at true later = end_begins x.producer x.consumer
     at false later = later
 
-module _ (net : Network) (inputs : List (List ℤ)) (nodes : ℕ) (outputs : List OutputView) where
+module _ (net : Network) (inputs : List (List ℤ)) (nodes number : ℕ) (outputs : List OutputView) where
   no_base : (c : ℕ) → base_of (opening_image net) c ≡ 0
   no_base c = begins_from 0 c net.channels
 
-  come_opened : NothingLeft outputs → HasCome net inputs (opening_node net nodes) outputs
+  come_opened : NothingLeft outputs → HasCome net inputs (opening_node net nodes number) outputs
   come_opened none = record {
-    reached = reached_opening net inputs nodes;
+    reached = reached_opening net inputs nodes number;
     out = λ job is. absurd (cc);
     released = λ j p output channel is on from. nothing output.taken _ (none j output is);
   }
@@ -48,7 +48,7 @@ module _ (net : Network) (inputs : List (List ℤ)) (nodes : ℕ) (outputs : Lis
       nothing taken whole e = e ∙ ap (λ (t : List ℤ). take (length t) whole) (sym e)
 
   pub sound_opened : IsValid net → map (λ (output : OutputView). output.channel) outputs ≡ output_channels 0 net.channels → NothingLeft outputs
-      → IsSound net inputs (opening_node net nodes) outputs
+      → IsSound net inputs (opening_node net nodes number) outputs
   sound_opened valid listed none = record {
     listed = listed;
     kept = record { laid_out = laid_out_opening net; counts = counts_opening net inputs; logs = logs_opening net };

@@ -13,7 +13,7 @@ opening_outlet outlet = record { channel = outlet.channel; taken = outlet.taken;
 
 -- the one station of a network on one node, with these inputs and outlets; its device has failed so often before
 abbrev pub opening_station : Network → List (List ℤ) → ℕ → List OutletView → StationView
-opening_station net inputs failures outlets = record { net = net; inputs = inputs; number = 0; node = opening_node net 1; failures = failures; outlets = outlets; turns = no_turns 0 }
+opening_station net inputs failures outlets = record { net = net; inputs = inputs; number = 0; node = opening_node net 1 0; failures = failures; outlets = outlets; turns = no_turns 0 }
 
 -- the world of that station alone, with outlets as they were given
 abbrev pub opening_world : Network → List (List ℤ) → ℕ → List OutletView → WorldView

@@ -107,7 +107,7 @@ impl<C: StableCell, O: Outlet> Station<C, O> {
         requires empty { AllByRecursion (IsUnused O.taken) outputs.items }
         ensures node { IfOk result
             (λ station. node_view station.node.state
-            ≡ opening_node (network_of net.value.program) 1) }
+            ≡ opening_node (network_of net.value.program) 1 0) }
         ensures opening { IfOk result
             (λ station. station_view station
             ≡ opening_station (network_of net.value.program) inputs.value (C.failure_count cell)
@@ -116,10 +116,10 @@ impl<C: StableCell, O: Outlet> Station<C, O> {
             (λ station. (station.net ≡ net) × (station.inputs ≡ inputs)
             × (station.outputs ≡ outputs)) }
         ensures fits { IfOk result
-            (λ station. IsTrue (C.fits cell (opening_record (network_of net.value.program) 1))
+            (λ station. IsTrue (C.fits cell (opening_record (network_of net.value.program) 1 0))
             × (C.failure_count station.node.cell ≡ C.failure_count cell)) }
         ensures too_large { IsErrOf result CellFault.TooLarge
-            → C.fits cell (opening_record (network_of net.value.program) 1) ≡ false }
+            → C.fits cell (opening_record (network_of net.value.program) 1 0) ≡ false }
         ensures device { IsErrOf result CellFault.Device → HasFailed C.failure_count cell }
         ensures reopen { ¬ (IsErrOf result CellFault.Reopen) }
     {
@@ -163,9 +163,9 @@ impl<C: StableCell, O: Outlet> World<C, O> {
         ensures one { IfOk result (λ world. length world.stations.items ≡ 1) }
         // A device failure is told where the device failed, 22 where the record doesn't fit, and 23 never.
         ensures fits { IfOk result
-            (λ world. IsTrue (C.fits cell (opening_record (network_of net.value.program) 1))) }
+            (λ world. IsTrue (C.fits cell (opening_record (network_of net.value.program) 1 0))) }
         ensures too_large { IsErrOf result CellFault.TooLarge
-            → C.fits cell (opening_record (network_of net.value.program) 1) ≡ false }
+            → C.fits cell (opening_record (network_of net.value.program) 1 0) ≡ false }
         ensures device { IsErrOf result CellFault.Device → HasFailed C.failure_count cell }
         ensures reopen { ¬ (IsErrOf result CellFault.Reopen) }
     {

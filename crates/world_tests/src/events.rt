@@ -52,6 +52,7 @@ fn empty_cell(alloc: Global) -> MemCell {
     MemCell::new(
         alloc,
         Record {
+            node: 0,
             epoch: 0,
             highest: Vec::new(alloc),
             decision: None,

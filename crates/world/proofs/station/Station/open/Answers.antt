@@ -16,6 +16,6 @@ invariant_of-result g c =
     let outputs = outputs_view taken c.args.outputs.items in
     record {
       fits = c.requires.fits;
-      sound = subst (λ (node : NodeView). IsSound net c.args.inputs.value node outputs) (sym (c.in_ok-node.ensures.state ∙ ap (λ (n : Net). opening_node (network_of n.program) 1) c.deref.ensures))
-          (sound_opened net c.args.inputs.value 1 outputs c.args.net.value.valid (seen_listed taken c.args.outputs.items ∙ c.requires.listed) (seen_nothing taken c.args.outputs.items c.requires.empty));
+      sound = subst (λ (node : NodeView). IsSound net c.args.inputs.value node outputs) (sym (c.in_ok-node.ensures.state ∙ ap (λ (n : Net). opening_node (network_of n.program) 1 0) c.deref.ensures))
+          (sound_opened net c.args.inputs.value 1 0 outputs c.args.net.value.valid (seen_listed taken c.args.outputs.items ∙ c.requires.listed) (seen_nothing taken c.args.outputs.items c.requires.empty));
     }

