@@ -1,5 +1,5 @@
 -- Why bytes are no record. The first offence from the left decides: the fields before it are some record's, and may stand there.
-use Rattle.std.specs.Prelude.{◌≡◌, ◌≢◌, ◌⊎◌, ℕ, ◌^◌, ◌<◌, Bool, false, List, [], ◌∷◌, ◌++◌, length}
+use Rattle.std.specs.Prelude.{◌≡◌, ◌≢◌, ◌⊎◌, ℕ, ◌^◌, ◌<◌, Bool, false, List, [], ◌∷◌, ◌++◌, length, Result, Ok, Err}
 use Rattle.record.specs.RecordView.{RecordView}
 use Rattle.ckpt_codec.specs.Fields.{Field, AreAllowed, number_text, text_of}
 use Rattle.ckpt_codec.specs.RecordText.{record_fields, IsRecordText}
@@ -60,3 +60,13 @@ refusal_number NoMemory = 1
 refusal_number Truncated = 30
 refusal_number Version = 31
 refusal_number Malformed = 32
+
+-- this record is answered, unless memory runs out
+abbrev pub IsReadUnlessMemory : RecordView → Result RecordView CodecFault → Type 0
+IsReadUnlessMemory kept (Ok found) = found ≡ kept
+IsReadUnlessMemory kept (Err fault) = fault ≡ NoMemory
+
+-- this refusal is answered, unless memory runs out
+abbrev pub IsRefusedUnlessMemory : CodecFault → Result RecordView CodecFault → Type 0
+IsRefusedUnlessMemory fault (Ok found) = fault ≡ NoMemory
+IsRefusedUnlessMemory fault (Err other) = (fault ≡ NoMemory) ⊎ ((other ≡ NoMemory) ⊎ (other ≡ fault))

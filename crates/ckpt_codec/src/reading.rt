@@ -1,7 +1,8 @@
 // From bytes to a record.
-ghost use Rattle.std.specs.Prelude.{◌≡◌, ◌⊎◌, IfOk, IfErr, IsErrOf};
+ghost use Rattle.std.specs.Prelude.{IfOk, IfErr};
 ghost use Rattle.ckpt_codec.specs.RecordText.{IsRecordText};
-ghost use Rattle.ckpt_codec.specs.Faults.{IsCodecFault};
+ghost use Rattle.ckpt_codec.specs.Faults.{IsCodecFault, IsReadUnlessMemory, IsRefusedUnlessMemory};
+ghost use Rattle.ckpt_codec.specs.declared.fault.CodecFault.{CodecFault as FaultValue};
 ghost use Rattle.record.specs.RecordView.{RecordView};
 
 use crate::fault::CodecFault;
@@ -15,10 +16,16 @@ use std::alloc::Global;
 /// or at a byte behind the record; and with `NoMemory` (1).
 pub fn read_record(alloc: Global, bytes: &[u8]) -> Result<Record, CodecFault>
     // These bytes spell the record that is answered.
-    ensures found { IfOk result (λ record. IsRecordText record bytes.now) }
+    ensures found { IfOk result (λ kept. IsRecordText kept bytes.now) }
 
-    // The refusal's cause is in the bytes.
+    // The record that they spell is answered, or memory runs out.
+    ensures only { (kept : RecordView) → IsRecordText kept bytes.now
+        → IsReadUnlessMemory kept result }
+
+    // The refusal's cause is in the bytes, and no other refusal has its cause there.
     ensures cause { IfErr result (IsCodecFault bytes.now) }
+    ensures each { (fault : FaultValue) → IsCodecFault bytes.now fault
+        → IsRefusedUnlessMemory fault result }
 {
     let _alloc = alloc;
     let _bytes = bytes;

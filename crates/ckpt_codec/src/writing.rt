@@ -6,11 +6,11 @@ use record::Record;
 use std::alloc::{AllocError, Global};
 
 /// The spelling of a record. Refuses for want of memory alone.
-pub fn write_record(alloc: Global, record: &Record) -> Result<Vec<u8>, AllocError>
-    requires { IsRecord record.now }
-    ensures { IfOk result (λ bytes. IsRecordText record.now bytes.items) }
+pub fn write_record(alloc: Global, kept: &Record) -> Result<Vec<u8>, AllocError>
+    requires { IsRecord kept.now }
+    ensures { IfOk result (λ bytes. IsRecordText kept.now bytes.items) }
 {
-    let _record = record;
+    let _kept = kept;
     let _alloc = alloc;
     Err(AllocError)
 }
