@@ -1,5 +1,5 @@
 -- What is read of an inputs text is in its grammar, and what is in the grammar is read.
-use Rattle.std.proofs.Common.{◌≡◌, ℕ, zero, suc, ◌+◌, ◌^◌, ◌<◌, ◌≤◌, ◌⊎◌, inl, inr, Bool, true, false, cond, ◌||◌, ltb, leb, List, [], ◌∷◌, ◌++◌, length, take, drop, get_or, Option, Some, None, Result, Ok, Err, ℤ, pos, neg_ℤ, refl, sym, ap, subst, ◌∙◌, arith, length-append, length-take, length-drop, take-append-drop, add-zero, drop-cons, map}
+use Rattle.std.proofs.Common.{◌≡◌, ℕ, zero, suc, ◌+◌, ◌^◌, ◌<◌, ◌≤◌, ◌⊎◌, inl, inr, Bool, true, false, cond, ◌||◌, ltb, leb, List, [], ◌∷◌, ◌++◌, length, take, drop, get_or, Option, Some, None, Result, Ok, Err, ℤ, pos, neg_ℤ, refl, sym, ap, subst, ◌∙◌, arith, length-append, length-take, length-drop, take-append-drop, drop-cons, map}
 use Rattle.std.specs.Prelude.{◌==◌, slice_index}
 use Rattle.std.specs.List.{list_all, slice_split}
 use Rattle.std.specs.Str.Lines.{strip_carriage_return}
@@ -9,8 +9,8 @@ use Rattle.std.proofs.lemmas.List.{take_at, drop_at, get_or-take}
 use Rattle.net_text.specs.Numbers.{numeral_value}
 use Rattle.net_text.specs.Spellings.{starts_word, continues_word, is_word}
 use Rattle.net_text.specs.Trees.{InputTree}
-use Rattle.net_text.specs.InputLines.{is_space, is_comment, IsBlank, IsItem, IsItems, IsEntry, AreEntries, lines_of, IsBadLine, IsInputsFault, IsInputsText}
-use Rattle.net_text.specs.InputReading.{Fails, run, signed, sign_len, item_in, item_at, items_from, items_at, after_name, entry_at, with_entry, line_at, lines_at}
+use Rattle.net_text.specs.InputLines.{is_space, is_comment, IsBlank, IsItem, IsItems, IsEntry, AreEntries, lines_of, IsInputsText}
+use Rattle.net_text.specs.InputReading.{Fails, run, signed, item_in, item_at, items_from, items_at, after_name, entry_at, with_entry, line_at, lines_at}
 use Rattle.net_text.proofs.Runs.{run_le, run_all, run_stops, run_whole, whole_run}
 use Rattle.net_text.proofs.Lexemes.{numeral_digits, numeral_from_run, numeral_some, word_continues, word_from_run, first_of_word, digit_bounds, starts_bounds, starts_continues}
 use Rattle.net_text.proofs.Items.{item_shortens}
@@ -21,7 +21,7 @@ use Rattle.net_text.proofs.Sequences.{same_value, went_on}
 use Rattle.net_text.specs.Results.{◌>>=◌}
 
 -- which way a choice went
-chosen : {A : Type 0} (b : Bool) (x y z : A) → cond b x y ≡ z → ((b ≡ true) × (x ≡ z)) ⊎ ((b ≡ false) × (y ≡ z))
+pub chosen : {A : Type 0} (b : Bool) (x y z : A) → cond b x y ≡ z → ((b ≡ true) × (x ≡ z)) ⊎ ((b ≡ false) × (y ≡ z))
 chosen true x y z e = inl (refl, e)
 chosen false x y z e = inr (refl, e)
 
@@ -97,7 +97,7 @@ item_in_took line false bytes x h e =
     no_ok : (f : TextFault) (x : ℤ × List ℕ) → (let left : Result (ℤ × List ℕ) TextFault = Err f in left ≡ Ok x) → ⊥
     no_ok f x h = cc
 
-item_took : (line : ℕ) (bytes : List ℕ) (x : ℤ × List ℕ) → item_at line bytes ≡ Ok x → Item bytes x.0 x.1
+pub item_took : (line : ℕ) (bytes : List ℕ) (x : ℤ × List ℕ) → item_at line bytes ≡ Ok x → Item bytes x.0 x.1
 unfolding item_at
 item_took line bytes x e = item_in_took line (slice_index bytes 0 == 45) bytes x refl e
 
@@ -128,7 +128,7 @@ items_from_took line (suc n) bytes vs lt e =
     no_ok : (f : TextFault) (x : List ℤ) → (let left : Result (List ℤ) TextFault = Err f in left ≡ Ok x) → ⊥
     no_ok f x h = cc
 
-items_took : (line : ℕ) (bytes : List ℕ) (vs : List ℤ) → items_at line bytes ≡ Ok vs → IsItems vs bytes
+pub items_took : (line : ℕ) (bytes : List ℕ) (vs : List ℤ) → items_at line bytes ≡ Ok vs → IsItems vs bytes
 unfolding items_at
 items_took line bytes vs e = items_from_took line (suc (length bytes)) bytes vs (omega arith) e
 
@@ -186,11 +186,11 @@ entry_took line bytes e h =
     no_ok f x h = cc
 
 -- what a line may say
-IsLine : ℕ → List ℕ → Option InputTree → Type 0
+unfoldable pub IsLine : ℕ → List ℕ → Option InputTree → Type 0
 IsLine number line None = IsBlank line
 IsLine number line (Some e) = IsEntry number line e
 
-line_took : (number : ℕ) (line : List ℕ) (e : Option InputTree) → line_at number line ≡ Ok e → IsLine number line e
+pub line_took : (number : ℕ) (line : List ℕ) (e : Option InputTree) → line_at number line ≡ Ok e → IsLine number line e
 unfolding line_at IsLine
 line_took number line e h =
     elim (chosen ((run is_space line == length line) || is_comment line) (Ok None) (entry_at number line >>= λ x. Ok (Some x)) (Ok e) h) as (λ _. IsLine number line e) [
@@ -214,7 +214,7 @@ lines_took number (line ∷ lines) es h =
 
 -- ---- what is in the grammar is read
 
-run_append : (p : ℕ → Bool) (xs ys : List ℕ) → list_all p xs ≡ true → p (get_or ys 0 0) ≡ false → run p (xs ++ ys) ≡ length xs
+pub run_append : (p : ℕ → Bool) (xs ys : List ℕ) → list_all p xs ≡ true → p (get_or ys 0 0) ≡ false → run p (xs ++ ys) ≡ length xs
 run_append p [] [] all stop = refl
 run_append p [] (y ∷ ys) all stop = rw stop refl
 run_append p (x ∷ xs) ys all stop = let parts = and_parts (p x) (list_all p xs) all in rw parts.0 (ap suc (run_append p xs ys parts.1 stop))
@@ -230,7 +230,7 @@ signed_small n line lt = rw (lt-ltb n (2 ^ 63) lt) refl
 signed_minus : (n line : ℕ) → n ≤ 2 ^ 63 → signed true n line ≡ Ok (neg_ℤ (pos n))
 signed_minus n line le = rw (le-leb n (2 ^ 63) le) refl
 
-item_again : (line : ℕ) (item : List ℕ) (v : ℤ) (rest : List ℕ) → IsItem item v → is_ascii_digit (get_or rest 0 0) ≡ false → item_at line (item ++ rest) ≡ Ok (v, rest)
+pub item_again : (line : ℕ) (item : List ℕ) (v : ℤ) (rest : List ℕ) → IsItem item v → is_ascii_digit (get_or rest 0 0) ≡ false → item_at line (item ++ rest) ≡ Ok (v, rest)
 unfolding item_at
 item_again line [] v rest (inl plain) stop = absurd cc
 item_again line (b ∷ bs) v rest (inl plain) stop =
@@ -254,7 +254,7 @@ item_again line item v rest (inr minus) stop =
     ∙ in_pieces line true 1 (run is_ascii_digit (digits ++ rest)) (length digits) (45 ∷ (digits ++ rest)) digits rest v len some front back (signed_minus (numeral_value digits) line minus.3 ∙ ap (λ (z : ℤ). let r : Result ℤ TextFault = Ok z in r) (sym minus.4))
 
 -- items begin with a space, where there are any
-items_begin : (vs : List ℤ) (bytes : List ℕ) → IsItems vs bytes → is_ascii_digit (get_or bytes 0 0) ≡ false
+pub items_begin : (vs : List ℤ) (bytes : List ℕ) → IsItems vs bytes → is_ascii_digit (get_or bytes 0 0) ≡ false
 items_begin [] [] is = refl
 items_begin [] (b ∷ bytes) is = let space = eqb-true _ _ (and_parts (is_space b) (list_all is_space bytes) is).0 in ap is_ascii_digit space
 items_begin (v ∷ vs) bytes is = first_space is.0 bytes (is.1 ++ is.2) is.3 is.4 is.5
@@ -266,7 +266,7 @@ items_begin (v ∷ vs) bytes is = first_space is.0 bytes (is.1 ++ is.2) is.3 is.
         ap (λ (bs : List ℕ). is_ascii_digit (get_or bs 0 0)) e ∙ ap is_ascii_digit space
 
 -- an item is no space, and takes a byte at least
-item_begins : (item : List ℕ) (v : ℤ) (rest : List ℕ) → IsItem item v → (is_space (get_or (item ++ rest) 0 0) ≡ false) × (0 < length item)
+pub item_begins : (item : List ℕ) (v : ℤ) (rest : List ℕ) → IsItem item v → (is_space (get_or (item ++ rest) 0 0) ≡ false) × (0 < length item)
 item_begins [] v rest (inl plain) = absurd cc
 item_begins (b ∷ bs) v rest (inl plain) =
     let first = digit_bounds b (and_parts (is_ascii_digit b) (list_all is_ascii_digit bs) plain.0).0 in
@@ -294,7 +294,7 @@ items_from_again line (suc n) (v ∷ vs) bytes is lt =
     let others = items_from_again line n vs rest is.7 (omega arith) in
     rw (not_all, not_none, after, first, others) refl
 
-items_again : (line : ℕ) (vs : List ℤ) (bytes : List ℕ) → IsItems vs bytes → items_at line bytes ≡ Ok vs
+pub items_again : (line : ℕ) (vs : List ℤ) (bytes : List ℕ) → IsItems vs bytes → items_at line bytes ≡ Ok vs
 unfolding items_at
 items_again line vs bytes is = items_from_again line (suc (length bytes)) vs bytes is (omega arith)
 
@@ -361,143 +361,16 @@ lines_again number (line ∷ lines) es (inr entry) = rw (entry_line_again number
 
 -- ---- faults
 
--- a fault on this line
-IsOn : ℕ → TextFault → Type 0
-IsOn line NoMemory = ⊥
-IsOn line (BadToken at) = at ≡ line
-IsOn line (Unexpected at) = at ≡ line
-IsOn line (NumberRange at) = at ≡ line
-IsOn line (TooLong at) = at ≡ line
-
-err_is : {A : Type 0} (f g : TextFault) → (let left : Result A TextFault = Err f in left ≡ Err g) → f ≡ g
+pub err_is : {A : Type 0} (f g : TextFault) → (let left : Result A TextFault = Err f in left ≡ Err g) → f ≡ g
 err_is f g e = cc
 
-no_err : {A : Type 0} (x : A) (f : TextFault) → (let left : Result A TextFault = Ok x in left ≡ Err f) → ⊥
-no_err x f e = cc
+pub no_fault : {A : Type 0} (x : A) (f : TextFault) → (let left : Result A TextFault = Ok x in left ≡ Err f) → ⊥
+no_fault x f e = cc
 
 -- where a step fails, or what comes after it
-bind_err : {A B : Type 0} (r : Result A TextFault) (f : A → Result B TextFault) (e : TextFault) → (r >>= f) ≡ Err e → (r ≡ Err e) ⊎ ((x : A) × (r ≡ Ok x) × (f x ≡ Err e))
+pub bind_err : {A B : Type 0} (r : Result A TextFault) (f : A → Result B TextFault) (e : TextFault) → (r >>= f) ≡ Err e → (r ≡ Err e) ⊎ ((x : A) × (r ≡ Ok x) × (f x ≡ Err e))
 bind_err (Ok x) f e h = inr (x, refl, h)
 bind_err (Err d) f e h = inl (ap (λ (g : TextFault). Err g) (err_is d e h))
-
--- the faults of a choice are those of its two sides
-pick_fault : {A : Type 0} (line : ℕ) (b : Bool) (x y : Result A TextFault) (f : TextFault) → ((g : TextFault) → x ≡ Err g → IsOn line g) → ((g : TextFault) → y ≡ Err g → IsOn line g) → cond b x y ≡ Err f → IsOn line f
-pick_fault line true x y f h k e = h f e
-pick_fault line false x y f h k e = k f e
-
-bind_fault : {A B : Type 0} (line : ℕ) (r : Result A TextFault) (next : A → Result B TextFault) (f : TextFault) → ((g : TextFault) → r ≡ Err g → IsOn line g) → ((x : A) (g : TextFault) → next x ≡ Err g → IsOn line g) → (r >>= next) ≡ Err f → IsOn line f
-bind_fault line (Ok x) next f h k e = k x f e
-bind_fault line (Err d) next f h k e = subst (IsOn line) (err_is d f e) (h d refl)
-
-bad_on : {A : Type 0} (line : ℕ) (g : TextFault) → (let left : Result A TextFault = Err (BadToken line) in left ≡ Err g) → IsOn line g
-unfolding IsOn
-bad_on line g e = subst (IsOn line) (err_is (BadToken line) g e) refl
-
-range_on : {A : Type 0} (line : ℕ) (g : TextFault) → (let left : Result A TextFault = Err (NumberRange line) in left ≡ Err g) → IsOn line g
-unfolding IsOn
-range_on line g e = subst (IsOn line) (err_is (NumberRange line) g e) refl
-
-ended_on : {A : Type 0} (line : ℕ) (g : TextFault) → (let left : Result A TextFault = Err (Unexpected line) in left ≡ Err g) → IsOn line g
-unfolding IsOn
-ended_on line g e = subst (IsOn line) (err_is (Unexpected line) g e) refl
-
-long_on : {A : Type 0} (line : ℕ) (g : TextFault) → (let left : Result A TextFault = Err (TooLong line) in left ≡ Err g) → IsOn line g
-unfolding IsOn
-long_on line g e = subst (IsOn line) (err_is (TooLong line) g e) refl
-
-signed_fault : (minus : Bool) (n line : ℕ) (f : TextFault) → signed minus n line ≡ Err f → IsOn line f
-signed_fault true n line f e = pick_fault line (leb n (2 ^ 63)) _ _ f (λ g h. absurd (no_err _ g h)) (range_on line) e
-signed_fault false n line f e = pick_fault line (ltb n (2 ^ 63)) _ _ f (λ g h. absurd (no_err _ g h)) (range_on line) e
-
-item_fault : (line : ℕ) (bytes : List ℕ) (f : TextFault) → item_at line bytes ≡ Err f → IsOn line f
-unfolding item_at
-item_fault line bytes f e =
-    let minus = slice_index bytes 0 == 45 in
-    let sign = sign_len bytes in
-    let n = run is_ascii_digit (drop sign bytes) in
-    pick_fault line (n == 0) (Err (BadToken line)) (signed minus (numeral_value (take n (drop sign bytes))) line >>= λ v. Ok (v, drop (sign + n) bytes)) f (bad_on line)
-    (λ g h. bind_fault line (signed minus (numeral_value (take n (drop sign bytes))) line) (λ v. Ok (v, drop (sign + n) bytes)) g (signed_fault minus (numeral_value (take n (drop sign bytes))) line) (λ x k i. absurd (no_err _ k i)) h) e
-
-items_from_fault : (line n : ℕ) (bytes : List ℕ) (f : TextFault) → items_from line n bytes ≡ Err f → IsOn line f
-items_from_fault line zero bytes f e = absurd (no_err _ f e)
-items_from_fault line (suc n) bytes f e =
-    let gap = run is_space bytes in
-    let next = λ (first : ℤ × List ℕ). items_from line n first.1 >>= λ others. Ok (first.0 ∷ others) in
-    pick_fault line (gap == length bytes) (Ok []) (cond (gap == 0) (Err (BadToken line)) (item_at line (drop gap bytes) >>= next)) f (λ g h. absurd (no_err _ g h))
-    (λ g h. pick_fault line (gap == 0) (Err (BadToken line)) (item_at line (drop gap bytes) >>= next) g (bad_on line)
-    (λ k i. bind_fault line (item_at line (drop gap bytes)) next k (item_fault line (drop gap bytes)) (λ x j l. bind_fault line (items_from line n x.1) (λ others. Ok (x.0 ∷ others)) j (items_from_fault line n x.1) (λ o p q. absurd (no_err _ p q)) l) i) h) e
-
-items_fault : (line : ℕ) (bytes : List ℕ) (f : TextFault) → items_at line bytes ≡ Err f → IsOn line f
-unfolding items_at
-items_fault line bytes f e = items_from_fault line (suc (length bytes)) bytes f e
-
-entry_fault : (line : ℕ) (bytes : List ℕ) (f : TextFault) → entry_at line bytes ≡ Err f → IsOn line f
-unfolding entry_at after_name
-entry_fault line bytes f e =
-    let n = run continues_word bytes in
-    let made = λ (items : List ℤ). let t : InputTree = record { name = record { text = take n bytes; line = line }; items = items } in let r : Result InputTree TextFault = Ok t in r in
-    let colon = cond (slice_index bytes n == 58) (items_at line (drop (suc n) bytes) >>= made) (Err (BadToken line)) in
-    let goes_on = cond (n == length bytes) (Err (Unexpected line)) colon in
-    pick_fault line (starts_word (slice_index bytes 0)) (cond (ltb MAX_NAME_BYTES n) (Err (TooLong line)) goes_on) (Err (BadToken line)) f
-    (λ g h. pick_fault line (ltb MAX_NAME_BYTES n) (Err (TooLong line)) goes_on g (long_on line)
-    (λ k i. pick_fault line (n == length bytes) (Err (Unexpected line)) colon k (ended_on line)
-    (λ j l. pick_fault line (slice_index bytes n == 58) (items_at line (drop (suc n) bytes) >>= made) (Err (BadToken line)) j
-    (λ o p. bind_fault line (items_at line (drop (suc n) bytes)) made o (items_fault line (drop (suc n) bytes)) (λ x q r. absurd (no_err _ q r)) p)
-    (bad_on line) l) i) h)
-    (bad_on line) e
-
-line_fault : (number : ℕ) (line : List ℕ) (f : TextFault) → line_at number line ≡ Err f → IsOn number f
-unfolding line_at
-line_fault number line f e =
-    pick_fault number ((run is_space line == length line) || is_comment line) (Ok None) (entry_at number line >>= λ x. Ok (Some x)) f (λ g h. absurd (no_err _ g h))
-    (λ g h. bind_fault number (entry_at number line) (λ x. Ok (Some x)) g (entry_fault number line) (λ x k i. absurd (no_err _ k i)) h) e
-
--- the line at which reading fails
-pub record Failed (number : ℕ) (lines : List (List ℕ)) (f : TextFault) : Type 0 where
-  pub before : List (List ℕ)
-  pub line : List ℕ
-  pub after : List (List ℕ)
-  pub parts : lines ≡ before ++ line ∷ after
-  pub fails : line_at (number + length before) line ≡ Err f
-
-lines_fault : (number : ℕ) (lines : List (List ℕ)) (f : TextFault) → lines_at number lines ≡ Err f → Failed number lines f
-unfolding lines_at
-lines_fault number [] f e = absurd (no_err _ f e)
-lines_fault number (line ∷ lines) f e =
-    elim (bind_err (line_at number line) (λ x. lines_at (suc number) lines >>= λ others. Ok (with_entry x others)) f e) as (λ _. Failed number (line ∷ lines) f) [
-      | inl here ↦ record { before = []; line = line; after = lines; parts = refl; fails = subst (λ (n : ℕ). line_at n line ≡ Err f) (sym (add-zero number)) here }
-      | inr later ↦
-          elim (bind_err (lines_at (suc number) lines) (λ others. Ok (with_entry later.0 others)) f later.2) as (λ _. Failed number (line ∷ lines) f) [
-            | inl there ↦
-                let h = lines_fault (suc number) lines f there in
-                let same : suc number + length h.before ≡ number + suc (length h.before) = omega arith in
-                record { before = line ∷ h.before; line = h.line; after = h.after; parts = ap (λ (ls : List (List ℕ)). line ∷ ls) h.parts; fails = subst (λ (n : ℕ). line_at n h.line ≡ Err f) same h.fails }
-            | inr never ↦ absurd (no_err _ f never.2)
-          ]
-    ]
-
-bad_line : (text : List ℕ) (f : TextFault) (number : ℕ) → Failed 1 (lines_of text) f → (n : ℕ) → n ≡ number → ((line : ℕ) → IsOn line f → n ≡ line) → IsBadLine text number
-bad_line text f number h n same on =
-    let here = on (1 + length h.before) (line_fault (1 + length h.before) h.line f h.fails) in
-    let place : 1 + length h.before ≡ number = sym here ∙ same in
-    let fails : line_at number h.line ≡ Err f = subst (λ (k : ℕ). line_at k h.line ≡ Err f) place h.fails in
-    record {
-      before = h.before;
-      line = h.line;
-      after = h.after;
-      lines = h.parts;
-      number_is = let z : number ≡ suc (length h.before) = omega arith in z;
-      not_blank = λ blank. no_err None f (sym (blank_again number h.line blank) ∙ fails);
-      no_entry = λ e is. no_err (Some e) f (sym (entry_line_again number h.line e is) ∙ fails);
-    }
-
-pub inputs_fault : (text : List ℕ) (f : TextFault) → lines_at 1 (lines_of text) ≡ Err f → IsInputsFault text f
-unfolding IsOn
-inputs_fault text NoMemory e = tt
-inputs_fault text (BadToken line) e = bad_line text (BadToken line) line (lines_fault 1 (lines_of text) (BadToken line) e) line refl (λ l on. on)
-inputs_fault text (Unexpected line) e = bad_line text (Unexpected line) line (lines_fault 1 (lines_of text) (Unexpected line) e) line refl (λ l on. on)
-inputs_fault text (NumberRange line) e = bad_line text (NumberRange line) line (lines_fault 1 (lines_of text) (NumberRange line) e) line refl (λ l on. on)
-inputs_fault text (TooLong line) e = inr (bad_line text (TooLong line) line (lines_fault 1 (lines_of text) (TooLong line) e) line refl (λ l on. on))
 
 -- ---- whole texts
 
@@ -515,16 +388,9 @@ inputs_took text lines es same small read = record { small = small; entries = li
 pub one_inputs : (text : List ℕ) (lines : List (List ℕ)) (found es : List InputTree) → lines ≡ lines_of text → lines_at 1 lines ≡ Ok found → IsInputsText text es → found ≡ es
 one_inputs text lines found es same read is = same_value found es (sym read ∙ ap (lines_at 1) same ∙ lines_again 1 (lines_of text) es is.entries)
 
-pub failed_inputs : (text : List ℕ) (lines : List (List ℕ)) (f : TextFault) → lines ≡ lines_of text → Fails f (lines_at 1 lines) → IsInputsFault text f
-failed_inputs text lines NoMemory same h = tt
-failed_inputs text lines (BadToken line) same h = inputs_fault text (BadToken line) (ap (lines_at 1) (sym same) ∙ h)
-failed_inputs text lines (Unexpected line) same h = inputs_fault text (Unexpected line) (ap (lines_at 1) (sym same) ∙ h)
-failed_inputs text lines (NumberRange line) same h = inputs_fault text (NumberRange line) (ap (lines_at 1) (sym same) ∙ h)
-failed_inputs text lines (TooLong line) same h = inputs_fault text (TooLong line) (ap (lines_at 1) (sym same) ∙ h)
-
 pub failed_no_text : (text : List ℕ) (lines : List (List ℕ)) (f : TextFault) (es : List InputTree) → lines ≡ lines_of text → Fails f (lines_at 1 lines) → IsInputsText text es → f ≡ NoMemory
 failed_no_text text lines NoMemory es same h is = refl
-failed_no_text text lines (BadToken line) es same h is = absurd (no_err es (BadToken line) (sym (ap (lines_at 1) same ∙ lines_again 1 (lines_of text) es is.entries) ∙ h))
-failed_no_text text lines (Unexpected line) es same h is = absurd (no_err es (Unexpected line) (sym (ap (lines_at 1) same ∙ lines_again 1 (lines_of text) es is.entries) ∙ h))
-failed_no_text text lines (NumberRange line) es same h is = absurd (no_err es (NumberRange line) (sym (ap (lines_at 1) same ∙ lines_again 1 (lines_of text) es is.entries) ∙ h))
-failed_no_text text lines (TooLong line) es same h is = absurd (no_err es (TooLong line) (sym (ap (lines_at 1) same ∙ lines_again 1 (lines_of text) es is.entries) ∙ h))
+failed_no_text text lines (BadToken line) es same h is = absurd (no_fault es (BadToken line) (sym (ap (lines_at 1) same ∙ lines_again 1 (lines_of text) es is.entries) ∙ h))
+failed_no_text text lines (Unexpected line) es same h is = absurd (no_fault es (Unexpected line) (sym (ap (lines_at 1) same ∙ lines_again 1 (lines_of text) es is.entries) ∙ h))
+failed_no_text text lines (NumberRange line) es same h is = absurd (no_fault es (NumberRange line) (sym (ap (lines_at 1) same ∙ lines_again 1 (lines_of text) es is.entries) ∙ h))
+failed_no_text text lines (TooLong line) es same h is = absurd (no_fault es (TooLong line) (sym (ap (lines_at 1) same ∙ lines_again 1 (lines_of text) es is.entries) ∙ h))

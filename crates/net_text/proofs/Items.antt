@@ -59,15 +59,21 @@ items_same line (suc n) (suc m) bytes h k =
     let less = item_shortens line (drop gap bytes) x e in
     ap (with_item x.0) (items_same line n m x.1 (omega arith) (omega arith)))))
 
-pub items_step : (line : ℕ) (bytes : List ℕ) (x : ℤ × List ℕ) → (run is_space bytes ≡ length bytes → ⊥) → (run is_space bytes ≡ 0 → ⊥) → item_at line (drop (run is_space bytes) bytes) ≡ Ok x
-    → items_at line bytes ≡ with_item x.0 (items_at line x.1)
+-- past the spaces an item is read, and then those behind it
+pub items_turn : (line : ℕ) (bytes : List ℕ) → (run is_space bytes ≡ length bytes → ⊥) → (run is_space bytes ≡ 0 → ⊥)
+    → items_at line bytes ≡ (item_at line (drop (run is_space bytes) bytes) >>= λ x. with_item x.0 (items_at line x.1))
 unfolding items_at
-items_step line bytes x some gap e =
+items_turn line bytes some gap =
     let not_all : (run is_space bytes == length bytes) ≡ false = ne_eqb _ _ some in
     let not_none : (run is_space bytes == 0) ≡ false = ne_eqb _ _ gap in
-    let less = item_shortens line (drop (run is_space bytes) bytes) x e in
     let l = length-drop (run is_space bytes) bytes in
-    rw (not_all, not_none, e) (ap (with_item x.0) (items_same line (length bytes) (suc (length x.1)) x.1 (omega arith) (omega arith)))
+    rw (not_all, not_none) (same_on (item_at line (drop (run is_space bytes) bytes)) (λ first. with_item first.0 (items_from line (length bytes) first.1)) (λ x. with_item x.0 (items_from line (suc (length x.1)) x.1)) (λ x e.
+    let less = item_shortens line (drop (run is_space bytes) bytes) x e in
+    ap (with_item x.0) (items_same line (length bytes) (suc (length x.1)) x.1 (omega arith) (omega arith))))
+
+items_step : (line : ℕ) (bytes : List ℕ) (x : ℤ × List ℕ) → (run is_space bytes ≡ length bytes → ⊥) → (run is_space bytes ≡ 0 → ⊥) → item_at line (drop (run is_space bytes) bytes) ≡ Ok x
+    → items_at line bytes ≡ with_item x.0 (items_at line x.1)
+items_step line bytes x some gap e = items_turn line bytes some gap ∙ rw e refl
 
 regroup : (front : List ℤ) (x : ℤ) (read : Result (List ℤ) TextFault) → after_found front (with_item x read) ≡ after_found (front ++ x ∷ []) read
 regroup front x (Ok xs) = ap (λ (ys : List ℤ). let r : Result (List ℤ) TextFault = Ok ys in r) (simp append_assoc)

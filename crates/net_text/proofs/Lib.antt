@@ -16,3 +16,6 @@ pub mod Texts
 pub mod Runs
 pub mod Items
 pub mod InputLaws
+pub mod ItemFaults
+pub mod FaultLines
+pub mod InputFaults

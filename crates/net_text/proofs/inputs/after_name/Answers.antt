@@ -5,7 +5,6 @@ use Rattle.net_text.proofs.Runs.{run_le, colon_cut}
 use Rattle.net_text.specs.Names.{NameTree}
 use Rattle.net_text.proofs.Items.{after_name_done, after_name_fails}
 use Rattle.net_text.proofs.inputs.after_name.Goals as goal
-use Rattle.net_text.specs.declared.limits.TheConstants.{MAX_NAME_BYTES}
 
 pub bounds-bytes-len : goal.bounds-bytes-len
 bounds-bytes-len c =

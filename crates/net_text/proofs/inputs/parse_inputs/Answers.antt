@@ -2,7 +2,8 @@ use Rattle.std.proofs.Common.{◌≡◌, ap, ◌∙◌, map, arith}
 use Rattle.std.proofs.lemmas.Result.{err_from_is_err_and}
 use Rattle.std.specs.Str.Lines.{strip_carriage_return}
 use Rattle.net_text.specs.Trees.{input_tree}
-use Rattle.net_text.proofs.InputLaws.{lines_are, inputs_took, one_inputs, failed_inputs, failed_no_text}
+use Rattle.net_text.proofs.InputLaws.{lines_are, inputs_took, one_inputs, failed_no_text}
+use Rattle.net_text.proofs.InputFaults.{failed_inputs}
 use Rattle.net_text.proofs.inputs.parse_inputs.Goals as goal
 
 pub returns-in_err-lines-clause-err : goal.returns-in_err-lines-clause-err
