@@ -1,6 +1,7 @@
 pub mod Images
 pub mod Records
 pub mod Moves
+pub mod Observers
 pub mod Nodes
 pub mod Packets
 pub mod Worlds

@@ -7,9 +7,11 @@
 #![tactic(auto)]
 
 mod one_node;
+mod records;
 mod runs;
 mod steps;
 
 pub use one_node::{node_law, node_line_law, node_opening_law, node_packet_law, node_sound_law};
+pub use records::record_law;
 pub use runs::{every_run_law, reachable_decision_law};
 pub use steps::{consistency_law, move_law, packet_law};
