@@ -1,5 +1,5 @@
 -- The fault of an inputs text: its first line that isn't right, and what is wrong with that.
-use Rattle.std.proofs.Common.{◌≡◌, ℕ, suc, ◌+◌, ◌<◌, ◌≤◌, ◌⊎◌, inl, inr, Bool, true, false, cond, ◌||◌, ltb, List, [], ◌∷◌, ◌++◌, length, take, drop, get_or, Option, Some, None, Result, Ok, Err, ℤ, refl, sym, ap, subst, ◌∙◌, arith, append_assoc, length-append, length-take, add-zero}
+use Rattle.std.proofs.Common.{◌≡◌, ℕ, suc, ◌+◌, ◌<◌, ◌≤◌, ◌⊎◌, inl, inr, Bool, true, false, cond, ◌||◌, ltb, List, [], ◌∷◌, ◌++◌, length, take, drop, get_or, Option, Some, None, Result, Ok, Err, ℤ, refl, sym, ap, subst, ◌∙◌, arith, append_assoc, length-append, length-take, add-zero, take-append-drop, zero}
 use Rattle.std.specs.Prelude.{◌==◌, slice_index, All}
 use Rattle.std.specs.List.{list_all}
 use Rattle.std.specs.Char.{is_ascii_digit}
@@ -7,7 +7,7 @@ use Rattle.std.proofs.lemmas.Bool.{and_parts, eqb-true, eqb-false, eq-eqb, ne_eq
 use Rattle.std.proofs.lemmas.List.{append-nil, take_at, get_or-take}
 use Rattle.net_text.specs.Spellings.{starts_word, continues_word, is_word}
 use Rattle.net_text.specs.Trees.{InputTree}
-use Rattle.net_text.specs.InputLines.{is_space, is_comment, ends_in_digit, IsBlank, IsEntry, IsRightLine, BeginsLine, IsStuck, IsMoreDigits, IsOutOfRange, IsLongName, IsNameAlone, IsBadAtByte, IsBadLine, IsInputsFault, lines_of}
+use Rattle.net_text.specs.InputLines.{is_space, is_comment, ends_in_digit, IsBlank, IsEntry, IsRightLine, BeginsLine, IsStuck, IsMoreDigits, IsOutOfRange, IsLongName, IsNameAlone, IsBadAtByte, IsBadLine, IsInputsFault, lines_of, EndsInMinus, IsMoreName, AreEntries, IsInputsText}
 use Rattle.net_text.specs.InputReading.{Fails, run, items_at, after_name, entry_at, with_entry, line_at, lines_at}
 use Rattle.net_text.proofs.Runs.{run_le, run_all, run_stops, whole_run}
 use Rattle.net_text.proofs.Lexemes.{word_continues, word_from_run, starts_bounds, starts_continues, passes_at}
@@ -19,7 +19,7 @@ use Rattle.std.proofs.lemmas.List.Elements.{All-cons, All-nil}
 use Rattle.net_text.proofs.Sequences.{went_on}
 use Rattle.net_text.specs.declared.fault.TextFault.{TextFault}
 use Rattle.net_text.specs.declared.fault.TextFault.TheVariants.{NoMemory, BadToken, Unexpected, NumberRange, TooLong}
-use Rattle.net_text.specs.declared.limits.TheConstants.{MAX_NAME_BYTES}
+use Rattle.net_text.specs.declared.limits.TheConstants.{MAX_INPUTS_BYTES, MAX_NAME_BYTES}
 use Rattle.net_text.specs.Results.{◌>>=◌}
 
 -- ---- right lines, and how they begin
@@ -431,10 +431,11 @@ lines_fault number (line ∷ lines) f e =
           ]
     ]
 
-bad_line : (text : List ℕ) (f : TextFault) (number : ℕ) (IsBad : List ℕ → Type 0) → ((line : List ℕ) → IsBadBy f line → IsBad line) → Failed 1 (lines_of text) f → ((line : ℕ) → IsOn line f → number ≡ line) → IsBadLine text number IsBad
-bad_line text f number IsBad is h on =
+bad_line : (text : List ℕ) (f : TextFault) (number : ℕ) (IsBad : List ℕ → Type 0) → length text ≤ MAX_INPUTS_BYTES → ((line : List ℕ) → IsBadBy f line → IsBad line) → Failed 1 (lines_of text) f → ((line : ℕ) → IsOn line f → number ≡ line) → IsBadLine text number IsBad
+bad_line text f number IsBad small is h on =
     let here = on (1 + length h.before) (line_on (1 + length h.before) h.line f h.fails) in
     record {
+      small = small;
       before = h.before;
       line = h.line;
       after = h.after;
@@ -445,17 +446,190 @@ bad_line text f number IsBad is h on =
       bad = is h.line (line_wrong (1 + length h.before) h.line f h.fails);
     }
 
-inputs_fault : (text : List ℕ) (f : TextFault) → lines_at 1 (lines_of text) ≡ Err f → IsInputsFault text f
+inputs_fault : (text : List ℕ) (f : TextFault) → length text ≤ MAX_INPUTS_BYTES → lines_at 1 (lines_of text) ≡ Err f → IsInputsFault text f
 unfolding IsOn IsBadBy
-inputs_fault text NoMemory e = tt
-inputs_fault text (BadToken line) e = bad_line text (BadToken line) line IsBadAtByte (λ l bad. bad) (lines_fault 1 (lines_of text) (BadToken line) e) (λ l on. on)
-inputs_fault text (Unexpected line) e = bad_line text (Unexpected line) line IsNameAlone (λ l bad. bad) (lines_fault 1 (lines_of text) (Unexpected line) e) (λ l on. on)
-inputs_fault text (NumberRange line) e = bad_line text (NumberRange line) line IsOutOfRange (λ l bad. bad) (lines_fault 1 (lines_of text) (NumberRange line) e) (λ l on. on)
-inputs_fault text (TooLong line) e = inr (bad_line text (TooLong line) line IsLongName (λ l bad. bad) (lines_fault 1 (lines_of text) (TooLong line) e) (λ l on. on))
+inputs_fault text NoMemory small e = tt
+inputs_fault text (BadToken line) small e = bad_line text (BadToken line) line IsBadAtByte small (λ l bad. bad) (lines_fault 1 (lines_of text) (BadToken line) e) (λ l on. on)
+inputs_fault text (Unexpected line) small e = bad_line text (Unexpected line) line IsNameAlone small (λ l bad. bad) (lines_fault 1 (lines_of text) (Unexpected line) e) (λ l on. on)
+inputs_fault text (NumberRange line) small e = bad_line text (NumberRange line) line IsOutOfRange small (λ l bad. bad) (lines_fault 1 (lines_of text) (NumberRange line) e) (λ l on. on)
+inputs_fault text (TooLong line) small e = inr (bad_line text (TooLong line) line IsLongName small (λ l bad. bad) (lines_fault 1 (lines_of text) (TooLong line) e) (λ l on. on))
 
-pub failed_inputs : (text : List ℕ) (lines : List (List ℕ)) (f : TextFault) → lines ≡ lines_of text → Fails f (lines_at 1 lines) → IsInputsFault text f
-failed_inputs text lines NoMemory same h = tt
-failed_inputs text lines (BadToken line) same h = inputs_fault text (BadToken line) (ap (lines_at 1) (sym same) ∙ h)
-failed_inputs text lines (Unexpected line) same h = inputs_fault text (Unexpected line) (ap (lines_at 1) (sym same) ∙ h)
-failed_inputs text lines (NumberRange line) same h = inputs_fault text (NumberRange line) (ap (lines_at 1) (sym same) ∙ h)
-failed_inputs text lines (TooLong line) same h = inputs_fault text (TooLong line) (ap (lines_at 1) (sym same) ∙ h)
+pub failed_inputs : (text : List ℕ) (lines : List (List ℕ)) (f : TextFault) → lines ≡ lines_of text → length text ≤ MAX_INPUTS_BYTES → Fails f (lines_at 1 lines) → IsInputsFault text f
+failed_inputs text lines NoMemory same small h = tt
+failed_inputs text lines (BadToken line) same small h = inputs_fault text (BadToken line) small (ap (lines_at 1) (sym same) ∙ h)
+failed_inputs text lines (Unexpected line) same small h = inputs_fault text (Unexpected line) small (ap (lines_at 1) (sym same) ∙ h)
+failed_inputs text lines (NumberRange line) same small h = inputs_fault text (NumberRange line) small (ap (lines_at 1) (sym same) ∙ h)
+failed_inputs text lines (TooLong line) same small h = inputs_fault text (TooLong line) small (ap (lines_at 1) (sym same) ∙ h)
+
+-- ---- a text has one fault
+
+-- of two parts at the same place
+same_front : (xs ys : List ℕ) (x y : ℕ) (us vs : List ℕ) → length xs ≡ length ys → xs ++ x ∷ us ≡ ys ++ y ∷ vs → (xs ≡ ys) × (x ≡ y)
+same_front xs ys x y us vs len e = (
+  sym (take_at xs (x ∷ us) (length xs) refl) ∙ ap (take (length xs)) e ∙ ap (λ (k : ℕ). take k (ys ++ y ∷ vs)) len ∙ take_at ys (y ∷ vs) (length ys) refl,
+  sym (at_cut xs x us) ∙ ap (λ (bs : List ℕ). get_or bs (length xs) 0) e ∙ ap (λ (k : ℕ). get_or (ys ++ y ∷ vs) k 0) len ∙ at_cut ys y vs,
+)
+
+-- what begins a line begins one also cut short
+cut_begins : (xs ys : List ℕ) → BeginsLine (xs ++ ys) → BeginsLine xs
+cut_begins xs ys begun = (ys ++ begun.0, subst IsRightLine (simp append_assoc) begun.1)
+
+-- a longer front has the shorter one with its byte
+longer : (xs ys : List ℕ) (x y : ℕ) (us vs : List ℕ) → length xs < length ys → xs ++ x ∷ us ≡ ys ++ y ∷ vs → ys ≡ (xs ++ x ∷ []) ++ drop (suc (length xs)) ys
+longer xs ys x y us vs less e =
+    let front : take (suc (length xs)) ys ≡ xs ++ x ∷ [] = sym (take_early (suc (length xs)) ys (y ∷ vs) less) ∙ ap (take (suc (length xs))) (sym e) ∙ take_behind (length xs) xs x us refl in
+    sym (take-append-drop (suc (length xs)) ys) ∙ ap (λ (bs : List ℕ). bs ++ drop (suc (length xs)) ys) front
+  where
+    take_early : (k : ℕ) (ys zs : List ℕ) → k ≤ length ys → take k (ys ++ zs) ≡ take k ys
+    take_early zero ys zs le = refl
+    take_early (suc k) [] zs le = absurd (omega arith)
+    take_early (suc k) (y ∷ ys) zs le = ap (λ (bs : List ℕ). y ∷ bs) (take_early k ys zs (omega arith))
+
+not_longer : (line xs ys : List ℕ) (x y : ℕ) → IsStuck line xs x → IsStuck line ys y → length xs < length ys → ⊥
+not_longer line xs ys x y a b less =
+    a.ends (cut_begins (xs ++ x ∷ []) (drop (suc (length xs)) ys) (subst BeginsLine (longer xs ys x y a.rest b.rest less (sym a.parts ∙ b.parts)) b.begins))
+
+one_place : (line xs ys : List ℕ) (x y : ℕ) → IsStuck line xs x → IsStuck line ys y → (xs ≡ ys) × (x ≡ y)
+one_place line xs ys x y a b =
+    elim (cases_lt (length xs) (length ys)) as (λ _. (xs ≡ ys) × (x ≡ y)) [
+      | inl less ↦ absurd (not_longer line xs ys x y a b less)
+      | inr le ↦ elim (cases_lt (length ys) (length xs)) as (λ _. (xs ≡ ys) × (x ≡ y)) [
+        | inl less ↦ absurd (not_longer line ys xs y x b a less)
+        | inr ge ↦ same_front xs ys x y a.rest b.rest (let e : length xs ≡ length ys = omega arith in e) (sym a.parts ∙ b.parts)
+      ]
+    ]
+
+-- a line that begins a right one is nowhere stuck
+not_begun : (line front : List ℕ) (byte : ℕ) → IsStuck line front byte → BeginsLine line → ⊥
+not_begun line front byte s begun = s.ends (cut_begins (front ++ byte ∷ []) s.rest (subst BeginsLine (s.parts ∙ simp append_assoc) begun))
+
+name_begins : (line : List ℕ) → IsNameAlone line → BeginsLine line
+name_begins line name = word_begins line name.0 name.1
+
+no_minus : (line : List ℕ) → IsNameAlone line → EndsInMinus line → ⊥
+no_minus line name minus = both_ways (continues_word 45) refl (all_behind continues_word minus.front 45 [] (ap (list_all continues_word) (sym minus.parts) ∙ word_continues line name.0))
+
+-- the kinds exclude each other
+out_not_long : (line : List ℕ) → IsOutOfRange line → IsLongName line → ⊥
+out_not_long line out long =
+    let same = one_place line out.0 long.0 out.1 long.1 out.2 long.2 in
+    word_has_no_colon out.3.1.0 out.3.1.1 (ap is_word (sym out.3.1.2 ∙ same.0) ∙ long.3.1)
+
+bad_not_out : (line : List ℕ) → IsBadAtByte line → IsOutOfRange line → ⊥
+bad_not_out line (inl bad) out =
+    let same = one_place line out.0 bad.0 out.1 bad.1 out.2 bad.2 in
+    bad.3 (subst (λ (b : ℕ). IsMoreDigits bad.0 b) same.1 (subst (λ (front : List ℕ). IsMoreDigits front out.1) same.0 out.3))
+bad_not_out line (inr minus) out = not_begun line out.0 out.1 out.2 minus.begins
+
+bad_not_long : (line : List ℕ) → IsBadAtByte line → IsLongName line → ⊥
+bad_not_long line (inl bad) long =
+    let same = one_place line long.0 bad.0 long.1 bad.1 long.2 bad.2 in
+    bad.4 (subst (λ (b : ℕ). IsMoreName bad.0 b) same.1 (subst (λ (front : List ℕ). IsMoreName front long.1) same.0 long.3))
+bad_not_long line (inr minus) long = not_begun line long.0 long.1 long.2 minus.begins
+
+bad_not_alone : (line : List ℕ) → IsBadAtByte line → IsNameAlone line → ⊥
+bad_not_alone line (inl bad) name = not_begun line bad.0 bad.1 bad.2 (name_begins line name)
+bad_not_alone line (inr minus) name = no_minus line name minus
+
+-- the first line that isn't right is one
+at_place : (before : List (List ℕ)) (line : List ℕ) (after : List (List ℕ)) → get_or (before ++ line ∷ after) (length before) [] ≡ line
+at_place [] line after = refl
+at_place (l ∷ before) line after = at_place before line after
+
+early_place : (xs ys : List (List ℕ)) (k : ℕ) → k < length xs → get_or (xs ++ ys) k [] ≡ get_or xs k []
+early_place [] ys k lt = absurd (omega arith)
+early_place (x ∷ xs) ys zero lt = refl
+early_place (x ∷ xs) ys (suc k) lt = early_place xs ys k (omega arith)
+
+first_wrong : (before : List (List ℕ)) (line : List ℕ) (after others : List (List ℕ)) (other : List ℕ) (later : List (List ℕ)) → before ++ line ∷ after ≡ others ++ other ∷ later
+    → All IsRightLine others → (IsRightLine line → ⊥) → length before < length others → ⊥
+first_wrong before line after others other later e right wrong less =
+    wrong (subst IsRightLine (sym (sym (at_place before line after) ∙ ap (λ (ls : List (List ℕ)). get_or ls (length before) []) e ∙ early_place others (other ∷ later) (length before) less)) (right (length before) [] less))
+
+one_line : (text : List ℕ) (n m : ℕ) (A B : List ℕ → Type 0) (a : IsBadLine text n A) (b : IsBadLine text m B) → (n ≡ m) × (a.line ≡ b.line)
+one_line text n m A B a b =
+    let e : a.before ++ a.line ∷ a.after ≡ b.before ++ b.line ∷ b.after = sym a.lines ∙ b.lines in
+    let x = a.number_is in
+    let y = b.number_is in
+    let at = λ (len : length a.before ≡ length b.before). (let z : (n ≡ m) × (a.line ≡ b.line) = (omega arith, sym (at_place a.before a.line a.after) ∙ ap (λ (ls : List (List ℕ)). get_or ls (length a.before) []) e ∙ ap (λ (k : ℕ). get_or (b.before ++ b.line ∷ b.after) k []) len ∙ at_place b.before b.line b.after) in z) in
+    elim (cases_lt (length a.before) (length b.before)) as (λ _. (n ≡ m) × (a.line ≡ b.line)) [
+      | inl less ↦ absurd (first_wrong a.before a.line a.after b.before b.line b.after e b.right a.wrong less)
+      | inr le ↦ elim (cases_lt (length b.before) (length a.before)) as (λ _. (n ≡ m) × (a.line ≡ b.line)) [
+        | inl less ↦ absurd (first_wrong b.before b.line b.after a.before a.line a.after (sym e) a.right b.wrong less)
+        | inr ge ↦ at (omega arith)
+      ]
+    ]
+
+apart : (text : List ℕ) (n m : ℕ) (A B : List ℕ → Type 0) → ((line : List ℕ) → A line → B line → ⊥) → IsBadLine text n A → IsBadLine text m B → ⊥
+apart text n m A B never a b = let same = one_line text n m A B a b in never b.line (subst A same.1 a.bad) b.bad
+
+alone_not_out : (line : List ℕ) → IsNameAlone line → IsOutOfRange line → ⊥
+alone_not_out line name out = not_begun line out.0 out.1 out.2 (name_begins line name)
+
+alone_not_long : (line : List ℕ) → IsNameAlone line → IsLongName line → ⊥
+alone_not_long line name long = not_begun line long.0 long.1 long.2 (name_begins line name)
+
+-- a text over its limit has no bad line that counts
+over_long : (text : List ℕ) (n : ℕ) (A : List ℕ → Type 0) → MAX_INPUTS_BYTES < length text → IsBadLine text n A → ⊥
+over_long text n A over bad = let small = bad.small in omega arith
+
+long_lines : (text : List ℕ) (n m : ℕ) → ((MAX_INPUTS_BYTES < length text) × (n ≡ 1)) ⊎ IsBadLine text n IsLongName → ((MAX_INPUTS_BYTES < length text) × (m ≡ 1)) ⊎ IsBadLine text m IsLongName → n ≡ m
+long_lines text n m (inl a) (inl b) = a.1 ∙ sym b.1
+long_lines text n m (inl a) (inr b) = absurd (over_long text m IsLongName a.0 b)
+long_lines text n m (inr a) (inl b) = absurd (over_long text n IsLongName b.0 a)
+long_lines text n m (inr a) (inr b) = (one_line text n m IsLongName IsLongName a b).0
+
+not_long : (text : List ℕ) (n m : ℕ) (A : List ℕ → Type 0) → ((line : List ℕ) → A line → IsLongName line → ⊥) → IsBadLine text n A → ((MAX_INPUTS_BYTES < length text) × (m ≡ 1)) ⊎ IsBadLine text m IsLongName → ⊥
+not_long text n m A never a (inl b) = over_long text n A b.0 a
+not_long text n m A never a (inr b) = apart text n m A IsLongName never a b
+
+one_fault : (text : List ℕ) (f g : TextFault) → IsInputsFault text f → IsInputsFault text g → (f ≡ NoMemory) ⊎ ((g ≡ NoMemory) ⊎ (g ≡ f))
+one_fault text NoMemory g a b = inl refl
+one_fault text (BadToken n) NoMemory a b = inr (inl refl)
+one_fault text (BadToken n) (BadToken m) a b = inr (inr (ap BadToken (one_line text m n IsBadAtByte IsBadAtByte b a).0))
+one_fault text (BadToken n) (Unexpected m) a b = absurd (apart text n m IsBadAtByte IsNameAlone bad_not_alone a b)
+one_fault text (BadToken n) (NumberRange m) a b = absurd (apart text n m IsBadAtByte IsOutOfRange bad_not_out a b)
+one_fault text (BadToken n) (TooLong m) a b = absurd (not_long text n m IsBadAtByte bad_not_long a b)
+one_fault text (Unexpected n) NoMemory a b = inr (inl refl)
+one_fault text (Unexpected n) (BadToken m) a b = absurd (apart text m n IsBadAtByte IsNameAlone bad_not_alone b a)
+one_fault text (Unexpected n) (Unexpected m) a b = inr (inr (ap Unexpected (one_line text m n IsNameAlone IsNameAlone b a).0))
+one_fault text (Unexpected n) (NumberRange m) a b = absurd (apart text n m IsNameAlone IsOutOfRange alone_not_out a b)
+one_fault text (Unexpected n) (TooLong m) a b = absurd (not_long text n m IsNameAlone alone_not_long a b)
+one_fault text (NumberRange n) NoMemory a b = inr (inl refl)
+one_fault text (NumberRange n) (BadToken m) a b = absurd (apart text m n IsBadAtByte IsOutOfRange bad_not_out b a)
+one_fault text (NumberRange n) (Unexpected m) a b = absurd (apart text m n IsNameAlone IsOutOfRange alone_not_out b a)
+one_fault text (NumberRange n) (NumberRange m) a b = inr (inr (ap NumberRange (one_line text m n IsOutOfRange IsOutOfRange b a).0))
+one_fault text (NumberRange n) (TooLong m) a b = absurd (not_long text n m IsOutOfRange out_not_long a b)
+one_fault text (TooLong n) NoMemory a b = inr (inl refl)
+one_fault text (TooLong n) (BadToken m) a b = absurd (not_long text m n IsBadAtByte bad_not_long b a)
+one_fault text (TooLong n) (Unexpected m) a b = absurd (not_long text m n IsNameAlone alone_not_long b a)
+one_fault text (TooLong n) (NumberRange m) a b = absurd (not_long text m n IsOutOfRange out_not_long b a)
+one_fault text (TooLong n) (TooLong m) a b = inr (inr (ap TooLong (long_lines text m n b a)))
+
+-- ---- what is answered
+
+-- in a text of entries and blank lines each line is right
+entries_right : (number : ℕ) (lines : List (List ℕ)) (es : List InputTree) → AreEntries number lines es → All IsRightLine lines
+entries_right number [] es are = All-nil IsRightLine
+entries_right number (line ∷ lines) es (inl blank) = All-cons IsRightLine line lines (inl blank.0) (entries_right (suc number) lines es blank.1)
+entries_right number (line ∷ lines) es (inr entry) =
+    let is = entry.3 in
+    All-cons IsRightLine line lines (inr (entry.0, record { rest = is.rest; parts = is.parts; word = is.word; short = is.short; line_is = refl; items = is.items })) (entries_right (suc number) lines entry.1 entry.4)
+
+no_bad : (text : List ℕ) (n : ℕ) (A : List ℕ → Type 0) (es : List InputTree) → IsInputsText text es → IsBadLine text n A → ⊥
+no_bad text n A es is bad =
+    let right = subst (All IsRightLine) bad.lines (entries_right 1 (lines_of text) es is.entries) in
+    let len = length-append bad.before (bad.line ∷ bad.after) in
+    bad.wrong (subst IsRightLine (at_place bad.before bad.line bad.after) (right (length bad.before) [] (omega arith)))
+
+-- a text that is read has no fault
+pub read_no_fault : (text : List ℕ) (es : List InputTree) (f : TextFault) → IsInputsText text es → IsInputsFault text f → f ≡ NoMemory
+read_no_fault text es NoMemory is fault = refl
+read_no_fault text es (BadToken n) is fault = absurd (no_bad text n IsBadAtByte es is fault)
+read_no_fault text es (Unexpected n) is fault = absurd (no_bad text n IsNameAlone es is fault)
+read_no_fault text es (NumberRange n) is fault = absurd (no_bad text n IsOutOfRange es is fault)
+read_no_fault text es (TooLong n) is (inl over) = let small = is.small in let large = over.0 in absurd (omega arith)
+read_no_fault text es (TooLong n) is (inr fault) = absurd (no_bad text n IsLongName es is fault)
+
+pub refused_by : (text : List ℕ) (g : TextFault) → IsInputsFault text g → (f : TextFault) → IsInputsFault text f → (f ≡ NoMemory) ⊎ ((g ≡ NoMemory) ⊎ (g ≡ f))
+refused_by text g b f a = one_fault text f g a b

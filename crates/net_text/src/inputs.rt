@@ -5,7 +5,8 @@ ghost use Rattle.std.specs.List.{slice_split};
 ghost use Rattle.std.specs.Str.{IsUtf8};
 ghost use Rattle.std.specs.Str.Lines.{strip_carriage_return};
 ghost use Rattle.net_text.specs.Trees.{InputTree, input_tree, inputs_tree};
-ghost use Rattle.net_text.specs.InputLines.{is_space, is_comment, IsInputsText, IsInputsFault};
+ghost use Rattle.net_text.specs.InputLines.{is_space, is_comment, IsInputsText, IsInputsFault, IsRefusedBy};
+ghost use Rattle.net_text.specs.declared.fault.TextFault.{TextFault as FaultValue};
 ghost use Rattle.net_text.specs.InputReading.{Gives, run, sign_len, item_at, items_at, after_name, entry_at, line_at, lines_at, entry_tree, with_entry};
 ghost use Rattle.net_text.specs.Spellings.{continues_word};
 ghost use Rattle.net_text.specs.Texts.{Answers};
@@ -188,7 +189,10 @@ fn split_lines(alloc: Global, text: &str) -> Result<Vec<&str>, AllocError>
 /// more than 64 bytes; and an over-long text by 5 on line 1 before all else.
 pub fn parse_inputs(alloc: Global, text: &str) -> Result<RawInputs, TextFault>
     ensures ok { IfOk result (λ inputs. IsInputsText text.now (inputs_tree inputs)) }
+    // The first line that isn't right is named, with what is wrong there, and a text has no other fault.
     ensures err { IfErr result (IsInputsFault text.now) }
+    ensures each { (fault : FaultValue) → IsInputsFault text.now fault
+        → IsRefusedBy fault result }
     // A text in the grammar is read, unless memory runs out.
     ensures only { (es : List InputTree) → IsInputsText text.now es
         → Answers inputs_tree result es }
