@@ -1,11 +1,12 @@
-//! Times packets written and read, and sent and taken, in one run: `bench_packets measure`. Without an argument it does
-//! nothing.
+//! Times packets written and read, windows, and the wire, in one run: `bench_packets measure` prints a line for each
+//! size, which `bench/packets` sets beside a plain program's. Without an argument it does nothing.
 #![tactic(auto)]
 
 use datagram::{Body, Need, Needs, Packet, is_packet, read_packet, write_packet};
 use std::alloc::Global;
 use std::env;
 use std::time::CpuClock;
+use window_link::{LARGEST_WINDOW, RecvWindow, SendWindow};
 use wire::Wire;
 
 fn processor_micros(rt: &impl CpuClock) -> anyhow::Result<u64> {
@@ -62,7 +63,7 @@ fn growing_packets(rt: &(impl Print + CpuClock), alloc: Global) -> anyhow::Resul
         let start = processor_micros(rt)?;
         pass(alloc, &packet, times)?;
         let nanos = nanos_each(rt, start, times)?;
-        println!(rt; "packet with {needs:>3} needs: {nanos:>6} ns written and read")?;
+        println!(rt; "packet {needs} {nanos}")?;
     }
     Ok(())
 }
@@ -88,7 +89,7 @@ fn send_and_take(alloc: Global, wire: &mut Wire, times: u64) -> anyhow::Result<(
 // What is in flight to another node grows: the times should stay.
 fn others_in_flight(rt: &(impl Print + CpuClock), alloc: Global) -> anyhow::Result<()> {
     let times = 200_000;
-    for others in [0, 1_000, 100_000u64] {
+    for others in [10, 1_000, 100_000u64] {
         let mut wire = Wire::new(alloc)?;
         for _ in 0..others {
             send(alloc, &mut wire, 2)?;
@@ -96,7 +97,35 @@ fn others_in_flight(rt: &(impl Print + CpuClock), alloc: Global) -> anyhow::Resu
         let start = processor_micros(rt)?;
         send_and_take(alloc, &mut wire, times)?;
         let nanos = nanos_each(rt, start, times)?;
-        println!(rt; "{others:>6} in flight to another node: {nanos:>5} ns sent and taken")?;
+        println!(rt; "wire {others} {nanos}")?;
+    }
+    Ok(())
+}
+
+// Sends an item, takes it and hears of it, so many times, while so many more are retained behind it. Gives the last position
+// that was due, so that the work is done.
+fn pass_windows(times: u64, retained: u64) -> u64 {
+    let mut last = 0;
+    let mut sender = SendWindow::new(LARGEST_WINDOW);
+    let mut receiver = RecvWindow::new();
+    for sent in 0..times {
+        let due = sender.due(0, sent.saturating_add(retained));
+        last = due.end;
+        let _arrival = receiver.take(due.start, 0);
+        let ack = receiver.ack();
+        sender.on_ack(ack.epoch, ack.next);
+    }
+    last
+}
+
+// What is retained grows: the times should stay.
+fn growing_windows(rt: &(impl Print + CpuClock)) -> anyhow::Result<()> {
+    let times = 10_000_000;
+    for retained in [10, 1_000, 100_000u64] {
+        let start = processor_micros(rt)?;
+        let last = pass_windows(times, retained);
+        let nanos = nanos_each(rt, start, times)?;
+        println!(rt; "window {retained} {nanos} {last}")?;
     }
     Ok(())
 }
@@ -107,5 +136,6 @@ fn main(rt: HostRuntime) -> anyhow::Result<()> {
     }
     let alloc = rt.alloc();
     growing_packets(&rt, alloc)?;
+    growing_windows(&rt)?;
     others_in_flight(&rt, alloc)
 }
