@@ -80,9 +80,17 @@ next_append : (front a b : List Lexeme) → next a ≡ next b → next (front ++
 next_append [] a b e = e
 next_append (t ∷ front) a b e = refl
 
-next_next : (ts : List Lexeme) → next (next ts) ≡ next ts
+pub next_next : (ts : List Lexeme) → next (next ts) ≡ next ts
 next_next [] = refl
 next_next (t ∷ ts) = refl
+
+next_empty : (mid : List Lexeme) → next mid ≡ [] → mid ≡ []
+next_empty [] e = refl
+next_empty (t ∷ mid) e = absurd cc
+
+next_token : (mid : List Lexeme) (t : Lexeme) → next mid ≡ t ∷ [] → (more : List Lexeme) × (mid ≡ t ∷ more)
+next_token [] t e = absurd cc
+next_token (u ∷ more) t e = (more, (let same : u ≡ t = cc in λ i. same i ∷ more))
 
 begins_of_next : (test : TokenKind → Bool) (ts : List Lexeme) → begins test ts ≡ begins test (next ts)
 begins_of_next test [] = refl
@@ -114,7 +122,8 @@ pub record Took {A : Type 0} (P : A → Rule) (read : Reader A) (ts : List Lexem
   pub is : P x.0 Whole front
   pub ahead : (mid : List Lexeme) → next mid ≡ next x.1 → read (front ++ mid) ≡ Ok (x.0, mid)
 
--- reading stops at a token, whatever follows that, or at the end: what stands before it is a beginning
+-- reading stops at a token, whatever follows that, or at the end: what stands before it is a beginning (where one more may be open, it is enough
+-- to know what comes of that token with nothing behind it)
 pub record Stops {A : Type 0} (P : A → Rule) (read deeper : Reader A) (ts : List Lexeme) (s : Stuck) : Type 0 where
   pub front : List Lexeme
   pub rest : List Lexeme
@@ -122,7 +131,7 @@ pub record Stops {A : Type 0} (P : A → Rule) (read deeper : Reader A) (ts : Li
   pub tree : A
   pub begun : P tree Begun front
   pub at : IsStopAt s rest
-  pub same : read (front ++ next rest) ≡ Err s
+  pub same : (mid : List Lexeme) → next mid ≡ next rest → read (front ++ mid) ≡ Err s
   pub higher : deeper (front ++ next rest) ≡ Err (raised s)
 
 abbrev pub Ends : {A : Type 0} → (A → Rule) → Reader A → Reader A → List Lexeme → Read A → Type 0
@@ -163,7 +172,7 @@ one_ends : {A : Type 0} (Is : A → Lexeme → Type 0) (read : Reader A) (some :
     → ((t : Lexeme) → ((x : A) × Is x t) ⊎ ((ts : List Lexeme) → read (t ∷ ts) ≡ Err (At t.line)))
     → (ts : List Lexeme) → Ends (λ x. IsOne (Is x)) read read ts (read ts)
 one_ends {A} Is read some ended passes each [] =
-    subst (λ (o : Read A). Ends (λ x. IsOne (Is x)) read read [] o) (sym ended) (record { front = []; rest = []; parts = refl; tree = some; begun = refl; at = refl; same = ended; higher = ended })
+    subst (λ (o : Read A). Ends (λ x. IsOne (Is x)) read read [] o) (sym ended) (record { front = []; rest = []; parts = refl; tree = some; begun = refl; at = refl; same = λ mid e. ap read (next_empty mid e) ∙ ended; higher = ended })
 one_ends {A} Is read some ended passes each (t ∷ ts) =
     elim (each t) as (λ _. Ends (λ x. IsOne (Is x)) read read (t ∷ ts) (read (t ∷ ts))) [
       | inl is ↦
@@ -171,7 +180,7 @@ one_ends {A} Is read some ended passes each (t ∷ ts) =
           (record { front = t ∷ []; parts = refl; is = (t, refl, is.1); ahead = λ mid e. passes is.0 t mid is.1 })
       | inr fails ↦
           subst (λ (o : Read A). Ends (λ x. IsOne (Is x)) read read (t ∷ ts) o) (sym (fails ts))
-          (record { front = []; rest = t ∷ ts; parts = refl; tree = some; begun = refl; at = (t, ts, refl, refl); same = fails []; higher = fails [] })
+          (record { front = []; rest = t ∷ ts; parts = refl; tree = some; begun = refl; at = (t, ts, refl, refl); same = λ mid e. (let m = next_token mid t e in ap read m.1 ∙ fails m.0); higher = fails [] })
     ]
 
 pub one_reads : {A : Type 0} (Is : A → Lexeme → Type 0) (starts : List Class) (read : Reader A) → A → read [] ≡ Err AtEnd → ((x : A) (t : Lexeme) (ts : List Lexeme) → Is x t → read (t ∷ ts) ≡ Ok (x, ts))
@@ -287,7 +296,9 @@ second_ends P Q r d r' d' kept ts x one (Err s) two =
       tree = (x.0, two.tree);
       begun = inr (one.front, two.front, refl, one.is, two.begun);
       at = two.at;
-      same = ap (pair_at r r') (append_assoc one.front two.front n) ∙ pair_runs r r' (one.front ++ (two.front ++ n)) (two.front ++ n) x.0 (Err s) reads two.same;
+      same = λ mid e.
+          ap (pair_at r r') (append_assoc one.front two.front mid)
+          ∙ pair_runs r r' (one.front ++ (two.front ++ mid)) (two.front ++ mid) x.0 (Err s) (one.ahead (two.front ++ mid) (next_append two.front mid two.rest e ∙ ap next (sym two.parts))) (two.same mid e);
       higher = ap (pair_at d d') (append_assoc one.front two.front n)
           ∙ pair_runs d d' (one.front ++ (two.front ++ n)) (two.front ++ n) x.0 (Err (raised s)) (kept (one.front ++ (two.front ++ n)) (x.0, two.front ++ n) reads) two.higher;
     }
@@ -303,7 +314,7 @@ first_ends P Q r d r' d' kept some ends ts (Err s) one = record {
   tree = (one.tree, some);
   begun = inl one.begun;
   at = one.at;
-  same = pair_stops r r' (one.front ++ next one.rest) s one.same;
+  same = λ mid e. pair_stops r r' (one.front ++ mid) s (one.same mid e);
   higher = pair_stops d d' (one.front ++ next one.rest) (raised s) one.higher;
 }
 
@@ -379,7 +390,7 @@ same_ends P R test b r d r' d' into how how' ts h (Err s) one =
       tree = one.tree;
       begun = into one.tree Begun one.front one.begun;
       at = one.at;
-      same = how (one.front ++ next one.rest) here ∙ one.same;
+      same = λ mid e. how (one.front ++ mid) (begins_next test (one.front ++ mid) ts (next_append one.front mid one.rest e ∙ ap next (sym one.parts)) ∙ h) ∙ one.same mid e;
       higher = how' (one.front ++ next one.rest) here ∙ one.higher;
     }
 
@@ -509,7 +520,7 @@ seen_ends P R view r d seen ts (Err s) one =
       tree = other.0;
       begun = other.1;
       at = one.at;
-      same = seen_runs view r (one.front ++ next one.rest) (Err s) one.same;
+      same = λ mid e. seen_runs view r (one.front ++ mid) (Err s) (one.same mid e);
       higher = seen_runs view d (one.front ++ next one.rest) (Err (raised s)) one.higher;
     }
 
@@ -586,7 +597,7 @@ pub record IsOpening {A : Type 0} (s : Symbol) (deeper : Reader A) : Type 0 wher
 
 unopened_ends : {A : Type 0} (some : A) (s : Symbol) (deeper : Reader A) → IsOpening s deeper → (ts : List Lexeme) → Ends (λ (x : A). IsAwaited) (unopened_at s) deeper ts (unopened_at s ts)
 unfolding unopened_at
-unopened_ends some s deeper opening [] = record { front = []; rest = []; parts = refl; tree = some; begun = refl; at = refl; same = refl; higher = opening.ended }
+unopened_ends some s deeper opening [] = record { front = []; rest = []; parts = refl; tree = some; begun = refl; at = refl; same = λ mid e. ap (unopened_at s) (next_empty mid e); higher = opening.ended }
 unopened_ends {A} some s deeper opening (t ∷ ts) = at_token (has_symbol s t.kind) refl
   where
     at_token : (b : Bool) → has_symbol s t.kind ≡ b → Ends (λ (x : A). IsAwaited) (unopened_at s) deeper (t ∷ ts) (cond b (Err (TooDeep t.line)) (Err (At t.line)))
@@ -597,7 +608,7 @@ unopened_ends {A} some s deeper opening (t ∷ ts) = at_token (has_symbol s t.ki
       tree = some;
       begun = refl;
       at = (t, ts, refl, refl);
-      same = cond_true (has_symbol s t.kind) (Err (TooDeep t.line)) (Err (At t.line)) e;
+      same = λ mid n. (let m = next_token mid t n in ap (unopened_at s) m.1 ∙ cond_true (has_symbol s t.kind) (Err (TooDeep t.line)) (Err (At t.line)) e);
       higher = opening.opens t e;
     }
     at_token false e = record {
@@ -607,7 +618,7 @@ unopened_ends {A} some s deeper opening (t ∷ ts) = at_token (has_symbol s t.ki
       tree = some;
       begun = refl;
       at = (t, ts, refl, refl);
-      same = cond_false (has_symbol s t.kind) (Err (TooDeep t.line)) (Err (At t.line)) e;
+      same = λ mid n. (let m = next_token mid t n in ap (unopened_at s) m.1 ∙ cond_false (has_symbol s t.kind) (Err (TooDeep t.line)) (Err (At t.line)) e);
       higher = opening.fails t e;
     }
 
@@ -670,7 +681,7 @@ record StopsMany {A : Type 0} (P : A → Rule) (test : TokenKind → Bool) (item
   pub trees : List A
   pub begun : IsEach P trees Begun front
   pub at : IsStopAt s rest
-  pub same : (m : ℕ) → length (front ++ next rest) ≤ m → many test item m (front ++ next rest) ≡ Err s
+  pub same : (mid : List Lexeme) → next mid ≡ next rest → (m : ℕ) → length (front ++ mid) ≤ m → many test item m (front ++ mid) ≡ Err s
   pub higher : (m : ℕ) → length (front ++ next rest) ≤ m → many test deeper m (front ++ next rest) ≡ Err (raised s)
 
 abbrev EndsMany : {A : Type 0} → (A → Rule) → (TokenKind → Bool) → Reader A → Reader A → List Lexeme → Read (List A) → Type 0
@@ -707,10 +718,6 @@ many_goes {A} test item (suc m) (t ∷ ts) mid x o h le less e f =
 behind : (starts : List Class) (front mid : List Lexeme) → IsFirst starts false front Whole → length mid < length (front ++ mid)
 behind starts front mid first = shorter starts front mid (front ++ mid) first refl
 
-next_empty : (mid : List Lexeme) → next mid ≡ [] → mid ≡ []
-next_empty [] e = refl
-next_empty (t ∷ mid) e = absurd cc
-
 none_left : (ts : List Lexeme) → length ts ≤ 0 → ts ≡ []
 none_left [] h = refl
 none_left (t ∷ ts) h = absurd (omega arith)
@@ -742,9 +749,12 @@ later_ends {A} {P} {s} {c} {item} {deeper} test h ts x begins_so one (Err stuck)
       trees = x.0 ∷ two.trees;
       begun = inr (one.front, two.front, refl, one.is, two.begun);
       at = two.at;
-      same = λ m le.
-          ap (many test item m) regrouped
-          ∙ many_goes test item m (one.front ++ (two.front ++ n)) (two.front ++ n) x.0 (Err stuck) here (subst (λ (l : List Lexeme). length l ≤ m) regrouped le) less reads two.same;
+      same = λ mid e m le.
+          let there : next (two.front ++ mid) ≡ next x.1 = next_append two.front mid two.rest e ∙ ap next (sym two.parts) in
+          let first : begins test (one.front ++ (two.front ++ mid)) ≡ true = begins_next test (one.front ++ (two.front ++ mid)) ts (next_append one.front (two.front ++ mid) x.1 there ∙ ap next (sym one.parts)) ∙ begins_so in
+          ap (many test item m) (append_assoc one.front two.front mid)
+          ∙ many_goes test item m (one.front ++ (two.front ++ mid)) (two.front ++ mid) x.0 (Err stuck) first (subst (λ (l : List Lexeme). length l ≤ m) (append_assoc one.front two.front mid) le)
+          (behind s one.front (two.front ++ mid) (h.first x.0 Whole one.front one.is)) (one.ahead (two.front ++ mid) there) (two.same mid e);
       higher = λ m le.
           ap (many test deeper m) regrouped
           ∙ many_goes test deeper m (one.front ++ (two.front ++ n)) (two.front ++ n) x.0 (Err (raised stuck)) here (subst (λ (l : List Lexeme). length l ≤ m) regrouped le) less
@@ -777,7 +787,7 @@ turns_end {A} {P} {s} {c} {item} {deeper} test h (suc n) ts le = at_first (λ mi
           trees = one.tree ∷ [];
           begun = inl one.begun;
           at = one.at;
-          same = λ m k. many_stops test item m (one.front ++ next one.rest) stuck here k one.same;
+          same = λ mid n m k. many_stops test item m (one.front ++ mid) stuck (begins_next test (one.front ++ mid) ts (next_append one.front mid one.rest n ∙ ap next (sym one.parts)) ∙ e) k (one.same mid n);
           higher = λ m k. many_stops test deeper m (one.front ++ next one.rest) (raised stuck) here k one.higher;
         }
 
@@ -794,7 +804,7 @@ many_reads_ends P test item deeper ts (Err stuck) one = record {
   tree = one.trees;
   begun = one.begun;
   at = one.at;
-  same = one.same (length (one.front ++ next one.rest)) (omega arith);
+  same = λ mid e. one.same mid e (length (one.front ++ mid)) (omega arith);
   higher = one.higher (length (one.front ++ next one.rest)) (omega arith);
 }
 

@@ -1,5 +1,5 @@
 -- A text in the grammar has one reading, and that reading gives its tree. What isn't read is refused where no text goes on.
-use Rattle.std.proofs.Common.{◌≡◌, ℕ, suc, ◌+◌, ◌≤◌, inl, inr, List, [], ◌∷◌, ◌++◌, length, Result, Ok, Err, refl, sym, ap, subst, ◌∙◌}
+use Rattle.std.proofs.Common.{append_assoc, ◌≡◌, ℕ, suc, ◌+◌, ◌≤◌, inl, inr, List, [], ◌∷◌, ◌++◌, length, Result, Ok, Err, refl, sym, ap, subst, ◌∙◌}
 use Rattle.std.proofs.lemmas.List.{append-nil}
 use Rattle.net_text.specs.Trees.{DeclarationTree}
 use Rattle.net_text.specs.Tokens.{Lexeme, line_at, AreTokens, AreTokensTo, IsTokenFrom, IsReading}
@@ -8,7 +8,7 @@ use Rattle.net_text.specs.Texts.{BeginsTo, IsParseFault}
 use Rattle.net_text.specs.Reading.{Read, text_at, no_more, whole_text, Fails, fault_at}
 use Rattle.net_text.proofs.Sequences.{went_on}
 use Rattle.net_text.proofs.Readings.{one_reading}
-use Rattle.net_text.proofs.Laws.{Took, Stops, Ends, GoesOn, next}
+use Rattle.net_text.proofs.Laws.{Took, Stops, Ends, GoesOn, next, next_next}
 use Rattle.net_text.proofs.Rules.{text_reads, text_goes_on}
 use Rattle.net_text.proofs.Growth.{begins_front, front_begins}
 use Rattle.net_text.specs.declared.lexer.End.{End}
@@ -130,6 +130,34 @@ goes_at_end left ts e =
     let parts : ts ≡ one.front = one.parts ∙ ap (λ (r : List Lexeme). one.front ++ r) one.at ∙ append-nil one.front in
     record { declarations = one.tree; begun = subst (λ (l : List Lexeme). IsText 1 left one.tree Begun l) (sym parts) one.begun }
 
+cut_parts : (ts front rest more : List Lexeme) → ts ≡ front ++ rest → ts ++ more ≡ front ++ (rest ++ more)
+cut_parts ts front rest more e = ap (λ (l : List Lexeme). l ++ more) e ∙ append_assoc front rest more
+
+token_next : (rest : List Lexeme) (t : Lexeme) (after more : List Lexeme) → rest ≡ t ∷ after → next (rest ++ more) ≡ next rest
+token_next rest t after more e = ap (λ (l : List Lexeme). next (l ++ more)) e ∙ ap next (sym e)
+
+-- what begins a text begins one also where it is cut short
+cut_begins : (left : ℕ) (ts more : List Lexeme) (o : Read (List DeclarationTree)) → Ends (λ ds. IsText 1 left ds) (text_at left) (text_at (suc left)) ts o → Begins 1 left (ts ++ more) → Begins 1 left ts
+cut_begins left ts more (Ok (found, [])) one begins =
+    let parts : ts ≡ one.front = one.parts ∙ append-nil one.front in
+    let longer = text_goes_on left found one.front one.is in
+    record { declarations = longer.0; begun = subst (λ (l : List Lexeme). IsText 1 left longer.0 Begun l) (sym parts) longer.1 }
+cut_begins left ts more (Ok (found, t ∷ rest)) one begins =
+    absurd (no_text left (ts ++ more) (Ok (found, (t ∷ rest) ++ more)) (ap (text_at left) (cut_parts ts one.front (t ∷ rest) more one.parts) ∙ one.ahead ((t ∷ rest) ++ more) refl) (λ h. some h) begins)
+  where
+    some : (let one_more : List Lexeme = t ∷ (rest ++ more) in one_more ≡ []) → ⊥
+    some h = cc
+cut_begins left ts more (Err AtEnd) one begins =
+    let parts : ts ≡ one.front = one.parts ∙ ap (λ (r : List Lexeme). one.front ++ r) one.at ∙ append-nil one.front in
+    record { declarations = one.tree; begun = subst (λ (l : List Lexeme). IsText 1 left one.tree Begun l) (sym parts) one.begun }
+cut_begins left ts more (Err (At line)) one begins =
+    absurd (no_text left (ts ++ more) (Err (At line)) (ap (text_at left) (cut_parts ts one.front one.rest more one.parts) ∙ one.same (one.rest ++ more) (token_next one.rest one.at.0 one.at.1 more one.at.2)) (λ h. h) begins)
+cut_begins left ts more (Err (TooDeep line)) one begins =
+    absurd (no_text left (ts ++ more) (Err (TooDeep line)) (ap (text_at left) (cut_parts ts one.front one.rest more one.parts) ∙ one.same (one.rest ++ more) (token_next one.rest one.at.0 one.at.1 more one.at.2)) (λ h. h) begins)
+
+pub begins_cut : (left : ℕ) (ts more : List Lexeme) → Begins 1 left (ts ++ more) → Begins 1 left ts
+begins_cut left ts more begins = cut_begins left ts more (text_at left ts) ((text_reads left).ends ts) begins
+
 stopped_here : (left : ℕ) (ts : List Lexeme) (stuck : Stuck) → Stops (λ ds. IsText 1 left ds) (text_at left) (text_at (suc left)) ts stuck → IsHere left ts stuck
 stopped_here left ts (At line) one =
     let here = one.at in
@@ -141,7 +169,7 @@ stopped_here left ts (At line) one =
       parts = one.parts ∙ ap (λ (r : List Lexeme). one.front ++ r) here.2;
       line_is = here.3;
       begins = record { declarations = one.tree; begun = one.begun };
-      none = no_text left (one.front ++ here.0 ∷ []) (Err (At line)) (ap (text_at left) (sym tail) ∙ one.same) (λ h. h);
+      none = no_text left (one.front ++ here.0 ∷ []) (Err (At line)) (ap (text_at left) (sym tail) ∙ one.same (next one.rest) (next_next one.rest)) (λ h. h);
       none_deeper = no_text (suc left) (one.front ++ here.0 ∷ []) (Err (At line)) (ap (text_at (suc left)) (sym tail) ∙ one.higher) (λ h. h);
     }
 stopped_here left ts (TooDeep line) one =
@@ -154,7 +182,7 @@ stopped_here left ts (TooDeep line) one =
       parts = one.parts ∙ ap (λ (r : List Lexeme). one.front ++ r) here.2;
       line_is = here.3;
       begins = record { declarations = one.tree; begun = one.begun };
-      none = no_text left (one.front ++ here.0 ∷ []) (Err (TooDeep line)) (ap (text_at left) (sym tail) ∙ one.same) (λ h. h);
+      none = no_text left (one.front ++ here.0 ∷ []) (Err (TooDeep line)) (ap (text_at left) (sym tail) ∙ one.same (next one.rest) (next_next one.rest)) (λ h. h);
       deeper = goes_at_end (suc left) (one.front ++ here.0 ∷ []) (ap (text_at (suc left)) (sym tail) ∙ one.higher);
     }
 stopped_here left ts AtEnd one =
