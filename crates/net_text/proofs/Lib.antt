@@ -13,6 +13,7 @@ pub mod Loops
 pub mod Depth
 pub mod Openings
 pub mod Texts
+pub mod OneFault
 pub mod Runs
 pub mod Items
 pub mod InputLaws

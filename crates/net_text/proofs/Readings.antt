@@ -108,7 +108,7 @@ keyword_word : (w : Keyword) (bs : List ℕ) → bs ≡ keyword_spelling w → i
 keyword_word w bs e = ap is_word e ∙ (keyword_is_word w).0
 
 -- the three shapes exclude one another
-word_no_numeral : (bs : List ℕ) → is_word bs ≡ true → is_numeral bs ≡ true → ⊥
+pub word_no_numeral : (bs : List ℕ) → is_word bs ≡ true → is_numeral bs ≡ true → ⊥
 word_no_numeral bs word numeral =
     let d = digit_bounds (get_or bs 0 0) (first_of_numeral bs numeral) in
     let w = starts_bounds (get_or bs 0 0) (first_of_word bs word) in
@@ -145,20 +145,20 @@ one_kind (kind.Symbol s) (kind.Number n) bs h g = absurd (numeral_no_symbol bs s
 one_kind (kind.Symbol s) (kind.Word w) bs h g = absurd (word_no_symbol bs s (keyword_word w bs g) h)
 one_kind (kind.Symbol s) (kind.Symbol t) bs h g = ap kind.Symbol (one_symbol s t (sym h ∙ g))
 
-one_place : (text : List ℕ) (p q : ℕ) → p ≤ length text → q ≤ length text → drop p text ≡ drop q text → p ≡ q
+pub one_place : (text : List ℕ) (p q : ℕ) → p ≤ length text → q ≤ length text → drop p text ≡ drop q text → p ≡ q
 one_place text p q h k e = let a = length-drop p text in let b = length-drop q text in let c = ap length e in omega arith
 
-longest_within : (front bytes : List ℕ) → IsLongest front bytes → length front ≤ length bytes
+pub longest_within : (front bytes : List ℕ) → IsLongest front bytes → length front ≤ length bytes
 longest_within front bytes l = let e = ap length l.front_of in let t = length-take (length front) bytes in omega arith
 
-one_longest_front : (a b bytes : List ℕ) → IsLongest a bytes → IsLongest b bytes → a ≡ b
+pub one_longest_front : (a b bytes : List ℕ) → IsLongest a bytes → IsLongest b bytes → a ≡ b
 one_longest_front a b bytes h g =
     let first = g.longest (length a) (longest_within a bytes h) (subst IsLexeme h.front_of h.lexeme) in
     let second = h.longest (length b) (longest_within b bytes g) (subst IsLexeme g.front_of g.lexeme) in
     let same : length a ≡ length b = omega arith in
     h.front_of ∙ ap (λ (n : ℕ). take n bytes) same ∙ sym g.front_of
 
-one_token : (text : List ℕ) (place : ℕ) (t u : Lexeme) → IsTokenFrom text place t → IsTokenFrom text place u → t ≡ u
+pub one_token : (text : List ℕ) (place : ℕ) (t u : Lexeme) → IsTokenFrom text place t → IsTokenFrom text place u → t ≡ u
 one_token text place t u h g =
     let start : t.start ≡ u.start = one_place text t.start u.start h.within g.within (h.after ∙ sym g.after) in
     let longest : IsLongest t.text (drop u.start text) = subst (λ (p : ℕ). IsLongest t.text (drop p text)) start h.longest in
@@ -168,14 +168,14 @@ one_token text place t u h g =
     λ i. record { kind = kinds i; text = same i; start = start i; line = lines i }
 
 -- where a token stands the text doesn't end
-token_no_end : (text : List ℕ) (place : ℕ) (t : Lexeme) → IsTokenFrom text place t → EndsAt text place → ⊥
+pub token_no_end : (text : List ℕ) (place : ℕ) (t : Lexeme) → IsTokenFrom text place t → EndsAt text place → ⊥
 token_no_end text place t h e =
     let some = lexeme_some t.text h.longest.lexeme in
     let within = longest_within t.text (drop t.start text) h.longest in
     let none = ap length (h.after ∙ e) in
     omega arith
 
-bad_no_end : (text : List ℕ) (place : ℕ) (fault : TextFault) → IsBadFrom text place fault → EndsAt text place → ⊥
+pub bad_no_end : (text : List ℕ) (place : ℕ) (fault : TextFault) → IsBadFrom text place fault → EndsAt text place → ⊥
 bad_no_end text place fault h e = let none = ap length (h.after ∙ e) in let l = length-drop h.start text in let lt = h.within in omega arith
 
 -- nor is what stands there bad
@@ -206,7 +206,7 @@ token_no_bad_at text place start t (TooLong line) h e bad =
 token_no_bad_at text place start t NoMemory h e bad = bad
 token_no_bad_at text place start t (Unexpected line) h e bad = bad
 
-token_no_bad : (text : List ℕ) (place : ℕ) (t : Lexeme) (fault : TextFault) → IsTokenFrom text place t → IsBadFrom text place fault → ⊥
+pub token_no_bad : (text : List ℕ) (place : ℕ) (t : Lexeme) (fault : TextFault) → IsTokenFrom text place t → IsBadFrom text place fault → ⊥
 token_no_bad text place t fault h bad =
     token_no_bad_at text place bad.start t fault h (let lt = bad.within in one_place text t.start bad.start h.within (omega arith) (h.after ∙ sym bad.after)) bad.bad
 

@@ -1,5 +1,5 @@
 -- The lines of an inputs text. Lines end at line feeds; of each, one trailing carriage return is left out.
-use Rattle.std.specs.Prelude.{◌≡◌, ◌⊎◌, ℕ, suc, ◌^◌, ◌<◌, ◌≤◌, Bool, false, ◌==◌, List, [], ◌∷◌, ◌++◌, length, IsTrue, All, ℤ, pos, neg_ℤ, map, Result, Ok, Err}
+use Rattle.std.specs.Prelude.{◌≡◌, ◌⊎◌, ℕ, suc, ◌^◌, ◌<◌, ◌≤◌, Bool, false, ◌==◌, List, [], ◌∷◌, ◌++◌, length, IsTrue, All, ℤ, pos, neg_ℤ, map}
 use Rattle.std.specs.List.{list_all, slice_split}
 use Rattle.std.specs.Str.Lines.{strip_carriage_return}
 use Rattle.std.specs.Char.{is_ascii_digit}
@@ -131,8 +131,3 @@ IsInputsFault text (BadToken line) = IsBadLine text line IsBadAtByte
 IsInputsFault text (Unexpected line) = IsBadLine text line IsNameAlone
 IsInputsFault text (NumberRange line) = IsBadLine text line IsOutOfRange
 IsInputsFault text (TooLong line) = ((MAX_INPUTS_BYTES < length text) × (line ≡ 1)) ⊎ IsBadLine text line IsLongName
-
--- the text is refused by this fault, unless memory runs out
-abbrev pub IsRefusedBy : {X : Type 0} → TextFault → Result X TextFault → Type 0
-IsRefusedBy fault (Ok x) = fault ≡ NoMemory
-IsRefusedBy fault (Err other) = (fault ≡ NoMemory) ⊎ ((other ≡ NoMemory) ⊎ (other ≡ fault))

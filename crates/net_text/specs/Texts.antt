@@ -12,6 +12,11 @@ abbrev pub Answers : {X Y : Type 0} → (X → Y) → Result X TextFault → Y �
 Answers view (Ok x) y = view x ≡ y
 Answers view (Err fault) y = fault ≡ NoMemory
 
+-- the text is refused by this fault, unless memory runs out
+abbrev pub IsRefusedBy : {X : Type 0} → TextFault → Result X TextFault → Type 0
+IsRefusedBy fault (Ok x) = fault ≡ NoMemory
+IsRefusedBy fault (Err other) = (fault ≡ NoMemory) ⊎ ((other ≡ NoMemory) ⊎ (other ≡ fault))
+
 -- These are the tokens of a text up to a place, and with them some text within the limits begins. It may want a block that is one too many.
 pub record BeginsTo (text : List ℕ) (ts : List Lexeme) (place : ℕ) : Type 0 where
   pub read : AreTokensTo text 0 ts place

@@ -5,11 +5,11 @@ ghost use Rattle.std.specs.List.{slice_split};
 ghost use Rattle.std.specs.Str.{IsUtf8};
 ghost use Rattle.std.specs.Str.Lines.{strip_carriage_return};
 ghost use Rattle.net_text.specs.Trees.{InputTree, input_tree, inputs_tree};
-ghost use Rattle.net_text.specs.InputLines.{is_space, is_comment, IsInputsText, IsInputsFault, IsRefusedBy};
+ghost use Rattle.net_text.specs.InputLines.{is_space, is_comment, IsInputsText, IsInputsFault};
 ghost use Rattle.net_text.specs.declared.fault.TextFault.{TextFault as FaultValue};
 ghost use Rattle.net_text.specs.InputReading.{Gives, run, sign_len, item_at, items_at, after_name, entry_at, line_at, lines_at, entry_tree, with_entry};
 ghost use Rattle.net_text.specs.Spellings.{continues_word};
-ghost use Rattle.net_text.specs.Texts.{Answers};
+ghost use Rattle.net_text.specs.Texts.{Answers, IsRefusedBy};
 
 use crate::fault::TextFault;
 use crate::lexer::{numeral_len, starts_word, word_len};

@@ -5,7 +5,8 @@ ghost use Rattle.net_text.specs.Trees.{DeclarationTree, net_tree};
 ghost use Rattle.net_text.specs.Tokens.{Lexeme, lexemes, AreTokens, IsTokensFault};
 ghost use Rattle.net_text.specs.Grammar.{IsTextOf};
 ghost use Rattle.net_text.specs.Reading.{fault_at};
-ghost use Rattle.net_text.specs.Texts.{Answers, IsParseFault};
+ghost use Rattle.net_text.specs.Texts.{Answers, IsParseFault, IsRefusedBy};
+ghost use Rattle.net_text.specs.declared.fault.TextFault.{TextFault as FaultValue};
 
 use crate::fault::TextFault;
 use crate::lexer::{End, read};
@@ -40,7 +41,10 @@ pub fn tokens(alloc: Global, text: &str) -> Result<Vec<Token<'_>>, TextFault>
 /// bad token's own number, by 5 where it opens one more than may be open, or else by 3.
 pub fn parse(alloc: Global, text: &str) -> Result<NetText, TextFault>
     ensures ok { IfOk result (λ net. IsTextOf (net_tree net) text.now) }
+    // The refusal's cause is in the text, and a text has no other.
     ensures err { IfErr result (IsParseFault text.now) }
+    ensures each { (fault : FaultValue) → IsParseFault text.now fault
+        → IsRefusedBy fault result }
     // A text in the grammar is read, unless memory runs out.
     ensures only { (tree : List DeclarationTree) → IsTextOf tree text.now
         → Answers net_tree result tree }

@@ -5,6 +5,7 @@ use Rattle.net_text.specs.Reading.{whole_text}
 use Rattle.net_text.specs.Texts.{IsParseFault}
 use Rattle.net_text.specs.declared.limits.TheConstants.{MAX_NESTING}
 use Rattle.net_text.proofs.Texts.{whole_took, tokens_of, tokens_fault, tree_read, one_tree, no_bad_end, refused}
+use Rattle.net_text.proofs.OneFault.{one_parse_fault, tree_no_fault}
 use Rattle.net_text.proofs.text.parse.Goals as goal
 
 pub returns-in-Text-clause-ok : goal.returns-in-Text-clause-ok
@@ -46,3 +47,12 @@ returns-in-Ok-clause-err c =
     let reading = c.in_ok-reading.reading in
     let read : whole_text MAX_NESTING (lexemes reading.tokens.items) ≡ Ok (net_tree c.in-Ok.net) = ap (λ (ts : List Lexeme). whole_text MAX_NESTING ts) (sym (c.new.ensures ∙ ap lexemes c.deref.ensures.value)) ∙ c.in-Ok.ensures in
     tokens_fault c.args.text.now (lexemes reading.tokens.items) (net_tree c.in-Ok.net) c.in-Bad.fault (omega arith) (subst (IsReading c.args.text.now (lexemes reading.tokens.items)) c.in-Bad.is c.in_ok-reading.ensures) read
+
+pub returns-in-Text-clause-each : goal.returns-in-Text-clause-each
+returns-in-Text-clause-each c = λ fault h. tree_no_fault c.args.text.now (net_tree c.in-Ok.net) fault (returns-in-Text-clause-ok c) h
+
+pub returns-in-Ok-clause-each : goal.returns-in-Ok-clause-each
+returns-in-Ok-clause-each c = λ fault h. one_parse_fault c.args.text.now c.in-Bad.fault (returns-in-Ok-clause-err c) fault h
+
+pub returns-clause-each : goal.returns-clause-each
+returns-clause-each c = λ fault h. one_parse_fault c.args.text.now c.fault_at.result (returns-clause-err c) fault h
