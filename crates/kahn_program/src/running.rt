@@ -1,6 +1,6 @@
 //! The program behind its words.
 
-ghost use Rattle.std.specs.Prelude.{◌≡◌, ◌≤◌, Bool, IfErr, IfOk, option_and_then};
+ghost use Rattle.std.specs.Prelude.{◌≡◌, ◌⊎◌, ◌≤◌, Bool, IfErr, IfOk, option_and_then};
 ghost use Rattle.kahn_net.specs.Fits.{Fits};
 ghost use Rattle.kahn_net.specs.Syntax.{network_of};
 ghost use Rattle.kahn_program.specs.Readings.{HasTold, IsRunFailure};
@@ -92,6 +92,8 @@ pub fn run<N: Read + Drop, I: Read + Drop, W: Write, E: Write>(
     // Where there is a report, nothing is written to `err`.
     ensures complete { result ≡ 0 → err.new ≡ err.old }
     ensures partial { result ≡ 3 → err.new ≡ err.old }
+    // A report and a failure's line aren't written both, also where the status is 1.
+    ensures apart { (out.new ≡ out.old) ⊎ (err.new ≡ err.old) }
 {
     match report_of_readers(alloc, options, net, inputs) {
         Ok((report, complete)) => print_report(&report, complete, out),
