@@ -11,6 +11,7 @@ use Rattle.kahn_net.specs.Approximations.{approximation}
 use Rattle.kahn_net.specs.declared.program.Channel.{Channel}
 use Rattle.world.specs.Sound.{goes_outside, output_channels}
 use Rattle.world.specs.Headline as headline
+use Rattle.world.specs.Steps.{WorldView}
 use Rattle.world.specs.Quiet as quiet
 use Rattle.world.specs.OutputLaws.{map_at}
 use Rattle.world.specs.OutputView.{OutputView, output_view, outputs_view}
@@ -30,7 +31,8 @@ use Rattle.net_check.specs.declared.net.Net.{Net}
 use Rattle.kahn_program.specs.Report.{one_if_output, output_count, report_text}
 use Rattle.kahn_program.specs.Readings.{IsNetOf, AreInputsOf}
 use Rattle.kahn_program.specs.Statuses.{status_of_run}
-use Rattle.kahn_program.specs.Runs.{released_streams, cut_at, first_items, is_whole, run_text, IsRun, IsReport, IsReportOf, IsReported, HasWritten}
+use Rattle.kahn_program.specs.Runs.{released_streams, cut_at, first_items, is_whole, run_text, IsRun, IsLast, IsReport, IsReportOf, IsReported, HasWritten}
+use Rattle.kahn_program.specs.Turning.{are_done}
 use Rattle.kahn_program.specs.Runnable.{IsReportFailure}
 use Rattle.kahn_program.specs.declared.failure.Failure.{Failure}
 use Rattle.std.specs.Prelude.{IfErr}
@@ -186,14 +188,17 @@ twice : (f : ℕ → List ℤ) (g : List ℤ → List ℤ) (numbers : List ℕ) 
 twice f g [] = refl
 twice f g (number ∷ numbers) = ap (λ (rest : List (List ℤ)). g (f number) ∷ rest) (twice f g numbers)
 
-pub reported : (net : Net) (inputs : List (List ℤ)) (given : List Channel) (items cut : Option ℕ) (streams : List (List ℤ)) (stations : List StationView) (text : List ℕ) (complete told : Bool) → given ≡ net.program.channels.items
-    → cut ≡ cut_at items (map (λ (channel : ℕ). released_of channel stations) (output_channels 0 given))
-    → streams ≡ map (λ (channel : ℕ). first_items cut (released_of channel stations)) (output_channels 0 given)
+pub reported : (net : Net) (inputs : List (List ℤ)) (given : List Channel) (rounds : ℕ) (items cut : Option ℕ) (streams : List (List ℤ)) (now : WorldView) (text : List ℕ) (complete told : Bool) → given ≡ net.program.channels.items
+    → cut ≡ cut_at items (map (λ (channel : ℕ). released_of channel now.stations) (output_channels 0 given))
+    → streams ≡ map (λ (channel : ℕ). first_items cut (released_of channel now.stations)) (output_channels 0 given)
     → told ≡ is_whole cut complete
     → text ≡ report_text net.program.channels.items net.channel_names.items streams told
-    → IsRun (network_of net.program) inputs (released_streams (network_of net.program) stations) complete
-    → IsReport net items inputs text told
-reported net inputs given items cut streams stations text complete told channels where_cut listed whole printed run =
+    → IsRun (network_of net.program) inputs (released_streams (network_of net.program) now.stations) complete
+    → complete ≡ are_done now.stations
+    → IsLast (network_of net.program) inputs rounds items now
+    → IsReport net rounds items inputs text told
+reported net inputs given rounds items cut streams now text complete told channels where_cut listed whole printed run quiet last =
+    let stations = now.stations in
     let released : List (List ℤ) = released_streams (network_of net.program) stations in
     let same : map (λ (channel : ℕ). released_of channel stations) (output_channels 0 given) ≡ released = ap (λ (l : List Channel). map (λ (channel : ℕ). released_of channel stations) (output_channels 0 l)) channels in
     let at : cut ≡ cut_at items released = where_cut ∙ ap (cut_at items) same in
@@ -201,7 +206,13 @@ reported net inputs given items cut streams stations text complete told channels
     let text_is : text ≡ run_text net cut released complete =
     printed ∙ (ap (λ (l : List (List ℤ)). report_text net.program.channels.items net.channel_names.items l told) all
     ∙ ap (λ (b : Bool). report_text net.program.channels.items net.channel_names.items (map (first_items cut) released) b) whole) in
-    ∣ (released, complete, run, whole ∙ ap (λ (c : Option ℕ). is_whole c complete) at, text_is ∙ ap (λ (c : Option ℕ). run_text net c released complete) at) ∣₁
+    ∣ (
+      now,
+      last,
+      subst (IsRun (network_of net.program) inputs released) quiet run,
+      whole ∙ (ap (λ (c : Option ℕ). is_whole c complete) at ∙ ap (is_whole (cut_at items released)) quiet),
+      text_is ∙ (ap (λ (c : Option ℕ). run_text net c released complete) at ∙ ap (run_text net (cut_at items released) released) quiet),
+    ) ∣₁
 
 -- Whether each output has so many items
 
@@ -227,10 +238,10 @@ module _ (f : ℕ → List ℤ) (test : List ℤ → Bool) where
       ∙ (sym (here channels k d within) ∙ so_far))
 
 -- The report that is asked for, of the texts of two readers
-pub run_of_readers : (approx items : Option ℕ) (net_bytes input_bytes : Option (List ℕ)) (net : Net) (inputs : List (List ℤ)) (result : Result (Vec ℕ Global × Bool) Failure) → IfSome net_bytes (λ bytes. IsNetOf bytes net) → IfSome input_bytes (λ bytes. AreInputsOf bytes net inputs)
-    → IfOk result (λ report. IsReportOf approx items net inputs report.0.items report.1) → IfOk result (λ report. IsReported approx items net_bytes input_bytes report.0.items report.1)
-run_of_readers approx items net_bytes input_bytes net inputs (Err e) of_net of_inputs report = tt
-run_of_readers approx items net_bytes input_bytes net inputs (Ok r) of_net of_inputs report = ∣ (net, inputs, of_net, of_inputs, report) ∣₁
+pub run_of_readers : (approx : Option ℕ) (rounds : ℕ) (items : Option ℕ) (net_bytes input_bytes : Option (List ℕ)) (net : Net) (inputs : List (List ℤ)) (result : Result (Vec ℕ Global × Bool) Failure) → IfSome net_bytes (λ bytes. IsNetOf bytes net) → IfSome input_bytes (λ bytes. AreInputsOf bytes net inputs)
+    → IfOk result (λ report. IsReportOf approx rounds items net inputs report.0.items report.1) → IfOk result (λ report. IsReported approx rounds items net_bytes input_bytes report.0.items report.1)
+run_of_readers approx rounds items net_bytes input_bytes net inputs (Err e) of_net of_inputs report = tt
+run_of_readers approx rounds items net_bytes input_bytes net inputs (Ok r) of_net of_inputs report = ∣ (net, inputs, of_net, of_inputs, report) ∣₁
 
 pub failed_run : {T : Type 0} (approx : Option ℕ) (net_bytes input_bytes : Option (List ℕ)) (net : Net) (inputs : List (List ℤ)) (result : Result T Failure) → IfSome net_bytes (λ bytes. IsNetOf bytes net) → IfSome input_bytes (λ bytes. AreInputsOf bytes net inputs)
     → IfErr result (IsReportFailure approx (network_of net.program) inputs) → IfErr result (IsRunFailure approx net_bytes input_bytes)
@@ -248,11 +259,11 @@ not_failed : (a : Bool) → status_of_run a ≡ 1 → ⊥
 not_failed true e = cc
 not_failed false e = cc
 
-pub written_report : (approx items : Option ℕ) (net_bytes input_bytes before after : Option (List ℕ)) (text : List ℕ) (complete : Bool) (status : ℕ) → IsReported approx items net_bytes input_bytes text complete
+pub written_report : (approx : Option ℕ) (rounds : ℕ) (items : Option ℕ) (net_bytes input_bytes before after : Option (List ℕ)) (text : List ℕ) (complete : Bool) (status : ℕ) → IsReported approx rounds items net_bytes input_bytes text complete
     → (status ≡ 1) ⊎ (status ≡ status_of_run complete) → (status ≢ 1 → Appends before after text)
-    → (whole : Bool) → status ≡ status_of_run whole → HasWritten approx items net_bytes input_bytes before after whole
-written_report approx items net_bytes input_bytes before after text complete status of (inl failed) writes whole is = absurd (not_failed whole (sym is ∙ failed))
-written_report approx items net_bytes input_bytes before after text complete status of (inr came) writes whole is =
+    → (whole : Bool) → status ≡ status_of_run whole → HasWritten approx rounds items net_bytes input_bytes before after whole
+written_report approx rounds items net_bytes input_bytes before after text complete status of (inl failed) writes whole is = absurd (not_failed whole (sym is ∙ failed))
+written_report approx rounds items net_bytes input_bytes before after text complete status of (inr came) writes whole is =
     let same : complete ≡ whole = one_status complete whole (sym came ∙ is) in
-    subst (HasWritten approx items net_bytes input_bytes before after) same
+    subst (HasWritten approx rounds items net_bytes input_bytes before after) same
     ∣ (text, of, writes (λ failed. not_failed complete (sym came ∙ failed))) ∣₁

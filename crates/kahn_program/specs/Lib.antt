@@ -5,3 +5,4 @@ pub mod Readings
 pub mod Report
 pub mod Statuses
 pub mod Runs
+pub mod Turning

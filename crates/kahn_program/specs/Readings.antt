@@ -35,7 +35,7 @@ pub record AreInputsOf (bytes : List ℕ) (net : Net) (inputs : List (List ℤ))
   pub text : IsInputsText bytes lines
   pub bound : Binds net.channel_names.items (network_of net.program) lines inputs
 
--- this text describes a valid network on one node
+-- this text describes a valid network
 pub record IsTextOfNet (bytes : List ℕ) : Type 0 where
   pub tree : List DeclarationTree
   pub channels : List NameTree

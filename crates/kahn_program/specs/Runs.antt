@@ -1,5 +1,5 @@
 -- What a run of a network releases, and its report.
-use Rattle.std.specs.Prelude.{◌≡◌, ◌↔◌, ℕ, Bool, false, IsTrue, if◌then◌else◌, nat_le, ℤ, List, Option, Some, None, IfSome, length, map, take, slice_get}
+use Rattle.std.specs.Prelude.{◌≡◌, ◌⊎◌, ◌≤◌, ◌||◌, is_some, ◌↔◌, ℕ, Bool, true, false, IsTrue, if◌then◌else◌, nat_le, ℤ, List, Option, Some, None, IfSome, length, map, take, slice_get}
 use Rattle.std.specs.List.{list_all}
 use Rattle.std.specs.Io.KnownBytes.{Appends}
 use Rattle.kahn_net.specs.Streams.{history_of, IsPrefix}
@@ -12,6 +12,9 @@ use Rattle.world.specs.StationView.{StationView}
 use Rattle.kahn_program.specs.Readings.{IsNetOf, AreInputsOf}
 use Rattle.kahn_program.specs.Report.{report_text}
 use Rattle.world.specs.Runnable.{CanRun}
+use Rattle.world.specs.Steps.{WorldView}
+use Rattle.kahn_program.specs.Turning.{CameTo, are_done, first_world}
+use Rattle.kahn_program.specs.declared.network_run.TheConstants.{MAX_TURNS}
 
 -- what the stations' outlets took, for each of a network's outputs in order
 abbrev pub released_streams : Network → List StationView → List (List ℤ)
@@ -52,12 +55,26 @@ is_whole (Some items) complete = false
 abbrev pub run_text : Net → Option ℕ → List (List ℤ) → Bool → List ℕ
 run_text net cut released complete = report_text net.program.channels.items net.channel_names.items (map (first_items cut) released) (is_whole cut complete)
 
--- A text is the report of a run of this network on these inputs, and tells whether it is complete. Where so many items of each output were
--- asked for, and each has them, the first ones of each are printed, and the run is partial.
-abbrev pub IsReport : Net → Option ℕ → List (List ℤ) → List ℕ → Bool → Type 0
-IsReport net items inputs text told =
-    ∥ ((released : List (List ℤ)) × (complete : Bool) × IsRun (network_of net.program) inputs released complete
-    × (told ≡ is_whole (cut_at items released) complete) × (text ≡ run_text net (cut_at items released) released complete)) ∥₁
+-- a run is over: nothing is left to do, the rounds are over, or each of these outputs has the items that are asked for
+abbrev pub is_over : List ℕ → ℕ → Option ℕ → WorldView → Bool
+is_over outputs rounds items now =
+    are_done now.stations || (nat_le rounds now.round || is_some (cut_at items (map (λ (channel : ℕ). released_of channel now.stations) outputs)))
+
+-- The world at the end of a run: turn by turn it came from the first one, until the run was over, or so many turns were taken that nobody waits
+-- for them.
+pub record IsLast (net : Network) (inputs : List (List ℤ)) (rounds : ℕ) (items : Option ℕ) (now : WorldView) : Type 0 where
+  pub turns : ℕ
+  pub came : CameTo (is_over (output_channels 0 net.channels) rounds items) turns (first_world net inputs) now
+  pub over : (is_over (output_channels 0 net.channels) rounds items now ≡ true) ⊎ (MAX_TURNS ≤ turns)
+
+-- A text is the report of a run of this network on these inputs, and tells whether it is complete: of what has left in the world at its end.
+-- Where so many items of each output were asked for, and each has them, the first ones of each are printed, and the run is partial.
+abbrev pub IsReport : Net → ℕ → Option ℕ → List (List ℤ) → List ℕ → Bool → Type 0
+IsReport net rounds items inputs text told =
+    ∥ ((now : WorldView) × IsLast (network_of net.program) inputs rounds items now
+    × IsRun (network_of net.program) inputs (released_streams (network_of net.program) now.stations) (are_done now.stations)
+    × (told ≡ is_whole (cut_at items (released_streams (network_of net.program) now.stations)) (are_done now.stations))
+    × (text ≡ run_text net (cut_at items (released_streams (network_of net.program) now.stations)) (released_streams (network_of net.program) now.stations) (are_done now.stations))) ∥₁
 
 -- A text is the report of the n-th approximation on these inputs: each output's whole history there. It tells `complete` exactly where that
 -- approximation is a solution.
@@ -67,15 +84,15 @@ pub record IsApproximated (net : Net) (inputs : List (List ℤ)) (n : ℕ) (text
   pub solution : IsTrue told ↔ IsSolution (network_of net.program) inputs (approximation (network_of net.program) inputs n)
 
 -- a text is the report that is asked for: of an approximation, or of a run, cut at so many items; only a network that can be run is run
-abbrev pub IsReportOf : Option ℕ → Option ℕ → Net → List (List ℤ) → List ℕ → Bool → Type 0
-IsReportOf (Some n) items net inputs text told = IsApproximated net inputs n text told
-IsReportOf None items net inputs text told = CanRun (network_of net.program) × IsReport net items inputs text told
+abbrev pub IsReportOf : Option ℕ → ℕ → Option ℕ → Net → List (List ℤ) → List ℕ → Bool → Type 0
+IsReportOf (Some n) rounds items net inputs text told = IsApproximated net inputs n text told
+IsReportOf None rounds items net inputs text told = CanRun (network_of net.program) × IsReport net rounds items inputs text told
 
 -- The same of the network that a reader with these bytes describes, on the inputs that another gives, where the bytes are known.
-abbrev pub IsReported : Option ℕ → Option ℕ → Option (List ℕ) → Option (List ℕ) → List ℕ → Bool → Type 0
-IsReported approx items net_bytes input_bytes text told =
-    ∥ ((net : Net) × (inputs : List (List ℤ)) × IfSome net_bytes (λ bytes. IsNetOf bytes net) × IfSome input_bytes (λ bytes. AreInputsOf bytes net inputs) × IsReportOf approx items net inputs text told) ∥₁
+abbrev pub IsReported : Option ℕ → ℕ → Option ℕ → Option (List ℕ) → Option (List ℕ) → List ℕ → Bool → Type 0
+IsReported approx rounds items net_bytes input_bytes text told =
+    ∥ ((net : Net) × (inputs : List (List ℤ)) × IfSome net_bytes (λ bytes. IsNetOf bytes net) × IfSome input_bytes (λ bytes. AreInputsOf bytes net inputs) × IsReportOf approx rounds items net inputs text told) ∥₁
 
 -- and such a text was written
-abbrev pub HasWritten : Option ℕ → Option ℕ → Option (List ℕ) → Option (List ℕ) → Option (List ℕ) → Option (List ℕ) → Bool → Type 0
-HasWritten approx items net_bytes input_bytes before after told = ∥ ((text : List ℕ) × IsReported approx items net_bytes input_bytes text told × Appends before after text) ∥₁
+abbrev pub HasWritten : Option ℕ → ℕ → Option ℕ → Option (List ℕ) → Option (List ℕ) → Option (List ℕ) → Option (List ℕ) → Bool → Type 0
+HasWritten approx rounds items net_bytes input_bytes before after told = ∥ ((text : List ℕ) × IsReported approx rounds items net_bytes input_bytes text told × Appends before after text) ∥₁

@@ -1,14 +1,15 @@
 //! A network's run, and its report.
 
-ghost use Rattle.std.specs.Prelude.{◌≡◌, ◌≤◌, ◌++◌, ◌∷◌, [], if◌then◌else◌, true, nat_le, length, map, IfErr, IfOk, OnOk};
+ghost use Rattle.std.specs.Prelude.{◌≡◌, ◌⊎◌, ◌≤◌, ◌++◌, ℕ, ◌∷◌, [], if◌then◌else◌, true, nat_le, length, map, IfErr, IfOk, OnOk};
 ghost use Rattle.kahn_net.specs.Fits.{Fits};
 ghost use Rattle.kahn_net.specs.Nodes.{IsOnOneNode};
 ghost use Rattle.kahn_net.specs.Syntax.{network_of};
 ghost use Rattle.std.specs.List.{AllZip, list_all};
 ghost use Rattle.world.specs.Released.{released_of};
 ghost use Rattle.world.specs.Sound.{goes_outside, output_channels};
-ghost use Rattle.world.specs.WorldView.{station_view, IsOfSame};
-ghost use Rattle.kahn_program.specs.Runs.{IsReport, cut_at, first_items, is_whole};
+ghost use Rattle.world.specs.WorldView.{station_view, world_view, IsOfSame};
+ghost use Rattle.kahn_program.specs.Turning.{CameTo, Follows, IsWorldTurn, are_done};
+ghost use Rattle.kahn_program.specs.Runs.{IsReport, cut_at, first_items, is_over, is_whole};
 ghost use Rattle.kahn_net.specs.declared.limits.TheConstants.{MAX_CHANNELS};
 
 use crate::failure::Failure;
@@ -24,6 +25,9 @@ use world::{Event, Reply, World, list_outputs};
 
 /// The one node's number.
 const NODE: u8 = 0;
+
+/// The most turns of a run, so many that nobody waits for them.
+pub(crate) const MAX_TURNS: u64 = u64::MAX;
 
 /// A cell in memory, before a world puts its first record there.
 fn empty_cell(alloc: Global) -> MemCell {
@@ -55,14 +59,20 @@ fn cell_failure(fault: CellFault) -> Failure
     }
 }
 
-/// The event that is next. A job that it grants is run and comes back at once.
-fn take_turn(alloc: Global, world: &mut World<MemCell, ListOutlet>) -> Result<(), Failure>
+/// What follows an answer: a job that was granted is run, and comes back at once.
+fn follow(
+    alloc: Global,
+    world: &mut World<MemCell, ListOutlet>,
+    answer: Reply,
+) -> Result<(), Failure>
     ensures same { AllZip IsOfSame world.old.stations.items world.new.stations.items }
+    ensures follows { OnOk result
+        (Follows answer (world_view world.old.stations.items world.old.round)
+        (world_view world.new.stations.items world.new.round)) }
     ensures err { IfErr result (λ failure. failure ≡ Failure.NoMemory) }
 {
-    let event = world.pick(NODE);
-    match world.apply(alloc, event) {
-        Ok(Reply::Granted(job)) => {
+    match answer {
+        Reply::Granted(job) => {
             let Ok(done) = job.run(alloc) else {
                 return Err(Failure::NoMemory);
             };
@@ -71,7 +81,20 @@ fn take_turn(alloc: Global, world: &mut World<MemCell, ListOutlet>) -> Result<()
                 Err(_) => Err(Failure::NoMemory),
             }
         }
-        Ok(_) => Ok(()),
+        _ => Ok(()),
+    }
+}
+
+/// The event that is next. A job that it grants is run and comes back at once.
+fn take_turn(alloc: Global, world: &mut World<MemCell, ListOutlet>) -> Result<(), Failure>
+    ensures same { AllZip IsOfSame world.old.stations.items world.new.stations.items }
+    ensures turn { OnOk result (IsWorldTurn (world_view world.old.stations.items world.old.round)
+        (world_view world.new.stations.items world.new.round)) }
+    ensures err { IfErr result (λ failure. failure ≡ Failure.NoMemory) }
+{
+    let event = world.pick(NODE);
+    match world.apply(alloc, event) {
+        Ok(answer) => follow(alloc, world, answer),
         Err(_) => Err(Failure::NoMemory),
     }
 }
@@ -122,7 +145,28 @@ fn cut(channels: &[Channel], world: &World<MemCell, ListOutlet>, items: Option<u
     }
 }
 
-/// Takes turns until nothing is left to do, the rounds are over, or each output has the items that are asked for.
+/// Whether nothing is left to do.
+fn is_complete(world: &World<MemCell, ListOutlet>) -> bool
+    ensures { result ≡ are_done (map station_view world.now.stations.items) }
+{
+    world.complete()
+}
+
+/// Whether a run is over: nothing is left to do, the rounds are over, or each output has the items that are asked for.
+fn is_over(
+    channels: &[Channel],
+    world: &World<MemCell, ListOutlet>,
+    rounds: u64,
+    items: Option<u64>,
+) -> bool
+    requires { length channels.now ≤ MAX_CHANNELS }
+    ensures { result ≡ is_over (output_channels 0 channels.now) rounds items
+        (world_view world.now.stations.items world.now.round) }
+{
+    is_complete(world) || rounds <= world.round() || cut(channels, world, items).is_some()
+}
+
+/// Takes turns until the run is over.
 fn take_turns(
     alloc: Global,
     channels: &[Channel],
@@ -132,13 +176,16 @@ fn take_turns(
 ) -> Result<(), Failure>
     requires { length channels.now ≤ MAX_CHANNELS }
     ensures same { AllZip IsOfSame world.old.stations.items world.new.stations.items }
+    ensures came { OnOk result ((turns : ℕ)
+        × CameTo (is_over (output_channels 0 channels.now) rounds items) turns
+        (world_view world.old.stations.items world.old.round)
+        (world_view world.new.stations.items world.new.round)
+        × ((is_over (output_channels 0 channels.now) rounds items
+        (world_view world.new.stations.items world.new.round) ≡ true) ⊎ (MAX_TURNS ≤ turns))) }
     ensures err { IfErr result (λ failure. failure ≡ Failure.NoMemory) }
 {
-    for _ in 0..u64::MAX {
-        let is_over = world.complete()
-            || world.round() >= rounds
-            || cut(channels, world, items).is_some();
-        if is_over {
+    for turn in 0..MAX_TURNS {
+        if is_over(channels, world, rounds, items) {
             return Ok(());
         }
         take_turn(alloc, world)?;
@@ -221,7 +268,7 @@ pub fn report_of_run(
 ) -> Result<(Vec<u8>, bool), Failure>
     requires fitting { Fits (network_of net.program) inputs }
     requires one_node { IsOnOneNode (network_of net.program) }
-    ensures ok { IfOk result (λ report. IsReport net items inputs report.0.items report.1) }
+    ensures ok { IfOk result (λ report. IsReport net rounds items inputs report.0.items report.1) }
     // Nothing but memory can be missing.
     ensures err { IfErr result (λ failure. failure ≡ Failure.NoMemory) }
 {

@@ -1,6 +1,6 @@
 //! The program behind its words.
 
-ghost use Rattle.std.specs.Prelude.{◌≡◌, ◌≤◌, Bool, IfErr, IfOk, option_and_then};
+ghost use Rattle.std.specs.Prelude.{◌≡◌, ◌⊎◌, ◌≤◌, Bool, IfErr, IfOk, option_and_then};
 ghost use Rattle.kahn_net.specs.Fits.{Fits};
 ghost use Rattle.kahn_net.specs.Syntax.{network_of};
 ghost use Rattle.kahn_program.specs.Readings.{HasTold, IsRunFailure};
@@ -29,7 +29,7 @@ fn report_of(
 ) -> Result<(Vec<u8>, bool), Failure>
     requires fitting { Fits (network_of net.program) inputs }
     ensures ok { IfOk result (λ report. IsReportOf
-        options.now.approx options.now.items net inputs report.0.items report.1) }
+        options.now.approx options.now.rounds options.now.items net inputs report.0.items report.1) }
     ensures err { IfErr result
         (IsReportFailure options.now.approx (network_of net.program) inputs) }
 {
@@ -51,7 +51,7 @@ fn report_of_readers<N: Read + Drop, I: Read + Drop>(
     net: Option<N>,
     inputs: Option<I>,
 ) -> Result<(Vec<u8>, bool), Failure>
-    ensures ok { IfOk result (λ report. IsReported options.now.approx options.now.items
+    ensures ok { IfOk result (λ report. IsReported options.now.approx options.now.rounds options.now.items
         (option_and_then N.remaining net) (option_and_then I.remaining inputs)
         report.0.items report.1) }
     ensures err { IfErr result (IsRunFailure options.now.approx
@@ -76,11 +76,13 @@ pub fn run<N: Read + Drop, I: Read + Drop, W: Write, E: Write>(
 ) -> u8
     ensures status { result ≤ 3 }
     // Where the status is 0 or 3, what is written to `out` is the report that is asked for of the network that the one
-    // reader describes, on the inputs that the other gives. That of a run: each stream a prefix of its history in one
-    // approximation, where all have the items that are asked for the first ones of each, and where the status is 0 whole, in
-    // the least solution. That of an approximation: the whole histories there, and 0 exactly where it is a solution.
+    // reader describes, on the inputs that the other gives. That of a run: turns are taken from the opening world on until
+    // nothing is left to do, the rounds are over, or all streams have the items that are asked for; each stream is a prefix of
+    // its history in one approximation, where all have the items that are asked for the first ones of each, and where the
+    // status is 0 whole, in the least solution. That of an approximation: the whole histories there, and 0 exactly where it is
+    // a solution.
     ensures written { (complete : Bool) → result ≡ status_of_run complete
-        → HasWritten options.now.approx options.now.items
+        → HasWritten options.now.approx options.now.rounds options.now.items
         (option_and_then N.remaining net) (option_and_then I.remaining inputs)
         (W.contents out.old) (W.contents out.new) complete }
     // Where the status is 2, a text has the fault of which the line is written to `err`, and nothing is written to `out`.
@@ -92,6 +94,8 @@ pub fn run<N: Read + Drop, I: Read + Drop, W: Write, E: Write>(
     // Where there is a report, nothing is written to `err`.
     ensures complete { result ≡ 0 → err.new ≡ err.old }
     ensures partial { result ≡ 3 → err.new ≡ err.old }
+    // A report and a failure's line aren't written both, also where the status is 1.
+    ensures apart { (out.new ≡ out.old) ⊎ (err.new ≡ err.old) }
 {
     match report_of_readers(alloc, options, net, inputs) {
         Ok((report, complete)) => print_report(&report, complete, out),

@@ -1,6 +1,7 @@
 // A node before its first event.
-ghost use Rattle.std.specs.Prelude.{◌≡◌, ◌<◌, ◌≤◌, map, length, false, IfOk, IsErrOf, IsTrue};
+ghost use Rattle.std.specs.Prelude.{◌≡◌, ◌⊎◌, ◌<◌, ◌≤◌, map, length, false, IfOk, IsErrOf, IsTrue, Some};
 ghost use Rattle.kahn_net.specs.Syntax.{code_of, network_of};
+ghost use Rattle.sector_disk.specs.Clock.{LeavesOnly};
 ghost use Rattle.node.specs.NodeView.{node_view};
 ghost use Rattle.node.specs.Cell.{HasFailed};
 ghost use Rattle.node.specs.Opening.{opening_processes, opening_end, opening_ends, opening_image, opening_record, opening_node};
@@ -75,12 +76,7 @@ fn open_image(alloc: Global, net: &Net) -> Result<Image, AllocError>
 }
 
 // What a node of so many nodes has before its first event.
-fn open_state(
-    alloc: Global,
-    net: &Net,
-    nodes: usize,
-    number: u8,
-) -> Result<NodeState, AllocError>
+fn open_state(alloc: Global, net: &Net, nodes: usize, number: u8) -> Result<NodeState, AllocError>
     ensures { IfOk result (λ state. node_view state
         ≡ opening_node (network_of net.now.program) nodes number) }
 {
@@ -124,6 +120,11 @@ impl<C: StableCell> Node<C> {
             → C.fits cell (opening_record (network_of net.now.program) nodes number) ≡ false }
         ensures device { IsErrOf result CellFault.Device → HasFailed C.failure_count cell }
         ensures reopen { ¬ (IsErrOf result CellFault.Reopen) }
+        // A crash at any moment meanwhile leaves what it might have left before, or the opening record.
+        ensures any_moment { IfOk result
+            (λ node. LeavesOnly C.moment C.left_since cell node.cell
+            (λ left. C.may_leave cell left
+            ⊎ (left ≡ Some (opening_record (network_of net.now.program) nodes number)))) }
     {
         let state = open_state(alloc, net, nodes, number)?;
         cell.put(&state.kept)?;

@@ -1,5 +1,6 @@
 -- A world without pointers.
-use Rattle.std.specs.Prelude.{ℕ, ◌≡◌, List, map, Bool, IsTrue}
+use Rattle.std.specs.Prelude.{ℕ, ◌≡◌, ◌⊎◌, List, map, Bool, IsTrue, Option, Some}
+use Rattle.sector_disk.specs.Clock.{LeavesOnly}
 use Rattle.kahn_net.specs.Syntax.{network_of}
 use Rattle.record.specs.RecordView.{RecordView}
 use Rattle.node.specs.NodeView.{node_view}
@@ -64,6 +65,10 @@ IsWhole {C} {O} {cell} {outlet} station = AreWhole (network_of station.net.value
 -- a station of this share of a network and of its inputs
 abbrev pub IsStationOf : {C O : Type 0} {cell : CellWords C} {outlet : OutletWords O} → Arc Net Global → Arc Inputs Global → Station C O cell outlet → Type 0
 IsStationOf net inputs station = (station.net ≡ net) × (station.inputs ≡ inputs)
+
+-- a crash at any moment since a station was given this cell leaves what it might have left before, or the station's first record
+abbrev pub IsOpenedOn : {C O : Type 0} {cell : CellWords C} {outlet : OutletWords O} → C → RecordView → Station C O cell outlet → Type 0
+IsOpenedOn {C} {O} {cell} {outlet} given first station = LeavesOnly cell.moment cell.left_since given station.node.cell (λ (left : Option RecordView). cell.may_leave given left ⊎ (left ≡ Some first))
 
 -- a station with the outlets of these outputs
 abbrev pub HasOutlets : {C O : Type 0} {cell : CellWords C} {outlet : OutletWords O} → List (Output O) → Station C O cell outlet → Type 0

@@ -10,7 +10,7 @@ ghost use Rattle.world.specs.Sound.{goes_outside, output_channels};
 ghost use Rattle.std.specs.List.{AllByRecursion};
 ghost use Rattle.world.specs.OpeningWorld.{fresh, opening_station, opening_world, IsUnused};
 ghost use Rattle.world.specs.StationView.{outlet_views};
-ghost use Rattle.world.specs.WorldView.{station_view, world_view, HasOutlets, IsStationOf};
+ghost use Rattle.world.specs.WorldView.{station_view, world_view, HasOutlets, IsOpenedOn, IsStationOf};
 ghost use Rattle.kahn_net.specs.declared.limits.TheConstants.{MAX_CHANNELS};
 
 use crate::output::Output;
@@ -122,6 +122,8 @@ impl<C: StableCell, O: Outlet> Station<C, O> {
             → C.fits cell (opening_record (network_of net.value.program) 1 0) ≡ false }
         ensures device { IsErrOf result CellFault.Device → HasFailed C.failure_count cell }
         ensures reopen { ¬ (IsErrOf result CellFault.Reopen) }
+        ensures any_moment { IfOk result
+            (IsOpenedOn cell (opening_record (network_of net.value.program) 1 0)) }
     {
         let node = Node::open(alloc, &net, 0, 1, cell)?;
         Ok(Station {
@@ -168,6 +170,11 @@ impl<C: StableCell, O: Outlet> World<C, O> {
             → C.fits cell (opening_record (network_of net.value.program) 1 0) ≡ false }
         ensures device { IsErrOf result CellFault.Device → HasFailed C.failure_count cell }
         ensures reopen { ¬ (IsErrOf result CellFault.Reopen) }
+        // A crash at any moment meanwhile leaves what it might have left before, or the opening record.
+        ensures any_moment { IfOk result
+            (λ world. AllByRecursion
+            (IsOpenedOn cell (opening_record (network_of net.value.program) 1 0))
+            world.stations.items) }
     {
         let mut outputs = outputs;
         forget_failures(&mut outputs);
