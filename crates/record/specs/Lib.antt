@@ -4,4 +4,5 @@ pub mod DecisionView
 pub mod RecordView
 pub mod Ends
 pub mod Changes
+pub mod Moves
 pub mod Laws

@@ -1,0 +1,4 @@
+pub mod StoreFault
+pub mod Refusals
+pub mod Spelling
+pub mod Putting
