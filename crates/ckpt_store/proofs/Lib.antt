@@ -1,1 +1,4 @@
 pub mod Puts
+pub mod Parts
+pub mod Images
+pub mod Allowed
