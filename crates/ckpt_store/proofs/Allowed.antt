@@ -81,7 +81,7 @@ entry_rises : (highest : List ℕ) (initiator number node : ℕ) → initiator <
 entry_rises highest initiator number node listed above =
     ⊎_elim
     (λ same. (let here : get_or (slice_set highest initiator number) node 0 ≡ number = ap (λ i. get_or (slice_set highest initiator number) i 0) same ∙ get_or-set_same highest initiator number 0 listed in
-        let was : get_or highest node 0 ≡ get_or highest initiator 0 = ap (λ i. get_or highest i 0) same in omega (arith, here, was, above)))
+    let was : get_or highest node 0 ≡ get_or highest initiator 0 = ap (λ i. get_or highest i 0) same in omega (arith, here, was, above)))
     (λ other. (let there : get_or (slice_set highest initiator number) node 0 ≡ get_or highest node 0 = get_or-set_other highest initiator node number 0 other in omega (arith, there)))
     (cases_eq node initiator)
 

@@ -34,12 +34,12 @@ pub no_room : (capacity n : ℕ) (kept : RecordView) → spelled_length kept ≡
 no_room capacity n kept long more =
     subst (λ m. (nat_le m MAX_RECORD_BYTES && nat_le m capacity) ≡ false) (sym long) (and_right _ _ (lt-leb n capacity more))
 
-module _ {C : Type 0} (words : CellWords C) (next : RecordView) where
-  -- without a call of the cell a crash leaves what it might have left
-  pub stays : (one : C) → ((left : Option (List ℕ)) → words.left_since one (words.moment one) left → words.may_leave one left)
-      → LeavesOnly words.moment words.left_since one one (words.may_leave one)
-  stays one only_now = record { later = omega arith; each = only_now; before = λ t left le had. inl had; keeps = λ t left le had. had }
+-- without a call of the cell a crash leaves what it might have left
+pub stays : {C : Type 0} (words : CellWords C) (one : C) → ((left : Option (List ℕ)) → words.left_since one (words.moment one) left → words.may_leave one left)
+    → LeavesOnly words.moment words.left_since one one (words.may_leave one)
+stays words one only_now = record { later = omega arith; each = only_now; before = λ t left le had. inl had; keeps = λ t left le had. had }
 
+module _ {C : Type 0} (words : CellWords C) (next : RecordView) where
   -- a refusal before the cell is called, for want of memory
   pub put_no_memory : (one : C) → ((left : Option (List ℕ)) → words.left_since one (words.moment one) left → words.may_leave one left)
       → IsPut words next one one {T = Unit {0}} (Err NoMemory)
@@ -50,7 +50,7 @@ module _ {C : Type 0} (words : CellWords C) (next : RecordView) where
     fits = tt;
     failures = record { device = λ e. cc; otherwise = λ not_device. refl };
     unchanged = λ not_device. refl;
-    any_moment = weakened words.moment words.left_since one one (λ left. words.may_leave one left ⊎ Spells next left) (words.may_leave one) (stays one only_now) (λ left now. inl now);
+    any_moment = weakened words.moment words.left_since one one (λ left. words.may_leave one left ⊎ Spells next left) (words.may_leave one) (stays words one only_now) (λ left now. inl now);
     same_room = refl;
   }
 
@@ -64,7 +64,7 @@ module _ {C : Type 0} (words : CellWords C) (next : RecordView) where
     fits = too_long (words.capacity one) (length bytes) next (length_spelled next bytes text) more;
     failures = record { device = λ e. cc; otherwise = λ not_device. refl };
     unchanged = λ not_device. refl;
-    any_moment = weakened words.moment words.left_since one one (λ left. words.may_leave one left ⊎ Spells next left) (words.may_leave one) (stays one only_now) (λ left now. inl now);
+    any_moment = weakened words.moment words.left_since one one (λ left. words.may_leave one left ⊎ Spells next left) (words.may_leave one) (stays words one only_now) (λ left now. inl now);
     same_room = refl;
   }
 

@@ -1,4 +1,5 @@
 pub mod StoreFault
 pub mod Refusals
+pub mod Undoing
 pub mod Spelling
 pub mod Putting

@@ -1,5 +1,5 @@
 -- Why a store refuses, and the numbers of its refusals.
-use Rattle.std.specs.Prelude.{◌≡◌, ℕ, ◌<◌, Result, IsErrOf}
+use Rattle.std.specs.Prelude.{◌≡◌, ℕ, ◌<◌, Bool, true, false, Result, IsErrOf}
 use Rattle.ckpt_store.specs.declared.fault.StoreFault.{StoreFault}
 use Rattle.ckpt_store.specs.declared.fault.StoreFault.TheVariants.{NoMemory, Device, TooLarge, Reopen, Truncated, Version, Malformed, HoldsOther, PastNumber, NotHeld, Unsettled, Spent}
 use Rattle.gate_cell.specs.declared.fault.CellFault.{CellFault}
@@ -49,6 +49,21 @@ IsOfPut PastNumber = ⊥
 IsOfPut NotHeld = ⊥
 IsOfPut Unsettled = ⊥
 IsOfPut Spent = ⊥
+
+-- the device failed
+abbrev pub is_failure : StoreFault → Bool
+is_failure Device = true
+is_failure NoMemory = false
+is_failure TooLarge = false
+is_failure Reopen = false
+is_failure Truncated = false
+is_failure Version = false
+is_failure Malformed = false
+is_failure HoldsOther = false
+is_failure PastNumber = false
+is_failure NotHeld = false
+is_failure Unsettled = false
+is_failure Spent = false
 
 -- `Device` is told exactly where the count of the device's failures rose
 pub record HasFailures {T : Type 0} (before now : ℕ) (result : Result T StoreFault) : Type 0 where

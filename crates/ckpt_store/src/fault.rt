@@ -1,6 +1,6 @@
 //! Why a store refuses.
 ghost use Rattle.std.specs.Prelude.{◌≡◌};
-ghost use Rattle.ckpt_store.specs.StoreFault.{refusal_number, of_cell, of_codec};
+ghost use Rattle.ckpt_store.specs.StoreFault.{refusal_number, is_failure, of_cell, of_codec};
 ghost use Rattle.ckpt_store.specs.declared.fault.StoreFault.TheVariants.{NoMemory};
 
 use ckpt_codec::CodecFault;
@@ -68,6 +68,13 @@ impl StoreFault {
             StoreFault::Unsettled => 43,
             StoreFault::Spent => 44,
         }
+    }
+
+    /// Whether the device failed.
+    pub(crate) fn is_failure(&self) -> bool
+        ensures { result ≡ is_failure self.now }
+    {
+        matches!(self, StoreFault::Device)
     }
 }
 

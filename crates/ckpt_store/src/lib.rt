@@ -1,8 +1,11 @@
 //! One record in one stable cell, changed whole or not at all, by at most one put a call.
 #![tactic(auto)]
 
+mod changing;
 mod fault;
+mod moving;
 mod putting;
+mod refusing;
 
 pub use fault::StoreFault;
 
