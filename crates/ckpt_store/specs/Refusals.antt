@@ -50,6 +50,11 @@ abbrev pub is_named_by : ℕ → ℕ → Option DecisionView → Bool
 is_named_by number node None = false
 is_named_by number node (Some decision) = (decision.number == number) && list_any (λ p. p == node) decision.participants
 
+-- a confirmation of this decision by this node is to be put, or refused because no record is known
+abbrev pub has_effect : ℕ → ℕ → Option RecordView → Bool
+has_effect number node None = true
+has_effect number node (Some kept) = is_named_by number node kept.decision
+
 -- the refusal for which there is cause before anything is put: 23 where no record is known, and else the record's
 abbrev pub first_refusal : (RecordView → Option StoreFault) → Option RecordView → Option StoreFault
 first_refusal cause None = Some Reopen

@@ -2,7 +2,9 @@
 use Rattle.std.specs.Prelude.{◌≡◌, ℕ, nat_le, ◌&&◌, Bool, false, List, length, Option, Some, None, is_some, Result, Ok, Err, IsTrue}
 use Rattle.std.specs.Option.{ForSome}
 use Rattle.record.specs.RecordView.{RecordView}
-use Rattle.ckpt_codec.specs.RecordText.{record_text, IsRecordText}
+use Rattle.record.specs.ImageView.{ImageView}
+use Rattle.ckpt_codec.specs.Fields.{AreAllowed}
+use Rattle.ckpt_codec.specs.RecordText.{record_text, image_fields, participants, IsRecordText}
 use Rattle.ckpt_store.specs.declared.TheConstants.{MAX_RECORD_BYTES}
 use Rattle.ckpt_store.specs.declared.fault.StoreFault.{StoreFault}
 use Rattle.ckpt_store.specs.declared.fault.StoreFault.TheVariants.{NoMemory, Device, TooLarge, Reopen, Truncated, Version, Malformed, HoldsOther, PastNumber, NotHeld, Unsettled, Spent}
@@ -49,6 +51,14 @@ IsLengthTold fits (Err PastNumber) = Unit {0}
 IsLengthTold fits (Err NotHeld) = Unit {0}
 IsLengthTold fits (Err Unsettled) = Unit {0}
 IsLengthTold fits (Err Spent) = Unit {0}
+
+-- an image that may be written beside this permanent one: it has the same processes, numbers of variables, and ends of channels
+pub record IsLike (permanent image : ImageView) : Type 0 where
+  pub allowed : AreAllowed (image_fields (Some permanent) image)
+
+-- the nodes that a decision of this record may name: none twice, ascending, each one of its nodes and not the record's own
+pub record AreOthers (kept : RecordView) (nodes : List ℕ) : Type 0 where
+  pub allowed : AreAllowed (participants kept.node (length kept.highest) 0 nodes)
 
 -- What a store keeps: whatever a crash may leave of its cell is a record, and a record that is known is what the cell, which is
 -- ready, spells. `value`, `is_ready` and `may_leave` are the cell's words.

@@ -1,7 +1,8 @@
 // The moves of a record, each in place, and what takes it back. No image is copied.
-ghost use Rattle.std.specs.Prelude.{◌≡◌, ◌<◌, length, IsSome, IfOk, Some};
-ghost use Rattle.record.specs.Moves.{highest_seen, with_tentative, with_permanent, without_tentative, with_epoch, confirmed, without_node};
-ghost use Rattle.ckpt_store.specs.Undoing.{untaken, demoted, with_held, with_unsettled, own_in, lowered};
+ghost use Rattle.std.specs.Prelude.{◌≡◌, ◌<◌, length, IsSome, IsTrue, IfOk, Some};
+ghost use Rattle.record.specs.Moves.{highest_seen, with_tentative, with_permanent, without_tentative, with_epoch, confirmed, without_node, decision_or, decision_by};
+ghost use Rattle.ckpt_store.specs.Refusals.{is_named_by};
+ghost use Rattle.ckpt_store.specs.Undoing.{untaken, demoted, with_held, with_unsettled, replaced, restored, own_in, lowered};
 
 use crate::refusing::is_own_held;
 use kahn_net::MAX_COUNT;
@@ -73,11 +74,37 @@ pub fn hold(kept: &mut Record, held: Option<Tentative>)
 }
 
 /// Puts a decision in the place of the one before, and gives that.
-pub fn settle(kept: &mut Record, decision: Option<Decision>) -> Option<Decision>
+pub fn replace_decision(kept: &mut Record, decision: Option<Decision>) -> Option<Decision>
     ensures next { kept.new ≡ with_unsettled decision kept.old }
     ensures before { result ≡ kept.old.decision }
 {
     mem::replace(&mut kept.decision, decision)
+}
+
+/// Adds the decision that these nodes have to confirm, if there are any, and gives the one whose place it took.
+pub fn settle(kept: &mut Record, number: u64, participants: Vec<u8>) -> Option<Option<Decision>>
+    ensures next { kept.new
+        ≡ with_unsettled (decision_or kept.old.decision number participants.items) kept.old }
+    ensures before { result ≡ replaced participants.items kept.old.decision }
+{
+    if participants.is_empty() {
+        return None;
+    }
+    Some(replace_decision(
+        kept,
+        Some(Decision {
+            number,
+            participants,
+        }),
+    ))
+}
+
+pub fn unsettle(kept: &mut Record, before: Option<Option<Decision>>)
+    ensures { kept.new ≡ with_unsettled (restored before kept.old.decision) kept.old }
+{
+    if let Some(decision) = before {
+        kept.decision = decision;
+    }
 }
 
 // The nodes of a decision but one.
@@ -91,13 +118,14 @@ fn nodes_without(alloc: Global, participants: &[u8], node: u8) -> Result<Vec<u8>
         .collect(alloc)
 }
 
-/// The decision that a node's confirmation leaves.
-pub fn confirmed_decision(
+// The decision that a node's confirmation leaves.
+fn confirmed_decision(
     alloc: Global,
     decision: &Decision,
     node: u8,
 ) -> Result<Option<Decision>, AllocError>
-    ensures { IfOk result (λ left. left ≡ confirmed decision.now.number node (Some decision.now)) }
+    ensures { IfOk result (λ left. left
+        ≡ decision_by decision.now.number (without_node node decision.now.participants)) }
 {
     let participants = nodes_without(alloc, decision.participants.as_slice(), node)?;
     if participants.is_empty() {
@@ -107,6 +135,22 @@ pub fn confirmed_decision(
         number: decision.number,
         participants,
     }))
+}
+
+/// The decision that a node's confirmation of this number leaves.
+pub fn confirmed_by(
+    alloc: Global,
+    kept: &Record,
+    number: u64,
+    node: u8,
+) -> Result<Option<Decision>, AllocError>
+    requires { IsTrue (is_named_by number node kept.now.decision) }
+    ensures { IfOk result (λ left. left ≡ confirmed number node kept.now.decision) }
+{
+    match &kept.decision {
+        Some(decision) => confirmed_decision(alloc, decision, node),
+        None => Ok(None),
+    }
 }
 
 /// Raises the epoch, lets go of a tentative image of the node's own, and gives that.
