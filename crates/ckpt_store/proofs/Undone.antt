@@ -123,10 +123,10 @@ pub undecided : (number : ℕ) (ps : List ℕ) (kept promoted settled back : Rec
     → back ≡ with_unsettled (restored before settled.decision) settled → demoted kept.node number permanent back ≡ kept
 undecided number ps kept promoted settled back permanent before held made was settled_is before_is back_is =
     let again : back ≡ promoted =
-        back_is
-        ∙ ap (λ s. with_unsettled (restored before (s.decision)) s) settled_is
-        ∙ ap (λ b. with_unsettled (restored b (decision_or promoted.decision number ps)) promoted) before_is
-        ∙ ap (λ d. with_unsettled d promoted) (restored_decision promoted.decision number ps) in
+    back_is
+    ∙ ap (λ s. with_unsettled (restored before (s.decision)) s) settled_is
+    ∙ ap (λ b. with_unsettled (restored b (decision_or promoted.decision number ps)) promoted) before_is
+    ∙ ap (λ d. with_unsettled d promoted) (restored_decision promoted.decision number ps) in
     demoted_permanent kept.node number kept back permanent held (again ∙ made) was
 
 pub decided_next : (number : ℕ) (ps : List ℕ) (kept promoted settled : RecordView) → promoted ≡ with_permanent kept → settled ≡ with_unsettled (decision_or promoted.decision number ps) promoted → settled ≡ with_decision number ps kept

@@ -3,3 +3,5 @@ pub mod Refusals
 pub mod Undoing
 pub mod Spelling
 pub mod Putting
+pub mod Loading
+pub mod StoreView
