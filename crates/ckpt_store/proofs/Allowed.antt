@@ -1,9 +1,9 @@
 -- Each move of a record that may be written makes one that may be.
-use Rattle.std.proofs.Common.{◌≡◌, ◌≢◌, ⊎_elim, ℕ, suc, ◌+◌, ◌-◌, ◌^◌, ◌<◌, ◌≤◌, Bool, true, false, List, [], ◌∷◌, ◌++◌, length, map, Option, refl, sym, ◌∙◌, ap, subst, arith, get_or, lit<, lit≤}
-use Rattle.std.specs.Prelude.{All, Some, None, IsTrue, ◌==◌, ◌&&◌, not, nat_le, nat_lt, slice_index, slice_set, if◌then◌else◌, cond, filter}
-use Rattle.std.proofs.lemmas.Bool.{eqb-true, eqb-false, eq-eqb, ne_eqb, leb-true, le-leb, ltb-true, lt-ltb, and_parts, and_from, cases_eq, cases_Bool, not-true}
+use Rattle.std.proofs.Common.{◌≡◌, ⊎_elim, ℕ, suc, ◌+◌, ◌-◌, ◌^◌, ◌<◌, ◌≤◌, Bool, true, false, List, [], ◌∷◌, length, map, Option, refl, sym, ◌∙◌, ap, subst, arith, get_or, lit<}
+use Rattle.std.specs.Prelude.{All, Some, None, ◌==◌, ◌&&◌, not, nat_le, nat_lt, slice_index, slice_set, if◌then◌else◌, cond, filter}
+use Rattle.std.proofs.lemmas.Bool.{eqb-true, eq-eqb, leb-true, le-leb, ltb-true, lt-ltb, and_parts, and_from, cases_eq}
 use Rattle.std.proofs.lemmas.List.{get_or-set_same, get_or-set_other, length-set}
-use Rattle.std.proofs.lemmas.List.Elements.{All-nil, All-cons, All-head, All-tail, All-append, All-map, All-set, All-get_or}
+use Rattle.std.proofs.lemmas.List.Elements.{All-nil, All-cons, All-head, All-tail, All-map, All-set}
 use Rattle.kahn_net.specs.declared.limits.TheConstants.{MAX_COUNT, MAX_NODES}
 use Rattle.record.specs.RecordView.{RecordView}
 use Rattle.record.specs.DecisionView.{DecisionView}
@@ -13,7 +13,7 @@ use Rattle.record.specs.Moves.{highest_seen, with_tentative, with_permanent, wit
 use Rattle.ckpt_codec.specs.Fields.{Field, IsAllowed, AreAllowed}
 use Rattle.ckpt_codec.specs.RecordText.{IsRecord, any, exactly, count, flag, between, participants, head_fields, decision_fields, image_fields, tentative_fields}
 use Rattle.ckpt_store.specs.Refusals.{is_held}
-use Rattle.ckpt_store.proofs.Parts.{AreParts, parts_of, whole, all_front, all_back}
+use Rattle.ckpt_store.proofs.Parts.{parts_of, whole}
 use Rattle.ckpt_store.proofs.Images.{image_allowed}
 
 -- ---- fields

@@ -2,16 +2,16 @@
 use Rattle.std.proofs.Common.{◌≡◌, ◌⊎◌, inl, inr, ⊎_elim, ℕ, Bool, true, false, ◌≤◌, List, Option, Some, None, Result, Ok, Err, refl, sym, ◌∙◌, ap, subst}
 use Rattle.std.specs.Prelude.{IsTrue, IsErrOf, OnOk, OnErr, IfErr, is_some, option_map}
 use Rattle.std.proofs.lemmas.Bool.{false≢true}
-use Rattle.sector_disk.specs.Clock.{Only, LeavesOnly}
+use Rattle.sector_disk.specs.Clock.{Only}
 use Rattle.sector_disk.proofs.Moments.{weakened}
 use Rattle.gate_cell.specs.declared.cell.StableCell.{Ghosts as CellWords}
 use Rattle.record.specs.RecordView.{RecordView}
 use Rattle.ckpt_codec.specs.RecordText.{IsRecordText}
 use Rattle.ckpt_store.specs.declared.fault.StoreFault.{StoreFault}
 use Rattle.ckpt_store.specs.declared.fault.StoreFault.TheVariants.{NoMemory, Device, TooLarge, Reopen, Truncated, Version, Malformed, HoldsOther, PastNumber, NotHeld, Unsettled, Spent}
-use Rattle.ckpt_store.specs.StoreFault.{IsOfPut, HasFailures, is_failure}
+use Rattle.ckpt_store.specs.StoreFault.{IsOfPut, is_failure}
 use Rattle.ckpt_store.specs.Refusals.{first_refusal, ComesFirst}
-use Rattle.ckpt_store.specs.Spelling.{Spells, SpellsSome, SpellsAny, fits_next, IsLengthTold, IsKept}
+use Rattle.ckpt_store.specs.Spelling.{Spells, SpellsAny, fits_next, IsLengthTold, IsKept}
 use Rattle.ckpt_store.specs.Putting.{IsPut, IsChange}
 use Rattle.ckpt_store.proofs.Puts.{stays}
 

@@ -1,12 +1,11 @@
 -- From what the cell gives and the reader says to what is loaded.
-use Rattle.std.proofs.Common.{◌≡◌, ◌⊎◌, ◌<◌, ◌≤◌, inl, inr, ⊎_elim, ℕ, Bool, true, false, List, Option, Some, None, Result, Ok, Err, refl, sym, ◌∙◌, ap, subst}
-use Rattle.std.specs.Prelude.{IsTrue, IsErrOf, ◌↔◌}
+use Rattle.std.proofs.Common.{◌≡◌, ◌⊎◌, ◌<◌, ◌≤◌, inl, inr, ⊎_elim, ℕ, List, Option, Some, None, Result, Ok, Err, refl, sym, ◌∙◌, ap, subst}
+use Rattle.std.specs.Prelude.{IsTrue, IsErrOf}
 use Rattle.std.proofs.lemmas.Bool.{cases_Bool, false≢true}
 use Rattle.std.proofs.Math.Logic.{∥∥₁_elim}
 use Rattle.sector_disk.specs.Clock.{Only, LeavesOnly}
 use Rattle.sector_disk.proofs.Moments.{joined}
 use Rattle.gate_cell.specs.declared.cell.StableCell.{Ghosts as CellWords}
-use Rattle.gate_cell.specs.declared.fault.CellFault.{CellFault}
 use Rattle.gate_cell.specs.declared.fault.CellFault.TheVariants as cell
 use Rattle.gate_cell.specs.CellFault.{HasCause}
 use Rattle.record.specs.RecordView.{RecordView}
@@ -18,7 +17,7 @@ use Rattle.ckpt_store.specs.declared.fault.StoreFault.{StoreFault}
 use Rattle.ckpt_store.specs.declared.fault.StoreFault.TheVariants.{NoMemory, Device, TooLarge, Reopen, Truncated, Version, Malformed, HoldsOther, PastNumber, NotHeld, Unsettled, Spent}
 use Rattle.ckpt_store.specs.StoreFault.{of_codec}
 use Rattle.ckpt_store.specs.Spelling.{Spells, SpellsSome, IsKept}
-use Rattle.ckpt_store.specs.Loading.{IsOfCell, IsOfReopening, IsTextFault, IsFound, IsRefused, IsLoad, IsReload}
+use Rattle.ckpt_store.specs.Loading.{IsOfCell, IsOfReopening, IsTextFault, IsRefused, IsLoad, IsReload}
 
 -- what the reader says of a value that is no record
 refused_if : (bytes : List ℕ) (told : Result RecordView CodecFault) (answer : Result RecordView StoreFault)

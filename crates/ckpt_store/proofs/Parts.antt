@@ -1,6 +1,6 @@
 -- The fields of a record, part by part.
-use Rattle.std.proofs.Common.{◌≡◌, ℕ, ◌<◌, ◌≤◌, List, [], ◌∷◌, ◌++◌, length, map, Option, refl}
-use Rattle.std.specs.Prelude.{All, Some, None, slice_index}
+use Rattle.std.proofs.Common.{List, [], ◌∷◌, ◌++◌, length, map}
+use Rattle.std.specs.Prelude.{All, None, slice_index}
 use Rattle.std.proofs.lemmas.List.Elements.{All-nil, All-cons, All-head, All-tail, All-append}
 use Rattle.record.specs.RecordView.{RecordView}
 use Rattle.ckpt_codec.specs.Fields.{Field, IsAllowed, AreAllowed}

@@ -1,7 +1,7 @@
 -- How a put of the cell is a put of a record.
-use Rattle.std.proofs.Common.{◌≡◌, ◌⊎◌, inl, inr, ⊎_elim, ℕ, ◌<◌, ◌≤◌, Bool, true, false, List, length, Option, Some, None, Ok, Err, refl, sym, ◌∙◌, ap, subst, arith}
+use Rattle.std.proofs.Common.{◌≡◌, ◌⊎◌, inl, inr, ⊎_elim, ℕ, ◌<◌, ◌≤◌, true, false, List, length, Option, Some, Ok, Err, refl, sym, ◌∙◌, ap, subst, arith}
 use Rattle.std.specs.Prelude.{◌↔◌, ◌&&◌, nat_le, IsTrue, IsErrOf}
-use Rattle.std.proofs.lemmas.Bool.{le-leb, lt-leb, leb-true, leb-false, and_from, and_left, and_right, false≢true, true≢false, cases_lt, cases_Bool}
+use Rattle.std.proofs.lemmas.Bool.{le-leb, lt-leb, and_from, and_left, and_right, true≢false, cases_lt}
 use Rattle.sector_disk.specs.Clock.{LeavesOnly}
 use Rattle.sector_disk.proofs.Moments.{weakened}
 use Rattle.gate_cell.specs.declared.cell.StableCell.{Ghosts as CellWords}
@@ -9,10 +9,9 @@ use Rattle.gate_cell.specs.declared.fault.CellFault.{CellFault}
 use Rattle.gate_cell.specs.declared.fault.CellFault.TheVariants as cell
 use Rattle.gate_cell.specs.CellFault.{HasCause}
 use Rattle.record.specs.RecordView.{RecordView}
-use Rattle.ckpt_codec.specs.RecordText.{IsRecordText, record_text}
+use Rattle.ckpt_codec.specs.RecordText.{IsRecordText}
 use Rattle.ckpt_store.specs.declared.TheConstants.{MAX_RECORD_BYTES}
-use Rattle.ckpt_store.specs.declared.fault.StoreFault.{StoreFault}
-use Rattle.ckpt_store.specs.declared.fault.StoreFault.TheVariants.{NoMemory, Device, TooLarge}
+use Rattle.ckpt_store.specs.declared.fault.StoreFault.TheVariants.{NoMemory, TooLarge}
 use Rattle.ckpt_store.specs.StoreFault.{of_cell}
 use Rattle.ckpt_store.specs.Spelling.{Spells, spelled_length, fits_in}
 use Rattle.ckpt_store.specs.Putting.{IsPut}

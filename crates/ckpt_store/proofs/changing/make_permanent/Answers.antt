@@ -1,9 +1,9 @@
-use Rattle.std.proofs.Common.{◌≡◌, true, sym, subst, ◌∙◌, refl, ap, rules}
+use Rattle.std.proofs.Common.{◌≡◌, true, sym, subst, ◌∙◌, rules}
 use Rattle.record.specs.Moves.{with_permanent}
 use Rattle.ckpt_codec.specs.RecordText.{IsRecord}
 use Rattle.ckpt_store.specs.Refusals.{is_held, refusal_unless_held}
 use Rattle.ckpt_store.proofs.Allowed.{allowed_permanent}
-use Rattle.ckpt_store.proofs.Changes.{after_ok, after_failure, after_refusal}
+use Rattle.ckpt_store.proofs.Changes.{after_refusal}
 use Rattle.ckpt_store.proofs.Undone.{held_fine, demoted_permanent}
 use Rattle.ckpt_store.proofs.changing.make_permanent.Goals as goal
 

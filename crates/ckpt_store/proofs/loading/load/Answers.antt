@@ -1,4 +1,4 @@
-use Rattle.std.proofs.Common.{Err, sym, subst, ap, ◌∙◌}
+use Rattle.std.proofs.Common.{Err, sym, subst, ◌∙◌}
 use Rattle.ckpt_store.specs.Loading.{IsLoad}
 use Rattle.ckpt_store.proofs.Loads.{load_found, load_refused, load_kept}
 use Rattle.ckpt_store.proofs.loading.load.Goals as goal

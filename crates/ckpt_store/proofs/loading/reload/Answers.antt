@@ -1,4 +1,4 @@
-use Rattle.std.proofs.Common.{◌≡◌, Bool, false, Result, Ok, Err, refl}
+use Rattle.std.proofs.Common.{◌≡◌, false, Result, Ok, Err, refl}
 use Rattle.std.specs.Prelude.{OnOk}
 use Rattle.std.specs.Result.{is_err}
 use Rattle.ckpt_store.proofs.Loads.{reload_refused}
