@@ -161,7 +161,7 @@ pub fn raise(kept: &mut Record) -> Option<Tentative>
 {
     kept.epoch += 1;
     if is_own_held(kept) {
-        kept.tentative.take()
+        give_up(kept)
     } else {
         None
     }
