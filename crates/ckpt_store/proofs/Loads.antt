@@ -72,6 +72,7 @@ module _ {C : Type 0} (words : CellWords C) (old new : C) (got : List ℕ) (mome
     each = refused_if (words.value old) (Ok kept) (Ok kept) (λ fault is. each fault (subst (λ b. IsCodecFault b fault) (sym value) is)) (λ fault at is not_memory told. absurd (not_memory told));
     reopen = (λ e. cc, λ not_ready. absurd (false≢true (sym not_ready ∙ was_ready)));
     failures = record { device = λ e. cc; otherwise = λ other. cause.otherwise (λ e. cc) };
+    unchanged = λ e. cc;
     stays_ready = λ other. cause.stays_ready;
     same_value = same_value;
     same_room = same_room;
@@ -89,6 +90,7 @@ module _ {C : Type 0} (words : CellWords C) (old new : C) (got : List ℕ) (mome
         (λ fault at is not_memory unless. ⊎_elim (λ e. absurd (not_memory e)) (λ other. ⊎_elim (λ memory. inr (subst (λ f. IsOfCell (of_codec f)) (sym memory) tt)) (λ same. inl (ap of_codec same ∙ is)) other) unless);
     reopen = (λ e. absurd (told_reopen told (same_fault e)), λ not_ready. absurd (false≢true (sym not_ready ∙ was_ready)));
     failures = record { device = λ e. absurd (told_device told (same_fault e)); otherwise = λ other. cause.otherwise (λ e. cc) };
+    unchanged = λ e. absurd (told_reopen told (same_fault e));
     stays_ready = λ other. cause.stays_ready;
     same_value = same_value;
     same_room = same_room;

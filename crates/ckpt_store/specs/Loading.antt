@@ -75,6 +75,7 @@ pub record IsLoad {C : Type 0} (words : CellWords C) (old new : C) (result : Res
   -- 23 exactly where the cell wasn't ready, and 20 exactly where the device failed
   pub reopen : IsErrOf result Reopen ↔ (words.is_ready old ≡ false)
   pub failures : HasFailures (words.failure_count old) (words.failure_count new) result
+  pub unchanged : IsErrOf result Reopen → new ≡ old
   pub stays_ready : ¬ (IsErrOf result Device) → words.is_ready new ≡ words.is_ready old
   -- the value stays, and a crash at any moment leaves what it might have left before
   pub same_value : words.value new ≡ words.value old
