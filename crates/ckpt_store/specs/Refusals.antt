@@ -1,0 +1,66 @@
+-- For which changes a record itself gives cause to refuse, and with which refusal: the first that applies.
+use Rattle.std.specs.Prelude.{◌≡◌, ℕ, ◌==◌, nat_le, nat_lt, not, ◌&&◌, Bool, true, false, if◌then◌else◌, Option, Some, None, is_some, Result, Err, IfErr}
+use Rattle.std.specs.List.{list_any}
+use Rattle.kahn_net.specs.declared.limits.TheConstants.{MAX_COUNT}
+use Rattle.record.specs.DecisionView.{DecisionView}
+use Rattle.record.specs.RecordView.{RecordView}
+use Rattle.record.specs.Moves.{highest_seen}
+use Rattle.record.specs.declared.record.Tentative.{Tentative}
+use Rattle.ckpt_store.specs.StoreFault.{IsOfPut}
+use Rattle.ckpt_store.specs.declared.fault.StoreFault.{StoreFault}
+use Rattle.ckpt_store.specs.declared.fault.StoreFault.TheVariants.{Reopen, HoldsOther, PastNumber, NotHeld, Unsettled, Spent}
+
+-- exactly this instance is held
+abbrev pub is_held : ℕ → ℕ → Option Tentative → Bool
+is_held initiator number None = false
+is_held initiator number (Some held) = (held.initiator == initiator) && (held.number == number)
+
+-- another instance is held
+abbrev pub is_other_held : ℕ → ℕ → Option Tentative → Bool
+is_other_held initiator number None = false
+is_other_held initiator number (Some held) = not (is_held initiator number (Some held))
+
+-- 40 where another instance is held, 41 where the number is at most the highest seen of its initiator, 43 for an instance of the
+-- node's own while a decision is unsettled, 44 where the number is no count
+abbrev pub refusal_to_take : ℕ → ℕ → RecordView → Option StoreFault
+refusal_to_take initiator number kept =
+    if is_other_held initiator number kept.tentative then Some HoldsOther
+    else (if nat_le number (highest_seen initiator kept) then Some PastNumber
+    else (if (initiator == kept.node) && is_some kept.decision then Some Unsettled
+    else (if nat_lt MAX_COUNT number then Some Spent else None)))
+
+-- 42 unless exactly this instance is held
+abbrev pub refusal_unless_held : ℕ → ℕ → RecordView → Option StoreFault
+refusal_unless_held initiator number kept = if is_held initiator number kept.tentative then None else Some NotHeld
+
+-- 42 unless exactly this instance of the node's own is held
+abbrev pub refusal_to_decide : ℕ → RecordView → Option StoreFault
+refusal_to_decide number kept = refusal_unless_held kept.node number kept
+
+-- 44 where there is no next epoch
+abbrev pub refusal_to_raise : RecordView → Option StoreFault
+refusal_to_raise kept = if nat_lt kept.epoch MAX_COUNT then None else Some Spent
+
+-- nothing is refused
+abbrev pub no_refusal : RecordView → Option StoreFault
+no_refusal kept = None
+
+-- the decision of this number names this node
+abbrev pub is_named_by : ℕ → ℕ → Option DecisionView → Bool
+is_named_by number node None = false
+is_named_by number node (Some decision) = (decision.number == number) && list_any (λ p. p == node) decision.participants
+
+-- a confirmation of this decision by this node is to be put, or refused because no record is known
+abbrev pub has_effect : ℕ → ℕ → Option RecordView → Bool
+has_effect number node None = true
+has_effect number node (Some kept) = is_named_by number node kept.decision
+
+-- the refusal for which there is cause before anything is put: 23 where no record is known, and else the record's
+abbrev pub first_refusal : (RecordView → Option StoreFault) → Option RecordView → Option StoreFault
+first_refusal cause None = Some Reopen
+first_refusal cause (Some kept) = cause kept
+
+-- this refusal is answered, and where there is cause for none only those that come by a put
+abbrev pub ComesFirst : {T : Type 0} → Option StoreFault → Result T StoreFault → Type 0
+ComesFirst (Some fault) result = result ≡ Err fault
+ComesFirst None result = IfErr result IsOfPut

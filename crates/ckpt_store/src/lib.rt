@@ -1,0 +1,16 @@
+//! One record in one stable cell, changed whole or not at all, by at most one put a call.
+#![tactic(auto)]
+
+mod changing;
+mod fault;
+mod loading;
+mod moving;
+mod putting;
+mod refusing;
+mod store;
+
+pub use fault::StoreFault;
+pub use store::{Refused, Store};
+
+/// The most bytes of a record's spelling, in any cell.
+pub const MAX_RECORD_BYTES: usize = gate_cell::MAX_VALUE_BYTES;

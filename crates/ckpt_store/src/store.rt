@@ -1,0 +1,209 @@
+//! One record in one stable cell.
+ghost use Rattle.std.specs.Prelude.{◌≡◌, ◌<◌, length, false, Some, None, OnOk, OnErr, IfOk, IfErr, IsSome, IsTrue, MatchResult};
+ghost use Rattle.std.specs.Option.{ForSome};
+ghost use Rattle.sector_disk.specs.Clock.{Only, LeavesOnly};
+ghost use Rattle.record.specs.RecordView.{RecordView};
+ghost use Rattle.record.specs.Moves.{with_tentative, with_permanent, without_tentative, with_decision, with_confirmed, with_epoch};
+ghost use Rattle.ckpt_store.specs.StoreFault.{HasFailures};
+ghost use Rattle.ckpt_store.specs.Refusals.{refusal_to_take, refusal_unless_held, refusal_to_decide, refusal_to_raise, no_refusal, has_effect};
+ghost use Rattle.ckpt_store.specs.Spelling.{IsKept, IsLike, AreOthers};
+ghost use Rattle.ckpt_store.specs.Loading.{IsOfReopening};
+
+use crate::changing;
+use crate::fault::StoreFault;
+use crate::loading::{load, reload};
+use gate_cell::StableCell;
+use record::{Image, Record};
+use sector_disk::ArmedFault;
+use std::alloc::{AllocError, Global};
+
+/// A record in a cell, which is changed whole or not at all.
+///
+/// A store serves for as long as its cell does. It is ready once it has been opened, and until it crashes or its device
+/// fails; until it is reopened then, it answers `Reopen` (23). What a crash leaves is always a record.
+#[derive(Drop)]
+pub struct Store<C: StableCell> {
+    cell: C,
+    known: Option<Record>,
+    pub ghost kept: { IsKept C.value C.is_ready C.may_leave cell known },
+}
+
+/// A cell on which no store was opened, and why.
+#[derive(Drop)]
+pub struct Refused<C: StableCell> {
+    pub cell: C,
+    pub fault: StoreFault,
+}
+
+impl<C: StableCell> Store<C> {
+    ghost use Rattle.ckpt_store.specs.StoreView.{cell_in, known_in, Holds, Changes, Stays, Opens, Reopens, IsUntouched};
+
+    /// Opens the record that the cell's value spells. It never writes.
+    ///
+    /// Refuses with `Truncated` (30), `Version` (31) and `Malformed` (32) where the value is no record, by its first
+    /// offence from the left; with `Reopen` (23) where the cell isn't ready; with `Device` (20); and with `NoMemory` (1).
+    /// A refusal hands the cell back.
+    pub fn open(alloc: Global, cell: C) -> Result<Store<C>, Refused<C>>
+        ensures opens { Opens cell result }
+        ensures ready { IfOk result (λ store. IsSome (known_in store)) }
+    {
+        let mut cell = cell;
+        match load(alloc, &mut cell) {
+            Ok(kept) => Ok(Store {
+                cell,
+                known: Some(kept),
+            }),
+            Err(fault) => Err(Refused { cell, fault }),
+        }
+    }
+
+    /// The cell, as it is. It never refuses.
+    pub fn close(self) -> C
+        ensures { result ≡ cell_in self }
+    {
+        let Store { cell, known: _ } = self;
+        cell
+    }
+
+    /// The record. Refuses with `Reopen` (23) alone, exactly where the store isn't ready.
+    pub fn record(&self) -> Result<&Record, StoreFault>
+        ensures { MatchResult result (λ kept. known_in self.now ≡ Some kept.now)
+            (λ fault. (fault ≡ StoreFault.Reopen) × (known_in self.now ≡ None)) }
+    {
+        match &self.known {
+            Some(kept) => Ok(kept),
+            None => Err(StoreFault::Reopen),
+        }
+    }
+
+    /// Takes a tentative image of an instance, whose number becomes the highest seen of its initiator.
+    ///
+    /// Refuses with `HoldsOther` (40), `PastNumber` (41), `Unsettled` (43) and `Spent` (44), in this order; and then as
+    /// each change, with `TooLarge` (22), `Device` (20), `Reopen` (23) and `NoMemory` (1).
+    pub fn take_tentative(
+        &mut self,
+        alloc: Global,
+        image: Image,
+        initiator: u8,
+        number: u64,
+    ) -> Result<(), StoreFault>
+        requires listed { ForSome (known_in self.old) (λ kept. initiator < length kept.highest) }
+        requires like { ForSome (known_in self.old) (λ kept. IsLike kept.permanent image) }
+        ensures { Changes (refusal_to_take initiator number) (with_tentative initiator number image)
+            self.old self.new result }
+    {
+        changing::take_tentative(
+            alloc,
+            &mut self.cell,
+            &mut self.known,
+            image,
+            initiator,
+            number,
+        )
+    }
+
+    /// Makes the tentative image of an instance permanent. Refuses with `NotHeld` (42) where it isn't held, and then as
+    /// each change.
+    pub fn make_permanent(
+        &mut self,
+        alloc: Global,
+        initiator: u8,
+        number: u64,
+    ) -> Result<(), StoreFault>
+        ensures { Changes (refusal_unless_held initiator number) with_permanent
+            self.old self.new result }
+    {
+        changing::make_permanent(alloc, &mut self.cell, &mut self.known, initiator, number)
+    }
+
+    /// Drops the tentative image of an instance; its number stays among those seen. Refuses with `NotHeld` (42) where it
+    /// isn't held, and then as each change.
+    pub fn drop_tentative(
+        &mut self,
+        alloc: Global,
+        initiator: u8,
+        number: u64,
+    ) -> Result<(), StoreFault>
+        ensures { Changes (refusal_unless_held initiator number) without_tentative
+            self.old self.new result }
+    {
+        changing::drop_tentative(alloc, &mut self.cell, &mut self.known, initiator, number)
+    }
+
+    /// Makes the tentative image of the node's own instance permanent, and adds the decision that these nodes have to
+    /// confirm, if there are any: it takes the place of one before. Refuses with `NotHeld` (42) where that instance isn't
+    /// held, and then as each change.
+    pub fn decide(
+        &mut self,
+        alloc: Global,
+        number: u64,
+        participants: Vec<u8>,
+    ) -> Result<(), StoreFault>
+        requires { ForSome (known_in self.old) (λ kept. AreOthers kept participants.items) }
+        ensures { Changes (refusal_to_decide number) (with_decision number participants.items)
+            self.old self.new result }
+    {
+        changing::decide(alloc, &mut self.cell, &mut self.known, number, participants)
+    }
+
+    /// Takes a node out of the decision of this number; with its last one the decision goes. Where no decision of this
+    /// number names the node, nothing is put. Refuses as each change.
+    pub fn confirm(&mut self, alloc: Global, number: u64, node: u8) -> Result<(), StoreFault>
+        ensures change { IsTrue (has_effect number node (known_in self.old))
+            → Changes no_refusal (with_confirmed number node) self.old self.new result }
+        ensures idle { has_effect number node (known_in self.old) ≡ false
+            → Stays self.old self.new result }
+    {
+        changing::confirm(alloc, &mut self.cell, &mut self.known, number, node)
+    }
+
+    /// Raises the epoch, and drops a tentative image of the node's own in the same put; another's stays. Refuses with
+    /// `Spent` (44) where there is no next epoch, and then as each change.
+    pub fn raise_epoch(&mut self, alloc: Global) -> Result<(), StoreFault>
+        ensures { Changes refusal_to_raise with_epoch self.old self.new result }
+    {
+        changing::raise_epoch(alloc, &mut self.cell, &mut self.known)
+    }
+
+    /// The device crashes and comes back: what the cell holds is settled, by the fill byte where one is given. The store
+    /// has to be reopened.
+    pub fn crash(&mut self, fill: Option<u8>)
+        ensures down { known_in self.new ≡ None }
+
+        // The record is now one that a crash might have left, and another crash leaves no other. A ready store keeps its own.
+        ensures left { C.may_leave (cell_in self.old) (Some (C.value (cell_in self.new))) }
+        ensures settled { Only (Some (C.value (cell_in self.new))) (C.may_leave (cell_in self.new)) }
+        ensures same { ForSome (known_in self.old) (Holds self.new) }
+
+        ensures any_moment { LeavesOnly C.moment C.left_since (cell_in self.old) (cell_in self.new)
+            (C.may_leave (cell_in self.old)) }
+        ensures same_room { C.capacity (cell_in self.new) ≡ C.capacity (cell_in self.old) }
+        ensures failures { C.failure_count (cell_in self.new)
+            ≡ C.failure_count (cell_in self.old) }
+    {
+        self.known = None;
+        self.cell.crash(fill);
+    }
+
+    /// Makes the store ready, in whatever state it is. Refuses with `Device` (20) and `NoMemory` (1) alone, and may then
+    /// be called again. It never writes.
+    pub fn reopen(&mut self, alloc: Global) -> Result<(), StoreFault>
+        ensures { Reopens self.old self.new result }
+    {
+        reload(alloc, &mut self.cell, &mut self.known)
+    }
+
+    /// Prepares a failure of the device, where there is one. Without memory (1) it prepares nothing.
+    pub fn arm(&mut self, fault: ArmedFault) -> Result<(), AllocError>
+        ensures { IsUntouched self.old self.new }
+    {
+        self.cell.arm(fault)
+    }
+
+    /// Begins the device's count of calls anew, where there is a device.
+    pub fn recount(&mut self)
+        ensures { IsUntouched self.old self.new }
+    {
+        self.cell.recount();
+    }
+}
