@@ -1,3 +1,4 @@
 pub mod Fields
 pub mod RecordText
 pub mod Faults
+pub mod Reading

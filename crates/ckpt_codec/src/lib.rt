@@ -5,6 +5,7 @@
 #![tactic(auto)]
 
 mod fault;
+mod fields;
 mod reading;
 mod writing;
 
