@@ -1,5 +1,5 @@
 -- Reading from the front: what is read and what is left, or the first offence.
-use Rattle.std.specs.Prelude.{◌≡◌, ℕ, zero, suc, ◌+◌, ◌==◌, ◌&&◌, Bool, true, nat_le, nat_lt, not, if◌then◌else◌, ℤ, List, [], ◌∷◌, length, drop, slice_index, Option, Some, None, Result, Ok, Err}
+use Rattle.std.specs.Prelude.{◌≡◌, ℕ, zero, suc, ◌+◌, ◌==◌, ◌&&◌, Bool, true, nat_le, nat_lt, not, if◌then◌else◌, ℤ, List, [], ◌∷◌, length, drop, slice_get, slice_index, Option, Some, None, Result, Ok, Err}
 use Rattle.std.specs.Int.{w64, cast_signed}
 use Rattle.byteorder.specs.Endian.{big_number}
 use Rattle.kahn_net.specs.Statements.{Point, point_at}
@@ -16,7 +16,7 @@ use Rattle.record.specs.declared.image.SavedEnd.{SavedEnd}
 use Rattle.record.specs.declared.image.End.{End}
 use Rattle.record.specs.declared.image.End.TheVariants.{Receives, Sends, Both}
 use Rattle.record.specs.declared.record.Tentative.{Tentative}
-use Rattle.ckpt_codec.specs.RecordText.{first_of, rest_of, wanted, variables_of, role_of, processes_in, ends_in}
+use Rattle.ckpt_codec.specs.RecordText.{wanted, variables_of, role_of, processes_in, ends_in}
 use Rattle.ckpt_codec.specs.declared.fault.CodecFault.{CodecFault}
 use Rattle.ckpt_codec.specs.declared.fault.CodecFault.TheVariants.{NoMemory, Truncated, Version, Malformed}
 
@@ -86,13 +86,16 @@ abbrev pub participant_at : ℕ → ℕ → ℕ → Reader ℕ
 participant_at node nodes least = field_at 1 (λ v. nat_le least v && (nat_lt v nodes && not (v == node)))
 
 unfoldable pub participants_at : ℕ → ℕ → ℕ → Reader (List ℕ)
-participants_at node nodes n = so_many (participant_at node nodes) (λ least p. suc p) n 0
+participants_at node nodes n = so_many (participant_at node nodes) (λ least p. p + 1) n 0
 
 abbrev pub decided_number_at : ℕ → Reader ℕ
 decided_number_at own = field_at 8 (λ v. nat_le 1 v && nat_lt v (suc own))
 
+abbrev pub participant_count_at : Reader ℕ
+participant_count_at = field_at 1 (λ v. nat_le 1 v)
+
 unfoldable pub participant_list_at : ℕ → ℕ → Reader (List ℕ)
-participant_list_at node nodes bytes = field_at 1 (λ v. nat_le 1 v) bytes >>= λ n. participants_at node nodes n.0 n.1
+participant_list_at node nodes bytes = participant_count_at bytes >>= λ n. participants_at node nodes n.0 n.1
 
 unfoldable pub decided_at : ℕ → ℕ → ℕ → Reader DecisionView
 decided_at node nodes own bytes = decided_number_at own bytes >>= λ number. participant_list_at node nodes number.1 >>= λ ps. Ok (record { number = number.0; participants = ps.0 }, ps.1)
@@ -105,9 +108,12 @@ decision_at node nodes own bytes = optional (decided_at node nodes own) bytes
 unfoldable pub items_at : ℕ → Reader (List ℤ)
 items_at n = so_many {S = Unit {0}} (λ s. item_at) (λ s x. s) n tt
 
+abbrev pub depth_at : Reader ℕ
+depth_at = field_at 1 (λ v. v == 0)
+
 -- a process's site; no passes remain there
 unfoldable pub place_at : Reader Point
-place_at bytes = number_at 4 bytes >>= λ site. field_at 1 (λ v. v == 0) site.1 >>= λ depth. Ok (point_at site.0 [], depth.1)
+place_at bytes = number_at 4 bytes >>= λ site. depth_at site.1 >>= λ depth. Ok (point_at site.0 [], depth.1)
 
 -- where a process stands, without its variables
 pub data Footing : Type 0 where
@@ -124,14 +130,20 @@ standing_on PastAll vars = Done vars
 abbrev pub footing_in : ℕ → Reader Footing
 footing_in mode bytes = if mode == 0 then Ok (BeforeAll, bytes) else if mode == 1 then (place_at bytes >>= λ p. Ok (AtPoint p.0, p.1)) else Ok (PastAll, bytes)
 
+abbrev pub mode_number_at : Reader ℕ
+mode_number_at = field_at 1 (λ v. nat_le v 2)
+
 unfoldable pub footing_at : Reader Footing
-footing_at bytes = field_at 1 (λ v. nat_le v 2) bytes >>= λ mode. footing_in mode.0 mode.1
+footing_at bytes = mode_number_at bytes >>= λ mode. footing_in mode.0 mode.1
 
 unfoldable pub mode_at : Reader (List ℤ → Standing)
 mode_at bytes = footing_at bytes >>= λ x. Ok (standing_on x.0, x.1)
 
+abbrev pub variable_count_at : Option ℕ → Reader ℕ
+variable_count_at like = field_at 1 (wanted_test like (λ v. nat_le v MAX_VARIABLES))
+
 unfoldable pub variables_at : Option ℕ → Reader (List ℤ)
-variables_at like bytes = field_at 1 (wanted_test like (λ v. nat_le v MAX_VARIABLES)) bytes >>= λ n. items_at n.0 n.1
+variables_at like bytes = variable_count_at like bytes >>= λ n. items_at n.0 n.1
 
 unfoldable pub state_at : Option ℕ → Reader Standing
 state_at like bytes = mode_at bytes >>= λ mode. variables_at like mode.1 >>= λ vars. Ok (mode.0 vars.0, vars.1)
@@ -139,21 +151,31 @@ state_at like bytes = mode_at bytes >>= λ mode. variables_at like mode.1 >>= λ
 abbrev pub process_number_at : Option ℕ → ℕ → Reader ℕ
 process_number_at like least = field_at 1 (wanted_test like (λ v. nat_le least v && nat_lt v MAX_PROCESSES))
 
-unfoldable pub process_at : Option SavedProcessView → ℕ → Reader SavedProcessView
-process_at like least bytes =
-    process_number_at (wanted (λ (p : SavedProcessView). p.number) like) least bytes >>= λ number.
-    state_at (wanted (λ (p : SavedProcessView). length (variables_of p.standing)) like) number.1 >>= λ state.
-    Ok (record { number = number.0; standing = state.0 }, state.1)
+unfoldable pub process_at : Option ℕ → Option ℕ → ℕ → Reader SavedProcessView
+process_at number variables least bytes =
+    process_number_at number least bytes >>= λ x. state_at variables x.1 >>= λ state. Ok (record { number = x.0; standing = state.0 }, state.1)
 
--- so many processes, like these
+-- the element at this place, where there is a list
+abbrev pub nth : {A : Type 0} → Option (List A) → ℕ → Option A
+nth None place = None
+nth (Some xs) place = slice_get xs place
+
+abbrev pub number_wanted : Option (List SavedProcessView) → ℕ → Option ℕ
+number_wanted like place = wanted (λ (p : SavedProcessView). p.number) (nth like place)
+
+abbrev pub variables_wanted : Option (List SavedProcessView) → ℕ → Option ℕ
+variables_wanted like place = wanted (λ (p : SavedProcessView). length (variables_of p.standing)) (nth like place)
+
+-- so many processes, like these: the place of the next one, and the least number that it may have
 unfoldable pub processes_at : Option (List SavedProcessView) → ℕ → Reader (List SavedProcessView)
-processes_at like n = so_many {S = Option (List SavedProcessView) × ℕ} (λ s. process_at (first_of s.0) s.1) (λ s p. (rest_of s.0, suc p.number)) n (like, 0)
+processes_at like n =
+    so_many {S = ℕ × ℕ} (λ s. process_at (number_wanted like s.0) (variables_wanted like s.0) s.1) (λ s p. (s.0 + 1, p.number + 1)) n (0, 0)
 
-abbrev pub process_count_at : Option ImageView → Reader ℕ
-process_count_at like = field_at 1 (wanted_test (wanted (λ (i : ImageView). length i.processes) like) (λ v. nat_le v MAX_PROCESSES))
+abbrev pub process_count_at : Option ℕ → Reader ℕ
+process_count_at like = field_at 1 (wanted_test like (λ v. nat_le v MAX_PROCESSES))
 
 unfoldable pub process_list_at : Option ImageView → Reader (List SavedProcessView)
-process_list_at like bytes = process_count_at like bytes >>= λ n. processes_at (processes_in like) n.0 n.1
+process_list_at like bytes = process_count_at (wanted (λ (i : ImageView). length i.processes) like) bytes >>= λ n. processes_at (processes_in like) n.0 n.1
 
 -- ---- ends
 
@@ -184,20 +206,25 @@ role_end_at like bytes = role_at like bytes >>= λ role. end_at role.0 role.1
 abbrev pub channel_at : Option ℕ → ℕ → Reader ℕ
 channel_at like least = field_at 2 (wanted_test like (λ v. nat_le least v && nat_lt v MAX_CHANNELS))
 
-unfoldable pub saved_end_at : Option SavedEnd → ℕ → Reader SavedEnd
-saved_end_at like least bytes =
-    channel_at (wanted (λ (e : SavedEnd). e.channel) like) least bytes >>= λ channel.
-    role_end_at (wanted (λ (e : SavedEnd). role_of e.end) like) channel.1 >>= λ end.
-    Ok (record { channel = channel.0; end = end.0 }, end.1)
+unfoldable pub saved_end_at : Option ℕ → Option ℕ → ℕ → Reader SavedEnd
+saved_end_at channel role least bytes =
+    channel_at channel least bytes >>= λ x. role_end_at role x.1 >>= λ end. Ok (record { channel = x.0; end = end.0 }, end.1)
+
+abbrev pub channel_wanted : Option (List SavedEnd) → ℕ → Option ℕ
+channel_wanted like place = wanted (λ (e : SavedEnd). e.channel) (nth like place)
+
+abbrev pub role_wanted : Option (List SavedEnd) → ℕ → Option ℕ
+role_wanted like place = wanted (λ (e : SavedEnd). role_of e.end) (nth like place)
 
 unfoldable pub ends_at : Option (List SavedEnd) → ℕ → Reader (List SavedEnd)
-ends_at like n = so_many {S = Option (List SavedEnd) × ℕ} (λ s. saved_end_at (first_of s.0) s.1) (λ s e. (rest_of s.0, suc e.channel)) n (like, 0)
+ends_at like n =
+    so_many {S = ℕ × ℕ} (λ s. saved_end_at (channel_wanted like s.0) (role_wanted like s.0) s.1) (λ s e. (s.0 + 1, e.channel + 1)) n (0, 0)
 
-abbrev pub end_count_at : Option ImageView → Reader ℕ
-end_count_at like = field_at 2 (wanted_test (wanted (λ (i : ImageView). length i.ends) like) (λ v. nat_le v MAX_CHANNELS))
+abbrev pub end_count_at : Option ℕ → Reader ℕ
+end_count_at like = field_at 2 (wanted_test like (λ v. nat_le v MAX_CHANNELS))
 
 unfoldable pub end_list_at : Option ImageView → Reader (List SavedEnd)
-end_list_at like bytes = end_count_at like bytes >>= λ n. ends_at (ends_in like) n.0 n.1
+end_list_at like bytes = end_count_at (wanted (λ (i : ImageView). length i.ends) like) bytes >>= λ n. ends_at (ends_in like) n.0 n.1
 
 -- ---- images and the whole
 
