@@ -1,0 +1,3 @@
+mod Loop
+mod Scan
+mod Laws

@@ -71,10 +71,17 @@ unfoldable pub so_many : {S X : Type 0} → (S → Reader X) → (S → X → S)
 so_many each next zero s bytes = Ok ([], bytes)
 so_many each next (suc n) s bytes = each s bytes >>= λ x. so_many each next n (next s x.0) x.1 >>= λ others. Ok (x.0 ∷ others.0, others.1)
 
+-- each the same way
+abbrev pub each_as : {X : Type 0} → Reader X → Unit {0} → Reader X
+each_as read s = read
+
+abbrev pub unchanged : {X : Type 0} → Unit {0} → X → Unit {0}
+unchanged s x = s
+
 -- ---- the head and the decision
 
 unfoldable pub entries_at : ℕ → Reader (List ℕ)
-entries_at n = so_many {S = Unit {0}} (λ s. count_at) (λ s x. s) n tt
+entries_at n = so_many (each_as count_at) unchanged n tt
 
 abbrev pub nodes_at : ℕ → Reader ℕ
 nodes_at node = field_at 1 (λ v. nat_lt node v && nat_le v MAX_NODES)
@@ -85,8 +92,11 @@ highest_at node bytes = nodes_at node bytes >>= λ n. entries_at n.0 n.1
 abbrev pub participant_at : ℕ → ℕ → ℕ → Reader ℕ
 participant_at node nodes least = field_at 1 (λ v. nat_le least v && (nat_lt v nodes && not (v == node)))
 
+abbrev pub past_participant : ℕ → ℕ → ℕ
+past_participant least p = p + 1
+
 unfoldable pub participants_at : ℕ → ℕ → ℕ → Reader (List ℕ)
-participants_at node nodes n = so_many (participant_at node nodes) (λ least p. p + 1) n 0
+participants_at node nodes n = so_many (participant_at node nodes) past_participant n 0
 
 abbrev pub decided_number_at : ℕ → Reader ℕ
 decided_number_at own = field_at 8 (λ v. nat_le 1 v && nat_lt v (suc own))
@@ -106,7 +116,7 @@ decision_at node nodes own bytes = optional (decided_at node nodes own) bytes
 -- ---- processes
 
 unfoldable pub items_at : ℕ → Reader (List ℤ)
-items_at n = so_many {S = Unit {0}} (λ s. item_at) (λ s x. s) n tt
+items_at n = so_many (each_as item_at) unchanged n tt
 
 abbrev pub depth_at : Reader ℕ
 depth_at = field_at 1 (λ v. v == 0)
@@ -167,9 +177,14 @@ abbrev pub variables_wanted : Option (List SavedProcessView) → ℕ → Option 
 variables_wanted like place = wanted (λ (p : SavedProcessView). length (variables_of p.standing)) (nth like place)
 
 -- so many processes, like these: the place of the next one, and the least number that it may have
+abbrev pub process_like : Option (List SavedProcessView) → ℕ × ℕ → Reader SavedProcessView
+process_like like s = process_at (number_wanted like s.0) (variables_wanted like s.0) s.1
+
+abbrev pub past_process : ℕ × ℕ → SavedProcessView → ℕ × ℕ
+past_process s p = (s.0 + 1, p.number + 1)
+
 unfoldable pub processes_at : Option (List SavedProcessView) → ℕ → Reader (List SavedProcessView)
-processes_at like n =
-    so_many {S = ℕ × ℕ} (λ s. process_at (number_wanted like s.0) (variables_wanted like s.0) s.1) (λ s p. (s.0 + 1, p.number + 1)) n (0, 0)
+processes_at like n = so_many (process_like like) past_process n (0, 0)
 
 abbrev pub process_count_at : Option ℕ → Reader ℕ
 process_count_at like = field_at 1 (wanted_test like (λ v. nat_le v MAX_PROCESSES))
@@ -216,9 +231,14 @@ channel_wanted like place = wanted (λ (e : SavedEnd). e.channel) (nth like plac
 abbrev pub role_wanted : Option (List SavedEnd) → ℕ → Option ℕ
 role_wanted like place = wanted (λ (e : SavedEnd). role_of e.end) (nth like place)
 
+abbrev pub end_like : Option (List SavedEnd) → ℕ × ℕ → Reader SavedEnd
+end_like like s = saved_end_at (channel_wanted like s.0) (role_wanted like s.0) s.1
+
+abbrev pub past_end : ℕ × ℕ → SavedEnd → ℕ × ℕ
+past_end s e = (s.0 + 1, e.channel + 1)
+
 unfoldable pub ends_at : Option (List SavedEnd) → ℕ → Reader (List SavedEnd)
-ends_at like n =
-    so_many {S = ℕ × ℕ} (λ s. saved_end_at (channel_wanted like s.0) (role_wanted like s.0) s.1) (λ s e. (s.0 + 1, e.channel + 1)) n (0, 0)
+ends_at like n = so_many (end_like like) past_end n (0, 0)
 
 abbrev pub end_count_at : Option ℕ → Reader ℕ
 end_count_at like = field_at 2 (wanted_test like (λ v. nat_le v MAX_CHANNELS))

@@ -4,8 +4,11 @@
 //! first offence from the left.
 #![tactic(auto)]
 
+mod ends;
 mod fault;
 mod fields;
+mod images;
+mod processes;
 mod reading;
 mod writing;
 
