@@ -4,7 +4,7 @@ use Rattle.std.specs.List.{AllByRecursion}
 use Rattle.ckpt_codec.specs.Fields.{Field}
 use Rattle.ckpt_codec.specs.declared.fault.CodecFault.{CodecFault}
 use Rattle.ckpt_codec.specs.Reading.{◌>>=◌, Found, Reader, so_many}
-use Rattle.ckpt_codec.proofs.Scan.{Outcome, behind_it, scan, scan-append, Agrees, Lawful, Each, is_found, is_fault}
+use Rattle.ckpt_codec.proofs.Scan.{Outcome, behind_it, scan, scan-append, Agrees, AreBytes, Lawful, Each, is_found, is_fault}
 use Rattle.ckpt_codec.proofs.Scan.Outcome.{Passed, Stuck, Differs}
 
 -- a step that found something, and one that found nothing
@@ -32,27 +32,27 @@ refined {T = T} {C = C} {IsT = IsT} {ff = ff} {f = f} IsC gg g tag first second 
       subst (λ (o : Outcome). Agrees c (f bytes >>= λ x. g x.0 x.1) o) (sym (scan-append (ff (tag c)) (gg c) bytes))
       (agrees_next (tag c) c (f bytes) (λ x. g x.0 x.1) (scan (ff (tag c)) bytes) (scan (gg c)) (first.reads (tag c) (is c fits) bytes)
       (λ rest. (second (tag c) (is c fits)).reads c (fits, refl) rest));
-  took = λ bytes x e. took_by bytes x (step_of (f bytes) (λ y. g y.0 y.1) (Ok x) e);
-  stuck = λ bytes fault e. stuck_by bytes fault (step_of (f bytes) (λ y. g y.0 y.1) (Err fault) e);
+  took = λ bytes x are e. took_by bytes x are (step_of (f bytes) (λ y. g y.0 y.1) (Ok x) e);
+  stuck = λ bytes fault are e. stuck_by bytes fault are (step_of (f bytes) (λ y. g y.0 y.1) (Err fault) e);
 }
   where
     scanned : (c : C) (t : T) (bytes : List ℕ) (o : Outcome) → tag c ≡ t → scan (ff t) bytes ≡ o → scan (ff (tag c) ++ gg c) bytes ≡ behind_it o (scan (gg c))
     scanned c t bytes o same e =
         scan-append (ff (tag c)) (gg c) bytes ∙ (ap (λ (u : T). behind_it (scan (ff u) bytes) (scan (gg c))) same ∙ ap (λ (p : Outcome). behind_it p (scan (gg c))) e)
-    took_by : (bytes : List ℕ) (x : C × List ℕ) → Step (f bytes) (λ y. g y.0 y.1) (Ok x) → IsC x.0 × (scan (ff (tag x.0) ++ gg x.0) bytes ≡ Passed x.1)
-    took_by bytes x (Step.Stops fault was e) = absurd cc
-    took_by bytes x (Step.Goes y was e) =
-        let t = first.took bytes y was in
-        let u = (second y.0 t.0).took y.1 x e in
-        (u.0.0, scanned x.0 y.0 bytes (Passed y.1) u.0.1 t.1 ∙ u.1)
-    stuck_by : (bytes : List ℕ) (fault : CodecFault) → Step (f bytes) (λ y. g y.0 y.1) (Err fault) → (c : C) × IsC c × (scan (ff (tag c) ++ gg c) bytes ≡ Stuck fault)
-    stuck_by bytes fault (Step.Stops other was e) =
-        let s = first.stuck bytes other was in
+    took_by : (bytes : List ℕ) (x : C × List ℕ) → AreBytes bytes → Step (f bytes) (λ y. g y.0 y.1) (Ok x) → IsC x.0 × (scan (ff (tag x.0) ++ gg x.0) bytes ≡ Passed x.1) × AreBytes x.1
+    took_by bytes x are (Step.Stops fault was e) = absurd cc
+    took_by bytes x are (Step.Goes y was e) =
+        let t = first.took bytes y are was in
+        let u = (second y.0 t.0).took y.1 x t.2 e in
+        (u.0.0, scanned x.0 y.0 bytes (Passed y.1) u.0.1 t.1 ∙ u.1, u.2)
+    stuck_by : (bytes : List ℕ) (fault : CodecFault) → AreBytes bytes → Step (f bytes) (λ y. g y.0 y.1) (Err fault) → (c : C) × IsC c × (scan (ff (tag c) ++ gg c) bytes ≡ Stuck fault)
+    stuck_by bytes fault are (Step.Stops other was e) =
+        let s = first.stuck bytes other are was in
         let c = some s.0 s.1 in
         (c.0, c.1, scanned c.0 s.0 bytes (Stuck other) c.2 s.2 ∙ ap (λ (h : CodecFault). Stuck h) (sym (is_fault {A = C × List ℕ} fault other e)))
-    stuck_by bytes fault (Step.Goes y was e) =
-        let t = first.took bytes y was in
-        let u = (second y.0 t.0).stuck y.1 fault e in
+    stuck_by bytes fault are (Step.Goes y was e) =
+        let t = first.took bytes y are was in
+        let u = (second y.0 t.0).stuck y.1 fault t.2 e in
         (u.0, u.1.0, scanned u.0 y.0 bytes (Passed y.1) u.1.1 t.1 ∙ u.2)
 
 -- ---- the same values under other names
@@ -65,8 +65,8 @@ mapped {A = A} {B = B} {Is = Is} {fields = fields} {read = read} IsB others to f
       let h = back b fits in
       subst (λ (o : Outcome). Agrees b (read bytes >>= λ x. Ok (to x.0, x.1)) o) (sym (ap (λ (fs : List Field). scan fs bytes) h.2))
       (renamed (from b) b (read bytes) (scan (fields (from b)) bytes) h.1 (law.reads (from b) h.0 bytes));
-  took = λ bytes x e. took_by bytes x (step_of (read bytes) (λ y. Ok (to y.0, y.1)) (Ok x) e);
-  stuck = λ bytes fault e. stuck_by bytes fault (step_of (read bytes) (λ y. Ok (to y.0, y.1)) (Err fault) e);
+  took = λ bytes x are e. took_by bytes x are (step_of (read bytes) (λ y. Ok (to y.0, y.1)) (Ok x) e);
+  stuck = λ bytes fault are e. stuck_by bytes fault are (step_of (read bytes) (λ y. Ok (to y.0, y.1)) (Err fault) e);
 }
   where
     renamed : (a : A) (b : B) (found : Found A) (o : Outcome) → to a ≡ b → Agrees a found o → Agrees b (found >>= λ x. Ok (to x.0, x.1)) o
@@ -77,34 +77,34 @@ mapped {A = A} {B = B} {Is = Is} {fields = fields} {read = read} IsB others to f
     has_fields a is =
         let h = forth a is in
         (back (to a) h.0).2 ∙ ap fields h.1
-    took_by : (bytes : List ℕ) (x : B × List ℕ) → Step (read bytes) (λ y. Ok (to y.0, y.1)) (Ok x) → IsB x.0 × (scan (others x.0) bytes ≡ Passed x.1)
-    took_by bytes x (Step.Stops fault was e) = absurd cc
-    took_by bytes x (Step.Goes y was e) =
-        let t = law.took bytes y was in
+    took_by : (bytes : List ℕ) (x : B × List ℕ) → AreBytes bytes → Step (read bytes) (λ y. Ok (to y.0, y.1)) (Ok x) → IsB x.0 × (scan (others x.0) bytes ≡ Passed x.1) × AreBytes x.1
+    took_by bytes x are (Step.Stops fault was e) = absurd cc
+    took_by bytes x are (Step.Goes y was e) =
+        let t = law.took bytes y are was in
         let same : (to y.0, y.1) ≡ x = is_found {A = B × List ℕ} (to y.0, y.1) x e in
-        subst (λ (z : B × List ℕ). IsB z.0 × (scan (others z.0) bytes ≡ Passed z.1)) same
-        ((forth y.0 t.0).0, ap (λ (fs : List Field). scan fs bytes) (has_fields y.0 t.0) ∙ t.1)
-    stuck_by : (bytes : List ℕ) (fault : CodecFault) → Step (read bytes) (λ y. Ok (to y.0, y.1)) (Err fault) → (b : B) × IsB b × (scan (others b) bytes ≡ Stuck fault)
-    stuck_by bytes fault (Step.Stops other was e) =
-        let s = law.stuck bytes other was in
+        subst (λ (z : B × List ℕ). IsB z.0 × (scan (others z.0) bytes ≡ Passed z.1) × AreBytes z.1) same
+        ((forth y.0 t.0).0, ap (λ (fs : List Field). scan fs bytes) (has_fields y.0 t.0) ∙ t.1, t.2)
+    stuck_by : (bytes : List ℕ) (fault : CodecFault) → AreBytes bytes → Step (read bytes) (λ y. Ok (to y.0, y.1)) (Err fault) → (b : B) × IsB b × (scan (others b) bytes ≡ Stuck fault)
+    stuck_by bytes fault are (Step.Stops other was e) =
+        let s = law.stuck bytes other are was in
         (to s.0, (forth s.0 s.1).0, ap (λ (fs : List Field). scan fs bytes) (has_fields s.0 s.1) ∙ (s.2 ∙ ap (λ (h : CodecFault). Stuck h) (sym (is_fault {A = B × List ℕ} fault other e))))
-    stuck_by bytes fault (Step.Goes y was e) = absurd cc
+    stuck_by bytes fault are (Step.Goes y was e) = absurd cc
 
 -- the same fields, and the same reader
 pub same_fields : {A : Type 0} {Is : A → Type 0} {fields : A → List Field} {read : Reader A} (others : A → List Field) → Lawful Is fields read
     → ((a : A) → Is a → others a ≡ fields a) → Lawful Is others read
 same_fields {A = A} {Is = Is} {fields = fields} {read = read} others law same = record {
   reads = λ a fits bytes. subst (λ (fs : List Field). Agrees a (read bytes) (scan fs bytes)) (sym (same a fits)) (law.reads a fits bytes);
-  took = λ bytes x e. let t = law.took bytes x e in (t.0, ap (λ (fs : List Field). scan fs bytes) (same x.0 t.0) ∙ t.1);
-  stuck = λ bytes fault e. let s = law.stuck bytes fault e in (s.0, s.1, ap (λ (fs : List Field). scan fs bytes) (same s.0 s.1) ∙ s.2);
+  took = λ bytes x are e. let t = law.took bytes x are e in (t.0, ap (λ (fs : List Field). scan fs bytes) (same x.0 t.0) ∙ t.1, t.2);
+  stuck = λ bytes fault are e. let s = law.stuck bytes fault are e in (s.0, s.1, ap (λ (fs : List Field). scan fs bytes) (same s.0 s.1) ∙ s.2);
 }
 
 pub same_reader : {A : Type 0} {Is : A → Type 0} {fields : A → List Field} {read : Reader A} (other : Reader A) → Lawful Is fields read
     → ((bytes : List ℕ) → other bytes ≡ read bytes) → Lawful Is fields other
 same_reader {A = A} {Is = Is} {fields = fields} {read = read} other law same = record {
   reads = λ a fits bytes. subst (λ (r : Found A). Agrees a r (scan (fields a) bytes)) (sym (same bytes)) (law.reads a fits bytes);
-  took = λ bytes x e. law.took bytes x (sym (same bytes) ∙ e);
-  stuck = λ bytes fault e. law.stuck bytes fault (sym (same bytes) ∙ e);
+  took = λ bytes x are e. law.took bytes x are (sym (same bytes) ∙ e);
+  stuck = λ bytes fault are e. law.stuck bytes fault are (sym (same bytes) ∙ e);
 }
 
 -- the same values, described otherwise
@@ -112,8 +112,8 @@ pub same_values : {A : Type 0} {Is : A → Type 0} {fields : A → List Field} {
     → ((a : A) → IsB a → Is a) → ((a : A) → Is a → IsB a) → Lawful IsB fields read
 same_values IsB law back forth = record {
   reads = λ a fits bytes. law.reads a (back a fits) bytes;
-  took = λ bytes x e. let t = law.took bytes x e in (forth x.0 t.0, t.1);
-  stuck = λ bytes fault e. let s = law.stuck bytes fault e in (s.0, forth s.0 s.1, s.2);
+  took = λ bytes x are e. let t = law.took bytes x are e in (forth x.0 t.0, t.1, t.2);
+  stuck = λ bytes fault are e. let s = law.stuck bytes fault are e in (s.0, forth s.0 s.1, s.2);
 }
 
 -- ---- one behind another, put together
@@ -174,11 +174,11 @@ none_read IsX walk nil (x ∷ xs) fits bytes = absurd (omega (arith, fits.1))
 none_lawful : {X : Type 0} (IsX : X → Type 0) (walk : List X → List Field) → walk [] ≡ [] → Lawful (Counted IsX 0) walk (λ bytes. Ok ([], bytes))
 none_lawful {X = X} IsX walk nil = record {
   reads = none_read IsX walk nil;
-  took = λ bytes x e.
+  took = λ bytes x are e.
       let none : List X × List ℕ = ([], bytes) in
       let same : none ≡ x = is_found {A = List X × List ℕ} none x e in
-      subst (λ (z : List X × List ℕ). Counted IsX 0 z.0 × (scan (walk z.0) bytes ≡ Passed z.1)) same ((tt, refl), ap (λ (fs : List Field). scan fs bytes) nil);
-  stuck = λ bytes fault e. absurd cc;
+      subst (λ (z : List X × List ℕ). Counted IsX 0 z.0 × (scan (walk z.0) bytes ≡ Passed z.1) × AreBytes z.1) same ((tt, refl), ap (λ (fs : List Field). scan fs bytes) nil, are);
+  stuck = λ bytes fault are e. absurd cc;
 }
 
 split_off : {X : Type 0} (IsX : X → Type 0) (some x : X) (walk : X → List X → List Field) (n : ℕ) (xs : List X) → Counted IsX (suc n) xs × (head_or some xs ≡ x)

@@ -121,9 +121,13 @@ items_at n = so_many (each_as item_at) unchanged n tt
 abbrev pub depth_at : Reader ℕ
 depth_at = field_at 1 (λ v. v == 0)
 
--- a process's site; no passes remain there
+-- the passes that remain of the repetitions round a site: none
+unfoldable pub passes_at : Reader (List ℕ)
+passes_at bytes = depth_at bytes >>= λ depth. Ok ([], depth.1)
+
+-- a process's site, and the passes that remain there
 unfoldable pub place_at : Reader Point
-place_at bytes = number_at 4 bytes >>= λ site. depth_at site.1 >>= λ depth. Ok (point_at site.0 [], depth.1)
+place_at bytes = number_at 4 bytes >>= λ site. passes_at site.1 >>= λ left. Ok (point_at site.0 left.0, left.1)
 
 -- where a process stands, without its variables
 pub data Footing : Type 0 where
@@ -200,10 +204,13 @@ base_at limit = field_at 8 (λ v. nat_le v limit)
 abbrev pub retained_at : ℕ → ℕ → Reader ℕ
 retained_at base from = field_at 4 (λ v. nat_le v MAX_LOG_ITEMS && (nat_le (base + v) MAX_COUNT && nat_le from (base + v)))
 
+-- the items from this base on
+unfoldable pub retained_items_at : ℕ → ℕ → Reader (List ℤ)
+retained_items_at base from bytes = retained_at base from bytes >>= λ n. items_at n.0 n.1
+
 -- a log whose base is at most this, and whose end is at least that
 unfoldable pub log_at : ℕ → ℕ → Reader LogState
-log_at limit from bytes =
-    base_at limit bytes >>= λ base. retained_at base.0 from base.1 >>= λ n. items_at n.0 n.1 >>= λ items. Ok (record { base = base.0; items = items.0 }, items.1)
+log_at limit from bytes = base_at limit bytes >>= λ base. retained_items_at base.0 from base.1 >>= λ items. Ok (record { base = base.0; items = items.0 }, items.1)
 
 -- an end of this role
 unfoldable pub end_at : ℕ → Reader End
@@ -257,10 +264,14 @@ initiator_at highest = field_at 1 (λ v. nat_lt v (length highest))
 abbrev pub tentative_number_at : ℕ → Reader ℕ
 tentative_number_at entry = field_at 8 (λ v. nat_le 1 v && (v == entry))
 
+-- an initiator, and the number of its checkpoint
+unfoldable pub instance_at : List ℕ → Reader (ℕ × ℕ)
+instance_at highest bytes =
+    initiator_at highest bytes >>= λ initiator. tentative_number_at (slice_index highest initiator.0) initiator.1 >>= λ number. Ok ((initiator.0, number.0), number.1)
+
 unfoldable pub pending_at : List ℕ → ImageView → Reader Tentative
 pending_at highest permanent bytes =
-    initiator_at highest bytes >>= λ initiator. tentative_number_at (slice_index highest initiator.0) initiator.1 >>= λ number.
-    image_at (Some permanent) number.1 >>= λ image. Ok (record { initiator = initiator.0; number = number.0; image = image.0 }, image.1)
+    instance_at highest bytes >>= λ x. image_at (Some permanent) x.1 >>= λ image. Ok (record { initiator = x.0.0; number = x.0.1; image = image.0 }, image.1)
 
 unfoldable pub tentative_at : List ℕ → ImageView → Reader (Option Tentative)
 tentative_at highest permanent bytes = optional (pending_at highest permanent) bytes
@@ -271,15 +282,35 @@ pub record Head : Type 0 where
   pub epoch : ℕ
   pub highest : List ℕ
 
+-- the epoch and the highest numbers
+unfoldable pub numbers_at : ℕ → Reader (ℕ × List ℕ)
+numbers_at node bytes = count_at bytes >>= λ epoch. highest_at node epoch.1 >>= λ highest. Ok ((epoch.0, highest.0), highest.1)
+
 unfoldable pub head_at : Reader Head
-head_at bytes = number_at 1 bytes >>= λ node. count_at node.1 >>= λ epoch. highest_at node.0 epoch.1 >>= λ highest. Ok (record { node = node.0; epoch = epoch.0; highest = highest.0 }, highest.1)
+head_at bytes = number_at 1 bytes >>= λ node. numbers_at node.0 node.1 >>= λ x. Ok (record { node = node.0; epoch = x.0.0; highest = x.0.1 }, x.1)
+
+-- the two images
+unfoldable pub images_at : List ℕ → Reader (ImageView × Option Tentative)
+images_at highest bytes = image_at None bytes >>= λ permanent. tentative_at highest permanent.0 permanent.1 >>= λ tentative. Ok ((permanent.0, tentative.0), tentative.1)
+
+-- what follows the head
+pub record Tail : Type 0 where
+  pub decision : Option DecisionView
+  pub permanent : ImageView
+  pub tentative : Option Tentative
+
+unfoldable pub tail_at : ℕ → List ℕ → Reader Tail
+tail_at node highest bytes =
+    decision_at node (length highest) (slice_index highest node) bytes >>= λ decision. images_at highest decision.1 >>= λ x.
+    Ok (record { decision = decision.0; permanent = x.0.0; tentative = x.0.1 }, x.1)
+
+-- a record of its head and what follows it
+abbrev pub record_of : Head → Tail → RecordView
+record_of head tail = record { node = head.node; epoch = head.epoch; highest = head.highest; decision = tail.decision; permanent = tail.permanent; tentative = tail.tentative }
 
 -- what follows the version
 unfoldable pub body_at : Reader RecordView
-body_at bytes =
-    head_at bytes >>= λ head. decision_at head.0.node (length head.0.highest) (slice_index head.0.highest head.0.node) head.1 >>= λ decision.
-    image_at None decision.1 >>= λ permanent. tentative_at head.0.highest permanent.0 permanent.1 >>= λ tentative.
-    Ok (record { node = head.0.node; epoch = head.0.epoch; highest = head.0.highest; decision = decision.0; permanent = permanent.0; tentative = tentative.0 }, tentative.1)
+body_at bytes = head_at bytes >>= λ head. tail_at head.0.node head.0.highest head.1 >>= λ tail. Ok (record_of head.0 tail.0, tail.1)
 
 -- what takes all the bytes
 abbrev pub if_all : {A : Type 0} → Found A → Result A CodecFault

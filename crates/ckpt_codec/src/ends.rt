@@ -1,6 +1,6 @@
 // The ends of channels, read from the front of bytes.
 ghost use Rattle.std.specs.Prelude.{◌≡◌, ◌≤◌, IfOk, IfErr, option_copied};
-ghost use Rattle.ckpt_codec.specs.Reading.{Reads, log_at, end_at, role_end_at, saved_end_at, channel_wanted, role_wanted, ends_at};
+ghost use Rattle.ckpt_codec.specs.Reading.{Reads, retained_items_at, log_at, end_at, role_end_at, saved_end_at, channel_wanted, role_wanted, ends_at};
 ghost use Rattle.ckpt_codec.specs.RecordText.{ends_in, role_of as role_in};
 
 use crate::fault::CodecFault;
@@ -24,6 +24,21 @@ fn log_with(alloc: Global, base: u64, items: &[i64]) -> Result<Log, CodecFault>
     }
 }
 
+// The items from this base on.
+#[tactic(auto, unfolding(crate::specs::Reading::retained_items_at))]
+fn retained_items_of(
+    alloc: Global,
+    base: u64,
+    from: u64,
+    bytes: &[u8],
+) -> Result<(Vec<i64>, &[u8]), CodecFault>
+    requires { base ≤ MAX_COUNT }
+    ensures { Reads (λ x. (x.0.items, x.1.now)) result (retained_items_at base from bytes.now) }
+{
+    let (count, rest) = retained_of(base, from, bytes)?;
+    items_of(alloc, count, rest)
+}
+
 // A log whose base is at most this, and whose end is at least that.
 #[tactic(auto, unfolding(crate::specs::Reading::log_at))]
 fn log_of(alloc: Global, limit: u64, from: u64, bytes: &[u8]) -> Result<(Log, &[u8]), CodecFault>
@@ -31,8 +46,7 @@ fn log_of(alloc: Global, limit: u64, from: u64, bytes: &[u8]) -> Result<(Log, &[
     ensures { Reads (λ x. (x.0, x.1.now)) result (log_at limit from bytes.now) }
 {
     let (base, rest) = base_of(limit, bytes)?;
-    let (count, rest) = retained_of(base, from, rest)?;
-    let (items, rest) = items_of(alloc, count, rest)?;
+    let (items, rest) = retained_items_of(alloc, base, from, rest)?;
     let log = log_with(alloc, base, items.as_slice())?;
     Ok((log, rest))
 }

@@ -1,7 +1,7 @@
 // Processes, read from the front of bytes.
 ghost use Rattle.std.specs.Prelude.{◌≡◌, ◌+◌, option_copied, option_map};
 ghost use Rattle.kahn_net.specs.States.{point_of, standing_in, standing_of};
-ghost use Rattle.ckpt_codec.specs.Reading.{Reads, items_at, place_at, mode_at, variables_at, state_at, process_at, number_wanted, variables_wanted, processes_at};
+ghost use Rattle.ckpt_codec.specs.Reading.{Reads, items_at, passes_at, place_at, mode_at, variables_at, state_at, process_at, number_wanted, variables_wanted, processes_at};
 ghost use Rattle.ckpt_codec.specs.RecordText.{processes_in};
 
 use crate::fault::CodecFault;
@@ -30,16 +30,25 @@ pub(crate) fn items_of(
     Ok((items, rest))
 }
 
-// A process's site; no passes remain there.
+// The passes that remain of the repetitions round a site: none.
+#[tactic(auto, unfolding(crate::specs::Reading::passes_at))]
+fn passes_of(alloc: Global, bytes: &[u8]) -> Result<(Vec<u16>, &[u8]), CodecFault>
+    ensures { Reads (λ x. (x.0.items, x.1.now)) result (passes_at bytes.now) }
+{
+    let (_, rest) = depth_of(bytes)?;
+    Ok((Vec::new(alloc), rest))
+}
+
+// A process's site, and the passes that remain there.
 #[tactic(auto, unfolding(crate::specs::Reading::place_at))]
 fn place_of(alloc: Global, bytes: &[u8]) -> Result<(Place, &[u8]), CodecFault>
     ensures { Reads (λ x. (point_of x.0, x.1.now)) result (place_at bytes.now) }
 {
     let (site, rest) = u32_of(bytes)?;
-    let (_, rest) = depth_of(rest)?;
+    let (left, rest) = passes_of(alloc, rest)?;
     let place = Place {
         site: site as usize,
-        left: Vec::new(alloc),
+        left,
     };
     Ok((place, rest))
 }

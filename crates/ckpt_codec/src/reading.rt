@@ -2,7 +2,7 @@
 ghost use Rattle.std.specs.Prelude.{◌≡◌, ◌<◌, IfOk, IfErr, length, slice_index};
 ghost use Rattle.ckpt_codec.specs.RecordText.{IsRecordText};
 ghost use Rattle.ckpt_codec.specs.Faults.{IsCodecFault, IsReadUnlessMemory, IsRefusedUnlessMemory};
-ghost use Rattle.ckpt_codec.specs.Reading.{Reads, Head, head_at, entries_at, highest_at, participants_at, participant_list_at, decided_at, decision_at, pending_at, tentative_at, body_at, whole_at};
+ghost use Rattle.ckpt_codec.specs.Reading.{Reads, entries_at, highest_at, participants_at, participant_list_at, decided_at, decision_at, instance_at, pending_at, tentative_at, Head, numbers_at, head_at, images_at, Tail, tail_at, body_at, whole_at};
 ghost use Rattle.ckpt_codec.specs.declared.fault.CodecFault.{CodecFault as FaultValue};
 ghost use Rattle.record.specs.RecordView.{RecordView};
 
@@ -121,6 +121,19 @@ fn decision_of(
     Ok((Some(decision), rest))
 }
 
+// An initiator, and the number of its checkpoint.
+#[tactic(auto, unfolding(crate::specs::Reading::instance_at))]
+fn instance_of<'a>(
+    highest: &[u64],
+    bytes: &'a [u8],
+) -> Result<(u8, u64, &'a [u8]), CodecFault>
+    ensures { Reads (λ x. ((x.0, x.1), x.2.now)) result (instance_at highest.now bytes.now) }
+{
+    let (initiator, rest) = initiator_of(highest, bytes)?;
+    let (number, rest) = tentative_number_of(entry_of(highest, initiator), rest)?;
+    Ok((initiator, number, rest))
+}
+
 #[tactic(auto, unfolding(crate::specs::Reading::pending_at))]
 fn pending_of<'a>(
     alloc: Global,
@@ -131,8 +144,7 @@ fn pending_of<'a>(
     ensures { Reads (λ x. (x.0, x.1.now)) result
         (pending_at highest.now permanent.now bytes.now) }
 {
-    let (initiator, rest) = initiator_of(highest, bytes)?;
-    let (number, rest) = tentative_number_of(entry_of(highest, initiator), rest)?;
+    let (initiator, number, rest) = instance_of(highest, bytes)?;
     let (image, rest) = image_of(alloc, Some(permanent), rest)?;
     let tentative = Tentative {
         initiator,
@@ -161,15 +173,59 @@ fn tentative_of<'a>(
     Ok((Some(tentative), rest))
 }
 
+// The epoch, and the highest number seen of each node.
+#[tactic(auto, unfolding(crate::specs::Reading::numbers_at))]
+fn numbers_of(
+    alloc: Global,
+    node: u8,
+    bytes: &[u8],
+) -> Result<(u64, Vec<u64>, &[u8]), CodecFault>
+    ensures { Reads (λ x. ((x.0, x.1.items), x.2.now)) result (numbers_at node bytes.now) }
+{
+    let (epoch, rest) = count_of(bytes)?;
+    let (highest, rest) = highest_of(alloc, node, rest)?;
+    Ok((epoch, highest, rest))
+}
+
 #[tactic(auto, unfolding(crate::specs::Reading::head_at))]
 fn head_of(alloc: Global, bytes: &[u8]) -> Result<(u8, u64, Vec<u64>, &[u8]), CodecFault>
     ensures { Reads (λ x. (record { node = x.0; epoch = x.1; highest = x.2.items }, x.3.now))
         result (head_at bytes.now) }
 {
     let (node, rest) = u8_of(bytes)?;
-    let (epoch, rest) = count_of(rest)?;
-    let (highest, rest) = highest_of(alloc, node, rest)?;
+    let (epoch, highest, rest) = numbers_of(alloc, node, rest)?;
     Ok((node, epoch, highest, rest))
+}
+
+// The two images.
+#[tactic(auto, unfolding(crate::specs::Reading::images_at))]
+fn images_of<'a>(
+    alloc: Global,
+    highest: &[u64],
+    bytes: &'a [u8],
+) -> Result<(Image, Option<Tentative>, &'a [u8]), CodecFault>
+    ensures { Reads (λ x. ((x.0, x.1), x.2.now)) result (images_at highest.now bytes.now) }
+{
+    let (permanent, rest) = image_of(alloc, None, bytes)?;
+    let (tentative, rest) = tentative_of(alloc, highest, &permanent, rest)?;
+    Ok((permanent, tentative, rest))
+}
+
+// What follows the head.
+#[tactic(auto, unfolding(crate::specs::Reading::tail_at))]
+fn tail_of<'a>(
+    alloc: Global,
+    node: u8,
+    highest: &[u64],
+    bytes: &'a [u8],
+) -> Result<(Option<Decision>, Image, Option<Tentative>, &'a [u8]), CodecFault>
+    ensures { Reads (λ x. (record { decision = x.0; permanent = x.1; tentative = x.2 }, x.3.now))
+        result (tail_at node highest.now bytes.now) }
+{
+    let own = entry_of(highest, node);
+    let (decision, rest) = decision_of(alloc, node, highest.len(), own, bytes)?;
+    let (permanent, tentative, rest) = images_of(alloc, highest, rest)?;
+    Ok((decision, permanent, tentative, rest))
 }
 
 // The entry of a node.
@@ -188,10 +244,7 @@ fn body_of(alloc: Global, bytes: &[u8]) -> Result<(Record, &[u8]), CodecFault>
     ensures { Reads (λ x. (x.0, x.1.now)) result (body_at bytes.now) }
 {
     let (node, epoch, highest, rest) = head_of(alloc, bytes)?;
-    let own = entry_of(highest.as_slice(), node);
-    let (decision, rest) = decision_of(alloc, node, highest.len(), own, rest)?;
-    let (permanent, rest) = image_of(alloc, None, rest)?;
-    let (tentative, rest) = tentative_of(alloc, highest.as_slice(), &permanent, rest)?;
+    let (decision, permanent, tentative, rest) = tail_of(alloc, node, highest.as_slice(), rest)?;
     let kept = Record {
         node,
         epoch,
