@@ -68,7 +68,8 @@ made_bytes zero k place = omega arith
 made_bytes (suc n) k zero = byte_less n k
   where
     byte_less : (i m : ℕ) → byte_at i m < 256
-    byte_less i m = omega arith
+    byte_less zero m = omega arith
+    byte_less (suc i) m = omega arith
 made_bytes (suc n) k (suc place) = made_bytes n k place
 
 -- so many bytes are those of the number in them

@@ -116,6 +116,15 @@ same_values IsB law back forth = record {
   stuck = λ bytes fault are e. let s = law.stuck bytes fault are e in (s.0, forth s.0 s.1, s.2);
 }
 
+-- what reads each value, and not those that are so alone
+pub of_each : {A : Type 0} {Is : A → Type 0} {fields : A → List Field} {read : Reader A} → Lawful Is fields read
+    → ((a : A) (bytes : List ℕ) → Agrees a (read bytes) (scan (fields a) bytes)) → Lawful Each fields read
+of_each law all = record {
+  reads = λ a fits bytes. all a bytes;
+  took = λ bytes x are e. let t = law.took bytes x are e in (tt, t.1, t.2);
+  stuck = λ bytes fault are e. let s = law.stuck bytes fault are e in (s.0, tt, s.2);
+}
+
 -- ---- one behind another, put together
 
 pub built : {A B C : Type 0} {IsA : A → Type 0} {ff : A → List Field} {f : Reader A} {IsB : A → B → Type 0} {gg : A → B → List Field} {g : A → Reader B}
@@ -225,3 +234,16 @@ counted {X = X} {IsX = IsX} some is_some each_fields walk each next field read s
     refined (λ xs. AllByRecursion IsX xs) (walk s) (λ n. so_many each next n s) length count
     (λ n is. so_many_lawful some is_some each_fields walk each next law nil cons n s) (λ xs fits. tt)
     (λ n is. let h = all_some IsX some is_some n in (replicate n some, h.0, h.1))
+
+-- one value, of no bytes
+pub only_lawful : {C : Type 0} (Is : C → Type 0) (fields : C → List Field) (c : C) → Is c → ((d : C) → Is d → d ≡ c) → fields c ≡ [] → Lawful Is fields (λ bytes. Ok (c, bytes))
+only_lawful {C = C} Is fields c is same none = record {
+  reads = λ d fits bytes.
+      subst (λ (e : C). Agrees e (Ok (c, bytes)) (scan (fields e) bytes)) (sym (same d fits))
+      (subst (λ (fs : List Field). Agrees c (Ok (c, bytes)) (scan fs bytes)) (sym none) refl);
+  took = λ bytes x are e.
+      let made : C × List ℕ = (c, bytes) in
+      let found : made ≡ x = is_found {A = C × List ℕ} made x e in
+      subst (λ (z : C × List ℕ). Is z.0 × (scan (fields z.0) bytes ≡ Passed z.1) × AreBytes z.1) found (is, ap (λ (fs : List Field). scan fs bytes) none, are);
+  stuck = λ bytes fault are e. absurd cc;
+}

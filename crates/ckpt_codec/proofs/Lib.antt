@@ -1,3 +1,5 @@
 mod Loop
 mod Scan
 mod Laws
+mod Bytes
+mod Parts

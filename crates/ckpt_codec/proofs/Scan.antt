@@ -88,7 +88,7 @@ one_reads allows width a (Ok x) = chosen x a (allows x.0) (nat_eq x.0 a) (eqb-tr
     chosen x a true false is = tt
     chosen x a false same is = refl
 
-one_took : (allows : ℕ → Bool) (width : ℕ) (found : Found ℕ) (x : ℕ × List ℕ) → if_passes allows found ≡ Ok x
+pub one_took : (allows : ℕ → Bool) (width : ℕ) (found : Found ℕ) (x : ℕ × List ℕ) → if_passes allows found ≡ Ok x
     → (allows x.0 ≡ true) × (behind_it (judged (record { width = width; allows = allows; value = x.0 }) found) (scan []) ≡ Passed x.1) × (found ≡ Ok x)
 one_took allows width (Err fault) x e = absurd cc
 one_took allows width (Ok y) x e =
