@@ -3,3 +3,7 @@ mod Scan
 mod Laws
 mod Bytes
 mod Parts
+mod Text
+mod Records
+mod Items
+mod Exactness

@@ -137,7 +137,7 @@ abbrev pub IfThere : {A : Type 0} → (A → Type 0) → Option A → Type 0
 IfThere Is None = Unit {0}
 IfThere Is (Some a) = Is a
 
-abbrev is_there : {A : Type 0} → Option A → Bool
+abbrev pub is_there : {A : Type 0} → Option A → Bool
 is_there None = false
 is_there (Some a) = true
 
@@ -146,11 +146,11 @@ or_else other None = other
 or_else other (Some a) = a
 
 -- what follows the flag
-abbrev behind_flag : {A : Type 0} → (A → List Field) → Option A → List Field
+abbrev pub behind_flag : {A : Type 0} → (A → List Field) → Option A → List Field
 behind_flag fields None = []
 behind_flag fields (Some a) = fields a
 
-abbrev flag_of : Bool → Field
+abbrev pub flag_of : Bool → Field
 flag_of b = flag (cond b 1 0)
 
 flag_lawful : Lawful Each (λ b. flag_of b ∷ []) flag_at
@@ -346,3 +346,256 @@ state_lawful like =
     made BeforeAll vars = (refl, refl)
     made (AtPoint point) vars = (refl, refl)
     made PastAll vars = (refl, refl)
+
+-- ---- processes
+
+abbrev IsProcess : SavedProcessView → Type 0
+IsProcess p = IsState p.standing
+
+abbrev process_number : Option ℕ → ℕ → ℕ → Field
+process_number like least n = wanted_or like (between 1 least MAX_PROCESSES n)
+
+process_lawful : (number variables : Option ℕ) (least : ℕ)
+    → Lawful IsProcess (λ (p : SavedProcessView). process_number number least p.number ∷ state_fields variables p.standing) (process_at number variables least)
+unfolding process_at
+process_lawful number variables least =
+    same_values IsProcess
+    (built (λ n standing. record { number = n; standing = standing }) (λ (p : SavedProcessView). p.number) (λ (p : SavedProcessView). p.standing)
+    (λ (p : SavedProcessView). process_number number least p.number ∷ state_fields variables p.standing)
+    (wanting number 1 (λ v. nat_le least v && nat_lt v MAX_PROCESSES)) (λ n is. state_lawful variables) (λ n is. (NotBegun [], tt))
+    (λ p. (refl, refl)) (λ n standing. (refl, refl)))
+    (λ p is. (tt, is)) (λ p is. is.1)
+
+-- what is left of the first image's list after so many
+abbrev past : {X : Type 0} → ℕ → Option (List X) → Option (List X)
+past zero like = like
+past (suc n) like = rest_of (past n like)
+
+past-rest : {X : Type 0} (n : ℕ) (like : Option (List X)) → past n (rest_of like) ≡ rest_of (past n like)
+past-rest zero like = refl
+past-rest {X = X} (suc n) like = ap (λ (l : Option (List X)). rest_of l) (past-rest n like)
+
+first-past : {X : Type 0} (n : ℕ) (like : Option (List X)) → first_of (past n like) ≡ nth like n
+first-past zero None = refl
+first-past zero (Some []) = refl
+first-past zero (Some (x ∷ xs)) = refl
+first-past {X = X} (suc n) None = ap (λ (l : Option (List X)). first_of l) (sym (past-rest n None)) ∙ first-past n None
+first-past {X = X} (suc n) (Some []) = ap (λ (l : Option (List X)). first_of l) (sym (past-rest n (Some []))) ∙ first-past n None
+first-past {X = X} (suc n) (Some (x ∷ xs)) = ap (λ (l : Option (List X)). first_of l) (sym (past-rest n (Some (x ∷ xs)))) ∙ first-past n (Some xs)
+
+next_is : (n : ℕ) → suc n ≡ n + 1
+next_is n = omega arith
+
+abbrev each_process : Option (List SavedProcessView) → ℕ × ℕ → SavedProcessView → List Field
+each_process like s p = process_number (number_wanted like s.0) s.1 p.number ∷ state_fields (variables_wanted like s.0) p.standing
+
+abbrev walk_processes : Option (List SavedProcessView) → ℕ × ℕ → List SavedProcessView → List Field
+walk_processes like s ps = processes_fields (past s.0 like) s.1 ps
+
+walk_process : (like : Option (List SavedProcessView)) (s : ℕ × ℕ) (p : SavedProcessView) (ps : List SavedProcessView)
+    → walk_processes like s (p ∷ ps) ≡ each_process like s p ++ walk_processes like (past_process s p) ps
+walk_process like s p ps =
+    ap (λ (l : Option SavedProcessView). process_fields l s.1 p ++ processes_fields (rest_of (past s.0 like)) (suc p.number) ps) (first-past s.0 like)
+    ∙ (ap (λ (k : ℕ). each_process like s p ++ processes_fields (rest_of (past s.0 like)) k ps) (next_is p.number)
+    ∙ ap (λ (k : ℕ). each_process like s p ++ processes_fields (past k like) (p.number + 1) ps) (next_is s.0))
+
+abbrev pub process_count : Option ImageView → ℕ → Field
+process_count like n = wanted_or (wanted (λ (i : ImageView). length i.processes) like) (at_most 1 MAX_PROCESSES n)
+
+abbrev pub AreProcesses : List SavedProcessView → Type 0
+AreProcesses ps = AllByRecursion IsProcess ps
+
+pub process_list_lawful : (like : Option ImageView)
+    → Lawful AreProcesses (λ ps. process_count like (length ps) ∷ processes_fields (processes_in like) 0 ps) (process_list_at like)
+unfolding process_list_at processes_at
+process_list_lawful like =
+    counted {IsX = IsProcess} (record { number = 0; standing = NotBegun [] }) tt (each_process (processes_in like)) (walk_processes (processes_in like)) (process_like (processes_in like)) past_process
+    (process_count like) (process_count_at (wanted (λ (i : ImageView). length i.processes) like)) (0, 0)
+    (wanting (wanted (λ (i : ImageView). length i.processes) like) 1 (λ v. nat_le v MAX_PROCESSES))
+    (λ s. process_lawful (number_wanted (processes_in like) s.0) (variables_wanted (processes_in like) s.0) s.1) (λ s. refl) (walk_process (processes_in like))
+
+-- ---- ends
+
+retained_lawful : (base from : ℕ) → Lawful AreItems (λ zs. retained_count base from (length zs) ∷ map item zs) (retained_items_at base from)
+unfolding retained_items_at items_at
+retained_lawful base from =
+    counted {IsX = FitsSigned w64} (pos 0) zero_fits (λ s z. item z ∷ []) (λ s zs. map item zs) (each_as item_at) unchanged (retained_count base from) (retained_at base from) tt
+    (plain (retained_count base from) 4 (λ v. nat_le v MAX_LOG_ITEMS && (nat_le (base + v) MAX_COUNT && nat_le from (base + v))) (λ n. refl)) (λ s. item_lawful) (λ s. refl) (λ s x xs. refl)
+
+abbrev log_fields : ℕ → ℕ → LogState → List Field
+log_fields limit from log = at_most 8 limit log.base ∷ retained_count log.base from (length log.items) ∷ map item log.items
+
+abbrev IsLog : LogState → Type 0
+IsLog log = AreItems log.items
+
+log_lawful : (limit from : ℕ) → Lawful IsLog (log_fields limit from) (log_at limit from)
+unfolding log_at
+log_lawful limit from =
+    same_values IsLog
+    (built (λ base items. record { base = base; items = items }) (λ (log : LogState). log.base) (λ (log : LogState). log.items) (log_fields limit from)
+    (plain (at_most 8 limit) 8 (λ v. nat_le v limit) (λ n. refl)) (λ base is. retained_lawful base from) (λ base is. ([], tt))
+    (λ log. (refl, refl)) (λ base items. (refl, refl)))
+    (λ log is. (tt, is)) (λ log is. is.1)
+
+abbrev pub IsEnd : End → Type 0
+IsEnd end = AreItems (items_of_end end)
+
+no_log : LogState
+no_log = record { base = 0; items = [] }
+
+abbrev received_in : End → ℕ
+received_in (Receives received) = received
+received_in (Sends log) = 0
+received_in (Both received log) = received
+
+abbrev log_in : End → LogState
+log_in (Receives received) = record { base = 0; items = [] }
+log_in (Sends log) = log
+log_in (Both received log) = log
+
+receives_back : (e : End) → IsEnd e × (role_of e ≡ 0) → Unit {0} × (Receives (received_in e) ≡ e) × (end_fields e ≡ count (received_in e) ∷ [])
+receives_back (Receives received) h = (tt, refl, refl)
+receives_back (Sends log) h = absurd (omega (arith, h.1))
+receives_back (Both received log) h = absurd (omega (arith, h.1))
+
+sends_back : (e : End) → IsEnd e × (role_of e ≡ 1) → IsLog (log_in e) × (Sends (log_in e) ≡ e) × (end_fields e ≡ log_fields MAX_COUNT 0 (log_in e))
+sends_back (Receives received) h = absurd (omega (arith, h.1))
+sends_back (Sends log) h = (h.0, refl, refl)
+sends_back (Both received log) h = absurd (omega (arith, h.1))
+
+-- a count, and a log that goes with it
+abbrev both_at : Reader (ℕ × LogState)
+both_at bytes = count_at bytes >>= λ received. log_at received.0 received.0 received.1 >>= λ log. Ok ((received.0, log.0), log.1)
+
+abbrev IsBoth : ℕ × LogState → Type 0
+IsBoth x = Unit {0} × IsLog x.1
+
+both_lawful : Lawful IsBoth (λ x. count x.0 ∷ log_fields x.0 x.0 x.1) both_at
+both_lawful =
+    built (λ received log. (received, log)) (λ x. x.0) (λ x. x.1) (λ x. count x.0 ∷ log_fields x.0 x.0 x.1)
+    count_lawful (λ received is. log_lawful received received) (λ received is. (record { base = 0; items = [] }, tt)) (λ x. (refl, refl)) (λ received log. (refl, refl))
+
+both_back : (e : End) → IsEnd e × (role_of e ≡ 2) → IsBoth (received_in e, log_in e) × (Both (received_in e) (log_in e) ≡ e) × (end_fields e ≡ count (received_in e) ∷ log_fields (received_in e) (received_in e) (log_in e))
+both_back (Receives received) h = absurd (omega (arith, h.1))
+both_back (Sends log) h = absurd (omega (arith, h.1))
+both_back (Both received log) h = ((tt, h.0), refl, refl)
+
+abbrev as_both : (ℕ × LogState) × List ℕ → Found End
+as_both x = Ok (Both x.0.0 x.0.1, x.1)
+
+abbrev with_log : ℕ → LogState × List ℕ → Found (ℕ × LogState)
+with_log received log = Ok ((received, log.0), log.1)
+
+abbrev end_with_log : ℕ → LogState × List ℕ → Found End
+end_with_log received log = Ok (Both received log.0, log.1)
+
+log_regrouped : (received : ℕ) (r : Found LogState) → (r >>= end_with_log received) ≡ ((r >>= with_log received) >>= as_both)
+log_regrouped received (Ok log) = refl
+log_regrouped received (Err fault) = refl
+
+both_regrouped : (r : Found ℕ) → (r >>= λ received. log_at received.0 received.0 received.1 >>= end_with_log received.0)
+    ≡ ((r >>= λ received. log_at received.0 received.0 received.1 >>= with_log received.0) >>= as_both)
+both_regrouped (Err fault) = refl
+both_regrouped (Ok x) = log_regrouped x.0 (log_at x.0 x.0 x.1)
+
+by_role : (n : ℕ) → n ≤ 2 → Lawful (λ e. IsEnd e × (role_of e ≡ n)) end_fields (end_at n)
+unfolding end_at
+by_role zero le = mapped (λ e. IsEnd e × (role_of e ≡ 0)) end_fields Receives received_in count_lawful receives_back (λ received is. ((tt, refl), refl))
+by_role (suc zero) le = mapped (λ e. IsEnd e × (role_of e ≡ 1)) end_fields Sends log_in (log_lawful MAX_COUNT 0) sends_back (λ log is. ((is, refl), refl))
+by_role (suc (suc zero)) le =
+    same_reader (λ bytes. count_at bytes >>= λ received. log_at received.0 received.0 received.1 >>= λ log. Ok (Both received.0 log.0, log.1))
+    (mapped (λ e. IsEnd e × (role_of e ≡ 2)) end_fields (λ x. Both x.0 x.1) (λ e. (received_in e, log_in e)) both_lawful both_back (λ x is. ((is.1, refl), refl)))
+    (λ bytes. both_regrouped (count_at bytes))
+by_role (suc (suc (suc n))) le = absurd (omega arith)
+
+role_most : (e : End) → role_of e ≤ 2
+role_most (Receives received) = omega arith
+role_most (Sends log) = omega arith
+role_most (Both received log) = omega arith
+
+-- what is wanted is a role
+abbrev IsRole : Option ℕ → Type 0
+IsRole None = Unit {0}
+IsRole (Some n) = n ≤ 2
+
+abbrev role_field : Option ℕ → ℕ → Field
+role_field like n = wanted_or like (at_most 1 2 n)
+
+role_lawful : (like : Option ℕ) → IsRole like → Lawful (λ n. n ≤ 2) (λ n. role_field like n ∷ []) (role_at like)
+role_lawful like is =
+    field_lawful (λ n. n ≤ 2) (role_field like) 1 (wanted_test like (λ v. nat_le v 2)) (wanted_is like 1 (λ v. nat_le v 2)) (λ n lt e. allowed like n is e) 0 (omega arith)
+  where
+    allowed : (like : Option ℕ) (n : ℕ) → IsRole like → wanted_test like (λ v. nat_le v 2) n ≡ true → n ≤ 2
+    allowed None n is e = leb-true n 2 e
+    allowed (Some k) n is e = let same : n ≡ k = eqb-true n k e in omega arith
+
+some_end : (n : ℕ) → n ≤ 2 → (e : End) × IsEnd e × (role_of e ≡ n)
+some_end zero le = (Receives 0, tt, refl)
+some_end (suc zero) le = (Sends (record { base = 0; items = [] }), tt, refl)
+some_end (suc (suc zero)) le = (Both 0 (record { base = 0; items = [] }), tt, refl)
+some_end (suc (suc (suc n))) le = absurd (omega arith)
+
+role_end_lawful : (like : Option ℕ) → IsRole like → Lawful IsEnd (λ e. role_field like (role_of e) ∷ end_fields e) (role_end_at like)
+unfolding role_end_at
+role_end_lawful like is = refined IsEnd end_fields end_at role_of (role_lawful like is) by_role (λ e fits. role_most e) some_end
+
+abbrev IsSavedEnd : SavedEnd → Type 0
+IsSavedEnd saved = IsEnd saved.end
+
+abbrev channel_field : Option ℕ → ℕ → ℕ → Field
+channel_field like least n = wanted_or like (between 2 least MAX_CHANNELS n)
+
+saved_end_lawful : (channel role : Option ℕ) (least : ℕ) → IsRole role
+    → Lawful IsSavedEnd (λ (e : SavedEnd). channel_field channel least e.channel ∷ role_field role (role_of e.end) ∷ end_fields e.end) (saved_end_at channel role least)
+unfolding saved_end_at
+saved_end_lawful channel role least is =
+    same_values IsSavedEnd
+    (built (λ n e. record { channel = n; end = e }) (λ (e : SavedEnd). e.channel) (λ (e : SavedEnd). e.end)
+    (λ (e : SavedEnd). channel_field channel least e.channel ∷ role_field role (role_of e.end) ∷ end_fields e.end)
+    (wanting channel 2 (λ v. nat_le least v && nat_lt v MAX_CHANNELS)) (λ n all. role_end_lawful role is) (λ n all. (Receives 0, tt))
+    (λ e. (refl, refl)) (λ n e. (refl, refl)))
+    (λ e fits. (tt, fits)) (λ e fits. fits.1)
+
+abbrev each_end : Option (List SavedEnd) → ℕ × ℕ → SavedEnd → List Field
+each_end like s e = channel_field (channel_wanted like s.0) s.1 e.channel ∷ role_field (role_wanted like s.0) (role_of e.end) ∷ end_fields e.end
+
+abbrev walk_ends : Option (List SavedEnd) → ℕ × ℕ → List SavedEnd → List Field
+walk_ends like s es = ends_fields (past s.0 like) s.1 es
+
+walk_end : (like : Option (List SavedEnd)) (s : ℕ × ℕ) (e : SavedEnd) (es : List SavedEnd) → walk_ends like s (e ∷ es) ≡ each_end like s e ++ walk_ends like (past_end s e) es
+walk_end like s e es =
+    ap (λ (l : Option SavedEnd). saved_end_fields l s.1 e ++ ends_fields (rest_of (past s.0 like)) (suc e.channel) es) (first-past s.0 like)
+    ∙ (ap (λ (k : ℕ). each_end like s e ++ ends_fields (rest_of (past s.0 like)) k es) (next_is e.channel)
+    ∙ ap (λ (k : ℕ). each_end like s e ++ ends_fields (past k like) (e.channel + 1) es) (next_is s.0))
+
+wanted_role : (like : Option SavedEnd) → IsRole (wanted (λ (e : SavedEnd). role_of e.end) like)
+wanted_role None = tt
+wanted_role (Some e) = role_most e.end
+
+abbrev pub end_count : Option ImageView → ℕ → Field
+end_count like n = wanted_or (wanted (λ (i : ImageView). length i.ends) like) (at_most 2 MAX_CHANNELS n)
+
+abbrev pub AreEnds : List SavedEnd → Type 0
+AreEnds es = AllByRecursion IsSavedEnd es
+
+pub end_list_lawful : (like : Option ImageView) → Lawful AreEnds (λ es. end_count like (length es) ∷ ends_fields (ends_in like) 0 es) (end_list_at like)
+unfolding end_list_at ends_at
+end_list_lawful like =
+    counted {IsX = IsSavedEnd} (record { channel = 0; end = Receives 0 }) tt (each_end (ends_in like)) (walk_ends (ends_in like)) (end_like (ends_in like)) past_end
+    (end_count like) (end_count_at (wanted (λ (i : ImageView). length i.ends) like)) (0, 0)
+    (wanting (wanted (λ (i : ImageView). length i.ends) like) 2 (λ v. nat_le v MAX_CHANNELS))
+    (λ s. saved_end_lawful (channel_wanted (ends_in like) s.0) (role_wanted (ends_in like) s.0) s.1 (wanted_role (nth (ends_in like) s.0))) (λ s. refl) (walk_end (ends_in like))
+
+-- ---- an image
+
+pub record IsImage (image : ImageView) : Type 0 where
+  pub processes : AreProcesses image.processes
+  pub ends : AreEnds image.ends
+
+pub image_lawful : (like : Option ImageView) → Lawful IsImage (image_fields like) (image_at like)
+unfolding image_at
+image_lawful like =
+    same_values IsImage
+    (built (λ ps es. record { processes = ps; ends = es }) (λ (i : ImageView). i.processes) (λ (i : ImageView). i.ends) (image_fields like)
+    (process_list_lawful like) (λ ps is. end_list_lawful like) (λ ps is. ([], tt)) (λ i. (refl, refl)) (λ ps es. (refl, refl)))
+    (λ i is. (is.processes, is.ends)) (λ i is. record { processes = is.0; ends = is.1 })
