@@ -292,7 +292,5 @@ pub fn read_record(alloc: Global, bytes: &[u8]) -> Result<Record, CodecFault>
     ensures each { (fault : FaultValue) → IsCodecFault bytes.now fault
         → IsRefusedUnlessMemory fault result }
 {
-    let _alloc = alloc;
-    let _bytes = bytes;
-    Err(CodecFault::NoMemory)
+    whole_of(alloc, bytes)
 }
