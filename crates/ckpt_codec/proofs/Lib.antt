@@ -1,9 +1,12 @@
 mod Loop
 mod Scan
-mod Laws
+mod Combining
 mod Bytes
 mod Parts
 mod Text
 mod Records
 mod Items
 mod Exactness
+mod Spelled
+mod Walking
+mod Sizes

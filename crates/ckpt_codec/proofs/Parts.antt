@@ -29,7 +29,7 @@ use Rattle.ckpt_codec.specs.Reading.{◌>>=◌, Found, Reader, number_at, if_pas
 use Rattle.ckpt_codec.specs.Reading.Footing.{BeforeAll, AtPoint, PastAll}
 use Rattle.ckpt_codec.proofs.Scan.{Outcome, scan, Agrees, AreBytes, Lawful, Each, is_found, field_lawful, one_took}
 use Rattle.ckpt_codec.proofs.Scan.Outcome.{Passed, Stuck, Differs}
-use Rattle.ckpt_codec.proofs.Laws.{refined, mapped, same_fields, same_reader, same_values, of_each, built, counted, only_lawful}
+use Rattle.ckpt_codec.proofs.Combining.{refined, mapped, same_fields, same_reader, same_values, of_each, built, counted, only_lawful}
 
 -- ---- numbers
 
@@ -101,10 +101,10 @@ highest_lawful node =
     (plain (nodes_field node) 1 (λ v. nat_lt node v && nat_le v MAX_NODES) (λ n. refl)) (λ s. count_lawful) (λ s. refl) (λ s x xs. refl))
     (λ hs is. all_each hs) (λ hs are. tt)
 
-abbrev participant_field : ℕ → ℕ → ℕ → ℕ → Field
+abbrev pub participant_field : ℕ → ℕ → ℕ → ℕ → Field
 participant_field node nodes least p = record { width = 1; allows = λ v. nat_le least v && (nat_lt v nodes && not (nat_eq v node)); value = p }
 
-abbrev participant_count : ℕ → Field
+abbrev pub participant_count : ℕ → Field
 participant_count n = record { width = 1; allows = λ v. nat_le 1 v; value = n }
 
 participants_lawful : (node nodes : ℕ) → Lawful Each (λ ps. participant_count (length ps) ∷ participants node nodes 0 ps) (participant_list_at node nodes)

@@ -9,15 +9,15 @@ use Rattle.ckpt_codec.specs.Fields.{Field}
 use Rattle.ckpt_codec.specs.RecordText.{any, exactly, count, flag, decision_fields, image_fields, tentative_fields, record_fields}
 use Rattle.ckpt_codec.specs.Reading.{◌>>=◌, Found, Reader, number_at, field_at, count_at, highest_at, decision_at, optional, image_at, initiator_at, tentative_number_at, instance_at, pending_at, tentative_at, Head, numbers_at, head_at, images_at, Tail, tail_at, record_of, body_at}
 use Rattle.ckpt_codec.proofs.Scan.{Lawful, Each, field_lawful}
-use Rattle.ckpt_codec.proofs.Laws.{refined, same_fields, same_values, built}
+use Rattle.ckpt_codec.proofs.Combining.{refined, same_fields, same_values, built}
 use Rattle.ckpt_codec.proofs.Parts.{plain, count_lawful, any_lawful, nodes_field, highest_lawful, decision_lawful, IfThere, is_there, behind_flag, flag_of, optional_lawful, IsImage, image_lawful}
 
 -- ---- the tentative image
 
-abbrev initiator_field : List ℕ → ℕ → Field
+abbrev pub initiator_field : List ℕ → ℕ → Field
 initiator_field highest n = record { width = 1; allows = λ v. nat_lt v (length highest); value = n }
 
-abbrev tentative_number : ℕ → ℕ → Field
+abbrev pub tentative_number : ℕ → ℕ → Field
 tentative_number entry n = record { width = 8; allows = λ v. nat_le 1 v && nat_eq v entry; value = n }
 
 instance_lawful : (highest : List ℕ)
