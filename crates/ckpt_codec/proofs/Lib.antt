@@ -1,0 +1,12 @@
+mod Loop
+mod Scan
+mod Combining
+mod Bytes
+mod Parts
+mod Text
+mod Records
+mod Items
+mod Exactness
+mod Spelled
+mod Walking
+mod Sizes

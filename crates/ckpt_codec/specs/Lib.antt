@@ -1,3 +1,6 @@
 pub mod Fields
 pub mod RecordText
 pub mod Faults
+pub mod Reading
+pub mod Spelling
+pub mod Lengths

@@ -4,10 +4,20 @@
 //! first offence from the left.
 #![tactic(auto)]
 
+mod ends;
 mod fault;
+mod fields;
+mod images;
+mod laws;
+mod lengths;
+mod numbers;
+mod processes;
+mod putting;
 mod reading;
 mod writing;
 
 pub use fault::CodecFault;
+pub use laws::no_spelling_begins_another;
+pub use lengths::{MAX_RECORD_BYTES, spelled_length};
 pub use reading::read_record;
 pub use writing::write_record;

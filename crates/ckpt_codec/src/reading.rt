@@ -1,13 +1,278 @@
 // From bytes to a record.
-ghost use Rattle.std.specs.Prelude.{IfOk, IfErr};
+ghost use Rattle.std.specs.Prelude.{◌≡◌, ◌<◌, IfOk, IfErr, length, slice_index};
 ghost use Rattle.ckpt_codec.specs.RecordText.{IsRecordText};
 ghost use Rattle.ckpt_codec.specs.Faults.{IsCodecFault, IsReadUnlessMemory, IsRefusedUnlessMemory};
+ghost use Rattle.ckpt_codec.specs.Reading.{Reads, entries_at, highest_at, participants_at, participant_list_at, decided_at, decision_at, instance_at, pending_at, tentative_at, Head, numbers_at, head_at, images_at, Tail, tail_at, body_at, whole_at};
 ghost use Rattle.ckpt_codec.specs.declared.fault.CodecFault.{CodecFault as FaultValue};
 ghost use Rattle.record.specs.RecordView.{RecordView};
 
 use crate::fault::CodecFault;
-use record::Record;
+use crate::fields::{
+    count_of, decided_number_of, flag_of, initiator_of, nodes_of, participant_count_of,
+    participant_of, tentative_number_of, u8_of,
+};
+use crate::images::image_of;
+use record::{Decision, Image, Record, Tentative};
 use std::alloc::Global;
+
+// So many entries.
+fn entries_of(
+    alloc: Global,
+    count: u8,
+    bytes: &[u8],
+) -> Result<(Vec<u64>, &[u8]), CodecFault>
+    ensures { Reads (λ x. (x.0.items, x.1.now)) result (entries_at count bytes.now) }
+{
+    let mut entries = Vec::new(alloc);
+    let mut rest = bytes;
+    for _ in 0..count {
+        let (entry, after) = count_of(rest)?;
+        entries.push(entry)?;
+        rest = after;
+    }
+    Ok((entries, rest))
+}
+
+// How many nodes there are, and the highest number seen of each.
+#[tactic(auto, unfolding(crate::specs::Reading::highest_at))]
+fn highest_of(
+    alloc: Global,
+    node: u8,
+    bytes: &[u8],
+) -> Result<(Vec<u64>, &[u8]), CodecFault>
+    ensures { Reads (λ x. (x.0.items, x.1.now)) result (highest_at node bytes.now) }
+{
+    let (nodes, rest) = nodes_of(node, bytes)?;
+    entries_of(alloc, nodes, rest)
+}
+
+// So many nodes that take part, ascending.
+fn participants_of(
+    alloc: Global,
+    node: u8,
+    nodes: usize,
+    count: u8,
+    bytes: &[u8],
+) -> Result<(Vec<u8>, &[u8]), CodecFault>
+    ensures { Reads (λ x. (x.0.items, x.1.now)) result
+        (participants_at node nodes count bytes.now) }
+{
+    let mut participants = Vec::new(alloc);
+    let mut rest = bytes;
+    let mut least = 0;
+    for _ in 0..count {
+        let (participant, after) = participant_of(node, nodes, least, rest)?;
+        participants.push(participant)?;
+        least = participant as u16 + 1;
+        rest = after;
+    }
+    Ok((participants, rest))
+}
+
+#[tactic(auto, unfolding(crate::specs::Reading::participant_list_at))]
+fn participant_list_of(
+    alloc: Global,
+    node: u8,
+    nodes: usize,
+    bytes: &[u8],
+) -> Result<(Vec<u8>, &[u8]), CodecFault>
+    ensures { Reads (λ x. (x.0.items, x.1.now)) result
+        (participant_list_at node nodes bytes.now) }
+{
+    let (count, rest) = participant_count_of(bytes)?;
+    participants_of(alloc, node, nodes, count, rest)
+}
+
+#[tactic(auto, unfolding(crate::specs::Reading::decided_at))]
+fn decided_of(
+    alloc: Global,
+    node: u8,
+    nodes: usize,
+    own: u64,
+    bytes: &[u8],
+) -> Result<(Decision, &[u8]), CodecFault>
+    ensures { Reads (λ x. (x.0, x.1.now)) result (decided_at node nodes own bytes.now) }
+{
+    let (number, rest) = decided_number_of(own, bytes)?;
+    let (participants, rest) = participant_list_of(alloc, node, nodes, rest)?;
+    let decision = Decision {
+        number,
+        participants,
+    };
+    Ok((decision, rest))
+}
+
+// A decision, or none.
+#[tactic(auto, unfolding(crate::specs::Reading::decision_at))]
+fn decision_of(
+    alloc: Global,
+    node: u8,
+    nodes: usize,
+    own: u64,
+    bytes: &[u8],
+) -> Result<(Option<Decision>, &[u8]), CodecFault>
+    ensures { Reads (λ x. (x.0, x.1.now)) result (decision_at node nodes own bytes.now) }
+{
+    let (follows, rest) = flag_of(bytes)?;
+    if !follows {
+        return Ok((None, rest));
+    }
+    let (decision, rest) = decided_of(alloc, node, nodes, own, rest)?;
+    Ok((Some(decision), rest))
+}
+
+// An initiator, and the number of its checkpoint.
+#[tactic(auto, unfolding(crate::specs::Reading::instance_at))]
+fn instance_of<'a>(
+    highest: &[u64],
+    bytes: &'a [u8],
+) -> Result<(u8, u64, &'a [u8]), CodecFault>
+    ensures { Reads (λ x. ((x.0, x.1), x.2.now)) result (instance_at highest.now bytes.now) }
+{
+    let (initiator, rest) = initiator_of(highest, bytes)?;
+    let (number, rest) = tentative_number_of(entry_of(highest, initiator), rest)?;
+    Ok((initiator, number, rest))
+}
+
+#[tactic(auto, unfolding(crate::specs::Reading::pending_at))]
+fn pending_of<'a>(
+    alloc: Global,
+    highest: &[u64],
+    permanent: &Image,
+    bytes: &'a [u8],
+) -> Result<(Tentative, &'a [u8]), CodecFault>
+    ensures { Reads (λ x. (x.0, x.1.now)) result
+        (pending_at highest.now permanent.now bytes.now) }
+{
+    let (initiator, number, rest) = instance_of(highest, bytes)?;
+    let (image, rest) = image_of(alloc, Some(permanent), rest)?;
+    let tentative = Tentative {
+        initiator,
+        number,
+        image,
+    };
+    Ok((tentative, rest))
+}
+
+// A tentative image, or none.
+#[tactic(auto, unfolding(crate::specs::Reading::tentative_at))]
+fn tentative_of<'a>(
+    alloc: Global,
+    highest: &[u64],
+    permanent: &Image,
+    bytes: &'a [u8],
+) -> Result<(Option<Tentative>, &'a [u8]), CodecFault>
+    ensures { Reads (λ x. (x.0, x.1.now)) result
+        (tentative_at highest.now permanent.now bytes.now) }
+{
+    let (follows, rest) = flag_of(bytes)?;
+    if !follows {
+        return Ok((None, rest));
+    }
+    let (tentative, rest) = pending_of(alloc, highest, permanent, rest)?;
+    Ok((Some(tentative), rest))
+}
+
+// The epoch, and the highest number seen of each node.
+#[tactic(auto, unfolding(crate::specs::Reading::numbers_at))]
+fn numbers_of(
+    alloc: Global,
+    node: u8,
+    bytes: &[u8],
+) -> Result<(u64, Vec<u64>, &[u8]), CodecFault>
+    ensures { Reads (λ x. ((x.0, x.1.items), x.2.now)) result (numbers_at node bytes.now) }
+{
+    let (epoch, rest) = count_of(bytes)?;
+    let (highest, rest) = highest_of(alloc, node, rest)?;
+    Ok((epoch, highest, rest))
+}
+
+#[tactic(auto, unfolding(crate::specs::Reading::head_at))]
+fn head_of(alloc: Global, bytes: &[u8]) -> Result<(u8, u64, Vec<u64>, &[u8]), CodecFault>
+    ensures { Reads (λ x. (record { node = x.0; epoch = x.1; highest = x.2.items }, x.3.now))
+        result (head_at bytes.now) }
+{
+    let (node, rest) = u8_of(bytes)?;
+    let (epoch, highest, rest) = numbers_of(alloc, node, rest)?;
+    Ok((node, epoch, highest, rest))
+}
+
+// The two images.
+#[tactic(auto, unfolding(crate::specs::Reading::images_at))]
+fn images_of<'a>(
+    alloc: Global,
+    highest: &[u64],
+    bytes: &'a [u8],
+) -> Result<(Image, Option<Tentative>, &'a [u8]), CodecFault>
+    ensures { Reads (λ x. ((x.0, x.1), x.2.now)) result (images_at highest.now bytes.now) }
+{
+    let (permanent, rest) = image_of(alloc, None, bytes)?;
+    let (tentative, rest) = tentative_of(alloc, highest, &permanent, rest)?;
+    Ok((permanent, tentative, rest))
+}
+
+// What follows the head.
+#[tactic(auto, unfolding(crate::specs::Reading::tail_at))]
+fn tail_of<'a>(
+    alloc: Global,
+    node: u8,
+    highest: &[u64],
+    bytes: &'a [u8],
+) -> Result<(Option<Decision>, Image, Option<Tentative>, &'a [u8]), CodecFault>
+    ensures { Reads (λ x. (record { decision = x.0; permanent = x.1; tentative = x.2 }, x.3.now))
+        result (tail_at node highest.now bytes.now) }
+{
+    let own = entry_of(highest, node);
+    let (decision, rest) = decision_of(alloc, node, highest.len(), own, bytes)?;
+    let (permanent, tentative, rest) = images_of(alloc, highest, rest)?;
+    Ok((decision, permanent, tentative, rest))
+}
+
+// The entry of a node.
+fn entry_of(highest: &[u64], node: u8) -> u64
+    ensures { result ≡ slice_index highest.now node }
+{
+    match highest.get(node as usize) {
+        Some(entry) => *entry,
+        None => 0,
+    }
+}
+
+// What follows the version.
+#[tactic(auto, unfolding(crate::specs::Reading::body_at))]
+fn body_of(alloc: Global, bytes: &[u8]) -> Result<(Record, &[u8]), CodecFault>
+    ensures { Reads (λ x. (x.0, x.1.now)) result (body_at bytes.now) }
+{
+    let (node, epoch, highest, rest) = head_of(alloc, bytes)?;
+    let (decision, permanent, tentative, rest) = tail_of(alloc, node, highest.as_slice(), rest)?;
+    let kept = Record {
+        node,
+        epoch,
+        highest,
+        decision,
+        permanent,
+        tentative,
+    };
+    Ok((kept, rest))
+}
+
+// The record that takes all the bytes.
+#[tactic(auto, unfolding(crate::specs::Reading::whole_at))]
+fn whole_of(alloc: Global, bytes: &[u8]) -> Result<Record, CodecFault>
+    ensures { Reads (λ kept. kept) result (whole_at bytes.now) }
+{
+    let [version, rest @ ..] = bytes else {
+        return Err(CodecFault::Truncated);
+    };
+    if *version != 1 {
+        return Err(CodecFault::Version);
+    }
+    let (kept, rest) = body_of(alloc, rest)?;
+    if !rest.is_empty() {
+        return Err(CodecFault::Malformed);
+    }
+    Ok(kept)
+}
 
 /// The record that these bytes spell, all of them.
 ///
@@ -27,7 +292,5 @@ pub fn read_record(alloc: Global, bytes: &[u8]) -> Result<Record, CodecFault>
     ensures each { (fault : FaultValue) → IsCodecFault bytes.now fault
         → IsRefusedUnlessMemory fault result }
 {
-    let _alloc = alloc;
-    let _bytes = bytes;
-    Err(CodecFault::NoMemory)
+    whole_of(alloc, bytes)
 }

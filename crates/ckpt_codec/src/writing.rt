@@ -1,16 +1,43 @@
 // From a record to bytes.
-ghost use Rattle.std.specs.Prelude.{IfOk};
+ghost use Rattle.std.specs.Prelude.{◌≡◌, ◌++◌, ◌<◌, OnOk, IfOk, length};
 ghost use Rattle.ckpt_codec.specs.RecordText.{IsRecord, IsRecordText};
+ghost use Rattle.ckpt_codec.specs.Spelling.{head_text, spelling, IsShortRecord, RecordHasItems};
 
+use crate::lengths::spelled_length;
+use crate::numbers::{put_highest, put_u8, put_u64};
+use crate::putting::{put_decision, put_image, put_tentative};
 use record::Record;
 use std::alloc::{AllocError, Global};
+
+// Version, node, epoch and the highest numbers.
+fn put_head(out: &mut Vec<u8>, kept: &Record) -> Result<(), AllocError>
+    requires { length kept.now.highest < 256 }
+    ensures { OnOk result (out.new.items ≡ out.old.items ++ head_text kept.now) }
+{
+    put_u8(out, 1)?;
+    put_u8(out, kept.node)?;
+    put_u64(out, kept.epoch)?;
+    put_u8(out, kept.highest.len() as u8)?;
+    put_highest(out, kept.highest.as_slice())
+}
+
+fn put_record(out: &mut Vec<u8>, kept: &Record) -> Result<(), AllocError>
+    requires { IsShortRecord kept.now }
+    ensures put { OnOk result (out.new.items ≡ out.old.items ++ spelling kept.now) }
+    ensures fit { OnOk result (RecordHasItems kept.now) }
+{
+    put_head(out, kept)?;
+    put_decision(out, &kept.decision)?;
+    put_image(out, &kept.permanent)?;
+    put_tentative(out, &kept.tentative)
+}
 
 /// The spelling of a record. Refuses for want of memory alone.
 pub fn write_record(alloc: Global, kept: &Record) -> Result<Vec<u8>, AllocError>
     requires { IsRecord kept.now }
     ensures { IfOk result (λ bytes. IsRecordText kept.now bytes.items) }
 {
-    let _kept = kept;
-    let _alloc = alloc;
-    Err(AllocError)
+    let mut out = Vec::with_capacity(alloc, spelled_length(kept))?;
+    put_record(&mut out, kept)?;
+    Ok(out)
 }

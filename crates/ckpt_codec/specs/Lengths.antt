@@ -1,0 +1,44 @@
+-- How many bytes spell a record, part by part.
+use Rattle.std.specs.Prelude.{ℕ, ◌+◌, ◌*◌, List, length, sum_by, Option, Some, None}
+use Rattle.kahn_net.specs.Processes.{Standing}
+use Rattle.kahn_net.specs.Processes.Standing.{NotBegun, At, Done}
+use Rattle.retained.specs.LogState.{LogState}
+use Rattle.record.specs.DecisionView.{DecisionView}
+use Rattle.record.specs.ProcessView.{SavedProcessView}
+use Rattle.record.specs.ImageView.{ImageView}
+use Rattle.record.specs.RecordView.{RecordView}
+use Rattle.record.specs.declared.image.SavedEnd.{SavedEnd}
+use Rattle.record.specs.declared.image.End.{End}
+use Rattle.record.specs.declared.image.End.TheVariants.{Receives, Sends, Both}
+use Rattle.record.specs.declared.record.Tentative.{Tentative}
+use Rattle.ckpt_codec.specs.RecordText.{variables_of}
+
+abbrev pub mode_length : Standing → ℕ
+mode_length (NotBegun vars) = 1
+mode_length (At point vars) = 6
+mode_length (Done vars) = 1
+
+abbrev pub process_length : SavedProcessView → ℕ
+process_length process = 2 + mode_length process.standing + 8 * length (variables_of process.standing)
+
+abbrev pub end_length : End → ℕ
+end_length (Receives received) = 8
+end_length (Sends log) = 12 + 8 * length log.items
+end_length (Both received log) = 20 + 8 * length log.items
+
+abbrev pub saved_end_length : SavedEnd → ℕ
+saved_end_length saved = 3 + end_length saved.end
+
+abbrev pub image_length : ImageView → ℕ
+image_length image = 3 + sum_by process_length image.processes + sum_by saved_end_length image.ends
+
+abbrev pub decision_length : Option DecisionView → ℕ
+decision_length None = 1
+decision_length (Some d) = 10 + length d.participants
+
+abbrev pub tentative_length : Option Tentative → ℕ
+tentative_length None = 1
+tentative_length (Some t) = 10 + image_length t.image
+
+abbrev pub record_length : RecordView → ℕ
+record_length kept = 11 + 8 * length kept.highest + decision_length kept.decision + image_length kept.permanent + tentative_length kept.tentative

@@ -1,0 +1,124 @@
+// How many bytes spell a record, without writing them.
+ghost use Rattle.std.specs.Prelude.{◌≡◌, ◌≤◌, ◌<◌, ◌^◌, [], All, length, sum_by};
+ghost use Rattle.kahn_net.specs.States.{standing_in};
+ghost use Rattle.ckpt_codec.specs.RecordText.{IsRecord, record_text};
+ghost use Rattle.ckpt_codec.specs.Spelling.{IsShortProcess, IsShortImage, IsShortDecision, IsShortTentative, IsShortRecord};
+ghost use Rattle.ckpt_codec.specs.Lengths.{mode_length, process_length, end_length, saved_end_length, image_length, decision_length, tentative_length, record_length};
+
+use kahn_net::Mode;
+use record::{Decision, End, Image, Record, SavedEnd, SavedProcess, Tentative};
+
+fn length_of_mode(mode: &Mode) -> usize
+    ensures value { result ≡ mode_length (standing_in mode.now []) }
+    ensures bound { result ≤ 6 }
+{
+    match mode {
+        Mode::NotBegun => 1,
+        Mode::At(_) => 6,
+        Mode::Finished => 1,
+    }
+}
+
+fn length_of_process(process: &SavedProcess) -> usize
+    requires { IsShortProcess process.now }
+    ensures value { result ≡ process_length process.now }
+    ensures bound { result ≤ 2048 }
+{
+    2 + length_of_mode(&process.state.mode) + 8 * process.state.variables.len()
+}
+
+fn length_of_processes(processes: &[SavedProcess]) -> usize
+    requires few { length processes.now < 256 }
+    requires each { All IsShortProcess processes.now }
+    ensures value { result ≡ sum_by process_length processes.now }
+    ensures bound { result ≤ 524288 }
+{
+    let mut total = 0;
+    for process in processes {
+        total += length_of_process(process);
+    }
+    total
+}
+
+fn length_of_end(end: &End) -> usize
+    ensures value { result ≡ end_length end.now }
+    ensures bound { result ≤ 524308 }
+{
+    match end {
+        End::Receives { .. } => 8,
+        End::Sends { log } => 12 + 8 * log.len(),
+        End::Both { log, .. } => 20 + 8 * log.len(),
+    }
+}
+
+fn length_of_saved_end(saved: &SavedEnd) -> usize
+    ensures value { result ≡ saved_end_length saved.now }
+    ensures bound { result ≤ 524311 }
+{
+    3 + length_of_end(&saved.end)
+}
+
+fn length_of_ends(ends: &[SavedEnd]) -> usize
+    requires { length ends.now < 256 ^ 2 }
+    ensures value { result ≡ sum_by saved_end_length ends.now }
+    ensures bound { result ≤ 34361245696 }
+{
+    let mut total = 0;
+    for saved in ends {
+        total += length_of_saved_end(saved);
+    }
+    total
+}
+
+fn length_of_image(image: &Image) -> usize
+    requires { IsShortImage image.now }
+    ensures value { result ≡ image_length image.now }
+    ensures bound { result ≤ 34361769987 }
+{
+    let processes = length_of_processes(image.processes.as_slice());
+    let ends = length_of_ends(image.ends.as_slice());
+    3 + processes + ends
+}
+
+fn length_of_decision(decision: &Option<Decision>) -> usize
+    requires { IsShortDecision decision.now }
+    ensures value { result ≡ decision_length decision.now }
+    ensures bound { result ≤ 265 }
+{
+    match decision {
+        None => 1,
+        Some(decision) => 10 + decision.participants.len(),
+    }
+}
+
+fn length_of_tentative(tentative: &Option<Tentative>) -> usize
+    requires { IsShortTentative tentative.now }
+    ensures value { result ≡ tentative_length tentative.now }
+    ensures bound { result ≤ 34361769997 }
+{
+    match tentative {
+        None => 1,
+        Some(tentative) => 10 + length_of_image(&tentative.image),
+    }
+}
+
+fn length_of_record(kept: &Record) -> usize
+    requires { IsShortRecord kept.now }
+    ensures { result ≡ record_length kept.now }
+{
+    let decision = length_of_decision(&kept.decision);
+    let permanent = length_of_image(&kept.permanent);
+    let tentative = length_of_tentative(&kept.tentative);
+    11 + 8 * kept.highest.len() + decision + permanent + tentative
+}
+
+/// The most bytes of a record that a node keeps: 1 MiB. No call of this crate asks for it.
+pub const MAX_RECORD_BYTES: usize = 1 << 20;
+
+/// How many bytes spell a record. Takes no memory.
+pub fn spelled_length(kept: &Record) -> usize
+    requires { IsRecord kept.now }
+    ensures { result ≡ length (record_text kept.now) }
+{
+    length_of_record(kept)
+}

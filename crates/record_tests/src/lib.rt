@@ -1,0 +1,7 @@
+//! The tests of records as bytes. They stand here since a crate with tests is proved twice, with them and without.
+#![tactic(auto)]
+
+#[cfg(test)]
+mod asserting;
+#[cfg(test)]
+mod record_tests;

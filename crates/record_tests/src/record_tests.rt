@@ -1,0 +1,208 @@
+//! Records by their bytes, all of them written by hand.
+
+use crate::asserting::{holds, same};
+use ckpt_codec::{read_record, write_record};
+use std::alloc::Global;
+use std::process::Abort;
+use std::test::Fail;
+
+/// What a node with one process of two variables, an input and an output keeps before its first step.
+const OPENING: [u8; 69] = [
+    1, 0, 0, 0, 0, 0, 0, 0, 0, 0, 1, 0, 0, 0, 0, 0,
+    0, 0, 0, 0, 1, 0, 0, 2, 0, 0, 0, 0, 0, 0, 0, 0,
+    0, 0, 0, 0, 0, 0, 0, 0, 0, 2, 0, 0, 0, 0, 0, 0,
+    0, 0, 0, 0, 0, 0, 1, 1, 0, 0, 0, 0, 0, 0, 0, 0,
+    0, 0, 0, 0, 0,
+];
+
+/// The same node after three items: the process waits at its get, and the log retains what it put.
+const LATER: [u8; 98] = [
+    1, 0, 0, 0, 0, 0, 0, 0, 0, 0, 1, 0, 0, 0, 0, 0,
+    0, 0, 1, 0, 1, 0, 1, 0, 0, 0, 0, 0, 2, 0, 0, 0,
+    0, 0, 0, 0, 6, 0, 0, 0, 0, 0, 0, 0, 3, 0, 2, 0,
+    0, 0, 0, 0, 0, 0, 0, 0, 0, 3, 0, 1, 1, 0, 0, 0,
+    0, 0, 0, 0, 0, 0, 0, 0, 3, 0, 0, 0, 0, 0, 0, 0,
+    1, 0, 0, 0, 0, 0, 0, 0, 3, 0, 0, 0, 0, 0, 0, 0,
+    6, 0,
+];
+
+/// Node 1 of three, with a decision, a tentative image, all three modes and all three roles.
+const WHOLE: [u8; 285] = [
+    1, 1, 0, 0, 0, 0, 0, 0, 0, 9, 3, 0, 0, 0, 0, 0,
+    0, 0, 4, 0, 0, 0, 0, 0, 0, 0, 6, 0, 0, 0, 0, 0,
+    0, 0, 0, 1, 0, 0, 0, 0, 0, 0, 0, 5, 2, 0, 2, 3,
+    0, 0, 1, 255, 255, 255, 255, 255, 255, 255, 255, 2, 1, 0, 0, 0,
+    7, 0, 2, 0, 0, 0, 0, 0, 0, 0, 3, 128, 0, 0, 0, 0,
+    0, 0, 0, 63, 2, 0, 0, 3, 0, 0, 0, 0, 0, 0, 0, 0,
+    0, 0, 8, 0, 7, 1, 0, 0, 0, 0, 0, 0, 0, 2, 0, 0,
+    0, 2, 0, 0, 0, 0, 0, 0, 0, 1, 255, 255, 255, 255, 255, 255,
+    255, 254, 0, 255, 2, 0, 0, 0, 0, 0, 0, 0, 4, 0, 0, 0,
+    0, 0, 0, 0, 3, 0, 0, 0, 1, 127, 255, 255, 255, 255, 255, 255,
+    255, 1, 0, 0, 0, 0, 0, 0, 0, 0, 4, 3, 0, 0, 1, 255,
+    255, 255, 255, 255, 255, 255, 255, 2, 1, 0, 0, 0, 7, 0, 2, 0,
+    0, 0, 0, 0, 0, 0, 4, 128, 0, 0, 0, 0, 0, 0, 0, 63,
+    2, 0, 0, 3, 0, 0, 0, 0, 0, 0, 0, 0, 0, 0, 9, 0,
+    7, 1, 0, 0, 0, 0, 0, 0, 0, 2, 0, 0, 0, 2, 0, 0,
+    0, 0, 0, 0, 0, 1, 255, 255, 255, 255, 255, 255, 255, 254, 0, 255,
+    2, 0, 0, 0, 0, 0, 0, 0, 4, 0, 0, 0, 0, 0, 0, 0,
+    3, 0, 0, 0, 1, 127, 255, 255, 255, 255, 255, 255, 255,
+];
+
+/// The number of the refusal of these bytes, or 0 where they are read as a record that is spelled so again.
+fn refusal(alloc: Global, bytes: &[u8]) -> Result<u8, Fail> {
+    match read_record(alloc, bytes) {
+        Ok(kept) => {
+            let written = write_record(alloc, &kept)?;
+            if written.as_slice() == bytes {
+                Ok(0)
+            } else {
+                Ok(99)
+            }
+        }
+        Err(fault) => Ok(fault.number()),
+    }
+}
+
+/// The same where one of the bytes is this one.
+fn refusal_with(alloc: Global, bytes: &[u8], place: usize, value: u8) -> Result<u8, Fail> {
+    let mut changed = Vec::from_slice(alloc, bytes)?;
+    match changed.get_mut(place) {
+        Some(byte) => *byte = value,
+        None => return Ok(98),
+    }
+    refusal(alloc, changed.as_slice())
+}
+
+/// With one of the bytes this one, the bytes are refused with this number, or read where it is 0.
+fn row(rt: &impl Abort, alloc: Global, bytes: &[u8], place: usize, value: u8, wanted: u8) {
+    match refusal_with(alloc, bytes, place, value) {
+        Ok(found) => same(rt, found, wanted, "a byte in its place"),
+        Err(_) => holds(rt, false, "memory"),
+    }
+}
+
+/// These bytes are refused with this number, or read where it is 0.
+fn is_refused(rt: &impl Abort, alloc: Global, bytes: &[u8], wanted: u8) {
+    match refusal(alloc, bytes) {
+        Ok(found) => same(rt, found, wanted, "bytes"),
+        Err(_) => holds(rt, false, "memory"),
+    }
+}
+
+/// These bytes spell a record. Each beginning of them is truncated, and with a byte more they are malformed.
+fn is_spelling(rt: &impl Abort, alloc: Global, bytes: &[u8]) -> Result<(), Fail> {
+    is_refused(rt, alloc, bytes, 0);
+    for len in 0..bytes.len() {
+        is_refused(rt, alloc, &bytes[..len], 30);
+    }
+    let mut longer = Vec::from_slice(alloc, bytes)?;
+    longer.push(0)?;
+    is_refused(rt, alloc, longer.as_slice(), 32);
+    Ok(())
+}
+
+/// Whatever one byte of them is, they are refused, or read as a record that is spelled so again.
+fn stands_each_change(rt: &impl Abort, alloc: Global, bytes: &[u8]) -> Result<(), Fail> {
+    for place in 0..bytes.len() {
+        for value in 0..=255 {
+            let found = refusal_with(alloc, bytes, place, value)?;
+            holds(rt, found == 0 || (30 <= found && found <= 32), "one byte changed");
+        }
+    }
+    Ok(())
+}
+
+#[test]
+fn three_records(rt: HostRuntime) -> Result<(), Fail> {
+    let alloc = rt.alloc();
+    is_spelling(&rt, alloc, &OPENING)?;
+    is_spelling(&rt, alloc, &LATER)?;
+    is_spelling(&rt, alloc, &WHOLE)?;
+    Ok(())
+}
+
+#[test]
+fn one_byte_changed(rt: HostRuntime) -> Result<(), Fail> {
+    let alloc = rt.alloc();
+    stands_each_change(&rt, alloc, &OPENING)?;
+    stands_each_change(&rt, alloc, &LATER)?;
+    stands_each_change(&rt, alloc, &WHOLE)?;
+    Ok(())
+}
+
+#[test]
+fn the_head(rt: HostRuntime) {
+    let alloc = rt.alloc();
+    row(&rt, alloc, &OPENING, 0, 2, 31);
+    row(&rt, alloc, &OPENING, 0, 0, 31);
+    // the epoch and the entry
+    row(&rt, alloc, &OPENING, 9, 1, 0);
+    row(&rt, alloc, &OPENING, 2, 128, 32);
+    row(&rt, alloc, &OPENING, 18, 2, 0);
+    row(&rt, alloc, &OPENING, 11, 128, 32);
+    // how many nodes there are, one of which is this one
+    row(&rt, alloc, &OPENING, 10, 0, 32);
+    row(&rt, alloc, &OPENING, 10, 17, 32);
+    row(&rt, alloc, &OPENING, 1, 1, 32);
+    is_refused(&rt, alloc, &[1, 16, 0, 0, 0, 0, 0, 0, 0, 0], 30);
+    is_refused(&rt, alloc, &[1, 16, 0, 0, 0, 0, 0, 0, 0, 0, 16], 32);
+}
+
+#[test]
+fn a_decision(rt: HostRuntime) {
+    let alloc = rt.alloc();
+    row(&rt, alloc, &OPENING, 19, 2, 32);
+    // its number, up to the entry of the node
+    row(&rt, alloc, &WHOLE, 43, 6, 0);
+    row(&rt, alloc, &WHOLE, 43, 7, 32);
+    row(&rt, alloc, &WHOLE, 43, 0, 32);
+    // who takes part: some, ascending, but not the node itself
+    row(&rt, alloc, &WHOLE, 44, 0, 32);
+    row(&rt, alloc, &WHOLE, 44, 3, 32);
+    row(&rt, alloc, &WHOLE, 46, 0, 32);
+    row(&rt, alloc, &WHOLE, 46, 1, 32);
+    row(&rt, alloc, &WHOLE, 46, 3, 32);
+}
+
+#[test]
+fn an_image(rt: HostRuntime) {
+    let alloc = rt.alloc();
+    // numbers, modes, depth and counts of processes
+    row(&rt, alloc, &OPENING, 21, 63, 0);
+    row(&rt, alloc, &OPENING, 21, 64, 32);
+    row(&rt, alloc, &OPENING, 22, 3, 32);
+    row(&rt, alloc, &OPENING, 23, 65, 32);
+    row(&rt, alloc, &LATER, 27, 1, 32);
+    row(&rt, alloc, &WHOLE, 59, 0, 32);
+    // channels and roles
+    row(&rt, alloc, &OPENING, 42, 1, 32);
+    row(&rt, alloc, &OPENING, 44, 3, 32);
+    row(&rt, alloc, &OPENING, 54, 0, 32);
+    // counts of items
+    row(&rt, alloc, &OPENING, 45, 128, 32);
+    row(&rt, alloc, &OPENING, 65, 1, 30);
+    row(&rt, alloc, &OPENING, 65, 2, 32);
+    // an end of both roles: its base up to what is received, and that up to what is retained
+    row(&rt, alloc, &WHOLE, 140, 3, 0);
+    row(&rt, alloc, &WHOLE, 148, 5, 32);
+    row(&rt, alloc, &WHOLE, 140, 5, 32);
+}
+
+#[test]
+fn a_tentative_image(rt: HostRuntime) {
+    let alloc = rt.alloc();
+    row(&rt, alloc, &OPENING, 68, 2, 32);
+    row(&rt, alloc, &OPENING, 68, 1, 30);
+    // its number is its initiator's entry
+    row(&rt, alloc, &WHOLE, 162, 1, 32);
+    row(&rt, alloc, &WHOLE, 162, 3, 32);
+    row(&rt, alloc, &WHOLE, 170, 5, 32);
+    // as many processes, of the same numbers and with as many variables, in modes of their own
+    row(&rt, alloc, &WHOLE, 171, 2, 32);
+    row(&rt, alloc, &WHOLE, 172, 1, 32);
+    row(&rt, alloc, &WHOLE, 173, 2, 0);
+    row(&rt, alloc, &WHOLE, 174, 0, 32);
+    // the same channels in the same roles
+    row(&rt, alloc, &WHOLE, 213, 3, 32);
+    row(&rt, alloc, &WHOLE, 214, 1, 32);
+}
