@@ -2,6 +2,7 @@ pub mod Puts
 pub mod Parts
 pub mod Images
 pub mod Allowed
+pub mod Alike
 pub mod Loads
 pub mod Undone
 pub mod Changes
