@@ -57,6 +57,7 @@ same_bytes (suc n) (x ∷ xs) (y ∷ ys) len other xs-are ys-are e =
                 | inr le ↦ omega arith
               ]
         ]
+
     tails : (a b c p q : ℕ) → a ≡ b → a * c + p ≡ b * c + q → p ≡ q
     tails a b c p q same e =
         let moved : a * c ≡ b * c = ap (λ (k : ℕ). k * c) same in

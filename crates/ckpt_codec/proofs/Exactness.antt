@@ -378,6 +378,7 @@ is_refused bytes r fault read cause = by_result r (refusal_of bytes fault cause)
     by_fault : (other : CodecFault) → (fault ≡ NoMemory) ⊎ (whole_at bytes ≡ Err fault) → whole_at bytes ≡ Err other → (fault ≡ NoMemory) ⊎ ((other ≡ NoMemory) ⊎ (other ≡ fault))
     by_fault other (inl none) read = inl none
     by_fault other (inr e) read = inr (inr (is_fault {A = RecordView} other fault (sym read ∙ e)))
+
     by_result : (r : Result RecordView CodecFault) → (fault ≡ NoMemory) ⊎ (whole_at bytes ≡ Err fault) → Reads (λ (kept : RecordView). kept) r (whole_at bytes) → IsRefusedUnlessMemory fault r
     by_result (Ok found) (inl none) read = none
     by_result (Ok found) (inr e) read = let apart : Ok found ≡ Err fault = sym read ∙ e in absurd cc

@@ -161,10 +161,12 @@ flag_lawful =
     back : (b : Bool) → Each b → (cond b 1 0 ≤ 1) × (nat_eq (cond b 1 0) 1 ≡ b) × (flag_of b ∷ [] ≡ flag (cond b 1 0) ∷ [])
     back true is = (omega arith, refl, refl)
     back false is = (omega arith, refl, refl)
+
     same : (n : ℕ) → n ≤ 1 → cond (nat_eq n 1) 1 0 ≡ n
     same zero le = refl
     same (suc zero) le = refl
     same (suc (suc n)) le = absurd (omega arith)
+
     forth : (n : ℕ) → n ≤ 1 → Unit {0} × (cond (nat_eq n 1) 1 0 ≡ n)
     forth n le = (tt, same n le)
 
@@ -204,6 +206,7 @@ decision_lawful node nodes own =
     all : (d : Option DecisionView) → Each d → IfThere Each d
     all None e = tt
     all (Some d) e = tt
+
     same : (d : Option DecisionView) → Each d
         → decision_fields node nodes own d ≡ flag_of (is_there d) ∷ behind_flag (λ (d : DecisionView). between 8 1 (suc own) d.number ∷ participant_count (length d.participants) ∷ participants node nodes 0 d.participants) d
     same None e = refl
@@ -300,6 +303,7 @@ footing_lawful =
     is_mode BeforeAll e = omega arith
     is_mode (AtPoint point) e = omega arith
     is_mode PastAll e = omega arith
+
     some_of : (n : ℕ) → n ≤ 2 → (f : Footing) × Each f × (mode_number f ≡ n)
     some_of zero le = (BeforeAll, tt, refl)
     some_of (suc zero) le = (AtPoint (point_at 0 []), tt, refl)
@@ -337,11 +341,13 @@ state_lawful like =
     regrouped : (r : Found Footing) → ((r >>= with_mode) >>= with_variables like) ≡ (r >>= λ x. variables_at like x.1 >>= λ y. Ok (standing_on x.0 y.0, y.1))
     regrouped (Ok x) = refl
     regrouped (Err fault) = refl
+
     unmade : (c : Standing) → (standing_on (footing_of c) (variables_of c) ≡ c)
         × (state_fields like c ≡ (at_most 1 2 (mode_number (footing_of c)) ∷ behind_mode (footing_of c)) ++ (variable_count like (length (variables_of c)) ∷ map item (variables_of c)))
     unmade (NotBegun vars) = (refl, refl)
     unmade (At point vars) = (refl, refl)
     unmade (Done vars) = (refl, refl)
+
     made : (f : Footing) (vars : List ℤ) → (footing_of (standing_on f vars) ≡ f) × (variables_of (standing_on f vars) ≡ vars)
     made BeforeAll vars = (refl, refl)
     made (AtPoint point) vars = (refl, refl)

@@ -94,15 +94,17 @@ one_took allows width (Err fault) x e = absurd cc
 one_took allows width (Ok y) x e =
     let c = chosen y (allows y.0) e in
     let same : y ≡ x = is_found y x c.1 in
-    let passes : allows x.0 ≡ true = sym (ap (λ (z : ℕ × List ℕ). allows z.0) same) ∙ c.0 in
-    (passes,
-     ap (λ (z : ℕ × List ℕ). behind_it (judged (record { width = width; allows = allows; value = x.0 }) (Ok z)) (scan [])) same
-     ∙ both_true x (allows x.0) (nat_eq x.0 x.0) passes (eq-eqb x.0 x.0 refl),
-     c.1)
+    let passes : allows x.0 ≡ true = sym (ap (λ (z : ℕ × List ℕ). allows z.0) same) ∙ c.0 in (
+      passes,
+      ap (λ (z : ℕ × List ℕ). behind_it (judged (record { width = width; allows = allows; value = x.0 }) (Ok z)) (scan [])) same
+          ∙ both_true x (allows x.0) (nat_eq x.0 x.0) passes (eq-eqb x.0 x.0 refl),
+      c.1,
+    )
   where
     chosen : (y : ℕ × List ℕ) (passes : Bool) → cond passes (ok y) (Err Malformed) ≡ Ok x → (passes ≡ true) × (ok y ≡ ok x)
     chosen y true e = (refl, e)
     chosen y false e = absurd cc
+
     both_true : (x : ℕ × List ℕ) (passes same : Bool) → passes ≡ true → same ≡ true → behind_it (cond passes (cond same (Passed x.1) Differs) (Stuck Malformed)) (scan []) ≡ Passed x.1
     both_true x true true p s = refl
     both_true x true false p s = absurd cc

@@ -113,9 +113,11 @@ all_passed (field ∷ fields) bytes rest are e =
     by_walk : ((left : List ℕ) → AreBytes left → scan fields left ≡ Passed rest → AllAllowed fields × (left ≡ text_of fields ++ rest)) → Walk (scan_field field bytes) (scan fields) (Passed rest) → AllAllowed (field ∷ fields) × (bytes ≡ text_of (field ∷ fields) ++ rest)
     by_walk others (Walk.Passes left was is) =
         let f = field_passed field bytes left are was in
-        let a = others left f.2 is in
-        ((f.0, a.0), f.1 ∙ (ap (λ (r : List ℕ). field_text field ++ r) a.1 ∙ (sym (append_assoc (field_text field) (text_of fields) rest)
-            ∙ ap (λ (r : List ℕ). r ++ rest) (sym (flat_map-cons field_text field fields)))))
+        let a = others left f.2 is in (
+          (f.0, a.0),
+          f.1 ∙ (ap (λ (r : List ℕ). field_text field ++ r) a.1 ∙ (sym (append_assoc (field_text field) (text_of fields) rest)
+              ∙ ap (λ (r : List ℕ). r ++ rest) (sym (flat_map-cons field_text field fields)))),
+        )
     by_walk others (Walk.Halts fault was is) = absurd cc
     by_walk others (Walk.Parts is) = absurd cc
 
