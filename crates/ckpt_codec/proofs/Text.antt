@@ -35,7 +35,7 @@ judged_passed field (Ok x) rest e = chosen x (field.allows x.0) (nat_eq x.0 fiel
     chosen x true false allowed is e = absurd cc
     chosen x false same allowed is e = absurd cc
 
-field_passed : (field : Field) (bytes rest : List ℕ) → AreBytes bytes → scan_field field bytes ≡ Passed rest → IsAllowed field × (bytes ≡ field_text field ++ rest) × AreBytes rest
+pub field_passed : (field : Field) (bytes rest : List ℕ) → AreBytes bytes → scan_field field bytes ≡ Passed rest → IsAllowed field × (bytes ≡ field_text field ++ rest) × AreBytes rest
 field_passed field bytes rest are e =
     let j = judged_passed field (number_at field.width bytes) rest e in
     let t = number_took field.width bytes (field.value, rest) are j.1 in
@@ -95,12 +95,12 @@ abbrev pub AllAllowed : List Field → Type 0
 AllAllowed fields = AllByRecursion IsAllowed fields
 
 -- what a step of the walk led to
-data Walk (o : Outcome) (next : List ℕ → Outcome) (whole : Outcome) : Type 0 where
+pub data Walk (o : Outcome) (next : List ℕ → Outcome) (whole : Outcome) : Type 0 where
   Passes : (rest : List ℕ) (was : o ≡ Passed rest) (is : next rest ≡ whole) → Walk o next whole
   Halts : (fault : CodecFault) (was : o ≡ Stuck fault) (is : whole ≡ Stuck fault) → Walk o next whole
   Parts : (is : whole ≡ Differs) → Walk o next whole
 
-walk_of : (o : Outcome) (next : List ℕ → Outcome) (whole : Outcome) → behind_it o next ≡ whole → Walk o next whole
+pub walk_of : (o : Outcome) (next : List ℕ → Outcome) (whole : Outcome) → behind_it o next ≡ whole → Walk o next whole
 walk_of (Passed rest) next whole e = Walk.Passes rest refl e
 walk_of (Stuck fault) next whole e = Walk.Halts fault refl (sym e)
 walk_of Differs next whole e = Walk.Parts (sym e)
