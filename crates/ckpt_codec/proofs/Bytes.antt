@@ -1,6 +1,6 @@
 -- Numbers and the bytes that spell them.
-use Rattle.std.proofs.Common.{◌≡◌, ℕ, zero, suc, ◌+◌, ◌*◌, ◌^◌, ◌<◌, ◌≤◌, ◌⊎◌, Bool, true, false, nat_lt, cond, List, [], ◌∷◌, ◌++◌, length, slice_index, take, drop, Result, Ok, Err, refl, sym, ap, subst, ◌∙◌, append_assoc, arith, inl, inr}
-use Rattle.std.specs.Int.{byte_at, bytes_high_first}
+use Rattle.std.proofs.Common.{◌≡◌, ℕ, zero, suc, ◌+◌, ◌*◌, ◌^◌, ◌<◌, ◌≤◌, Bool, true, false, nat_lt, cond, List, [], ◌∷◌, ◌++◌, length, take, drop, Ok, Err, refl, sym, ap, subst, ◌∙◌, arith, inl, inr}
+use Rattle.std.specs.Int.{byte_at}
 use Rattle.std.proofs.lemmas.Bool.{cases_lt, ltb-true, ltb-false, le-ltb, lt-ltb}
 use Rattle.std.proofs.lemmas.List.{append-nil, take-append-drop, length-append, length-take, get_or-take, get_or_past, drop_at}
 use Rattle.std.proofs.Math.Nat.{mul-le-mul_left}
@@ -57,6 +57,7 @@ same_bytes (suc n) (x ∷ xs) (y ∷ ys) len other xs-are ys-are e =
                 | inr le ↦ omega arith
               ]
         ]
+
     tails : (a b c p q : ℕ) → a ≡ b → a * c + p ≡ b * c + q → p ≡ q
     tails a b c p q same e =
         let moved : a * c ≡ b * c = ap (λ (k : ℕ). k * c) same in

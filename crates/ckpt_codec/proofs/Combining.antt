@@ -1,5 +1,5 @@
 -- Readers put together are lawful where their parts are.
-use Rattle.std.proofs.Common.{◌≡◌, ℕ, zero, suc, List, [], ◌∷◌, ◌++◌, length, replicate, Result, Ok, Err, refl, sym, ap, subst, ◌∙◌, arith}
+use Rattle.std.proofs.Common.{◌≡◌, ℕ, zero, suc, List, [], ◌∷◌, ◌++◌, length, replicate, Ok, Err, refl, sym, ap, subst, ◌∙◌, arith}
 use Rattle.std.specs.List.{AllByRecursion}
 use Rattle.ckpt_codec.specs.Fields.{Field}
 use Rattle.ckpt_codec.specs.declared.fault.CodecFault.{CodecFault}
@@ -39,12 +39,14 @@ refined {T = T} {C = C} {IsT = IsT} {ff = ff} {f = f} IsC gg g tag first second 
     scanned : (c : C) (t : T) (bytes : List ℕ) (o : Outcome) → tag c ≡ t → scan (ff t) bytes ≡ o → scan (ff (tag c) ++ gg c) bytes ≡ behind_it o (scan (gg c))
     scanned c t bytes o same e =
         scan-append (ff (tag c)) (gg c) bytes ∙ (ap (λ (u : T). behind_it (scan (ff u) bytes) (scan (gg c))) same ∙ ap (λ (p : Outcome). behind_it p (scan (gg c))) e)
+
     took_by : (bytes : List ℕ) (x : C × List ℕ) → AreBytes bytes → Step (f bytes) (λ y. g y.0 y.1) (Ok x) → IsC x.0 × (scan (ff (tag x.0) ++ gg x.0) bytes ≡ Passed x.1) × AreBytes x.1
     took_by bytes x are (Step.Stops fault was e) = absurd cc
     took_by bytes x are (Step.Goes y was e) =
         let t = first.took bytes y are was in
         let u = (second y.0 t.0).took y.1 x t.2 e in
         (u.0.0, scanned x.0 y.0 bytes (Passed y.1) u.0.1 t.1 ∙ u.1, u.2)
+
     stuck_by : (bytes : List ℕ) (fault : CodecFault) → AreBytes bytes → Step (f bytes) (λ y. g y.0 y.1) (Err fault) → (c : C) × IsC c × (scan (ff (tag c) ++ gg c) bytes ≡ Stuck fault)
     stuck_by bytes fault are (Step.Stops other was e) =
         let s = first.stuck bytes other are was in
@@ -73,10 +75,12 @@ mapped {A = A} {B = B} {Is = Is} {fields = fields} {read = read} IsB others to f
     renamed a b found (Passed rest) is e = ap (λ (r : Found A). r >>= λ x. Ok (to x.0, x.1)) e ∙ ap (λ (y : B). Ok (y, rest)) is
     renamed a b found (Stuck fault) is e = ap (λ (r : Found A). r >>= λ x. Ok (to x.0, x.1)) e
     renamed a b found Differs is e = tt
+
     has_fields : (a : A) → Is a → others (to a) ≡ fields a
     has_fields a is =
         let h = forth a is in
         (back (to a) h.0).2 ∙ ap fields h.1
+
     took_by : (bytes : List ℕ) (x : B × List ℕ) → AreBytes bytes → Step (read bytes) (λ y. Ok (to y.0, y.1)) (Ok x) → IsB x.0 × (scan (others x.0) bytes ≡ Passed x.1) × AreBytes x.1
     took_by bytes x are (Step.Stops fault was e) = absurd cc
     took_by bytes x are (Step.Goes y was e) =
@@ -84,6 +88,7 @@ mapped {A = A} {B = B} {Is = Is} {fields = fields} {read = read} IsB others to f
         let same : (to y.0, y.1) ≡ x = is_found {A = B × List ℕ} (to y.0, y.1) x e in
         subst (λ (z : B × List ℕ). IsB z.0 × (scan (others z.0) bytes ≡ Passed z.1) × AreBytes z.1) same
         ((forth y.0 t.0).0, ap (λ (fs : List Field). scan fs bytes) (has_fields y.0 t.0) ∙ t.1, t.2)
+
     stuck_by : (bytes : List ℕ) (fault : CodecFault) → AreBytes bytes → Step (read bytes) (λ y. Ok (to y.0, y.1)) (Err fault) → (b : B) × IsB b × (scan (others b) bytes ≡ Stuck fault)
     stuck_by bytes fault are (Step.Stops other was e) =
         let s = law.stuck bytes other are was in
@@ -147,6 +152,7 @@ built {A = A} {B = B} {C = C} {IsA = IsA} {ff = ff} {f = f} {IsB = IsB} {gg = gg
       ap (λ (z : A). make z (second c)) (sym h.1) ∙ (back c).0,
       ap (λ (z : A). gg z (second c)) h.1,
     )
+
     made : (a : A) → IsA a → (b : B) → IsB a b → ((IsA (first (make a b)) × IsB (first (make a b)) (second (make a b))) × (first (make a b) ≡ a)) × (second (make a b) ≡ b)
     made a is b fits =
         let e = forth a b in (

@@ -1,7 +1,6 @@
 -- Records are read as they are spelled, what is spelled is read, and the first offence decides.
-use Rattle.std.proofs.Common.{◌≡◌, ◌≢◌, ℕ, suc, ◌+◌, ◌*◌, ◌^◌, ◌<◌, ◌⊎◌, Bool, true, false, nat_eq, nat_lt, cond, List, [], ◌∷◌, ◌++◌, length, Option, None, Result, Ok, Err, refl, sym, ap, subst, ◌∙◌, append_assoc, arith, inl, inr}
-use Rattle.std.specs.Prelude.{IfOk, IfErr, IsTrue, All}
-use Rattle.std.specs.List.{AllByRecursion}
+use Rattle.std.proofs.Common.{◌≡◌, ◌≢◌, ℕ, suc, ◌<◌, ◌⊎◌, Bool, true, false, nat_eq, nat_lt, cond, List, [], ◌∷◌, ◌++◌, length, None, Result, Ok, Err, refl, sym, ap, subst, ◌∙◌, arith, inl, inr}
+use Rattle.std.specs.Prelude.{IfOk, IfErr, All}
 use Rattle.std.proofs.lemmas.Bool.{eqb-true, eqb-false, ne_eqb, le-ltb}
 use Rattle.std.proofs.lemmas.List.{append-nil, nil_from_length}
 use Rattle.std.proofs.lemmas.List.Elements.{All-from_recursion, recursion_from_All}
@@ -379,6 +378,7 @@ is_refused bytes r fault are read cause = by_result r (refusal_of bytes fault ar
     by_fault : (other : CodecFault) → (fault ≡ NoMemory) ⊎ (whole_at bytes ≡ Err fault) → whole_at bytes ≡ Err other → (fault ≡ NoMemory) ⊎ ((other ≡ NoMemory) ⊎ (other ≡ fault))
     by_fault other (inl none) read = inl none
     by_fault other (inr e) read = inr (inr (is_fault {A = RecordView} other fault (sym read ∙ e)))
+
     by_result : (r : Result RecordView CodecFault) → (fault ≡ NoMemory) ⊎ (whole_at bytes ≡ Err fault) → Reads (λ (kept : RecordView). kept) r (whole_at bytes) → IsRefusedUnlessMemory fault r
     by_result (Ok found) (inl none) read = none
     by_result (Ok found) (inr e) read = let apart : Ok found ≡ Err fault = sym read ∙ e in absurd cc

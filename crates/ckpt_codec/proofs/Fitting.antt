@@ -1,5 +1,5 @@
 -- Each record has the fields of one whose items are of 64 bits, as far as bytes can tell.
-use Rattle.std.proofs.Common.{◌≡◌, ℕ, suc, ◌+◌, ◌^◌, ◌<◌, ◌%◌, Bool, true, false, nat_eq, nat_le, cond, ℤ, List, [], ◌∷◌, ◌++◌, length, map, slice_index, Option, Some, None, Result, Ok, Err, refl, sym, ap, subst, ◌∙◌, arith}
+use Rattle.std.proofs.Common.{◌≡◌, ℕ, suc, ◌^◌, ◌<◌, ◌%◌, Bool, true, false, nat_eq, cond, ℤ, List, [], ◌∷◌, ◌++◌, length, map, slice_index, Option, Some, None, Ok, Err, refl, sym, ap, subst, ◌∙◌, arith}
 use Rattle.std.specs.Prelude.{FitsSigned}
 use Rattle.std.specs.List.{AllByRecursion}
 use Rattle.std.specs.Int.{w64, cast_signed, cast_unsigned}
@@ -24,7 +24,7 @@ use Rattle.ckpt_codec.proofs.Scan.{Outcome, behind_it, judged, scan_field, scan,
 use Rattle.ckpt_codec.proofs.Scan.Outcome.{Passed, Stuck, Differs}
 use Rattle.ckpt_codec.proofs.Text.{field_passed, Walk, walk_of}
 use Rattle.ckpt_codec.proofs.Parts.{signed_fits, IsImage}
-use Rattle.ckpt_codec.proofs.Records.{initiator_field, tentative_number, IsTentative, IsKept}
+use Rattle.ckpt_codec.proofs.Records.{IsTentative, IsKept}
 
 -- ---- fields that bytes can't tell apart: the same but for a value that is too large for them
 pub record Alike (field other : Field) : Type 0 where
@@ -114,6 +114,7 @@ item_alike z =
   where
     below : (n : ℕ) → n % 256 ^ 8 < 256 ^ 8
     below n = omega arith
+
     small : (n : ℕ) → n < 256 ^ 8 → n % 256 ^ 8 ≡ n
     small n lt = omega arith
 
@@ -160,11 +161,12 @@ process_wanting number variables least p =
 
 process_alike : (number variables : Option ℕ) (least : ℕ) (p : SavedProcessView) → AllAlike (process_wanting number variables least p) (process_wanting number variables least (fit_process p))
 process_alike number variables least p =
-    let vars = variables_of p.standing in
-    (same (wanted_or number (between 1 least MAX_PROCESSES p.number)),
-     alike_append (mode_fields p.standing) (mode_fields (fit_standing p.standing)) _ _ (equal _ _ (mode-fit p.standing))
-     (subst (λ (zs : List ℤ). AllAlike (wanted_or variables (at_most 1 MAX_VARIABLES (length vars)) ∷ map item vars) (wanted_or variables (at_most 1 MAX_VARIABLES (length zs)) ∷ map item zs)) (sym (vars-fit p.standing))
-     (subst (λ (n : ℕ). Alike (wanted_or variables (at_most 1 MAX_VARIABLES (length vars))) (wanted_or variables (at_most 1 MAX_VARIABLES n))) (length-fitting vars) (same _), items_alike vars)))
+    let vars = variables_of p.standing in (
+      same (wanted_or number (between 1 least MAX_PROCESSES p.number)),
+      alike_append (mode_fields p.standing) (mode_fields (fit_standing p.standing)) _ _ (equal _ _ (mode-fit p.standing))
+          (subst (λ (zs : List ℤ). AllAlike (wanted_or variables (at_most 1 MAX_VARIABLES (length vars)) ∷ map item vars) (wanted_or variables (at_most 1 MAX_VARIABLES (length zs)) ∷ map item zs)) (sym (vars-fit p.standing))
+          (subst (λ (n : ℕ). Alike (wanted_or variables (at_most 1 MAX_VARIABLES (length vars))) (wanted_or variables (at_most 1 MAX_VARIABLES n))) (length-fitting vars) (same _), items_alike vars)),
+    )
 
 abbrev fit_list : {X : Type 0} → (X → X) → Option (List X) → Option (List X)
 fit_list f None = None
@@ -194,10 +196,10 @@ processes_alike like least (p ∷ ps) =
     let v-is = first-fit fit_process (λ (p : SavedProcessView). length (variables_of p.standing)) variables-fit like in
     let one : AllAlike (process_fields (first_of like) least p) (process_fields (first_of fitted) least (fit_process p))
     = subst (λ (m : Option ℕ). AllAlike (process_wanting n v least p) (process_wanting m (wanted (λ (p : SavedProcessView). length (variables_of p.standing)) (first_of fitted)) least (fit_process p))) n-is
-      (subst (λ (m : Option ℕ). AllAlike (process_wanting n v least p) (process_wanting n m least (fit_process p))) v-is (process_alike n v least p)) in
+    (subst (λ (m : Option ℕ). AllAlike (process_wanting n v least p) (process_wanting n m least (fit_process p))) v-is (process_alike n v least p)) in
     let others : AllAlike (processes_fields (rest_of like) (suc p.number) ps) (processes_fields (rest_of fitted) (suc p.number) (map fit_process ps))
     = subst (λ (l : Option (List SavedProcessView)). AllAlike (processes_fields (rest_of like) (suc p.number) ps) (processes_fields l (suc p.number) (map fit_process ps))) (rest-fit fit_process like)
-      (processes_alike (rest_of like) (suc p.number) ps) in
+    (processes_alike (rest_of like) (suc p.number) ps) in
     alike_append (process_fields (first_of like) least p) (process_fields (first_of fitted) least (fit_process p)) _ _ one others
 
 processes_fit : (ps : List SavedProcessView) → AllByRecursion (λ (p : SavedProcessView). AllByRecursion (FitsSigned w64) (variables_of p.standing)) (map fit_process ps)
@@ -228,10 +230,11 @@ role-fit (Both received log) = refl
 
 log_alike : (limit from : ℕ) (log : LogState)
     → AllAlike (at_most 8 limit log.base ∷ retained_count log.base from (length log.items) ∷ map item log.items)
-      (at_most 8 limit log.base ∷ retained_count log.base from (length (map fitting log.items)) ∷ map item (map fitting log.items))
-log_alike limit from log =
-    (same (at_most 8 limit log.base),
-     (subst (λ (n : ℕ). Alike (retained_count log.base from (length log.items)) (retained_count log.base from n)) (length-fitting log.items) (same _), items_alike log.items))
+    (at_most 8 limit log.base ∷ retained_count log.base from (length (map fitting log.items)) ∷ map item (map fitting log.items))
+log_alike limit from log = (
+  same (at_most 8 limit log.base),
+  (subst (λ (n : ℕ). Alike (retained_count log.base from (length log.items)) (retained_count log.base from n)) (length-fitting log.items) (same _), items_alike log.items),
+)
 
 end_alike : (e : End) → AllAlike (end_fields e) (end_fields (fit_end e))
 end_alike (Receives received) = (same (count received), tt)
@@ -242,9 +245,10 @@ abbrev end_wanting : Option ℕ → Option ℕ → ℕ → SavedEnd → List Fie
 end_wanting channel role least e = wanted_or channel (between 2 least MAX_CHANNELS e.channel) ∷ wanted_or role (at_most 1 2 (role_of e.end)) ∷ end_fields e.end
 
 saved_alike : (channel role : Option ℕ) (least : ℕ) (e : SavedEnd) → AllAlike (end_wanting channel role least e) (end_wanting channel role least (fit_saved e))
-saved_alike channel role least e =
-    (same (wanted_or channel (between 2 least MAX_CHANNELS e.channel)),
-     (subst (λ (n : ℕ). Alike (wanted_or role (at_most 1 2 (role_of e.end))) (wanted_or role (at_most 1 2 n))) (role-fit e.end) (same _), end_alike e.end))
+saved_alike channel role least e = (
+  same (wanted_or channel (between 2 least MAX_CHANNELS e.channel)),
+  (subst (λ (n : ℕ). Alike (wanted_or role (at_most 1 2 (role_of e.end))) (wanted_or role (at_most 1 2 n))) (role-fit e.end) (same _), end_alike e.end),
+)
 
 ends_alike : (like : Option (List SavedEnd)) (least : ℕ) (es : List SavedEnd) → AllAlike (ends_fields like least es) (ends_fields (fit_list fit_saved like) least (map fit_saved es))
 ends_alike like least [] = tt
@@ -256,10 +260,10 @@ ends_alike like least (e ∷ es) =
     let r-is = first-fit fit_saved (λ (e : SavedEnd). role_of e.end) (λ e. role-fit e.end) like in
     let one : AllAlike (saved_end_fields (first_of like) least e) (saved_end_fields (first_of fitted) least (fit_saved e))
     = subst (λ (m : Option ℕ). AllAlike (end_wanting n r least e) (end_wanting m (wanted (λ (e : SavedEnd). role_of e.end) (first_of fitted)) least (fit_saved e))) n-is
-      (subst (λ (m : Option ℕ). AllAlike (end_wanting n r least e) (end_wanting n m least (fit_saved e))) r-is (saved_alike n r least e)) in
+    (subst (λ (m : Option ℕ). AllAlike (end_wanting n r least e) (end_wanting n m least (fit_saved e))) r-is (saved_alike n r least e)) in
     let others : AllAlike (ends_fields (rest_of like) (suc e.channel) es) (ends_fields (rest_of fitted) (suc e.channel) (map fit_saved es))
     = subst (λ (l : Option (List SavedEnd)). AllAlike (ends_fields (rest_of like) (suc e.channel) es) (ends_fields l (suc e.channel) (map fit_saved es))) (rest-fit fit_saved like)
-      (ends_alike (rest_of like) (suc e.channel) es) in
+    (ends_alike (rest_of like) (suc e.channel) es) in
     alike_append (saved_end_fields (first_of like) least e) (saved_end_fields (first_of fitted) least (fit_saved e)) _ _ one others
 
 end_fit : (e : End) → AllByRecursion (FitsSigned w64) (items_of_end (fit_end e))
@@ -306,11 +310,13 @@ image_alike like i =
     alike_append
     (wanted_or (wanted (λ (i : ImageView). length i.processes) like) (at_most 1 MAX_PROCESSES (length i.processes)) ∷ processes_fields (processes_in like) 0 i.processes)
     (wanted_or (wanted (λ (i : ImageView). length i.processes) (fit_like like)) (at_most 1 MAX_PROCESSES (length (map fit_process i.processes))) ∷ processes_fields (processes_in (fit_like like)) 0 (map fit_process i.processes))
-    _ _
-    (count_alike _ _ 1 MAX_PROCESSES _ _ (count-in like) (length-map fit_process i.processes),
-     subst (λ (l : Option (List SavedProcessView)). AllAlike (processes_fields (processes_in like) 0 i.processes) (processes_fields l 0 (map fit_process i.processes))) (processes-in like) (processes_alike (processes_in like) 0 i.processes))
-    (count_alike _ _ 2 MAX_CHANNELS _ _ (end_count-in like) (length-map fit_saved i.ends),
-     subst (λ (l : Option (List SavedEnd)). AllAlike (ends_fields (ends_in like) 0 i.ends) (ends_fields l 0 (map fit_saved i.ends))) (ends-in like) (ends_alike (ends_in like) 0 i.ends))
+    _ _ (
+      count_alike _ _ 1 MAX_PROCESSES _ _ (count-in like) (length-map fit_process i.processes),
+      subst (λ (l : Option (List SavedProcessView)). AllAlike (processes_fields (processes_in like) 0 i.processes) (processes_fields l 0 (map fit_process i.processes))) (processes-in like) (processes_alike (processes_in like) 0 i.processes),
+    ) (
+      count_alike _ _ 2 MAX_CHANNELS _ _ (end_count-in like) (length-map fit_saved i.ends),
+      subst (λ (l : Option (List SavedEnd)). AllAlike (ends_fields (ends_in like) 0 i.ends) (ends_fields l 0 (map fit_saved i.ends))) (ends-in like) (ends_alike (ends_in like) 0 i.ends),
+    )
 
 image_is : (i : ImageView) → IsImage (fit_image i)
 image_is i = record { processes = processes_fit i.processes; ends = ends_fit i.ends }
@@ -337,9 +343,19 @@ record_is kept = record { permanent = image_is kept.permanent; tentative = tenta
 
 pub record_alike : (kept : RecordView) → AllAlike (record_fields kept) (record_fields (fit_record kept))
 record_alike kept =
-    let decision = decision_fields kept.node (length kept.highest) (slice_index kept.highest kept.node) kept.decision in
-    (same (exactly 1 1 1), (same (any 1 kept.node), (same (count kept.epoch), (same _,
-    alike_append (map count kept.highest) (map count kept.highest) _ _ (all_same (map count kept.highest))
-    (alike_append decision decision _ _ (all_same decision)
-    (alike_append (image_fields None kept.permanent) (image_fields None (fit_image kept.permanent)) _ _ (image_alike None kept.permanent)
-    (tentative_alike kept.highest kept.permanent kept.tentative)))))))
+    let decision = decision_fields kept.node (length kept.highest) (slice_index kept.highest kept.node) kept.decision in (
+      same (exactly 1 1 1),
+      (
+        same (any 1 kept.node),
+        (
+          same (count kept.epoch),
+          (
+            same _,
+            alike_append (map count kept.highest) (map count kept.highest) _ _ (all_same (map count kept.highest))
+                (alike_append decision decision _ _ (all_same decision)
+                (alike_append (image_fields None kept.permanent) (image_fields None (fit_image kept.permanent)) _ _ (image_alike None kept.permanent)
+                (tentative_alike kept.highest kept.permanent kept.tentative))),
+          ),
+        ),
+      ),
+    )

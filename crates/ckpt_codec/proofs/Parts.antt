@@ -1,5 +1,5 @@
 -- The readers of a record's parts are lawful.
-use Rattle.std.proofs.Common.{◌≡◌, ℕ, zero, suc, ◌+◌, ◌^◌, ◌<◌, ◌≤◌, Bool, true, false, ◌&&◌, not, nat_eq, nat_lt, nat_le, cond, ℤ, pos, negsuc, List, [], ◌∷◌, ◌++◌, length, map, drop, slice_index, slice_get, Option, Some, None, Result, Ok, Err, refl, sym, ap, subst, ◌∙◌, arith, rules}
+use Rattle.std.proofs.Common.{◌≡◌, ℕ, zero, suc, ◌+◌, ◌^◌, ◌<◌, ◌≤◌, Bool, true, false, ◌&&◌, not, nat_eq, nat_lt, nat_le, cond, ℤ, pos, negsuc, List, [], ◌∷◌, ◌++◌, length, map, drop, Option, Some, None, Ok, Err, refl, sym, ap, ◌∙◌, arith, rules}
 use Rattle.std.specs.Prelude.{FitsSigned}
 use Rattle.std.specs.List.{AllByRecursion}
 use Rattle.std.specs.Int.{w64, cast_signed, cast_unsigned}
@@ -23,11 +23,10 @@ use Rattle.record.specs.declared.image.End.{End}
 use Rattle.record.specs.declared.image.End.TheVariants.{Receives, Sends, Both}
 use Rattle.ckpt_codec.specs.Fields.{Field}
 use Rattle.ckpt_codec.specs.RecordText.{any, at_most, exactly, count, item, flag, between, wanted_or, participants, decision_fields, first_of, rest_of, wanted, variables_of, mode_fields, process_fields, processes_fields, role_of, retained_count, end_fields, saved_end_fields, ends_fields, processes_in, ends_in, image_fields, items_of_end}
-use Rattle.ckpt_codec.specs.declared.fault.CodecFault.{CodecFault}
-use Rattle.ckpt_codec.specs.declared.fault.CodecFault.TheVariants.{NoMemory, Truncated, Version, Malformed}
-use Rattle.ckpt_codec.specs.Reading.{◌>>=◌, Found, Reader, number_at, if_passes, field_at, wanted_test, item_at, count_at, flag_at, optional, so_many, each_as, unchanged, entries_at, nodes_at, highest_at, participant_at, past_participant, participants_at, decided_number_at, participant_count_at, participant_list_at, decided_at, decision_at, items_at, depth_at, passes_at, place_at, Footing, standing_on, footing_in, mode_number_at, footing_at, mode_at, variable_count_at, variables_at, state_at, process_number_at, process_at, nth, number_wanted, variables_wanted, process_like, past_process, processes_at, process_count_at, process_list_at, base_at, retained_at, retained_items_at, log_at, end_at, role_at, role_end_at, channel_at, saved_end_at, channel_wanted, role_wanted, end_like, past_end, ends_at, end_count_at, end_list_at, image_at}
+use Rattle.ckpt_codec.specs.declared.fault.CodecFault.TheVariants.{Truncated}
+use Rattle.ckpt_codec.specs.Reading.{◌>>=◌, Found, Reader, number_at, if_passes, field_at, wanted_test, item_at, count_at, flag_at, optional, each_as, unchanged, entries_at, nodes_at, highest_at, participant_at, past_participant, participants_at, participant_count_at, participant_list_at, decided_at, decision_at, items_at, depth_at, passes_at, place_at, Footing, standing_on, footing_in, footing_at, mode_at, variable_count_at, variables_at, state_at, process_at, nth, number_wanted, variables_wanted, process_like, past_process, processes_at, process_count_at, process_list_at, retained_at, retained_items_at, log_at, end_at, role_at, role_end_at, saved_end_at, channel_wanted, role_wanted, end_like, past_end, ends_at, end_count_at, end_list_at, image_at}
 use Rattle.ckpt_codec.specs.Reading.Footing.{BeforeAll, AtPoint, PastAll}
-use Rattle.ckpt_codec.proofs.Scan.{Outcome, scan, Agrees, AreBytes, Lawful, Each, is_found, field_lawful, one_took}
+use Rattle.ckpt_codec.proofs.Scan.{Outcome, scan, Agrees, Lawful, Each, field_lawful, one_took}
 use Rattle.ckpt_codec.proofs.Scan.Outcome.{Passed, Stuck, Differs}
 use Rattle.ckpt_codec.proofs.Combining.{refined, mapped, same_fields, same_reader, same_values, of_each, built, counted, only_lawful}
 
@@ -161,10 +160,12 @@ flag_lawful =
     back : (b : Bool) → Each b → (cond b 1 0 ≤ 1) × (nat_eq (cond b 1 0) 1 ≡ b) × (flag_of b ∷ [] ≡ flag (cond b 1 0) ∷ [])
     back true is = (omega arith, refl, refl)
     back false is = (omega arith, refl, refl)
+
     same : (n : ℕ) → n ≤ 1 → cond (nat_eq n 1) 1 0 ≡ n
     same zero le = refl
     same (suc zero) le = refl
     same (suc (suc n)) le = absurd (omega arith)
+
     forth : (n : ℕ) → n ≤ 1 → Unit {0} × (cond (nat_eq n 1) 1 0 ≡ n)
     forth n le = (tt, same n le)
 
@@ -204,6 +205,7 @@ decision_lawful node nodes own =
     all : (d : Option DecisionView) → Each d → IfThere Each d
     all None e = tt
     all (Some d) e = tt
+
     same : (d : Option DecisionView) → Each d
         → decision_fields node nodes own d ≡ flag_of (is_there d) ∷ behind_flag (λ (d : DecisionView). between 8 1 (suc own) d.number ∷ participant_count (length d.participants) ∷ participants node nodes 0 d.participants) d
     same None e = refl
@@ -300,6 +302,7 @@ footing_lawful =
     is_mode BeforeAll e = omega arith
     is_mode (AtPoint point) e = omega arith
     is_mode PastAll e = omega arith
+
     some_of : (n : ℕ) → n ≤ 2 → (f : Footing) × Each f × (mode_number f ≡ n)
     some_of zero le = (BeforeAll, tt, refl)
     some_of (suc zero) le = (AtPoint (point_at 0 []), tt, refl)
@@ -337,11 +340,13 @@ state_lawful like =
     regrouped : (r : Found Footing) → ((r >>= with_mode) >>= with_variables like) ≡ (r >>= λ x. variables_at like x.1 >>= λ y. Ok (standing_on x.0 y.0, y.1))
     regrouped (Ok x) = refl
     regrouped (Err fault) = refl
+
     unmade : (c : Standing) → (standing_on (footing_of c) (variables_of c) ≡ c)
         × (state_fields like c ≡ (at_most 1 2 (mode_number (footing_of c)) ∷ behind_mode (footing_of c)) ++ (variable_count like (length (variables_of c)) ∷ map item (variables_of c)))
     unmade (NotBegun vars) = (refl, refl)
     unmade (At point vars) = (refl, refl)
     unmade (Done vars) = (refl, refl)
+
     made : (f : Footing) (vars : List ℤ) → (footing_of (standing_on f vars) ≡ f) × (variables_of (standing_on f vars) ≡ vars)
     made BeforeAll vars = (refl, refl)
     made (AtPoint point) vars = (refl, refl)

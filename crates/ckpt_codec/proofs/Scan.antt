@@ -1,13 +1,13 @@
 -- What fields make of bytes: they are passed, or the bytes offend them, or the bytes are those of another value.
-use Rattle.std.proofs.Common.{◌≡◌, ℕ, ◌+◌, ◌^◌, ◌<◌, nat_lt, length, slice_index, drop, Bool, true, false, ◌==◌, nat_eq, cond, List, [], ◌∷◌, ◌++◌, Result, Ok, Err, refl, sym, ap, subst, ◌∙◌}
+use Rattle.std.proofs.Common.{◌≡◌, ℕ, ◌+◌, ◌^◌, ◌<◌, nat_lt, length, slice_index, drop, Bool, true, false, nat_eq, cond, List, [], ◌∷◌, ◌++◌, Result, Ok, Err, refl, sym, ap, subst, ◌∙◌}
 use Rattle.std.proofs.lemmas.Bool.{eqb-true, eq-eqb}
 use Rattle.std.proofs.lemmas.List.{get_or-drop}
 use Rattle.byteorder.specs.Endian.{big_number}
 use Rattle.byteorder.specs.Numbers.{big_from-lt}
 use Rattle.ckpt_codec.specs.Fields.{Field}
 use Rattle.ckpt_codec.specs.declared.fault.CodecFault.{CodecFault}
-use Rattle.ckpt_codec.specs.declared.fault.CodecFault.TheVariants.{NoMemory, Truncated, Version, Malformed}
-use Rattle.ckpt_codec.specs.Reading.{◌>>=◌, Found, Reader, number_at, if_passes, field_at}
+use Rattle.ckpt_codec.specs.declared.fault.CodecFault.TheVariants.{Truncated, Malformed}
+use Rattle.ckpt_codec.specs.Reading.{Found, Reader, number_at, if_passes, field_at}
 
 pub data Outcome : Type 0 where
   Passed : (rest : List ℕ) → Outcome
@@ -94,15 +94,17 @@ one_took allows width (Err fault) x e = absurd cc
 one_took allows width (Ok y) x e =
     let c = chosen y (allows y.0) e in
     let same : y ≡ x = is_found y x c.1 in
-    let passes : allows x.0 ≡ true = sym (ap (λ (z : ℕ × List ℕ). allows z.0) same) ∙ c.0 in
-    (passes,
-     ap (λ (z : ℕ × List ℕ). behind_it (judged (record { width = width; allows = allows; value = x.0 }) (Ok z)) (scan [])) same
-     ∙ both_true x (allows x.0) (nat_eq x.0 x.0) passes (eq-eqb x.0 x.0 refl),
-     c.1)
+    let passes : allows x.0 ≡ true = sym (ap (λ (z : ℕ × List ℕ). allows z.0) same) ∙ c.0 in (
+      passes,
+      ap (λ (z : ℕ × List ℕ). behind_it (judged (record { width = width; allows = allows; value = x.0 }) (Ok z)) (scan [])) same
+          ∙ both_true x (allows x.0) (nat_eq x.0 x.0) passes (eq-eqb x.0 x.0 refl),
+      c.1,
+    )
   where
     chosen : (y : ℕ × List ℕ) (passes : Bool) → cond passes (ok y) (Err Malformed) ≡ Ok x → (passes ≡ true) × (ok y ≡ ok x)
     chosen y true e = (refl, e)
     chosen y false e = absurd cc
+
     both_true : (x : ℕ × List ℕ) (passes same : Bool) → passes ≡ true → same ≡ true → behind_it (cond passes (cond same (Passed x.1) Differs) (Stuck Malformed)) (scan []) ≡ Passed x.1
     both_true x true true p s = refl
     both_true x true false p s = absurd cc

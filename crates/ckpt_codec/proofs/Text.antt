@@ -1,13 +1,13 @@
 -- What fields make of bytes, said of the bytes that spell them.
-use Rattle.std.proofs.Common.{◌≡◌, ℕ, ◌^◌, ◌<◌, ◌⊎◌, Bool, true, false, nat_eq, cond, List, [], ◌∷◌, ◌++◌, length, Result, Ok, Err, refl, sym, ap, subst, ◌∙◌, append_assoc, arith, inl, inr}
-use Rattle.std.specs.List.{flat_map, AllByRecursion}
+use Rattle.std.proofs.Common.{◌≡◌, ℕ, ◌^◌, ◌<◌, ◌⊎◌, Bool, true, false, nat_eq, cond, List, [], ◌∷◌, ◌++◌, length, Ok, Err, refl, sym, ap, ◌∙◌, append_assoc, inl, inr}
+use Rattle.std.specs.List.{AllByRecursion}
 use Rattle.std.proofs.lemmas.Bool.{eqb-true, eq-eqb}
 use Rattle.std.proofs.lemmas.List.Concat.{flat_map-cons}
 use Rattle.ckpt_codec.specs.Fields.{Field, IsAllowed, number_text, field_text, text_of}
 use Rattle.ckpt_codec.specs.declared.fault.CodecFault.{CodecFault}
-use Rattle.ckpt_codec.specs.declared.fault.CodecFault.TheVariants.{NoMemory, Truncated, Version, Malformed}
+use Rattle.ckpt_codec.specs.declared.fault.CodecFault.TheVariants.{Truncated, Malformed}
 use Rattle.ckpt_codec.specs.Reading.{Found, number_at}
-use Rattle.ckpt_codec.proofs.Scan.{Outcome, behind_it, judged, scan_field, scan, scan-append, AreBytes, is_found}
+use Rattle.ckpt_codec.proofs.Scan.{Outcome, behind_it, judged, scan_field, scan, scan-append, AreBytes}
 use Rattle.ckpt_codec.proofs.Scan.Outcome.{Passed, Stuck, Differs}
 use Rattle.ckpt_codec.proofs.Bytes.{number_took, number_again, number_short, number_stuck}
 
@@ -113,9 +113,11 @@ all_passed (field ∷ fields) bytes rest are e =
     by_walk : ((left : List ℕ) → AreBytes left → scan fields left ≡ Passed rest → AllAllowed fields × (left ≡ text_of fields ++ rest)) → Walk (scan_field field bytes) (scan fields) (Passed rest) → AllAllowed (field ∷ fields) × (bytes ≡ text_of (field ∷ fields) ++ rest)
     by_walk others (Walk.Passes left was is) =
         let f = field_passed field bytes left are was in
-        let a = others left f.2 is in
-        ((f.0, a.0), f.1 ∙ (ap (λ (r : List ℕ). field_text field ++ r) a.1 ∙ (sym (append_assoc (field_text field) (text_of fields) rest)
-            ∙ ap (λ (r : List ℕ). r ++ rest) (sym (flat_map-cons field_text field fields)))))
+        let a = others left f.2 is in (
+          (f.0, a.0),
+          f.1 ∙ (ap (λ (r : List ℕ). field_text field ++ r) a.1 ∙ (sym (append_assoc (field_text field) (text_of fields) rest)
+              ∙ ap (λ (r : List ℕ). r ++ rest) (sym (flat_map-cons field_text field fields)))),
+        )
     by_walk others (Walk.Halts fault was is) = absurd cc
     by_walk others (Walk.Parts is) = absurd cc
 

@@ -74,11 +74,7 @@ fn end_of(alloc: Global, role: u8, bytes: &[u8]) -> Result<(End, &[u8]), CodecFa
 }
 
 #[tactic(auto, unfolding(crate::specs::Reading::role_end_at))]
-fn role_end_of(
-    alloc: Global,
-    wanted: Option<u8>,
-    bytes: &[u8],
-) -> Result<(End, &[u8]), CodecFault>
+fn role_end_of(alloc: Global, wanted: Option<u8>, bytes: &[u8]) -> Result<(End, &[u8]), CodecFault>
     ensures { Reads (λ x. (x.0, x.1.now)) result (role_end_at wanted bytes.now) }
 {
     let (role, rest) = role_of(wanted, bytes)?;

@@ -210,10 +210,7 @@ pub(crate) fn process_count_of(
 }
 
 // How many ends of channels an image has.
-pub(crate) fn end_count_of(
-    wanted: Option<usize>,
-    bytes: &[u8],
-) -> Result<(u16, &[u8]), CodecFault>
+pub(crate) fn end_count_of(wanted: Option<usize>, bytes: &[u8]) -> Result<(u16, &[u8]), CodecFault>
     ensures { Reads (λ x. (x.0, x.1.now)) result (end_count_at wanted bytes.now) }
 {
     let (count, rest) = u16_of(bytes)?;
@@ -273,11 +270,7 @@ pub(crate) fn base_of(limit: u64, bytes: &[u8]) -> Result<(u64, &[u8]), CodecFau
 }
 
 // How many items a log retains from its base on, at least up to a position.
-pub(crate) fn retained_of(
-    base: u64,
-    from: u64,
-    bytes: &[u8],
-) -> Result<(u32, &[u8]), CodecFault>
+pub(crate) fn retained_of(base: u64, from: u64, bytes: &[u8]) -> Result<(u32, &[u8]), CodecFault>
     requires { base ≤ MAX_COUNT }
     ensures { Reads (λ x. (x.0, x.1.now)) result (retained_at base from bytes.now) }
 {

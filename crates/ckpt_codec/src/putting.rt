@@ -144,10 +144,7 @@ pub(crate) fn put_image(out: &mut Vec<u8>, image: &Image) -> Result<(), AllocErr
     put_end_list(out, image.ends.as_slice())
 }
 
-pub(crate) fn put_decision(
-    out: &mut Vec<u8>,
-    decision: &Option<Decision>,
-) -> Result<(), AllocError>
+pub(crate) fn put_decision(out: &mut Vec<u8>, decision: &Option<Decision>) -> Result<(), AllocError>
     requires { IsShortDecision decision.now }
     ensures { OnOk result (out.new.items ≡ out.old.items ++ decision_text decision.now) }
 {

@@ -16,11 +16,7 @@ use record::{Decision, Image, Record, Tentative};
 use std::alloc::Global;
 
 // So many entries.
-fn entries_of(
-    alloc: Global,
-    count: u8,
-    bytes: &[u8],
-) -> Result<(Vec<u64>, &[u8]), CodecFault>
+fn entries_of(alloc: Global, count: u8, bytes: &[u8]) -> Result<(Vec<u64>, &[u8]), CodecFault>
     ensures { Reads (λ x. (x.0.items, x.1.now)) result (entries_at count bytes.now) }
 {
     let mut entries = Vec::new(alloc);
@@ -35,11 +31,7 @@ fn entries_of(
 
 // How many nodes there are, and the highest number seen of each.
 #[tactic(auto, unfolding(crate::specs::Reading::highest_at))]
-fn highest_of(
-    alloc: Global,
-    node: u8,
-    bytes: &[u8],
-) -> Result<(Vec<u64>, &[u8]), CodecFault>
+fn highest_of(alloc: Global, node: u8, bytes: &[u8]) -> Result<(Vec<u64>, &[u8]), CodecFault>
     ensures { Reads (λ x. (x.0.items, x.1.now)) result (highest_at node bytes.now) }
 {
     let (nodes, rest) = nodes_of(node, bytes)?;
@@ -123,10 +115,7 @@ fn decision_of(
 
 // An initiator, and the number of its checkpoint.
 #[tactic(auto, unfolding(crate::specs::Reading::instance_at))]
-fn instance_of<'a>(
-    highest: &[u64],
-    bytes: &'a [u8],
-) -> Result<(u8, u64, &'a [u8]), CodecFault>
+fn instance_of<'a>(highest: &[u64], bytes: &'a [u8]) -> Result<(u8, u64, &'a [u8]), CodecFault>
     ensures { Reads (λ x. ((x.0, x.1), x.2.now)) result (instance_at highest.now bytes.now) }
 {
     let (initiator, rest) = initiator_of(highest, bytes)?;
@@ -175,11 +164,7 @@ fn tentative_of<'a>(
 
 // The epoch, and the highest number seen of each node.
 #[tactic(auto, unfolding(crate::specs::Reading::numbers_at))]
-fn numbers_of(
-    alloc: Global,
-    node: u8,
-    bytes: &[u8],
-) -> Result<(u64, Vec<u64>, &[u8]), CodecFault>
+fn numbers_of(alloc: Global, node: u8, bytes: &[u8]) -> Result<(u64, Vec<u64>, &[u8]), CodecFault>
     ensures { Reads (λ x. ((x.0, x.1.items), x.2.now)) result (numbers_at node bytes.now) }
 {
     let (epoch, rest) = count_of(bytes)?;
