@@ -1,7 +1,6 @@
 -- Records are read as they are spelled, what is spelled is read, and the first offence decides.
-use Rattle.std.proofs.Common.{◌≡◌, ◌≢◌, ℕ, suc, ◌+◌, ◌*◌, ◌^◌, ◌<◌, ◌⊎◌, Bool, true, false, nat_eq, nat_lt, cond, List, [], ◌∷◌, ◌++◌, length, Option, None, Result, Ok, Err, refl, sym, ap, subst, ◌∙◌, append_assoc, arith, inl, inr}
-use Rattle.std.specs.Prelude.{IfOk, IfErr, IsTrue, All}
-use Rattle.std.specs.List.{AllByRecursion}
+use Rattle.std.proofs.Common.{◌≡◌, ◌≢◌, ℕ, suc, ◌<◌, ◌⊎◌, Bool, true, false, nat_eq, nat_lt, cond, List, [], ◌∷◌, ◌++◌, length, None, Result, Ok, Err, refl, sym, ap, subst, ◌∙◌, arith, inl, inr}
+use Rattle.std.specs.Prelude.{IfOk, IfErr, All}
 use Rattle.std.proofs.lemmas.Bool.{eqb-true, eqb-false, ne_eqb, le-ltb}
 use Rattle.std.proofs.lemmas.List.{append-nil, nil_from_length}
 use Rattle.std.proofs.lemmas.List.Elements.{All-from_recursion, recursion_from_All}
@@ -19,6 +18,7 @@ use Rattle.ckpt_codec.proofs.Scan.Outcome.{Passed, Stuck, Differs}
 use Rattle.ckpt_codec.proofs.Text.{AllAllowed, are_passed, are_stuck, field_short, field_ruled_out, Refuses, Offended, field_stuck, all_passed, all_again, Stop, stop_of, stops_there}
 use Rattle.ckpt_codec.proofs.Records.{IsKept, body_fields, body_lawful}
 use Rattle.ckpt_codec.proofs.Items.{kept_items, is_kept}
+use Rattle.ckpt_codec.proofs.Fitting.{stuck_alike, fit_record, record_is, record_alike}
 
 -- ---- the version
 
@@ -215,10 +215,9 @@ stop_inside bytes rest fault are begin read =
     (s.0, s.1, stop_of (body_fields s.0) rest fault rest_are s.2)
 
 -- a place behind the version
-abbrev place_behind : (kept : RecordView) → IsKept kept → (rest : List ℕ) (fault : CodecFault) → Stop (body_fields kept) rest fault → Place
-place_behind kept is rest fault stop = record {
+abbrev place_behind : (kept : RecordView) (rest : List ℕ) (fault : CodecFault) → Stop (body_fields kept) rest fault → Place
+place_behind kept rest fault stop = record {
   kept = kept;
-  items = kept_items kept is;
   before = exactly 1 1 1 ∷ stop.before;
   next = stop.next;
   after = stop.after;
@@ -233,13 +232,9 @@ parts_behind bytes rest before left begin parts =
 abbrev allowed_list : (fields : List Field) → AllAllowed fields → All IsAllowed fields
 allowed_list fields are = All-from_recursion IsAllowed fields are
 
-some_is : IsKept some_kept
-some_is = record { permanent = record { processes = tt; ends = tt }; tentative = tt }
-
 abbrev first_place : Place
 first_place = record {
   kept = some_kept;
-  items = kept_items some_kept some_is;
   before = [];
   next = exactly 1 1 1;
   after = body_fields some_kept;
@@ -254,7 +249,7 @@ truncated_of bytes are (Why.Behind rest begin kept left read more is) = absurd c
 truncated_of bytes are (Why.Inside rest begin read) =
     let s = stop_inside bytes rest Truncated are begin read in
     record {
-      at = place_behind s.0 s.1 rest Truncated s.2;
+      at = place_behind s.0 rest Truncated s.2;
       left = s.2.left;
       parts = parts_behind bytes rest s.2.before s.2.left begin s.2.parts;
       short = is_short s.2.next s.2.left (field_stuck s.2.next s.2.left Truncated s.2.are s.2.stuck);
@@ -295,7 +290,7 @@ malformed_of bytes are (Why.Inside rest begin read) =
     let s = stop_inside bytes rest Malformed are begin read in
     let r = refusal s.2.next s.2.left (field_stuck s.2.next s.2.left Malformed s.2.are s.2.stuck) in
     inl (record {
-      at = place_behind s.0 s.1 rest Malformed s.2;
+      at = place_behind s.0 rest Malformed s.2;
       behind = λ none. absurd cc;
       value = r.value;
       rest = r.rest;
@@ -354,26 +349,31 @@ is_too_much kept bytes rest left begin read more =
     none_left [] more = absurd (more refl)
     none_left (b ∷ bs) more = let apart : suc (length bs) ≢ 0 = λ e. omega arith in rw (ne_eqb (suc (length bs)) 0 apart) refl
 
-refusal_of : (bytes : List ℕ) (fault : CodecFault) → IsCodecFault bytes fault → (fault ≡ NoMemory) ⊎ (whole_at bytes ≡ Err fault)
-refusal_of bytes NoMemory cause = inl refl
-refusal_of bytes Truncated cause =
-    inr (is_truncated cause.at.kept bytes (is_kept cause.at.kept cause.at.items) (begins bytes)
-    (stops_there (record_fields cause.at.kept) cause.at.before cause.at.next cause.at.after bytes cause.left Truncated cause.at.fields
-    (recursion_from_All IsAllowed cause.at.before cause.at.allowed) cause.parts (field_short cause.at.next cause.left cause.short)))
-refusal_of bytes Version cause = inr (ap whole_at cause.parts ∙ whole_other cause.version cause.rest cause.other)
-refusal_of bytes Malformed (inl cause) =
+-- the fields of a record are offended, and so are those of the same with items of 64 bits
+offended_so : (bytes : List ℕ) (fault : CodecFault) → AreBytes bytes → (at : Place) (left : List ℕ) → bytes ≡ text_of at.before ++ left → scan_field at.next left ≡ Stuck fault
+    → scan (record_fields (fit_record at.kept)) bytes ≡ Stuck fault
+offended_so bytes fault are at left parts stuck =
+    stuck_alike (record_fields at.kept) (record_fields (fit_record at.kept)) bytes fault (record_alike at.kept) are
+    (stops_there (record_fields at.kept) at.before at.next at.after bytes left fault at.fields (recursion_from_All IsAllowed at.before at.allowed) parts stuck)
+
+refusal_of : (bytes : List ℕ) (fault : CodecFault) → AreBytes bytes → IsCodecFault bytes fault → (fault ≡ NoMemory) ⊎ (whole_at bytes ≡ Err fault)
+refusal_of bytes NoMemory are cause = inl refl
+refusal_of bytes Truncated are cause =
+    inr (is_truncated (fit_record cause.at.kept) bytes (record_is cause.at.kept) (begins bytes)
+    (offended_so bytes Truncated are cause.at cause.left cause.parts (field_short cause.at.next cause.left cause.short)))
+refusal_of bytes Version are cause = inr (ap whole_at cause.parts ∙ whole_other cause.version cause.rest cause.other)
+refusal_of bytes Malformed are (inl cause) =
     let left : List ℕ = number_text cause.at.next.width cause.value ++ cause.rest in
     let b = begins_so cause.at.kept cause.at.before cause.at.next cause.at.after bytes left cause.at.fields cause.behind cause.parts in
-    inr (is_ruled_out cause.at.kept bytes b.0 (is_kept cause.at.kept cause.at.items) b.1
-    (stops_there (record_fields cause.at.kept) cause.at.before cause.at.next cause.at.after bytes left Malformed cause.at.fields
-    (recursion_from_All IsAllowed cause.at.before cause.at.allowed) cause.parts (field_ruled_out cause.at.next cause.value cause.rest cause.wide cause.refused)))
-refusal_of bytes Malformed (inr cause) =
+    inr (is_ruled_out (fit_record cause.at.kept) bytes b.0 (record_is cause.at.kept) b.1
+    (offended_so bytes Malformed are cause.at left cause.parts (field_ruled_out cause.at.next cause.value cause.rest cause.wide cause.refused)))
+refusal_of bytes Malformed are (inr cause) =
     let g = spelled_goes cause.kept cause.front cause.rest cause.is in
     inr (is_too_much cause.kept bytes g.rest cause.rest (cause.parts ∙ g.begins) g.reads cause.more)
 
-pub is_refused : (bytes : List ℕ) (r : Result RecordView CodecFault) (fault : CodecFault) → Reads (λ (kept : RecordView). kept) r (whole_at bytes) → IsCodecFault bytes fault
+pub is_refused : (bytes : List ℕ) (r : Result RecordView CodecFault) (fault : CodecFault) → AreBytes bytes → Reads (λ (kept : RecordView). kept) r (whole_at bytes) → IsCodecFault bytes fault
     → IsRefusedUnlessMemory fault r
-is_refused bytes r fault read cause = by_result r (refusal_of bytes fault cause) read
+is_refused bytes r fault are read cause = by_result r (refusal_of bytes fault are cause) read
   where
     by_fault : (other : CodecFault) → (fault ≡ NoMemory) ⊎ (whole_at bytes ≡ Err fault) → whole_at bytes ≡ Err other → (fault ≡ NoMemory) ⊎ ((other ≡ NoMemory) ⊎ (other ≡ fault))
     by_fault other (inl none) read = inl none

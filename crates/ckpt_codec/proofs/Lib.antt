@@ -10,3 +10,4 @@ mod Exactness
 mod Spelled
 mod Walking
 mod Sizes
+mod Fitting

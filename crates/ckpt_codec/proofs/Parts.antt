@@ -1,5 +1,5 @@
 -- The readers of a record's parts are lawful.
-use Rattle.std.proofs.Common.{◌≡◌, ℕ, zero, suc, ◌+◌, ◌^◌, ◌<◌, ◌≤◌, Bool, true, false, ◌&&◌, not, nat_eq, nat_lt, nat_le, cond, ℤ, pos, negsuc, List, [], ◌∷◌, ◌++◌, length, map, drop, slice_index, slice_get, Option, Some, None, Result, Ok, Err, refl, sym, ap, subst, ◌∙◌, arith, rules}
+use Rattle.std.proofs.Common.{◌≡◌, ℕ, zero, suc, ◌+◌, ◌^◌, ◌<◌, ◌≤◌, Bool, true, false, ◌&&◌, not, nat_eq, nat_lt, nat_le, cond, ℤ, pos, negsuc, List, [], ◌∷◌, ◌++◌, length, map, drop, Option, Some, None, Ok, Err, refl, sym, ap, ◌∙◌, arith, rules}
 use Rattle.std.specs.Prelude.{FitsSigned}
 use Rattle.std.specs.List.{AllByRecursion}
 use Rattle.std.specs.Int.{w64, cast_signed, cast_unsigned}
@@ -23,11 +23,10 @@ use Rattle.record.specs.declared.image.End.{End}
 use Rattle.record.specs.declared.image.End.TheVariants.{Receives, Sends, Both}
 use Rattle.ckpt_codec.specs.Fields.{Field}
 use Rattle.ckpt_codec.specs.RecordText.{any, at_most, exactly, count, item, flag, between, wanted_or, participants, decision_fields, first_of, rest_of, wanted, variables_of, mode_fields, process_fields, processes_fields, role_of, retained_count, end_fields, saved_end_fields, ends_fields, processes_in, ends_in, image_fields, items_of_end}
-use Rattle.ckpt_codec.specs.declared.fault.CodecFault.{CodecFault}
-use Rattle.ckpt_codec.specs.declared.fault.CodecFault.TheVariants.{NoMemory, Truncated, Version, Malformed}
-use Rattle.ckpt_codec.specs.Reading.{◌>>=◌, Found, Reader, number_at, if_passes, field_at, wanted_test, item_at, count_at, flag_at, optional, so_many, each_as, unchanged, entries_at, nodes_at, highest_at, participant_at, past_participant, participants_at, decided_number_at, participant_count_at, participant_list_at, decided_at, decision_at, items_at, depth_at, passes_at, place_at, Footing, standing_on, footing_in, mode_number_at, footing_at, mode_at, variable_count_at, variables_at, state_at, process_number_at, process_at, nth, number_wanted, variables_wanted, process_like, past_process, processes_at, process_count_at, process_list_at, base_at, retained_at, retained_items_at, log_at, end_at, role_at, role_end_at, channel_at, saved_end_at, channel_wanted, role_wanted, end_like, past_end, ends_at, end_count_at, end_list_at, image_at}
+use Rattle.ckpt_codec.specs.declared.fault.CodecFault.TheVariants.{Truncated}
+use Rattle.ckpt_codec.specs.Reading.{◌>>=◌, Found, Reader, number_at, if_passes, field_at, wanted_test, item_at, count_at, flag_at, optional, each_as, unchanged, entries_at, nodes_at, highest_at, participant_at, past_participant, participants_at, participant_count_at, participant_list_at, decided_at, decision_at, items_at, depth_at, passes_at, place_at, Footing, standing_on, footing_in, footing_at, mode_at, variable_count_at, variables_at, state_at, process_at, nth, number_wanted, variables_wanted, process_like, past_process, processes_at, process_count_at, process_list_at, retained_at, retained_items_at, log_at, end_at, role_at, role_end_at, saved_end_at, channel_wanted, role_wanted, end_like, past_end, ends_at, end_count_at, end_list_at, image_at}
 use Rattle.ckpt_codec.specs.Reading.Footing.{BeforeAll, AtPoint, PastAll}
-use Rattle.ckpt_codec.proofs.Scan.{Outcome, scan, Agrees, AreBytes, Lawful, Each, is_found, field_lawful, one_took}
+use Rattle.ckpt_codec.proofs.Scan.{Outcome, scan, Agrees, Lawful, Each, field_lawful, one_took}
 use Rattle.ckpt_codec.proofs.Scan.Outcome.{Passed, Stuck, Differs}
 use Rattle.ckpt_codec.proofs.Combining.{refined, mapped, same_fields, same_reader, same_values, of_each, built, counted, only_lawful}
 

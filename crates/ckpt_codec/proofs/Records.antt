@@ -1,15 +1,13 @@
 -- The reader of a whole record is lawful.
-use Rattle.std.proofs.Common.{◌≡◌, ℕ, ◌+◌, ◌<◌, ◌≤◌, Bool, true, false, ◌&&◌, nat_eq, nat_lt, nat_le, List, [], ◌∷◌, ◌++◌, length, map, slice_index, Option, Some, None, Result, Ok, Err, refl, sym, ap, subst, ◌∙◌, arith}
-use Rattle.kahn_net.specs.declared.limits.TheConstants.{MAX_NODES}
-use Rattle.record.specs.DecisionView.{DecisionView}
+use Rattle.std.proofs.Common.{◌≡◌, ℕ, ◌&&◌, nat_eq, nat_lt, nat_le, List, [], ◌∷◌, ◌++◌, length, map, slice_index, Option, Some, None, refl}
 use Rattle.record.specs.ImageView.{ImageView}
 use Rattle.record.specs.RecordView.{RecordView}
 use Rattle.record.specs.declared.record.Tentative.{Tentative}
 use Rattle.ckpt_codec.specs.Fields.{Field}
-use Rattle.ckpt_codec.specs.RecordText.{any, exactly, count, flag, decision_fields, image_fields, tentative_fields, record_fields}
-use Rattle.ckpt_codec.specs.Reading.{◌>>=◌, Found, Reader, number_at, field_at, count_at, highest_at, decision_at, optional, image_at, initiator_at, tentative_number_at, instance_at, pending_at, tentative_at, Head, numbers_at, head_at, images_at, Tail, tail_at, record_of, body_at}
-use Rattle.ckpt_codec.proofs.Scan.{Lawful, Each, field_lawful}
-use Rattle.ckpt_codec.proofs.Combining.{refined, same_fields, same_values, built}
+use Rattle.ckpt_codec.specs.RecordText.{any, exactly, count, decision_fields, image_fields, tentative_fields, record_fields}
+use Rattle.ckpt_codec.specs.Reading.{instance_at, pending_at, tentative_at, Head, numbers_at, head_at, images_at, Tail, tail_at, record_of, body_at}
+use Rattle.ckpt_codec.proofs.Scan.{Lawful, Each}
+use Rattle.ckpt_codec.proofs.Combining.{same_fields, same_values, built}
 use Rattle.ckpt_codec.proofs.Parts.{plain, count_lawful, any_lawful, nodes_field, highest_lawful, decision_lawful, IfThere, is_there, behind_flag, flag_of, optional_lawful, IsImage, image_lawful}
 
 -- ---- the tentative image

@@ -1,13 +1,13 @@
 -- What fields make of bytes: they are passed, or the bytes offend them, or the bytes are those of another value.
-use Rattle.std.proofs.Common.{◌≡◌, ℕ, ◌+◌, ◌^◌, ◌<◌, nat_lt, length, slice_index, drop, Bool, true, false, ◌==◌, nat_eq, cond, List, [], ◌∷◌, ◌++◌, Result, Ok, Err, refl, sym, ap, subst, ◌∙◌}
+use Rattle.std.proofs.Common.{◌≡◌, ℕ, ◌+◌, ◌^◌, ◌<◌, nat_lt, length, slice_index, drop, Bool, true, false, nat_eq, cond, List, [], ◌∷◌, ◌++◌, Result, Ok, Err, refl, sym, ap, subst, ◌∙◌}
 use Rattle.std.proofs.lemmas.Bool.{eqb-true, eq-eqb}
 use Rattle.std.proofs.lemmas.List.{get_or-drop}
 use Rattle.byteorder.specs.Endian.{big_number}
 use Rattle.byteorder.specs.Numbers.{big_from-lt}
 use Rattle.ckpt_codec.specs.Fields.{Field}
 use Rattle.ckpt_codec.specs.declared.fault.CodecFault.{CodecFault}
-use Rattle.ckpt_codec.specs.declared.fault.CodecFault.TheVariants.{NoMemory, Truncated, Version, Malformed}
-use Rattle.ckpt_codec.specs.Reading.{◌>>=◌, Found, Reader, number_at, if_passes, field_at}
+use Rattle.ckpt_codec.specs.declared.fault.CodecFault.TheVariants.{Truncated, Malformed}
+use Rattle.ckpt_codec.specs.Reading.{Found, Reader, number_at, if_passes, field_at}
 
 pub data Outcome : Type 0 where
   Passed : (rest : List ℕ) → Outcome

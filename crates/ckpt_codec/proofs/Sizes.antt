@@ -18,7 +18,7 @@ use Rattle.record.specs.declared.image.End.TheVariants.{Receives, Sends, Both}
 use Rattle.record.specs.declared.record.Tentative.{Tentative}
 use Rattle.ckpt_codec.specs.Fields.{number_text}
 use Rattle.ckpt_codec.specs.RecordText.{variables_of, role_of, record_text}
-use Rattle.ckpt_codec.specs.Spelling.{item_text, items_text, mode_text, state_text, process_text, log_text, end_text, saved_end_text, process_list_text, end_list_text, image_text, participants_text, decision_text, tentative_text, highest_text, head_text, spelling}
+use Rattle.ckpt_codec.specs.Spelling.{item_text, items_text, mode_text, state_text, process_text, log_text, end_text, saved_end_text, process_list_text, end_list_text, image_text, participants_text, decision_text, tentative_text, highest_text, head_text}
 use Rattle.ckpt_codec.specs.Lengths.{mode_length, process_length, end_length, saved_end_length, image_length, decision_length, tentative_length, record_length}
 use Rattle.ckpt_codec.proofs.Spelled.{record-spelled}
 

@@ -1,8 +1,8 @@
 -- The fields of a record spell it, and where they may stand its numbers can be written.
-use Rattle.std.proofs.Common.{◌≡◌, ℕ, suc, ◌^◌, ◌<◌, ℤ, List, [], ◌∷◌, ◌++◌, length, map, slice_index, Option, Some, None, Result, Ok, Err, refl, sym, ap, subst, ◌∙◌, append_assoc, arith}
-use Rattle.std.specs.Prelude.{All, FitsSigned, IfOk}
+use Rattle.std.proofs.Common.{◌≡◌, ℕ, suc, ◌^◌, ◌<◌, ℤ, List, [], ◌∷◌, ◌++◌, length, map, slice_index, Option, Some, None, refl, sym, ap, ◌∙◌, append_assoc}
+use Rattle.std.specs.Prelude.{FitsSigned}
 use Rattle.std.specs.List.{flat_map, AllByRecursion}
-use Rattle.std.specs.Int.{w64, cast_unsigned}
+use Rattle.std.specs.Int.{w64}
 use Rattle.std.proofs.lemmas.List.{append-nil}
 use Rattle.std.proofs.lemmas.List.Elements.{All-from_recursion, recursion_from_All}
 use Rattle.std.proofs.lemmas.List.Concat.{flat_map-cons}
@@ -19,11 +19,11 @@ use Rattle.record.specs.declared.image.End.{End}
 use Rattle.record.specs.declared.image.End.TheVariants.{Receives, Sends, Both}
 use Rattle.record.specs.declared.record.Tentative.{Tentative}
 use Rattle.ckpt_codec.specs.Fields.{Field, IsAllowed, number_text, field_text, text_of}
-use Rattle.ckpt_codec.specs.RecordText.{any, at_most, exactly, count, item, flag, between, wanted_or, participants, decision_fields, first_of, rest_of, wanted, variables_of, mode_fields, process_fields, processes_fields, role_of, retained_count, end_fields, saved_end_fields, ends_fields, processes_in, ends_in, image_fields, tentative_fields, head_fields, record_fields, record_text, IsRecord, items_of_end, items_of_record, IsRecordText}
-use Rattle.ckpt_codec.specs.Spelling.{item_text, items_text, mode_text, state_text, process_text, HasShortMode, IsShortProcess, HasItems, log_text, end_text, saved_end_text, EndHasItems, process_list_text, end_list_text, image_text, IsShortImage, ImageHasItems, participants_text, decision_text, IsShortDecision, tentative_text, IsShortTentative, TentativeHasItems, highest_text, head_text, spelling, IsShortRecord, RecordHasItems}
+use Rattle.ckpt_codec.specs.RecordText.{any, at_most, exactly, count, item, flag, between, wanted_or, participants, decision_fields, first_of, rest_of, wanted, variables_of, mode_fields, process_fields, processes_fields, role_of, retained_count, end_fields, saved_end_fields, ends_fields, processes_in, ends_in, image_fields, tentative_fields, head_fields, record_fields, record_text, IsRecord, items_of_end, IsRecordText}
+use Rattle.ckpt_codec.specs.Spelling.{item_text, items_text, mode_text, state_text, process_text, HasShortMode, IsShortProcess, HasItems, log_text, end_text, saved_end_text, EndHasItems, process_list_text, end_list_text, image_text, IsShortImage, ImageHasItems, participants_text, decision_text, IsShortDecision, tentative_text, IsShortTentative, TentativeHasItems, highest_text, spelling, IsShortRecord, RecordHasItems}
 use Rattle.ckpt_codec.proofs.Text.{AllAllowed}
 use Rattle.ckpt_codec.proofs.Parts.{nodes_field, participant_field, participant_count, process_count, end_count, IsImage}
-use Rattle.ckpt_codec.proofs.Records.{initiator_field, tentative_number, IsTentative, IsKept}
+use Rattle.ckpt_codec.proofs.Records.{initiator_field, tentative_number, IsTentative}
 use Rattle.ckpt_codec.proofs.Items.{kept_items}
 
 -- ---- texts

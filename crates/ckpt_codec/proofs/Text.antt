@@ -1,13 +1,13 @@
 -- What fields make of bytes, said of the bytes that spell them.
-use Rattle.std.proofs.Common.{◌≡◌, ℕ, ◌^◌, ◌<◌, ◌⊎◌, Bool, true, false, nat_eq, cond, List, [], ◌∷◌, ◌++◌, length, Result, Ok, Err, refl, sym, ap, subst, ◌∙◌, append_assoc, arith, inl, inr}
-use Rattle.std.specs.List.{flat_map, AllByRecursion}
+use Rattle.std.proofs.Common.{◌≡◌, ℕ, ◌^◌, ◌<◌, ◌⊎◌, Bool, true, false, nat_eq, cond, List, [], ◌∷◌, ◌++◌, length, Ok, Err, refl, sym, ap, ◌∙◌, append_assoc, inl, inr}
+use Rattle.std.specs.List.{AllByRecursion}
 use Rattle.std.proofs.lemmas.Bool.{eqb-true, eq-eqb}
 use Rattle.std.proofs.lemmas.List.Concat.{flat_map-cons}
 use Rattle.ckpt_codec.specs.Fields.{Field, IsAllowed, number_text, field_text, text_of}
 use Rattle.ckpt_codec.specs.declared.fault.CodecFault.{CodecFault}
-use Rattle.ckpt_codec.specs.declared.fault.CodecFault.TheVariants.{NoMemory, Truncated, Version, Malformed}
+use Rattle.ckpt_codec.specs.declared.fault.CodecFault.TheVariants.{Truncated, Malformed}
 use Rattle.ckpt_codec.specs.Reading.{Found, number_at}
-use Rattle.ckpt_codec.proofs.Scan.{Outcome, behind_it, judged, scan_field, scan, scan-append, AreBytes, is_found}
+use Rattle.ckpt_codec.proofs.Scan.{Outcome, behind_it, judged, scan_field, scan, scan-append, AreBytes}
 use Rattle.ckpt_codec.proofs.Scan.Outcome.{Passed, Stuck, Differs}
 use Rattle.ckpt_codec.proofs.Bytes.{number_took, number_again, number_short, number_stuck}
 
@@ -35,7 +35,7 @@ judged_passed field (Ok x) rest e = chosen x (field.allows x.0) (nat_eq x.0 fiel
     chosen x true false allowed is e = absurd cc
     chosen x false same allowed is e = absurd cc
 
-field_passed : (field : Field) (bytes rest : List ℕ) → AreBytes bytes → scan_field field bytes ≡ Passed rest → IsAllowed field × (bytes ≡ field_text field ++ rest) × AreBytes rest
+pub field_passed : (field : Field) (bytes rest : List ℕ) → AreBytes bytes → scan_field field bytes ≡ Passed rest → IsAllowed field × (bytes ≡ field_text field ++ rest) × AreBytes rest
 field_passed field bytes rest are e =
     let j = judged_passed field (number_at field.width bytes) rest e in
     let t = number_took field.width bytes (field.value, rest) are j.1 in
@@ -95,12 +95,12 @@ abbrev pub AllAllowed : List Field → Type 0
 AllAllowed fields = AllByRecursion IsAllowed fields
 
 -- what a step of the walk led to
-data Walk (o : Outcome) (next : List ℕ → Outcome) (whole : Outcome) : Type 0 where
+pub data Walk (o : Outcome) (next : List ℕ → Outcome) (whole : Outcome) : Type 0 where
   Passes : (rest : List ℕ) (was : o ≡ Passed rest) (is : next rest ≡ whole) → Walk o next whole
   Halts : (fault : CodecFault) (was : o ≡ Stuck fault) (is : whole ≡ Stuck fault) → Walk o next whole
   Parts : (is : whole ≡ Differs) → Walk o next whole
 
-walk_of : (o : Outcome) (next : List ℕ → Outcome) (whole : Outcome) → behind_it o next ≡ whole → Walk o next whole
+pub walk_of : (o : Outcome) (next : List ℕ → Outcome) (whole : Outcome) → behind_it o next ≡ whole → Walk o next whole
 walk_of (Passed rest) next whole e = Walk.Passes rest refl e
 walk_of (Stuck fault) next whole e = Walk.Halts fault refl (sym e)
 walk_of Differs next whole e = Walk.Parts (sym e)

@@ -1,16 +1,14 @@
 -- Why bytes are no record. The first offence from the left decides: the fields before it are some record's, and may stand there.
-use Rattle.std.specs.Prelude.{◌≡◌, ◌≢◌, ◌⊎◌, ℕ, ◌^◌, ◌<◌, Bool, false, List, [], ◌∷◌, ◌++◌, length, Result, Ok, Err, All, FitsSigned}
-use Rattle.std.specs.Int.{w64}
+use Rattle.std.specs.Prelude.{◌≡◌, ◌≢◌, ◌⊎◌, ℕ, ◌^◌, ◌<◌, false, List, [], ◌∷◌, ◌++◌, length, Result, Ok, Err}
 use Rattle.record.specs.RecordView.{RecordView}
 use Rattle.ckpt_codec.specs.Fields.{Field, AreAllowed, number_text, text_of}
-use Rattle.ckpt_codec.specs.RecordText.{record_fields, items_of_record, IsRecordText}
+use Rattle.ckpt_codec.specs.RecordText.{record_fields, IsRecordText}
 use Rattle.ckpt_codec.specs.declared.fault.CodecFault.{CodecFault}
 use Rattle.ckpt_codec.specs.declared.fault.CodecFault.TheVariants.{NoMemory, Truncated, Version, Malformed}
 
 -- a place in the fields of some record: those before it may stand where they do, and this field comes next
 pub record Place : Type 0 where
   pub kept : RecordView
-  pub items : All (FitsSigned w64) (items_of_record kept)
   pub before : List Field
   pub next : Field
   pub after : List Field

@@ -1,8 +1,7 @@
 -- How many bytes spell a record, part by part.
-use Rattle.std.specs.Prelude.{ℕ, ◌+◌, ◌*◌, List, length, sum_by, Option, Some, None}
+use Rattle.std.specs.Prelude.{ℕ, ◌+◌, ◌*◌, length, sum_by, Option, Some, None}
 use Rattle.kahn_net.specs.Processes.{Standing}
 use Rattle.kahn_net.specs.Processes.Standing.{NotBegun, At, Done}
-use Rattle.retained.specs.LogState.{LogState}
 use Rattle.record.specs.DecisionView.{DecisionView}
 use Rattle.record.specs.ProcessView.{SavedProcessView}
 use Rattle.record.specs.ImageView.{ImageView}

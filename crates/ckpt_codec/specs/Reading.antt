@@ -1,5 +1,5 @@
 -- Reading from the front: what is read and what is left, or the first offence.
-use Rattle.std.specs.Prelude.{◌≡◌, ℕ, zero, suc, ◌+◌, ◌==◌, ◌&&◌, Bool, true, nat_le, nat_lt, not, if◌then◌else◌, ℤ, List, [], ◌∷◌, length, drop, slice_get, slice_index, Option, Some, None, Result, Ok, Err}
+use Rattle.std.specs.Prelude.{◌≡◌, ℕ, zero, suc, ◌+◌, ◌==◌, ◌&&◌, Bool, nat_le, nat_lt, not, if◌then◌else◌, ℤ, List, [], ◌∷◌, length, drop, slice_get, slice_index, Option, Some, None, Result, Ok, Err}
 use Rattle.std.specs.Int.{w64, cast_signed}
 use Rattle.byteorder.specs.Endian.{big_number}
 use Rattle.kahn_net.specs.Statements.{Point, point_at}

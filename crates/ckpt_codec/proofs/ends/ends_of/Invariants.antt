@@ -1,5 +1,5 @@
 use Rattle.std.proofs.Common.{◌≡◌, ◌-◌, option_copied}
-use Rattle.ckpt_codec.specs.Reading.{so_many, saved_end_at, channel_wanted, role_wanted, end_like, past_end, ends_at}
+use Rattle.ckpt_codec.specs.Reading.{so_many, end_like, past_end, ends_at}
 use Rattle.ckpt_codec.specs.RecordText.{ends_in}
 use Rattle.ckpt_codec.proofs.Loop.{behind}
 use Rattle.ckpt_codec.proofs.ends.ends_of.Given as goal

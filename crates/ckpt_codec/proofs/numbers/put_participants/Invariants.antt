@@ -1,6 +1,4 @@
 use Rattle.std.proofs.Common.{◌≡◌, ◌++◌, take}
-use Rattle.std.specs.Prelude.{All, FitsSigned}
-use Rattle.std.specs.Int.{w64}
 use Rattle.std.specs.List.{flat_map}
 use Rattle.ckpt_codec.specs.Fields.{number_text}
 use Rattle.ckpt_codec.proofs.numbers.put_participants.Given as goal

@@ -1,5 +1,5 @@
 use Rattle.std.proofs.Common.{◌≡◌, ◌-◌, option_copied}
-use Rattle.ckpt_codec.specs.Reading.{so_many, process_at, number_wanted, variables_wanted, process_like, past_process, processes_at}
+use Rattle.ckpt_codec.specs.Reading.{so_many, process_like, past_process, processes_at}
 use Rattle.ckpt_codec.specs.RecordText.{processes_in}
 use Rattle.ckpt_codec.proofs.Loop.{behind}
 use Rattle.ckpt_codec.proofs.processes.processes_of.Given as goal

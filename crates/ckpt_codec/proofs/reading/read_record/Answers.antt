@@ -12,4 +12,4 @@ pub returns-clause-cause : goal.returns-clause-cause
 returns-clause-cause c = is_caused c.args.bytes.now c.whole_of.result (λ i. omega (arith, c.type_inv.bytes i)) c.whole_of.ensures
 
 pub returns-clause-each : goal.returns-clause-each
-returns-clause-each c = λ fault cause. is_refused c.args.bytes.now c.whole_of.result fault c.whole_of.ensures cause
+returns-clause-each c = λ fault cause. is_refused c.args.bytes.now c.whole_of.result fault (λ i. omega (arith, c.type_inv.bytes i)) c.whole_of.ensures cause

@@ -1,4 +1,4 @@
-use Rattle.std.proofs.Common.{◌≡◌, ◌++◌, [], List, ℕ, ap, ◌∙◌}
+use Rattle.std.proofs.Common.{◌++◌, List, ℕ, ap, ◌∙◌}
 use Rattle.ckpt_codec.specs.Spelling.{spelling}
 use Rattle.ckpt_codec.proofs.Spelled.{record_short, is_text}
 use Rattle.ckpt_codec.proofs.writing.write_record.Goals as goal
