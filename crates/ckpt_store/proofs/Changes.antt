@@ -179,9 +179,6 @@ module _ {C : Type 0} (words : CellWords C) (cause : RecordView → Option Store
         change = subst (λ o. IsChange words cause next old new o (known_after kept (next kept) result) result) (sym is) (change_put words cause next kept old new settled value_may_stay includes_now was_kept fine result put_next);
       }
 
-  pub after_ok : IsPut words now old new {T = Unit {0}} (Ok tt) → After (Some now) (Ok tt)
-  after_ok put = subst (λ r. After (Some r) (Ok tt)) (sym made) (after (Ok tt) put)
-
   pub after_failure : (fault : StoreFault) (known_now : Option RecordView) → is_failure fault ≡ true → known_now ≡ None → IsPut words now old new {T = Unit {0}} (Err fault) → After known_now (Err fault)
   after_failure fault known_now failed gone put = subst (λ o. After o (Err fault)) (known_failed kept (next kept) fault put.refusals failed ∙ sym gone) (after (Err fault) put)
 

@@ -23,11 +23,6 @@ use Rattle.ckpt_store.proofs.Changes.{IsOfRecord}
 pub held_fine : (initiator number : ℕ) (kept : RecordView) → is_held initiator number kept.tentative ≡ true → refusal_unless_held initiator number kept ≡ None
 held_fine initiator number kept held = (let choice : Bool → Option StoreFault = λ b. if b then None else Some NotHeld in ap choice held)
 
--- something is held then
-pub held_some : (initiator number : ℕ) (held : Option Tentative) → is_held initiator number held ≡ true → is_some held ≡ true
-held_some initiator number None is = cc
-held_some initiator number (Some t) is = refl
-
 held_again : (initiator number : ℕ) (permanent : ImageView) (held : Option Tentative) → is_held initiator number held ≡ true → Some (record { initiator = initiator; number = number; image = last_image permanent held }) ≡ held
 held_again initiator number permanent None is = cc
 held_again initiator number permanent (Some t) is =

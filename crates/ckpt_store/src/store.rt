@@ -1,13 +1,10 @@
 //! One record in one stable cell.
-ghost use Rattle.std.specs.Prelude.{◌≡◌, ◌<◌, length, false, Some, None, OnOk, OnErr, IfOk, IfErr, IsSome, IsTrue, MatchResult};
+ghost use Rattle.std.specs.Prelude.{◌≡◌, ◌<◌, length, false, Some, None, IfOk, IsSome, IsTrue, MatchResult};
 ghost use Rattle.std.specs.Option.{ForSome};
 ghost use Rattle.sector_disk.specs.Clock.{Only, LeavesOnly};
-ghost use Rattle.record.specs.RecordView.{RecordView};
 ghost use Rattle.record.specs.Moves.{with_tentative, with_permanent, without_tentative, with_decision, with_confirmed, with_epoch};
-ghost use Rattle.ckpt_store.specs.StoreFault.{HasFailures};
 ghost use Rattle.ckpt_store.specs.Refusals.{refusal_to_take, refusal_unless_held, refusal_to_decide, refusal_to_raise, no_refusal, has_effect};
 ghost use Rattle.ckpt_store.specs.Spelling.{IsKept, IsLike, AreOthers};
-ghost use Rattle.ckpt_store.specs.Loading.{IsOfReopening};
 
 use crate::changing;
 use crate::fault::StoreFault;

@@ -1,5 +1,5 @@
 -- The moves of a record: what it becomes by each put of it.
-use Rattle.std.specs.Prelude.{ℕ, ◌+◌, ◌==◌, not, if◌then◌else◌, Bool, true, false, ◌&&◌, List, [], ◌∷◌, filter, Option, Some, None, slice_index, slice_set}
+use Rattle.std.specs.Prelude.{ℕ, ◌+◌, ◌==◌, not, if◌then◌else◌, List, [], ◌∷◌, filter, Option, Some, None, slice_index, slice_set}
 use Rattle.record.specs.DecisionView.{DecisionView}
 use Rattle.record.specs.ImageView.{ImageView}
 use Rattle.record.specs.RecordView.{RecordView}
