@@ -21,6 +21,14 @@ const LATER: [u8; 98] = [
     6, 0,
 ];
 
+/// Node 1 of two, which has decided on a checkpoint that node 0 is to confirm.
+const DECIDED: [u8; 116] = [
+    1, 1, 0, 0, 0, 0, 0, 0, 0, 0, 2, 0, 0, 0, 0, 0, 0, 0, 0, 0, 0, 0, 0, 0, 0, 0, 1, 1, 0, 0, 0, 0,
+    0, 0, 0, 1, 1, 0, 1, 1, 1, 0, 0, 0, 0, 0, 2, 0, 0, 0, 0, 0, 0, 0, 6, 0, 0, 0, 0, 0, 0, 0, 3, 0,
+    2, 0, 1, 0, 0, 0, 0, 0, 0, 0, 0, 3, 0, 2, 1, 0, 0, 0, 0, 0, 0, 0, 0, 0, 0, 0, 3, 0, 0, 0, 0, 0,
+    0, 0, 1, 0, 0, 0, 0, 0, 0, 0, 3, 0, 0, 0, 0, 0, 0, 0, 6, 0,
+];
+
 /// Node 1 of three, with a decision, a tentative image, all three modes and all three roles.
 const WHOLE: [u8; 285] = [
     1, 1, 0, 0, 0, 0, 0, 0, 0, 9, 3, 0, 0, 0, 0, 0, 0, 0, 4, 0, 0, 0, 0, 0, 0, 0, 6, 0, 0, 0, 0, 0,
@@ -105,10 +113,11 @@ fn stands_each_change(rt: &impl Abort, alloc: Global, bytes: &[u8]) -> Result<()
 }
 
 #[test]
-fn three_records(rt: HostRuntime) -> Result<(), Fail> {
+fn four_records(rt: HostRuntime) -> Result<(), Fail> {
     let alloc = rt.alloc();
     is_spelling(&rt, alloc, &OPENING)?;
     is_spelling(&rt, alloc, &LATER)?;
+    is_spelling(&rt, alloc, &DECIDED)?;
     is_spelling(&rt, alloc, &WHOLE)?;
     Ok(())
 }
