@@ -22,9 +22,6 @@ use Rattle.ckpt_codec.proofs.Fitting.{stuck_alike, fit_record, record_is, record
 
 -- ---- the version
 
-version_field : Field
-version_field = exactly 1 1 1
-
 one_byte : (v : ℕ) (rest : List ℕ) → number_at 1 (v ∷ rest) ≡ Ok (v, rest)
 unfolding number_at
 one_byte v rest =

@@ -445,9 +445,6 @@ log_lawful limit from =
 abbrev pub IsEnd : End → Type 0
 IsEnd end = AreItems (items_of_end end)
 
-no_log : LogState
-no_log = record { base = 0; items = [] }
-
 abbrev received_in : End → ℕ
 received_in (Receives received) = received
 received_in (Sends log) = 0

@@ -128,7 +128,3 @@ body_lawful =
     head_lawful (λ head is. tail_lawful head.node head.highest) (λ head is. (record { decision = None; permanent = record { processes = []; ends = [] }; tentative = None }, (no_image, tt)))
     (λ r. (refl, refl)) (λ head tail. (refl, refl)))
     (λ r is. (tt, (is.permanent, is.tentative))) (λ r is. record { permanent = is.1.0; tentative = is.1.1 })
-
--- the version, and the body
-pub record_fields_are : (kept : RecordView) → record_fields kept ≡ exactly 1 1 1 ∷ body_fields kept
-record_fields_are kept = refl

@@ -1,5 +1,5 @@
 // The fields of a record, read from the front of bytes: what was read, and what is left.
-ghost use Rattle.std.specs.Prelude.{◌≡◌, ◌≤◌, ◌+◌, ◌==◌, ◌&&◌, not, nat_le, nat_lt, suc, length, slice_index};
+ghost use Rattle.std.specs.Prelude.{◌≤◌};
 ghost use Rattle.ckpt_codec.specs.Reading.{Reads, number_at, item_at, count_at, flag_at, nodes_at, participant_at, decided_number_at, participant_count_at, mode_number_at, depth_at, process_number_at, variable_count_at, process_count_at, base_at, retained_at, role_at, channel_at, end_count_at, initiator_at, tentative_number_at};
 
 use crate::fault::CodecFault;

@@ -1,5 +1,5 @@
 // Numbers and items, put behind bytes.
-ghost use Rattle.std.specs.Prelude.{◌≡◌, ◌++◌, OnOk, FitsSigned, All};
+ghost use Rattle.std.specs.Prelude.{◌≡◌, ◌++◌, OnOk, FitsSigned};
 ghost use Rattle.std.specs.Int.{w64};
 ghost use Rattle.std.specs.Option.{option_to_list};
 ghost use Rattle.ckpt_codec.specs.Fields.{number_text};

@@ -1,5 +1,5 @@
 // Processes, read from the front of bytes.
-ghost use Rattle.std.specs.Prelude.{◌≡◌, ◌+◌, option_copied, option_map};
+ghost use Rattle.std.specs.Prelude.{◌≡◌, ◌+◌, option_copied};
 ghost use Rattle.kahn_net.specs.States.{point_of, standing_in, standing_of};
 ghost use Rattle.ckpt_codec.specs.Reading.{Reads, items_at, passes_at, place_at, mode_at, variables_at, state_at, process_at, number_wanted, variables_wanted, processes_at};
 ghost use Rattle.ckpt_codec.specs.RecordText.{processes_in};

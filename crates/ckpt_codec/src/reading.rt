@@ -1,8 +1,8 @@
 // From bytes to a record.
-ghost use Rattle.std.specs.Prelude.{◌≡◌, ◌<◌, IfOk, IfErr, length, slice_index};
+ghost use Rattle.std.specs.Prelude.{◌≡◌, ◌<◌, IfOk, IfErr, slice_index};
 ghost use Rattle.ckpt_codec.specs.RecordText.{IsRecordText};
 ghost use Rattle.ckpt_codec.specs.Faults.{IsCodecFault, IsReadUnlessMemory, IsRefusedUnlessMemory};
-ghost use Rattle.ckpt_codec.specs.Reading.{Reads, entries_at, highest_at, participants_at, participant_list_at, decided_at, decision_at, instance_at, pending_at, tentative_at, Head, numbers_at, head_at, images_at, Tail, tail_at, body_at, whole_at};
+ghost use Rattle.ckpt_codec.specs.Reading.{Reads, entries_at, highest_at, participants_at, participant_list_at, decided_at, decision_at, instance_at, pending_at, tentative_at, numbers_at, head_at, images_at, tail_at, body_at, whole_at};
 ghost use Rattle.ckpt_codec.specs.declared.fault.CodecFault.{CodecFault as FaultValue};
 ghost use Rattle.record.specs.RecordView.{RecordView};
 
