@@ -16,7 +16,7 @@ use Rattle.kahn_net.specs.declared.program.Port.{Port}
 use Rattle.kahn_net.specs.declared.program.Port.TheVariants.{Process}
 use Rattle.retained.specs.LogState.{LogState, IsLogOf}
 use Rattle.record.specs.ImageView.{ImageView}
-use Rattle.node.specs.NodeView.{NodeView}
+use Rattle.node.specs.NodeView.{RunningNode}
 use Rattle.record.specs.Ends.{log_of}
 use Rattle.node.specs.Reached.{first_acts, acts_of, ImageStands, HasReached, IsLaidOut, HasComeOn}
 use Rattle.node.specs.ImageLaws.{numbered_there, channel_at, log_is}
@@ -71,7 +71,7 @@ beginning_of_whole taken part whole front begins =
     prefix_trans taken part whole begins front
 
 -- what left is still a beginning of what the process put, once the node has come on
-pub beginning_stays : (net : Network) (inputs : List (List ℤ)) (old new : NodeView) (before : HasReached net inputs old) (after : HasReached net inputs new) (c p : ℕ) (taken : List ℤ)
+pub beginning_stays : (net : Network) (inputs : List (List ℤ)) (old new : RunningNode) (before : HasReached net inputs old) (after : HasReached net inputs new) (c p : ℕ) (taken : List ℤ)
     → HasComeOn net inputs old new before after
     → IsPrefix taken (sent_on c (acts_of net (approximation net inputs before.n) before.current_acts p))
     → IsPrefix taken (sent_on c (acts_of net (approximation net inputs after.n) after.current_acts p))
