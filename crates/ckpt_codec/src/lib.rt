@@ -18,6 +18,6 @@ mod writing;
 
 pub use fault::CodecFault;
 pub use laws::no_spelling_begins_another;
-pub use lengths::{MAX_RECORD_BYTES, spelled_length};
+pub use lengths::{MAX_RECORD_BYTES, spelled_length, spelled_length_with};
 pub use reading::read_record;
 pub use writing::write_record;
