@@ -13,6 +13,7 @@ mod node;
 mod opening;
 mod putting;
 mod releasing;
+mod sharing;
 mod starting;
 mod state;
 
