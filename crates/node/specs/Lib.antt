@@ -21,3 +21,5 @@ pub mod OpeningLaws
 pub mod GrantLaws
 pub mod SentLaws
 pub mod SharingLaws
+pub mod VariableLaws
+pub mod SizeLaws

@@ -1,0 +1,59 @@
+-- Laws of sizes: an image of a valid network whose logs keep to their share is within bounds, so that a record of two such images fits.
+use Rattle.std.proofs.Common.{◌≡◌, ℕ, ◌+◌, ◌<◌, ◌≤◌, List, length, get_or, Option, Some, None, ◌⊎◌, inl, inr, refl, sym, ap, subst, ◌∙◌, arith}
+use Rattle.std.specs.Prelude.{slice_get}
+use Rattle.std.proofs.lemmas.Option.{slice_get_cases, slice_get_within}
+use Rattle.kahn_net.specs.Syntax.{Code, Network}
+use Rattle.kahn_net.specs.Valid.{IsValid}
+use Rattle.kahn_net.specs.declared.limits.TheConstants.{MAX_NODES, MAX_VARIABLES}
+use Rattle.record.specs.DecisionView.{DecisionView}
+use Rattle.record.specs.ProcessView.{SavedProcessView}
+use Rattle.record.specs.ImageView.{ImageView}
+use Rattle.record.specs.RecordView.{RecordView}
+use Rattle.record.specs.declared.image.SavedEnd.{SavedEnd}
+use Rattle.record.specs.declared.record.Tentative.{Tentative}
+use Rattle.ckpt_codec.specs.RecordText.{variables_of}
+use Rattle.ckpt_codec.specs.Lengths.{record_length}
+use Rattle.ckpt_codec.specs.SizeLaws.{IsImageWithin, IsRecordWithin, record_fits}
+use Rattle.ckpt_codec.specs.declared.lengths.TheConstants.{MAX_RECORD_BYTES, MAX_RETAINED_ITEMS}
+use Rattle.node.specs.Starting.{with_own}
+use Rattle.node.specs.Reached.{ImageStands, IsLaidOut, LogsAreWithin}
+use Rattle.node.specs.ImageLaws.{numbered_mark, numbered_count}
+use Rattle.node.specs.SharingLaws.{items_fit}
+use Rattle.node.specs.VariableLaws.{variables_stay}
+
+-- each process of an image that stands there has no more variables than a network allows
+variables_few : (net : Network) (histories : List (List ℤ)) (made : ℕ → ℕ) (image : ImageView) → IsValid net → IsLaidOut net image → ImageStands net histories made image
+    → (k : ℕ) (saved : SavedProcessView) → slice_get image.processes k ≡ Some saved → length (variables_of saved.standing) ≤ MAX_VARIABLES
+variables_few net histories made image valid laid stands k saved is = at (slice_get_cases net.codes saved.number).1
+  where
+    number : saved.number ≡ 0 + k
+    number = numbered_mark (λ (s : SavedProcessView). s.number) image.processes 0 (length net.codes) k saved laid.processes is
+
+    count : length image.processes ≡ length net.codes
+    count = numbered_count (λ (s : SavedProcessView). s.number) image.processes 0 (length net.codes) laid.processes
+
+    within : k < length image.processes
+    within = slice_get_within image.processes k saved is
+
+    at : ((x : Code) × (saved.number < length net.codes) × (slice_get net.codes saved.number ≡ Some x) × (get_or net.codes saved.number x ≡ x)) ⊎ ((length net.codes ≤ saved.number) × (slice_get net.codes saved.number ≡ None))
+        → length (variables_of saved.standing) ≤ MAX_VARIABLES
+    at (inl here) =
+        let same = variables_stay here.0 histories (made saved.number) saved.standing (stands.processes k saved here.0 is here.2) in
+        let few = (valid.codes saved.number here.0 here.2).variables in
+        omega (arith, same, few)
+    at (inr past) = absurd (omega (arith, number, count, within, past.0))
+
+-- an image of a valid network, whose logs keep to their share, is within the bounds of which a record holds two
+pub image_within : (net : Network) (histories : List (List ℤ)) (made : ℕ → ℕ) (image : ImageView) → IsValid net → IsLaidOut net image → ImageStands net histories made image → LogsAreWithin image
+    → IsImageWithin MAX_RETAINED_ITEMS image
+image_within net histories made image valid laid stands logs =
+    let processes = numbered_count (λ (s : SavedProcessView). s.number) image.processes 0 (length net.codes) laid.processes in
+    let ends = numbered_count (λ (s : SavedEnd). s.channel) image.ends 0 (length net.channels) laid.ends in
+    let codes = valid.process_count in
+    let channels = valid.channel_count in
+    record {
+      processes = omega (arith, processes, codes);
+      variables = variables_few net histories made image valid laid stands;
+      ends = omega (arith, ends, channels);
+      items = items_fit image (λ k saved log is has. (logs k saved log is has).count);
+    }
