@@ -1,22 +1,24 @@
 -- Laws of sizes: an image of a valid network whose logs keep to their share is within bounds, so that a record of two such images fits.
-use Rattle.std.proofs.Common.{◌≡◌, ℕ, ◌+◌, ◌<◌, ◌≤◌, List, length, get_or, Option, Some, None, ◌⊎◌, inl, inr, refl, sym, ap, subst, ◌∙◌, arith}
+use Rattle.std.proofs.Common.{◌≡◌, ℕ, ◌+◌, ◌<◌, ◌≤◌, ℤ, List, [], length, get_or, Option, Some, None, ◌⊎◌, inl, inr, refl, sym, ap, subst, ◌∙◌, arith}
 use Rattle.std.specs.Prelude.{slice_get}
+use Rattle.std.proofs.lemmas.List.{length-set, length-replicate}
 use Rattle.std.proofs.lemmas.Option.{slice_get_cases, slice_get_within}
 use Rattle.kahn_net.specs.Syntax.{Code, Network}
 use Rattle.kahn_net.specs.Valid.{IsValid}
+use Rattle.kahn_net.specs.Approximations.{approximation}
 use Rattle.kahn_net.specs.declared.limits.TheConstants.{MAX_NODES, MAX_VARIABLES}
-use Rattle.record.specs.DecisionView.{DecisionView}
 use Rattle.record.specs.ProcessView.{SavedProcessView}
 use Rattle.record.specs.ImageView.{ImageView}
 use Rattle.record.specs.RecordView.{RecordView}
 use Rattle.record.specs.declared.image.SavedEnd.{SavedEnd}
 use Rattle.record.specs.declared.record.Tentative.{Tentative}
 use Rattle.ckpt_codec.specs.RecordText.{variables_of}
-use Rattle.ckpt_codec.specs.Lengths.{record_length}
-use Rattle.ckpt_codec.specs.SizeLaws.{IsImageWithin, IsRecordWithin, record_fits}
-use Rattle.ckpt_codec.specs.declared.lengths.TheConstants.{MAX_RECORD_BYTES, MAX_RETAINED_ITEMS}
-use Rattle.node.specs.Starting.{with_own}
+use Rattle.ckpt_codec.specs.SizeLaws.{IsImageWithin, IsRecordWithin}
+use Rattle.ckpt_codec.specs.declared.lengths.TheConstants.{MAX_RETAINED_ITEMS}
 use Rattle.node.specs.Reached.{ImageStands, IsLaidOut, LogsAreWithin}
+use Rattle.node.specs.Starting.{with_own, highest_used, decided, decided_with}
+use Rattle.node.specs.Opening.{opening_image, opening_record}
+use Rattle.node.specs.OpeningLaws.{reached_opening, laid_out_opening, logs_opening}
 use Rattle.node.specs.ImageLaws.{numbered_mark, numbered_count}
 use Rattle.node.specs.SharingLaws.{items_fit}
 use Rattle.node.specs.VariableLaws.{variables_stay}
@@ -57,3 +59,33 @@ image_within net histories made image valid laid stands logs =
       ends = omega (arith, ends, channels);
       items = items_fit image (λ k saved log is has. (logs k saved log is has).count);
     }
+
+-- The node's records
+
+-- the record of a node before its first event
+pub opening_within : (net : Network) (nodes number : ℕ) → IsValid net → nodes ≤ MAX_NODES → IsRecordWithin MAX_RETAINED_ITEMS (opening_record net nodes number)
+opening_within net nodes number valid few =
+    let reached = reached_opening net [] nodes number in
+    record {
+      nodes = (let same : length (opening_record net nodes number).highest ≡ nodes = length-replicate nodes 0 in omega (arith, same, few));
+      decision = λ d is. absurd (cc);
+      permanent = image_within net (approximation net [] reached.n) reached.permanent_acts (opening_image net) valid (laid_out_opening net) reached.permanent (logs_opening net);
+      tentative = λ t is. absurd (cc);
+    }
+
+-- the record of a start
+pub own_within : (node : ℕ) (image : ImageView) (kept : RecordView) → IsImageWithin MAX_RETAINED_ITEMS image → IsRecordWithin MAX_RETAINED_ITEMS kept → IsRecordWithin MAX_RETAINED_ITEMS (with_own node image kept)
+own_within node image kept here within = record {
+  nodes = (let same = length-set kept.highest node (highest_used node kept + 1) in let few = within.nodes in omega (arith, same, few));
+  decision = within.decision;
+  permanent = within.permanent;
+  tentative = λ t is. (let same : image ≡ t.image = cc in subst (IsImageWithin MAX_RETAINED_ITEMS) same here);
+}
+
+-- the record of a decision
+pub decided_within : (kept : RecordView) → IsRecordWithin MAX_RETAINED_ITEMS kept → IsRecordWithin MAX_RETAINED_ITEMS (decided kept)
+decided_within kept within = at kept.tentative within.tentative
+  where
+    at : (o : Option Tentative) → ((t : Tentative) → o ≡ Some t → IsImageWithin MAX_RETAINED_ITEMS t.image) → IsRecordWithin MAX_RETAINED_ITEMS (decided_with kept o)
+    at None held = within
+    at (Some t) held = record { nodes = within.nodes; decision = λ d is. absurd (cc); permanent = held t refl; tentative = λ s is. absurd (cc) }
