@@ -1,7 +1,8 @@
 -- Laws of how long a record gets: one whose images are within bounds fits, and a move that lets an image go makes none longer.
-use Rattle.std.proofs.Common.{◌≡◌, ℕ, zero, suc, ◌+◌, ◌*◌, ◌≤◌, Bool, true, false, cond, List, [], ◌∷◌, length, Option, Some, None, refl, subst, sym, arith}
-use Rattle.std.specs.Prelude.{slice_get, sum_by, ◌==◌}
-use Rattle.std.proofs.lemmas.List.Sums.{sum_by-cons}
+use Rattle.std.proofs.Common.{◌≡◌, ℕ, zero, suc, ◌+◌, ◌*◌, ◌≤◌, Bool, true, false, cond, List, [], ◌∷◌, length, Option, Some, None, refl, subst, sym, ap, arith}
+use Rattle.std.specs.Prelude.{slice_get, sum_by, ◌==◌, not}
+use Rattle.std.proofs.lemmas.List.{length-set}
+use Rattle.std.proofs.lemmas.List.Sums.{sum_by-cons, length-filter, count_by-le-length}
 use Rattle.kahn_net.specs.Processes.{Standing}
 use Rattle.kahn_net.specs.Processes.Standing.{NotBegun, At, Done}
 use Rattle.kahn_net.specs.declared.limits.TheConstants.{MAX_NODES, MAX_PROCESSES, MAX_CHANNELS, MAX_VARIABLES}
@@ -9,7 +10,7 @@ use Rattle.record.specs.DecisionView.{DecisionView}
 use Rattle.record.specs.ProcessView.{SavedProcessView}
 use Rattle.record.specs.ImageView.{ImageView}
 use Rattle.record.specs.RecordView.{RecordView}
-use Rattle.record.specs.Moves.{last_image, with_permanent, without_tentative, with_decision, without_own, with_epoch}
+use Rattle.record.specs.Moves.{with_tentative, last_image, with_permanent, without_tentative, decision_by, decision_or, with_decision, without_node, confirmed, with_confirmed, without_own, with_epoch}
 use Rattle.record.specs.declared.image.SavedEnd.{SavedEnd}
 use Rattle.record.specs.declared.image.End.{End}
 use Rattle.record.specs.declared.image.End.TheVariants.{Receives, Sends, Both}
@@ -136,3 +137,69 @@ decision_is_shorter n kept = let last = last_is_shorter kept.permanent kept.tent
 -- nor in its next epoch
 pub epoch_is_shorter : (kept : RecordView) → record_length (with_epoch kept) ≤ record_length kept
 epoch_is_shorter kept = let own = own_is_shorter kept.node kept.tentative in omega (arith, own)
+
+-- and each move of a record within bounds gives one within bounds
+
+module _ (most : ℕ) (kept : RecordView) (within : IsRecordWithin most kept) where
+  last_within : (tentative : Option Tentative) → ((t : Tentative) → tentative ≡ Some t → IsImageWithin most t.image) → IsImageWithin most (last_image kept.permanent tentative)
+  last_within None held = within.permanent
+  last_within (Some t) held = held t refl
+
+  by_within : (number : ℕ) (participants : List ℕ) → length participants ≤ MAX_NODES → (d : DecisionView) → decision_by number participants ≡ Some d → length d.participants ≤ MAX_NODES
+  by_within number [] few d is = absurd (cc)
+  by_within number (p ∷ ps) few d is =
+      let same : p ∷ ps ≡ d.participants = cc in
+      omega (arith, few, ap (length {A = ℕ}) same)
+
+  or_within : (number : ℕ) (participants : List ℕ) → length participants ≤ MAX_NODES → (d : DecisionView) → decision_or kept.decision number participants ≡ Some d → length d.participants ≤ MAX_NODES
+  or_within number [] few d is = within.decision d is
+  or_within number (p ∷ ps) few d is = by_within number (p ∷ ps) few d is
+
+  confirmed_within : (number node : ℕ) (decision : Option DecisionView) → ((d : DecisionView) → decision ≡ Some d → length d.participants ≤ MAX_NODES)
+      → (d : DecisionView) → confirmed number node decision ≡ Some d → length d.participants ≤ MAX_NODES
+  confirmed_within number node None few d is = absurd (cc)
+  confirmed_within number node (Some e) few d is = at (e.number == number) is
+    where
+      at : (b : Bool) → cond b (decision_by number (without_node node e.participants)) (Some e) ≡ Some d → length d.participants ≤ MAX_NODES
+      at false is = few d is
+      at true is =
+          let some = length-filter (λ (p : ℕ). not (p == node)) e.participants in
+          let all = count_by-le-length (λ (p : ℕ). not (p == node)) e.participants in
+          let before = few e refl in
+          by_within number (without_node node e.participants) (omega (arith, some, all, before)) d is
+
+  own_within : (node : ℕ) (tentative : Option Tentative) → ((t : Tentative) → tentative ≡ Some t → IsImageWithin most t.image) → (t : Tentative) → without_own node tentative ≡ Some t → IsImageWithin most t.image
+  own_within node None held t is = absurd (cc)
+  own_within node (Some s) held t is = at (s.initiator == node) is
+    where
+      at : (b : Bool) → cond b None (Some s) ≡ Some t → IsImageWithin most t.image
+      at true is = absurd (cc)
+      at false is = held t is
+
+  pub within_tentative : (initiator number : ℕ) (image : ImageView) → IsImageWithin most image → IsRecordWithin most (with_tentative initiator number image kept)
+  within_tentative initiator number image here = record {
+    nodes = (let same = length-set kept.highest initiator number in let few = within.nodes in omega (arith, same, few));
+    decision = within.decision;
+    permanent = within.permanent;
+    tentative = λ t is. (let same : image ≡ t.image = cc in subst (IsImageWithin most) same here);
+  }
+
+  pub within_permanent : IsRecordWithin most (with_permanent kept)
+  within_permanent = record { nodes = within.nodes; decision = within.decision; permanent = last_within kept.tentative within.tentative; tentative = λ t is. absurd (cc) }
+
+  pub within_without_tentative : IsRecordWithin most (without_tentative kept)
+  within_without_tentative = record { nodes = within.nodes; decision = within.decision; permanent = within.permanent; tentative = λ t is. absurd (cc) }
+
+  pub within_decision : (number : ℕ) (participants : List ℕ) → length participants ≤ MAX_NODES → IsRecordWithin most (with_decision number participants kept)
+  within_decision number participants few = record {
+    nodes = within.nodes;
+    decision = or_within number participants few;
+    permanent = last_within kept.tentative within.tentative;
+    tentative = λ t is. absurd (cc);
+  }
+
+  pub within_confirmed : (number node : ℕ) → IsRecordWithin most (with_confirmed number node kept)
+  within_confirmed number node = record { nodes = within.nodes; decision = confirmed_within number node kept.decision within.decision; permanent = within.permanent; tentative = within.tentative }
+
+  pub within_epoch : IsRecordWithin most (with_epoch kept)
+  within_epoch = record { nodes = within.nodes; decision = within.decision; permanent = within.permanent; tentative = own_within kept.node kept.tentative within.tentative }

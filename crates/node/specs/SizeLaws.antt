@@ -1,7 +1,7 @@
 -- Laws of sizes: an image of a valid network whose logs keep to their share is within bounds, so that a record of two such images fits.
 use Rattle.std.proofs.Common.{◌≡◌, ℕ, ◌+◌, ◌<◌, ◌≤◌, ℤ, List, [], length, get_or, Option, Some, None, ◌⊎◌, inl, inr, refl, sym, ap, subst, ◌∙◌, arith}
 use Rattle.std.specs.Prelude.{slice_get}
-use Rattle.std.proofs.lemmas.List.{length-set, length-replicate}
+use Rattle.std.proofs.lemmas.List.{length-replicate}
 use Rattle.std.proofs.lemmas.Option.{slice_get_cases, slice_get_within}
 use Rattle.kahn_net.specs.Syntax.{Code, Network}
 use Rattle.kahn_net.specs.Valid.{IsValid}
@@ -13,7 +13,7 @@ use Rattle.record.specs.RecordView.{RecordView}
 use Rattle.record.specs.declared.image.SavedEnd.{SavedEnd}
 use Rattle.record.specs.declared.record.Tentative.{Tentative}
 use Rattle.ckpt_codec.specs.RecordText.{variables_of}
-use Rattle.ckpt_codec.specs.SizeLaws.{IsImageWithin, IsRecordWithin}
+use Rattle.ckpt_codec.specs.SizeLaws.{IsImageWithin, IsRecordWithin, within_tentative}
 use Rattle.ckpt_codec.specs.declared.lengths.TheConstants.{MAX_RETAINED_ITEMS}
 use Rattle.node.specs.Reached.{ImageStands, IsLaidOut, LogsAreWithin}
 use Rattle.node.specs.Starting.{with_own, highest_used, decided, decided_with}
@@ -75,12 +75,7 @@ opening_within net nodes number valid few =
 
 -- the record of a start
 pub own_within : (node : ℕ) (image : ImageView) (kept : RecordView) → IsImageWithin MAX_RETAINED_ITEMS image → IsRecordWithin MAX_RETAINED_ITEMS kept → IsRecordWithin MAX_RETAINED_ITEMS (with_own node image kept)
-own_within node image kept here within = record {
-  nodes = (let same = length-set kept.highest node (highest_used node kept + 1) in let few = within.nodes in omega (arith, same, few));
-  decision = within.decision;
-  permanent = within.permanent;
-  tentative = λ t is. (let same : image ≡ t.image = cc in subst (IsImageWithin MAX_RETAINED_ITEMS) same here);
-}
+own_within node image kept here within = within_tentative MAX_RETAINED_ITEMS kept within node (highest_used node kept + 1) image here
 
 -- the record of a decision
 pub decided_within : (kept : RecordView) → IsRecordWithin MAX_RETAINED_ITEMS kept → IsRecordWithin MAX_RETAINED_ITEMS (decided kept)
