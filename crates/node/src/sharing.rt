@@ -1,6 +1,12 @@
 // How many items each log of an image may have.
-ghost use Rattle.std.specs.Prelude.{◌≡◌};
+ghost use Rattle.std.specs.Prelude.{◌≡◌, ℕ, ℤ, List};
+ghost use Rattle.kahn_net.specs.Syntax.{Network};
+ghost use Rattle.kahn_net.specs.Valid.{IsValid};
+ghost use Rattle.record.specs.ImageView.{ImageView};
+ghost use Rattle.ckpt_codec.specs.SizeLaws.{IsImageWithin};
+ghost use Rattle.ckpt_codec.specs.declared.lengths.TheConstants.{MAX_RETAINED_ITEMS};
 ghost use Rattle.node.specs.Sharing.{is_logging, log_count, log_share};
+ghost use Rattle.node.specs.Reached.{ImageStands, IsLaidOut, LogsAreWithin};
 
 use ckpt_codec::MAX_RETAINED_ITEMS;
 use record::{End, Image};
@@ -35,3 +41,11 @@ pub(crate) fn share_of(image: &Image) -> usize
         logs => MAX_RETAINED_ITEMS / logs,
     }
 }
+
+/// An image of a valid network, each log of which has at most its share, is within the bounds of which a record holds two: see
+/// `ckpt_codec::bounded_records_fit`.
+pub fn share_law()
+    ensures { (net : Network) (histories : List (List ℤ)) (made : ℕ → ℕ) (image : ImageView)
+        → IsValid net → IsLaidOut net image → ImageStands net histories made image
+        → LogsAreWithin image → IsImageWithin MAX_RETAINED_ITEMS image }
+{}
