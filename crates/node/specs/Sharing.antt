@@ -1,5 +1,5 @@
 -- How many items each log of an image may have: an equal share of those for which a record has room.
-use Rattle.std.specs.Prelude.{ℕ, ◌+◌, ◌≤◌, ◌/◌, Bool, true, false, length}
+use Rattle.std.specs.Prelude.{ℕ, ◌≤◌, ◌/◌, Bool, true, false, length}
 use Rattle.std.specs.List.{count_by}
 use Rattle.retained.specs.LogState.{LogState, log_end}
 use Rattle.record.specs.ImageView.{ImageView}

@@ -1,6 +1,6 @@
 -- Laws of shares: what keeps the logs of an image keeps their share, and logs that keep to it have no more items in all than a record
 -- has room for.
-use Rattle.std.proofs.Common.{◌≡◌, ℕ, zero, suc, ◌+◌, ◌*◌, ◌≤◌, Bool, true, false, cond, List, [], ◌∷◌, length, map, Option, Some, refl, sym, ap, subst, ◌∙◌, arith}
+use Rattle.std.proofs.Common.{◌≡◌, ℕ, zero, suc, ◌+◌, ◌*◌, ◌≤◌, Bool, cond, List, [], ◌∷◌, length, map, Some, refl, sym, ap, subst, ◌∙◌, arith}
 use Rattle.std.specs.Prelude.{◌/◌, slice_get, sum_by}
 use Rattle.std.specs.List.{count_by}
 use Rattle.std.proofs.Math.Nat.{div-le_self, mul-div-le}
