@@ -1,6 +1,8 @@
 -- Laws of sizes: an image of a valid network whose logs keep to their share is within bounds, so that a record of two such images fits.
 use Rattle.std.proofs.Common.{◌≡◌, ℕ, ◌+◌, ◌<◌, ◌≤◌, ℤ, List, [], length, get_or, Option, Some, None, ◌⊎◌, inl, inr, refl, arith}
 use Rattle.std.specs.Prelude.{slice_get}
+use Rattle.std.proofs.Math.Logic.{∥∥₁_elim}
+use Rattle.std.proofs.Math.Bridge.{le_prop}
 use Rattle.std.proofs.lemmas.List.{length-replicate}
 use Rattle.std.proofs.lemmas.Option.{slice_get_cases, slice_get_within}
 use Rattle.kahn_net.specs.Syntax.{Code, Network}
@@ -15,7 +17,8 @@ use Rattle.record.specs.declared.record.Tentative.{Tentative}
 use Rattle.ckpt_codec.specs.RecordText.{variables_of}
 use Rattle.ckpt_codec.specs.SizeLaws.{IsImageWithin, IsRecordWithin, within_tentative}
 use Rattle.ckpt_codec.specs.declared.lengths.TheConstants.{MAX_RETAINED_ITEMS}
-use Rattle.node.specs.Reached.{ImageStands, IsLaidOut, LogsAreWithin}
+use Rattle.node.specs.NodeView.{NodeView}
+use Rattle.node.specs.Reached.{HasReached, ImageStands, IsLaidOut, LogsAreWithin}
 use Rattle.node.specs.Starting.{with_own, highest_used, decided, decided_with}
 use Rattle.node.specs.Opening.{opening_image, opening_record}
 use Rattle.node.specs.OpeningLaws.{reached_opening, laid_out_opening, logs_opening}
@@ -59,6 +62,23 @@ image_within net histories made image valid laid stands logs =
       ends = omega (arith, ends, channels);
       items = items_fit image (λ k saved log is has. (logs k saved log is has).count);
     }
+
+-- and so is a node's current image, however far it has come
+pub current_within : (net : Network) (inputs : List (List ℤ)) (node : NodeView) → IsValid net → IsLaidOut net node.current → LogsAreWithin node.current → ∥ HasReached net inputs node ∥₁
+    → IsImageWithin MAX_RETAINED_ITEMS node.current
+current_within net inputs node valid laid logs reached = record {
+  processes =
+      (let count = numbered_count (λ (s : SavedProcessView). s.number) node.current.processes 0 (length net.codes) laid.processes in
+      let few = valid.process_count in
+      omega (arith, count, few));
+  variables = λ k saved is.
+      ∥∥₁_elim reached le_prop (λ come. variables_few net (approximation net inputs come.n) come.current_acts node.current valid laid come.current k saved is);
+  ends =
+      (let count = numbered_count (λ (s : SavedEnd). s.channel) node.current.ends 0 (length net.channels) laid.ends in
+      let few = valid.channel_count in
+      omega (arith, count, few));
+  items = items_fit node.current (λ k saved log is has. (logs k saved log is has).count);
+}
 
 -- The node's records
 
