@@ -10,7 +10,8 @@ ghost use Rattle.ckpt_codec.specs.declared.lengths.TheConstants.{MAX_RETAINED_IT
 ghost use Rattle.node.specs.Sharing.{is_logging, log_count, log_share};
 ghost use Rattle.node.specs.Starting.{with_own, decided};
 ghost use Rattle.node.specs.Opening.{opening_record};
-ghost use Rattle.node.specs.Reached.{ImageStands, IsLaidOut, LogsAreWithin};
+ghost use Rattle.node.specs.NodeView.{NodeView};
+ghost use Rattle.node.specs.Reached.{HasReached, ImageStands, IsLaidOut, LogsAreWithin};
 
 use ckpt_codec::MAX_RETAINED_ITEMS;
 use record::{End, Image};
@@ -46,12 +47,16 @@ pub(crate) fn share_of(image: &Image) -> usize
     }
 }
 
-/// An image of a valid network, each log of which has at most its share, is within the bounds of which a record holds two, and so
-/// is a node's first record, with such an image that of a start, and that of a decision. `ckpt_codec::bounded_records_fit` says that they fit.
+/// An image of a valid network, each log of which has at most its share, is within the bounds of which a record holds two; so is a
+/// node's current one, however far it has come. And so is a node's first record, with such an image that of a start, and that of a
+/// decision. `ckpt_codec::bounded_records_fit` says that they fit.
 pub fn share_law()
     ensures image { (net : Network) (histories : List (List ℤ)) (made : ℕ → ℕ) (image : ImageView)
         → IsValid net → IsLaidOut net image → ImageStands net histories made image
         → LogsAreWithin image → IsImageWithin MAX_RETAINED_ITEMS image }
+    ensures current { (net : Network) (inputs : List (List ℤ)) (node : NodeView)
+        → IsValid net → IsLaidOut net node.current → LogsAreWithin node.current
+        → ∥ HasReached net inputs node ∥₁ → IsImageWithin MAX_RETAINED_ITEMS node.current }
     ensures opening { (net : Network) (nodes number : ℕ) → IsValid net → nodes ≤ MAX_NODES
         → IsRecordWithin MAX_RETAINED_ITEMS (opening_record net nodes number) }
     ensures started { (node : ℕ) (image : ImageView) (kept : RecordView)

@@ -1,8 +1,11 @@
-use Rattle.node.specs.SizeLaws.{image_within, opening_within, own_within, decided_within}
+use Rattle.node.specs.SizeLaws.{image_within, current_within, opening_within, own_within, decided_within}
 use Rattle.node.proofs.sharing.share_law.Goals as goal
 
 pub returns-clause-image : goal.returns-clause-image
 returns-clause-image c = image_within
+
+pub returns-clause-current : goal.returns-clause-current
+returns-clause-current c = current_within
 
 pub returns-clause-opening : goal.returns-clause-opening
 returns-clause-opening c = opening_within
