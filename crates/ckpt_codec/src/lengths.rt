@@ -135,6 +135,10 @@ fn length_of_record(kept: &Record) -> usize
 /// The most bytes of a record that a node keeps: 1 MiB. No call of this crate asks for it.
 pub const MAX_RECORD_BYTES: usize = 1 << 20;
 
+/// The most items that all the logs of an image may have, where a record is to hold two such images in `MAX_RECORD_BYTES`: of half a
+/// record, 524,288 bytes, 65,536 are for its head and an image without items, and the rest has 8 bytes for an item.
+pub const MAX_RETAINED_ITEMS: usize = 57_344;
+
 /// How many bytes spell a record. Takes no memory.
 pub fn spelled_length(kept: &Record) -> usize
     requires { IsRecord kept.now }

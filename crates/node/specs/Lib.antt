@@ -2,6 +2,7 @@ pub mod Cell
 pub mod MemCell
 pub mod JobView
 pub mod NodeView
+pub mod Sharing
 pub mod Granting
 pub mod Installing
 pub mod Starting
@@ -19,3 +20,6 @@ pub mod ReleaseLaws
 pub mod OpeningLaws
 pub mod GrantLaws
 pub mod SentLaws
+pub mod SharingLaws
+pub mod VariableLaws
+pub mod SizeLaws

@@ -3,10 +3,12 @@ ghost use Rattle.std.specs.Prelude.{◌≡◌, ◌≤◌, ◌<◌, ◌&&◌, len
 ghost use Rattle.kahn_net.specs.Syntax.{network_of};
 ghost use Rattle.node.specs.JobView.{job_view};
 ghost use Rattle.node.specs.NodeView.{node_view};
+ghost use Rattle.node.specs.Sharing.{log_share};
 ghost use Rattle.node.specs.Choosing.{has_item, has_room, is_ready, ready_process, ready_processes, next_process, may_grant, next_job, after_grant};
 ghost use Rattle.kahn_net.specs.declared.limits.TheConstants.{MAX_CHANNELS};
 
 use crate::granting::{make_job, places};
+use crate::sharing::share_of;
 use crate::state::NodeState;
 use kahn_net::{Channel, History, MAX_COUNT, MAX_PROCESSES, Port};
 use net_check::{Inputs, Net};
@@ -33,23 +35,31 @@ fn has_item(channels: &[Channel], inputs: &[History], image: &Image, channel: us
     }
 }
 
-// Whether there is room on this channel.
-fn has_room(channels: &[Channel], image: &Image, channel: usize) -> bool
-    requires { length channels.now ≤ MAX_CHANNELS }
+// Whether there is room on this channel, where this is the most items of each log.
+fn has_room(channels: &[Channel], image: &Image, share: usize, channel: usize) -> bool
+    requires few { length channels.now ≤ MAX_CHANNELS }
+    requires share { share ≡ log_share image.now }
     ensures { result ≡ has_room image.now channel (slice_get channels.now channel) }
 {
-    channel < channels.len() && places(image.log(channel as u8)) > 0
+    channel < channels.len() && places(share, image.log(channel as u8)) > 0
 }
 
 // Whether a process can go on.
-fn is_ready(net: &Net, inputs: &[History], image: &Image, saved: &SavedProcess) -> bool
+fn is_ready(
+    net: &Net,
+    inputs: &[History],
+    image: &Image,
+    share: usize,
+    saved: &SavedProcess,
+) -> bool
+    requires { share ≡ log_share image.now }
     ensures { result ≡ is_ready (network_of net.now.program) inputs.now image.now saved.now }
 {
     match net.program.processes.get(usize::from(saved.number)) {
         Some(process) => match next_act(process, &saved.state) {
             NextAct::Begin => true,
             NextAct::Get { channel } => has_item(&net.program.channels, inputs, image, channel),
-            NextAct::Put { channel } => has_room(&net.program.channels, image, channel),
+            NextAct::Put { channel } => has_room(&net.program.channels, image, share, channel),
             NextAct::Nothing => false,
         },
         None => false,
@@ -57,13 +67,19 @@ fn is_ready(net: &Net, inputs: &[History], image: &Image, saved: &SavedProcess) 
 }
 
 // Which processes are ready here: entry p tells it of process p.
-fn ready_processes(net: &Net, inputs: &[History], image: &Image) -> [bool; MAX_PROCESSES]
+fn ready_processes(
+    net: &Net,
+    inputs: &[History],
+    image: &Image,
+    share: usize,
+) -> [bool; MAX_PROCESSES]
+    requires { share ≡ log_share image.now }
     ensures { take (length net.now.program.processes.items) result
         ≡ ready_processes (network_of net.now.program) inputs.now image.now }
 {
     let mut ready = [false; MAX_PROCESSES];
     for saved in &image.processes {
-        if is_ready(net, inputs, image, saved) {
+        if is_ready(net, inputs, image, share, saved) {
             ready[usize::from(saved.number)] = true;
         }
     }
@@ -75,13 +91,15 @@ fn ready_process<'a>(
     net: &Net,
     inputs: &[History],
     image: &'a Image,
+    share: usize,
     number: u8,
 ) -> Option<&'a SavedProcess>
+    requires { share ≡ log_share image.now }
     ensures { option_copied result
         ≡ ready_process (network_of net.now.program) inputs.now image.now number }
 {
     for saved in &image.processes {
-        if saved.number == number && is_ready(net, inputs, image, saved) {
+        if saved.number == number && is_ready(net, inputs, image, share, saved) {
             return Some(saved);
         }
     }
@@ -100,9 +118,10 @@ fn next_process<'a>(
     ensures there { IfSome result
         (λ saved. saved.now.number < length net.now.program.processes.items) }
 {
-    let ready = ready_processes(net, inputs, image);
+    let share = share_of(image);
+    let ready = ready_processes(net, inputs, image, share);
     match next_ready(last, &ready[..net.program.processes.len()]) {
-        Some(number) => ready_process(net, inputs, image, number),
+        Some(number) => ready_process(net, inputs, image, share, number),
         None => None,
     }
 }

@@ -13,6 +13,7 @@ mod node;
 mod opening;
 mod putting;
 mod releasing;
+mod sharing;
 mod starting;
 mod state;
 
@@ -22,5 +23,6 @@ pub use granting::MAX_JOB_ITEMS;
 pub use memory::MemCell;
 pub use node::Node;
 pub use putting::Putting;
+pub use sharing::share_law;
 pub use starting::{can_start, next_after};
 pub use state::NodeState;
