@@ -1,18 +1,18 @@
 -- Laws of what holds of two lists place by place.
-use Rattle.std.proofs.Common.{◌≡◌, ℕ, zero, suc, ◌<◌, List, [], ◌∷◌, ◌++◌, length, get_or, subst, arith}
-use Rattle.std.specs.Prelude.{Result, Ok, Err, OnErr, slice_set}
+use Rattle.std.proofs.Common.{◌≡◌, ℕ, zero, suc, ◌<◌, List, [], ◌∷◌, ◌++◌, length, get_or, Some, refl, subst, arith}
+use Rattle.std.specs.Prelude.{Result, Ok, Err, OnErr, slice_get, slice_set}
 use Rattle.std.specs.List.{AllByRecursion, AllZip}
 
 -- of a list and itself
-pub pairs_refl : {A : Type 0} (P : A → A → Type 0) → ((x : A) → P x x) → (xs : List A) → AllZip P xs xs
-pairs_refl P same [] = tt
-pairs_refl P same (x ∷ xs) = (same x, pairs_refl P same xs)
+pub pairs_refl : {A : Type 0} (P : A → A → Type 0) (xs : List A) → ((i : ℕ) (x : A) → slice_get xs i ≡ Some x → P x x) → AllZip P xs xs
+pairs_refl P [] same = tt
+pairs_refl P (x ∷ xs) same = (same 0 x refl, pairs_refl P xs (λ i y is. same (suc i) y is))
 
 -- of a list and the same with one element replaced
-pub pairs_set : {A : Type 0} (P : A → A → Type 0) → ((x : A) → P x x) → (xs : List A) (k : ℕ) (x y : A) → k < length xs → x ≡ get_or xs k x → P x y → AllZip P xs (slice_set xs k y)
-pairs_set P same [] k x y within is p = absurd (omega (arith, within))
-pairs_set P same (z ∷ xs) zero x y within is p = (subst (λ w. P w y) is p, pairs_refl P same xs)
-pairs_set P same (z ∷ xs) (suc k) x y within is p = let below : k < length xs = omega (arith, within) in (same z, pairs_set P same xs k x y below is p)
+pub pairs_set : {A : Type 0} (P : A → A → Type 0) (xs : List A) (k : ℕ) (x y : A) → ((i : ℕ) (z : A) → slice_get xs i ≡ Some z → P z z) → k < length xs → x ≡ get_or xs k x → P x y → AllZip P xs (slice_set xs k y)
+pairs_set P [] k x y same within is p = absurd (omega (arith, within))
+pairs_set P (z ∷ xs) zero x y same within is p = (subst (λ w. P w y) is p, pairs_refl P xs (λ i w at. same (suc i) w at))
+pairs_set P (z ∷ xs) (suc k) x y same within is p = let below : k < length xs = omega (arith, within) in (same 0 z refl, pairs_set P xs k x y (λ i w at. same (suc i) w at) below is p)
 
 -- through a list between
 pub pairs_then : {A : Type 0} (P Q R : A → A → Type 0) → ((x y z : A) → P x y → Q y z → R x z) → (xs ys zs : List A) → AllZip P xs ys → AllZip Q ys zs → AllZip R xs zs
