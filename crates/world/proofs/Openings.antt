@@ -33,17 +33,9 @@ listed_next channels k d before now whole within so_far added =
 
 -- Outputs of which no failure is remembered
 
-pub fresh_listed : {O : Type 0} (outputs : List (Output O)) → map (λ (output : Output O). output.channel) (map fresh outputs) ≡ map (λ (output : Output O). output.channel) outputs
-fresh_listed [] = refl
-fresh_listed (output ∷ outputs) = ap (λ (rest : List ℕ). output.channel ∷ rest) (fresh_listed outputs)
-
 pub fresh_outlets : {O : Type 0} (outputs : List (Output O)) → map (λ (output : Output O). output.outlet) (map fresh outputs) ≡ map (λ (output : Output O). output.outlet) outputs
 fresh_outlets [] = refl
 fresh_outlets {O} (output ∷ outputs) = ap (λ (rest : List O). output.outlet ∷ rest) (fresh_outlets outputs)
-
-pub fresh_unused : {O : Type 0} (taken : O → List ℤ) (outputs : List (Output O)) → AllByRecursion (IsUnused taken) outputs → AllByRecursion (IsUnused taken) (map fresh outputs)
-fresh_unused taken [] none = tt
-fresh_unused taken (output ∷ outputs) none = (none.0, fresh_unused taken outputs none.1)
 
 pub fresh_views : {O : Type 0} (taken : O → List ℤ) (failures : O → ℕ) (outputs : List (Output O)) → outlet_views taken failures (map fresh outputs) ≡ map opening_outlet (outlet_views taken failures outputs)
 fresh_views taken failures [] = refl

@@ -1,6 +1,6 @@
 -- What has left the stations of a list, after an event at one of them.
-use Rattle.std.proofs.Common.{◌≡◌, ℕ, ◌<◌, Bool, List, ℤ, length, get_or, Option, Some, map, sym, subst}
-use Rattle.std.specs.Prelude.{Result, Ok, Err, IfOk, OnErr, slice_get, slice_set}
+use Rattle.std.proofs.Common.{◌≡◌, ℕ, ◌<◌, Bool, List, ℤ, length, get_or, Option, map, sym, subst}
+use Rattle.std.specs.Prelude.{Result, Ok, Err, IfOk, OnErr, slice_set}
 use Rattle.std.specs.List.{AllZip}
 use Rattle.std.specs.declared.alloc.AllocError.{AllocError}
 use Rattle.kahn_net.specs.Fits.{Fits}
@@ -9,7 +9,6 @@ use Rattle.kahn_net.specs.Valid.{IsValid}
 use Rattle.record.specs.RecordView.{RecordView}
 use Rattle.node.specs.NodeView.{node_view}
 use Rattle.node.specs.declared.cell.StableCell.{Ghosts as CellWords}
-use Rattle.node.specs.declared.node.Node.{Node}
 use Rattle.world.specs.EventView.{EventView}
 use Rattle.world.specs.Growing.{EachBegins}
 use Rattle.world.specs.GrowLaws.{begins_same, step_begins, has_grown, still_grown}
@@ -24,7 +23,6 @@ use Rattle.world.specs.StepKeeps.{station_keeps}
 use Rattle.world.specs.Steps.{IsStationStep}
 use Rattle.world.specs.WorldView.{station_view, IsGrown}
 use Rattle.world.specs.declared.event.Reply.{Reply}
-use Rattle.world.specs.declared.output.Output.{Output}
 use Rattle.world.specs.declared.station.Station.{Station}
 use Rattle.world.proofs.Views.{same_outputs, seen_at}
 

@@ -1,11 +1,11 @@
 -- What an outlet took that was handed an item.
-use Rattle.std.proofs.Common.{◌≡◌, ◌⊎◌, inl, inr, ℕ, suc, ◌+◌, ◌<◌, ◌≤◌, Bool, true, false, cond, List, ℤ, [], ◌∷◌, ◌++◌, length, Option, Some, None, refl, sym, ap, subst, ◌∙◌, length-append, append-nil, arith}
+use Rattle.std.proofs.Common.{◌≡◌, ◌⊎◌, inl, inr, ℕ, suc, ◌+◌, ◌<◌, ◌≤◌, Bool, true, false, cond, List, ℤ, [], ◌∷◌, ◌++◌, length, Option, Some, None, refl, sym, ap, subst, ◌∙◌, length-append, arith}
 use Rattle.std.specs.Prelude.{slice_get, nat_lt, not, ◌&&◌}
 use Rattle.std.specs.Option.{option_to_list}
 use Rattle.std.proofs.lemmas.Bool.{ltb-true}
 use Rattle.kahn_net.specs.Streams.{IsPrefix}
 use Rattle.kahn_net.specs.Laws.Prefixes.{prefix_of, prefix_along, prefix_refl}
-use Rattle.retained.specs.LogState.{LogState, IsLogOf, item_at, items_at}
+use Rattle.retained.specs.LogState.{LogState, IsLogOf, item_at}
 use Rattle.outlet.specs.ReleaseLaws.{released_one}
 use Rattle.outlet.proofs.Steps.{goes_on}
 use Rattle.kahn_net.specs.Syntax.{Network}

@@ -1,5 +1,5 @@
 -- A station before its first event: nothing was done, and nothing has left.
-use Rattle.std.proofs.Common.{◌≡◌, ℕ, zero, suc, ◌<◌, ◌≤◌, Bool, true, false, eqb, cond, ℤ, List, [], ◌∷◌, length, take, map, Some, option_map, refl, sym, ap, subst, ◌∙◌, arith}
+use Rattle.std.proofs.Common.{◌≡◌, ℕ, zero, suc, Bool, true, false, eqb, cond, ℤ, List, [], ◌∷◌, length, take, map, Some, option_map, refl, sym, ap, subst, ◌∙◌, arith}
 use Rattle.std.specs.Prelude.{slice_get, find}
 use Rattle.kahn_net.specs.Fits.{Fits}
 use Rattle.kahn_net.specs.Valid.{IsValid}

@@ -1,5 +1,4 @@
 -- A whole world without pointers.
-use Rattle.std.specs.Prelude.{ℕ}
 use Rattle.std.specs.List.{AllZip}
 use Rattle.node.specs.declared.cell.StableCell.{Ghosts as CellWords}
 use Rattle.outlet.specs.declared.outlet.Outlet.{Ghosts as OutletWords}

@@ -1,5 +1,5 @@
 -- A world without pointers.
-use Rattle.std.specs.Prelude.{ℕ, ℤ, ◌≡◌, ◌⊎◌, List, map, Bool, IsTrue, Option, Some}
+use Rattle.std.specs.Prelude.{ℕ, ℤ, ◌≡◌, ◌⊎◌, List, map, Bool, Option, Some}
 use Rattle.sector_disk.specs.Clock.{LeavesOnly}
 use Rattle.kahn_net.specs.Syntax.{network_of}
 use Rattle.record.specs.RecordView.{RecordView}

@@ -48,8 +48,9 @@ impl<C: StableCell, O: Outlet> Station<C, O> {
         ensures outputs { outlet_views O.taken O.failures self.new.outputs.items
             ≡ outlet_views O.taken O.failures self.old.outputs.items }
         ensures same { self.new.node ≡ self.old.node }
-        ensures step { IsSendOf self.old.node.state.up round (station_view O.taken O.failures self.old)
-            (reply_view result) (station_view O.taken O.failures self.new) }
+        ensures step { IsSendOf self.old.node.state.up round
+            (station_view O.taken O.failures self.old) (reply_view result)
+            (station_view O.taken O.failures self.new) }
     {
         let node = &self.node;
         if !node.state.up {
@@ -65,8 +66,8 @@ impl<C: StableCell, O: Outlet> Station<C, O> {
         ensures outputs { outlet_views O.taken O.failures self.new.outputs.items
             ≡ outlet_views O.taken O.failures self.old.outputs.items }
         ensures same { self.new.node ≡ self.old.node }
-        ensures step { IsIdle round (station_view O.taken O.failures self.old) (reply_view result)
-            (station_view O.taken O.failures self.new) }
+        ensures step { IsIdle round (station_view O.taken O.failures self.old)
+            (reply_view result) (station_view O.taken O.failures self.new) }
     {
         self.turns = self.turns.of(round).with_idle();
         Reply::Idled
@@ -89,11 +90,13 @@ impl<C: StableCell, O: Outlet> Station<C, O> {
             (outlet_views O.taken O.failures self.old.outputs.items)
             (outlet_views O.taken O.failures self.new.outputs.items) }
         ensures refused { OnErr result
-            ((station_view O.taken O.failures self.new ≡ station_view O.taken O.failures self.old) × TakesMemory (event_view event.now)) }
+            ((station_view O.taken O.failures self.new ≡ station_view O.taken O.failures self.old)
+            × TakesMemory (event_view event.now)) }
         ensures step { IfOk result
             (λ reply. IsStationStep (network_of net.now.value.program) inputs.now
             (C.fits self.old.node.cell) round (event_view event.now)
-            (station_view O.taken O.failures self.old) (reply_view reply) (station_view O.taken O.failures self.new)) }
+            (station_view O.taken O.failures self.old) (reply_view reply)
+            (station_view O.taken O.failures self.new)) }
         ensures unchanged { IfOk result (λ reply. LeavesCells (reply_view reply))
             → IsCellUnchanged self.old self.new }
     {

@@ -65,10 +65,12 @@ impl<C: StableCell, O: Outlet> Station<C, O> {
         ensures leaves { LeaveAsMuchSince C.moment C.left_since self.old.node.cell
             self.new.node.cell self.old.node.state.kept.permanent }
         ensures later { C.moment self.old.node.cell ≤ C.moment self.new.node.cell }
-        ensures refused { OnErr result (station_view O.taken O.failures self.new ≡ station_view O.taken O.failures self.old) }
+        ensures refused { OnErr result
+            (station_view O.taken O.failures self.new ≡ station_view O.taken O.failures self.old) }
         ensures step { IfOk result
-            (λ reply. IsBegun (C.fits self.old.node.cell) round (station_view O.taken O.failures self.old)
-            (reply_view reply) (station_view O.taken O.failures self.new)) }
+            (λ reply. IsBegun (C.fits self.old.node.cell) round
+            (station_view O.taken O.failures self.old) (reply_view reply)
+            (station_view O.taken O.failures self.new)) }
         ensures unchanged { IfOk result (λ reply. LeavesCells (reply_view reply))
             → IsCellUnchanged self.old self.new }
     {
@@ -83,10 +85,12 @@ impl<C: StableCell, O: Outlet> Station<C, O> {
         ensures leaves { LeaveAsMuchSince C.moment C.left_since self.old.node.cell
             self.new.node.cell self.old.node.state.kept.permanent }
         ensures later { C.moment self.old.node.cell ≤ C.moment self.new.node.cell }
-        ensures refused { OnErr result (station_view O.taken O.failures self.new ≡ station_view O.taken O.failures self.old) }
+        ensures refused { OnErr result
+            (station_view O.taken O.failures self.new ≡ station_view O.taken O.failures self.old) }
         ensures step { IfOk result
-            (λ reply. IsDecided (C.fits self.old.node.cell) round (station_view O.taken O.failures self.old)
-            (reply_view reply) (station_view O.taken O.failures self.new)) }
+            (λ reply. IsDecided (C.fits self.old.node.cell) round
+            (station_view O.taken O.failures self.old) (reply_view reply)
+            (station_view O.taken O.failures self.new)) }
         ensures unchanged { IfOk result (λ reply. LeavesCells (reply_view reply))
             → IsCellUnchanged self.old self.new }
     {

@@ -1,5 +1,5 @@
 // What has left the system.
-ghost use Rattle.std.specs.Prelude.{◌≡◌, ◌==◌, find, map, option_copied, option_map};
+ghost use Rattle.std.specs.Prelude.{◌≡◌, ◌==◌, find, option_copied, option_map};
 ghost use Rattle.world.specs.StationView.{OutletView, outlet_views};
 ghost use Rattle.world.specs.Released.{released_of};
 ghost use Rattle.world.specs.WholeView.{view_of};

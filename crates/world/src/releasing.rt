@@ -97,10 +97,12 @@ impl<C: StableCell, O: Outlet> Station<C, O> {
             → slice_get (outlet_views O.taken O.failures self.old.outputs.items) place ≡ Some outlet
             → HasNext (log_of self.old.node.state.current outlet.channel) (length outlet.taken) }
         ensures cell { self.new.node.cell ≡ self.old.node.cell }
-        ensures refused { OnErr result (station_view O.taken O.failures self.new ≡ station_view O.taken O.failures self.old) }
+        ensures refused { OnErr result
+            (station_view O.taken O.failures self.new ≡ station_view O.taken O.failures self.old) }
         ensures step { IfOk result
             (λ reply. IsRelease round (next_release round (station_view O.taken O.failures self.old))
-            (station_view O.taken O.failures self.old) (reply_view reply) (station_view O.taken O.failures self.new)) }
+            (station_view O.taken O.failures self.old) (reply_view reply)
+            (station_view O.taken O.failures self.new)) }
     {
         let node = &self.node;
         if !node.state.up {

@@ -65,11 +65,12 @@ impl<C: StableCell, O: Outlet> Station<C, O> {
         ensures outputs { outlet_views O.taken O.failures self.new.outputs.items
             ≡ outlet_views O.taken O.failures self.old.outputs.items }
         ensures cell { self.new.node.cell ≡ self.old.node.cell }
-        ensures refused { OnErr result (station_view O.taken O.failures self.new ≡ station_view O.taken O.failures self.old) }
+        ensures refused { OnErr result
+            (station_view O.taken O.failures self.new ≡ station_view O.taken O.failures self.old) }
         ensures step { IfOk result
             (λ reply. IsGrant round (next_job (network_of net.now.value.program) inputs.now
-            (node_view self.old.node.state)) (station_view O.taken O.failures self.old) (reply_view reply)
-            (station_view O.taken O.failures self.new)) }
+            (node_view self.old.node.state)) (station_view O.taken O.failures self.old)
+            (reply_view reply) (station_view O.taken O.failures self.new)) }
     {
         let granted = self.node.grant(alloc, net, inputs)?;
         Ok(self.turns.note_grant(granted, round))
@@ -88,10 +89,12 @@ impl<C: StableCell, O: Outlet> Station<C, O> {
         ensures outputs { outlet_views O.taken O.failures self.new.outputs.items
             ≡ outlet_views O.taken O.failures self.old.outputs.items }
         ensures cell { self.new.node.cell ≡ self.old.node.cell }
-        ensures refused { OnErr result (station_view O.taken O.failures self.new ≡ station_view O.taken O.failures self.old) }
+        ensures refused { OnErr result
+            (station_view O.taken O.failures self.new ≡ station_view O.taken O.failures self.old) }
         ensures step { IfOk result
             (λ reply. IsInstalled (network_of net.now.program).channels (done_view done.now)
-            (station_view O.taken O.failures self.old) (reply_view reply) (station_view O.taken O.failures self.new)) }
+            (station_view O.taken O.failures self.old) (reply_view reply)
+            (station_view O.taken O.failures self.new)) }
     {
         match self.node.install(alloc, &net.program.channels, done) {
             Ok(true) => Ok(Reply::Installed),

@@ -65,7 +65,8 @@ fn act_at<C: StableCell, O: Outlet>(
         (map (station_view O.taken O.failures) stations.old.items) }
     ensures grown { AllZip (IsGrown O.taken) stations.old.items stations.new.items }
     ensures refused { OnErr result
-        ((map (station_view O.taken O.failures) stations.new.items ≡ map (station_view O.taken O.failures) stations.old.items)
+        ((map (station_view O.taken O.failures) stations.new.items
+        ≡ map (station_view O.taken O.failures) stations.old.items)
         × TakesMemory (event_view event.now)) }
     ensures step { IfOk result
         (λ reply. IsAct (network_of net.now.value.program) inputs.now number
@@ -108,7 +109,8 @@ fn round_after<C: StableCell, O: Outlet>(
     round: u64,
     stations: &[Station<C, O>],
 ) -> u64
-    ensures { result ≡ round_after (reply_view reply.now) round (map (station_view O.taken O.failures) stations.now) }
+    ensures { result ≡ round_after (reply_view reply.now) round
+        (map (station_view O.taken O.failures) stations.now) }
 {
     match reply {
         Reply::Idled if are_done_with(stations, round) => next_after(round),

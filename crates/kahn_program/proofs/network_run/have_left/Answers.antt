@@ -1,4 +1,4 @@
-use Rattle.std.proofs.Common.{ℕ, ℤ, List, length, map}
+use Rattle.std.proofs.Common.{ℕ, ℤ, List, length}
 use Rattle.std.specs.Prelude.{nat_le}
 use Rattle.world.specs.Released.{released_of}
 use Rattle.world.specs.WholeView.{view_of}

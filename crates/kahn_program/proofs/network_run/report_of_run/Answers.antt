@@ -1,4 +1,4 @@
-use Rattle.std.proofs.Common.{refl, ◌≡◌, ℕ, ℤ, List, length, map, sym, ap, ◌∙◌}
+use Rattle.std.proofs.Common.{refl, ◌≡◌, ℕ, ℤ, List, length, sym, ap, ◌∙◌}
 use Rattle.kahn_net.specs.Syntax.{network_of}
 use Rattle.net_check.specs.declared.net.Net.{Net}
 use Rattle.world.specs.Released.{released_of}

@@ -1,4 +1,4 @@
-use Rattle.std.proofs.Common.{rules, ℕ, map}
+use Rattle.std.proofs.Common.{rules, ℕ}
 use Rattle.world.specs.Released.{released_of}
 use Rattle.world.specs.WholeView.{view_of}
 use Rattle.kahn_program.specs.Runs.{first_items}

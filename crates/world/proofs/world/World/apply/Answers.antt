@@ -1,4 +1,4 @@
-use Rattle.std.proofs.Common.{◌≡◌, ℤ, List, map, ap, sym, subst, ◌∙◌}
+use Rattle.std.proofs.Common.{ℤ, List, map, ap, sym, subst, ◌∙◌}
 use Rattle.kahn_net.specs.Syntax.{network_of}
 use Rattle.world.specs.EventView.{event_view}
 use Rattle.world.specs.Headline.{released_prefix, AreApproximated}
