@@ -5,10 +5,9 @@ use Rattle.std.proofs.Math.Bridge.{le_prop}
 use mathlib.Core.HLevel.{⊥_prop}
 use Rattle.kahn_net.specs.Fits.{Fits}
 use Rattle.kahn_net.specs.Valid.{IsValid}
-use Rattle.kahn_net.specs.Syntax.{Code, Network}
+use Rattle.kahn_net.specs.Syntax.{Network}
 use Rattle.kahn_net.specs.Processes.{Standing}
 use Rattle.retained.specs.LogState.{LogState}
-use Rattle.proc_step.specs.Turns.{IsTurn}
 use Rattle.node.specs.JobView.{JobView}
 use Rattle.node.specs.NodeView.{NodeView}
 use Rattle.record.specs.Ends.{log_at, base_of}
@@ -20,11 +19,8 @@ use Rattle.node.specs.InstallLaws.{reached_install, on_install}
 use Rattle.node.specs.FitLaws.{turn_fits, counts_installed, laid_out_installed, logs_installed, base_installed}
 use Rattle.node.specs.ReleaseLaws.{beginning_stays}
 use Rattle.world.specs.OutputView.{OutputView}
+use Rattle.world.specs.DoneView.{IsTurnOfJob}
 use Rattle.world.specs.Sound.{OutputsAreSound, HasCome, IsSound}
-
--- what comes back is a turn of the job's own code, whatever network that is of
-abbrev pub IsTurnOfJob : JobView → Standing → List ℕ → List (List ℤ) → Type 0
-IsTurnOfJob job after taken sent = (code : Code) → job.code ≡ Some code → IsTurn code job.standing job.items job.room after taken sent
 
 module _ (net : Network) (inputs : List (List ℤ)) (node : NodeView) (outputs : List OutputView) (job : JobView) (after : Standing) (taken : List ℕ) (sent : List (List ℤ)) where
   -- Which code the turn is of
