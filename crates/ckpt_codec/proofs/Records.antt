@@ -4,7 +4,7 @@ use Rattle.record.specs.ImageView.{ImageView}
 use Rattle.record.specs.RecordView.{RecordView}
 use Rattle.record.specs.declared.record.Tentative.{Tentative}
 use Rattle.ckpt_codec.specs.Fields.{Field}
-use Rattle.ckpt_codec.specs.RecordText.{any, exactly, count, decision_fields, image_fields, tentative_fields, record_fields}
+use Rattle.ckpt_codec.specs.RecordText.{any, count, decision_fields, image_fields, tentative_fields}
 use Rattle.ckpt_codec.specs.Reading.{instance_at, pending_at, tentative_at, Head, numbers_at, head_at, images_at, Tail, tail_at, record_of, body_at}
 use Rattle.ckpt_codec.proofs.Scan.{Lawful, Each}
 use Rattle.ckpt_codec.proofs.Combining.{same_fields, same_values, built}

@@ -19,7 +19,7 @@ use Rattle.record.specs.declared.record.Tentative.{Tentative}
 use Rattle.ckpt_codec.specs.Fields.{number_text}
 use Rattle.ckpt_codec.specs.RecordText.{variables_of, role_of, record_text}
 use Rattle.ckpt_codec.specs.Spelling.{item_text, items_text, mode_text, state_text, process_text, log_text, end_text, saved_end_text, process_list_text, end_list_text, image_text, participants_text, decision_text, tentative_text, highest_text, head_text}
-use Rattle.ckpt_codec.specs.Lengths.{mode_length, process_length, end_length, saved_end_length, image_length, decision_length, tentative_length, record_length}
+use Rattle.ckpt_codec.specs.Lengths.{mode_length, process_length, end_length, saved_end_length, image_length, decision_length, tentative_length, record_length, undecided_length, named_length, named_count, with_decided, spelled_length}
 use Rattle.ckpt_codec.proofs.Spelled.{record-spelled}
 
 length-number : (width n : ℕ) → length (number_text width n) ≡ width
@@ -141,7 +141,7 @@ length-head kept =
     regroup : (v : ℕ) → 1 + (1 + (8 + (1 + v))) ≡ 11 + v
     regroup v = omega arith
 
-pub length-record : (kept : RecordView) → length (record_text kept) ≡ record_length kept
+length-record : (kept : RecordView) → length (record_text kept) ≡ record_length kept
 length-record kept =
     let h = 11 + 8 * length kept.highest in
     let d = decision_length kept.decision in
@@ -153,5 +153,19 @@ length-record kept =
     (length-two (image_text kept.permanent) (tentative_text kept.tentative) p t (length-image kept.permanent) (length-tentative kept.tentative)))
     ∙ regroup h d p t)
   where
-    regroup : (h d p t : ℕ) → h + (d + (p + t)) ≡ h + d + p + t
+    regroup : (h d p t : ℕ) → h + (d + (p + t)) ≡ h + p + t + d
     regroup h d p t = omega arith
+
+pub length-spelled : (kept : RecordView) (n : ℕ) → n ≡ record_length kept → n ≡ spelled_length kept
+unfolding spelled_length
+length-spelled kept n is = is ∙ sym (length-record kept)
+
+named-decision : (decision : Option DecisionView) → named_length (named_count decision) ≡ decision_length decision
+named-decision None = refl
+named-decision (Some d) = refl
+
+-- the same with a decision that names so many nodes
+pub length-with : (kept : RecordView) (named : Option ℕ) (n : ℕ) → n ≡ undecided_length kept + named_length named
+    → (decision : Option DecisionView) → named_count decision ≡ named → n ≡ spelled_length (with_decided decision kept)
+length-with kept named n is decision as_many =
+    length-spelled (with_decided decision kept) n (is ∙ ap (λ m. undecided_length kept + m) (ap named_length (sym as_many) ∙ named-decision decision))

@@ -10,7 +10,7 @@ use Rattle.record.specs.declared.image.SavedEnd.{SavedEnd}
 use Rattle.record.specs.declared.image.End.{End}
 use Rattle.record.specs.declared.image.End.TheVariants.{Receives, Sends, Both}
 use Rattle.record.specs.declared.record.Tentative.{Tentative}
-use Rattle.ckpt_codec.specs.RecordText.{variables_of}
+use Rattle.ckpt_codec.specs.RecordText.{variables_of, record_text}
 
 abbrev pub mode_length : Standing → ℕ
 mode_length (NotBegun vars) = 1
@@ -35,9 +35,31 @@ abbrev pub decision_length : Option DecisionView → ℕ
 decision_length None = 1
 decision_length (Some d) = 10 + length d.participants
 
+-- the same by how many nodes the decision names, where there is one
+abbrev pub named_length : Option ℕ → ℕ
+named_length None = 1
+named_length (Some n) = 10 + n
+
 abbrev pub tentative_length : Option Tentative → ℕ
 tentative_length None = 1
 tentative_length (Some t) = 10 + image_length t.image
 
+-- a record but for its decision
+abbrev pub undecided_length : RecordView → ℕ
+undecided_length kept = 11 + 8 * length kept.highest + image_length kept.permanent + tentative_length kept.tentative
+
 abbrev pub record_length : RecordView → ℕ
-record_length kept = 11 + 8 * length kept.highest + decision_length kept.decision + image_length kept.permanent + tentative_length kept.tentative
+record_length kept = undecided_length kept + decision_length kept.decision
+
+-- how many bytes spell a record
+unfoldable pub spelled_length : RecordView → ℕ
+spelled_length kept = length (record_text kept)
+
+-- how many nodes a decision names, where there is one
+abbrev pub named_count : Option DecisionView → Option ℕ
+named_count None = None
+named_count (Some d) = Some (length d.participants)
+
+-- the record with this decision, or none, in the place of its own
+abbrev pub with_decided : Option DecisionView → RecordView → RecordView
+with_decided decision kept = record kept { decision = decision }

@@ -4,3 +4,4 @@ pub mod Faults
 pub mod Reading
 pub mod Spelling
 pub mod Lengths
+pub mod SizeLaws

@@ -1,7 +1,13 @@
 // Laws of the records' spellings.
-ghost use Rattle.std.specs.Prelude.{◌≡◌, ◌++◌, [], List, ℕ};
+ghost use Rattle.std.specs.Prelude.{◌≡◌, ◌≤◌, ◌++◌, [], List, length, ℕ};
+ghost use Rattle.record.specs.ImageView.{ImageView};
 ghost use Rattle.record.specs.RecordView.{RecordView};
+ghost use Rattle.record.specs.Moves.{with_tentative, with_permanent, without_tentative, with_decision, with_confirmed, with_epoch};
 ghost use Rattle.ckpt_codec.specs.RecordText.{IsRecordText};
+ghost use Rattle.ckpt_codec.specs.Lengths.{record_length};
+ghost use Rattle.ckpt_codec.specs.SizeLaws.{IsImageWithin, IsRecordWithin};
+ghost use Rattle.kahn_net.specs.declared.limits.TheConstants.{MAX_NODES};
+ghost use Rattle.ckpt_codec.specs.declared.lengths.TheConstants.{MAX_RECORD_BYTES, MAX_RETAINED_ITEMS};
 
 /// No record's spelling begins another's: where one does, nothing follows it, and the records are one. So each text spells one
 /// record at most.
@@ -9,4 +15,41 @@ pub fn no_spelling_begins_another()
     ensures { (kept other : RecordView) (spelling rest : List ℕ)
         → IsRecordText kept spelling → IsRecordText other (spelling ++ rest)
         → (rest ≡ []) × (other ≡ kept) }
+{}
+
+/// A record fits `MAX_RECORD_BYTES` whose images each have at most 64 processes, 64 variables of each, 256 channels, and
+/// `MAX_RETAINED_ITEMS` items in all their logs.
+pub fn bounded_records_fit()
+    ensures { (kept : RecordView) (spelling : List ℕ)
+        → IsRecordText kept spelling → IsRecordWithin MAX_RETAINED_ITEMS kept
+        → length spelling ≤ MAX_RECORD_BYTES }
+{}
+
+/// Each move of a record within those bounds gives a record within them.
+pub fn moves_keep_bounds()
+    ensures tentative { (kept : RecordView) (initiator number : ℕ) (image : ImageView)
+        → IsRecordWithin MAX_RETAINED_ITEMS kept → IsImageWithin MAX_RETAINED_ITEMS image
+        → IsRecordWithin MAX_RETAINED_ITEMS (with_tentative initiator number image kept) }
+    ensures permanent { (kept : RecordView) → IsRecordWithin MAX_RETAINED_ITEMS kept
+        → IsRecordWithin MAX_RETAINED_ITEMS (with_permanent kept) }
+    ensures without { (kept : RecordView) → IsRecordWithin MAX_RETAINED_ITEMS kept
+        → IsRecordWithin MAX_RETAINED_ITEMS (without_tentative kept) }
+    ensures decision { (kept : RecordView) (number : ℕ) (nodes : List ℕ) → length nodes ≤ MAX_NODES
+        → IsRecordWithin MAX_RETAINED_ITEMS kept
+        → IsRecordWithin MAX_RETAINED_ITEMS (with_decision number nodes kept) }
+    ensures confirmed { (kept : RecordView) (number node : ℕ)
+        → IsRecordWithin MAX_RETAINED_ITEMS kept
+        → IsRecordWithin MAX_RETAINED_ITEMS (with_confirmed number node kept) }
+    ensures epoch { (kept : RecordView) → IsRecordWithin MAX_RETAINED_ITEMS kept
+        → IsRecordWithin MAX_RETAINED_ITEMS (with_epoch kept) }
+{}
+
+/// A move that lets an image go, or none, makes a record no longer.
+pub fn moves_make_no_longer()
+    ensures permanent { (kept : RecordView) → record_length (with_permanent kept) ≤ record_length kept }
+    ensures without { (kept : RecordView)
+        → record_length (without_tentative kept) ≤ record_length kept }
+    ensures decision { (kept : RecordView) (number : ℕ)
+        → record_length (with_decision number [] kept) ≤ record_length kept }
+    ensures epoch { (kept : RecordView) → record_length (with_epoch kept) ≤ record_length kept }
 {}

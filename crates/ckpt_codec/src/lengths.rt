@@ -1,9 +1,11 @@
 // How many bytes spell a record, without writing them.
-ghost use Rattle.std.specs.Prelude.{◌≡◌, ◌≤◌, ◌<◌, ◌^◌, [], All, length, sum_by};
+ghost use Rattle.std.specs.Prelude.{◌≡◌, ◌≤◌, ◌<◌, ◌^◌, ◌+◌, [], All, length, sum_by, Option};
+ghost use Rattle.std.specs.Option.{ForSome};
 ghost use Rattle.kahn_net.specs.States.{standing_in};
-ghost use Rattle.ckpt_codec.specs.RecordText.{IsRecord, record_text};
+ghost use Rattle.record.specs.DecisionView.{DecisionView};
+ghost use Rattle.ckpt_codec.specs.RecordText.{IsRecord};
 ghost use Rattle.ckpt_codec.specs.Spelling.{IsShortProcess, IsShortImage, IsShortDecision, IsShortTentative, IsShortRecord};
-ghost use Rattle.ckpt_codec.specs.Lengths.{mode_length, process_length, end_length, saved_end_length, image_length, decision_length, tentative_length, record_length};
+ghost use Rattle.ckpt_codec.specs.Lengths.{mode_length, process_length, end_length, saved_end_length, image_length, decision_length, named_length, tentative_length, undecided_length, record_length, spelled_length, named_count, with_decided};
 
 use kahn_net::Mode;
 use record::{Decision, End, Image, Record, SavedEnd, SavedProcess, Tentative};
@@ -102,23 +104,56 @@ fn length_of_tentative(tentative: &Option<Tentative>) -> usize
     }
 }
 
+fn length_of_named(named: Option<usize>) -> usize
+    requires { ForSome named (λ n. n < 2 ^ 63) }
+    ensures value { result ≡ named_length named }
+    ensures bound { result < 2 ^ 63 + 10 }
+{
+    match named {
+        None => 1,
+        Some(count) => 10 + count,
+    }
+}
+
+fn length_but_for_the_decision(kept: &Record) -> usize
+    requires { IsShortRecord kept.now }
+    ensures value { result ≡ undecided_length kept.now }
+    ensures bound { result < 2 ^ 40 }
+{
+    let permanent = length_of_image(&kept.permanent);
+    let tentative = length_of_tentative(&kept.tentative);
+    11 + 8 * kept.highest.len() + permanent + tentative
+}
+
 fn length_of_record(kept: &Record) -> usize
     requires { IsShortRecord kept.now }
     ensures { result ≡ record_length kept.now }
 {
-    let decision = length_of_decision(&kept.decision);
-    let permanent = length_of_image(&kept.permanent);
-    let tentative = length_of_tentative(&kept.tentative);
-    11 + 8 * kept.highest.len() + decision + permanent + tentative
+    length_but_for_the_decision(kept) + length_of_decision(&kept.decision)
 }
 
 /// The most bytes of a record that a node keeps: 1 MiB. No call of this crate asks for it.
 pub const MAX_RECORD_BYTES: usize = 1 << 20;
 
+/// The most items that all the logs of an image may have, where a record is to hold two such images in `MAX_RECORD_BYTES`: of half a
+/// record, 524,288 bytes, 65,536 are for its head and an image without items, and the rest has 8 bytes for an item.
+pub const MAX_RETAINED_ITEMS: usize = 57_344;
+
 /// How many bytes spell a record. Takes no memory.
 pub fn spelled_length(kept: &Record) -> usize
     requires { IsRecord kept.now }
-    ensures { result ≡ length (record_text kept.now) }
+    ensures { result ≡ spelled_length kept.now }
 {
     length_of_record(kept)
+}
+
+/// How many bytes spell a record with a decision that names so many nodes in the place of its own, or with none. Takes no
+/// memory.
+pub fn spelled_length_with(kept: &Record, named: Option<usize>) -> usize
+    requires record { IsRecord kept.now }
+    requires few { ForSome named (λ n. n < 2 ^ 63) }
+    ensures { (decision : Option DecisionView) → named_count decision ≡ named
+        → result ≡ spelled_length (with_decided decision kept.now) }
+{
+    length_but_for_the_decision(kept) + length_of_named(named)
 }

@@ -17,7 +17,9 @@ mod reading;
 mod writing;
 
 pub use fault::CodecFault;
-pub use laws::no_spelling_begins_another;
-pub use lengths::{MAX_RECORD_BYTES, spelled_length};
+pub use laws::{
+    bounded_records_fit, moves_keep_bounds, moves_make_no_longer, no_spelling_begins_another,
+};
+pub use lengths::{MAX_RECORD_BYTES, MAX_RETAINED_ITEMS, spelled_length, spelled_length_with};
 pub use reading::read_record;
 pub use writing::write_record;

@@ -4,8 +4,9 @@ use Rattle.std.specs.Option.{ForSome}
 use Rattle.record.specs.RecordView.{RecordView}
 use Rattle.record.specs.ImageView.{ImageView}
 use Rattle.ckpt_codec.specs.Fields.{AreAllowed}
-use Rattle.ckpt_codec.specs.RecordText.{record_text, image_fields, participants, IsRecordText}
-use Rattle.ckpt_store.specs.declared.TheConstants.{MAX_RECORD_BYTES}
+use Rattle.ckpt_codec.specs.RecordText.{image_fields, participants, IsRecordText}
+use Rattle.ckpt_codec.specs.Lengths.{spelled_length}
+use Rattle.ckpt_codec.specs.declared.lengths.TheConstants.{MAX_RECORD_BYTES}
 use Rattle.ckpt_store.specs.declared.fault.StoreFault.{StoreFault}
 use Rattle.ckpt_store.specs.declared.fault.StoreFault.TheVariants.{NoMemory, Device, TooLarge, Reopen, Truncated, Version, Malformed, HoldsOther, PastNumber, NotHeld, Unsettled, Spent}
 
@@ -23,25 +24,25 @@ abbrev pub SpellsAny : Option RecordView → Option (List ℕ) → Type 0
 SpellsAny None left = ⊥
 SpellsAny (Some kept) left = Spells kept left
 
--- how many bytes spell this record
-unfoldable pub spelled_length : RecordView → ℕ
-spelled_length kept = length (record_text kept)
+-- so many bytes aren't more than a record's spelling may have, and fit a cell of this capacity
+abbrev pub has_room : ℕ → ℕ → Bool
+has_room capacity n = nat_le n MAX_RECORD_BYTES && nat_le n capacity
 
--- the spelling isn't longer than a record's may be, and fits a cell of this capacity
+-- the record's spelling does so
 abbrev pub fits_in : ℕ → RecordView → Bool
-fits_in capacity kept = nat_le (spelled_length kept) MAX_RECORD_BYTES && nat_le (spelled_length kept) capacity
+fits_in capacity kept = has_room capacity (spelled_length kept)
 
 -- the same of a record, if there is one
 abbrev pub fits_next : ℕ → Option RecordView → Bool
 fits_next capacity None = false
 fits_next capacity (Some kept) = fits_in capacity kept
 
--- `TooLarge` is told exactly of a record that doesn't fit; after other refusals, for want of memory too, nothing is told of that
+-- `TooLarge` is told exactly of a record that doesn't fit, before memory is taken for it; the record's own refusals come before that
 abbrev pub IsLengthTold : {T : Type 0} → Bool → Result T StoreFault → Type 0
 IsLengthTold fits (Ok x) = IsTrue fits
 IsLengthTold fits (Err TooLarge) = fits ≡ false
 IsLengthTold fits (Err Device) = IsTrue fits
-IsLengthTold fits (Err NoMemory) = Unit {0}
+IsLengthTold fits (Err NoMemory) = IsTrue fits
 IsLengthTold fits (Err Reopen) = Unit {0}
 IsLengthTold fits (Err Truncated) = Unit {0}
 IsLengthTold fits (Err Version) = Unit {0}

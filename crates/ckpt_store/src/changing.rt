@@ -11,10 +11,10 @@ ghost use Rattle.ckpt_store.specs.Putting.{IsChange, IsIdle};
 
 use crate::fault::StoreFault;
 use crate::moving::{
-    confirmed_by, demote, give_up, hold, lower, promote, raise, replace_decision, settle, take,
-    unsettle, untake,
+    confirmed_by, confirmed_length, demote, give_up, hold, lower, promote, raise, replace_decision,
+    settle, take, unsettle, untake,
 };
-use crate::putting::put_record;
+use crate::putting::{has_room, put_record};
 use crate::refusing::{is_held, is_named, refusal_to_take};
 use gate_cell::StableCell;
 use kahn_net::MAX_COUNT;
@@ -198,6 +198,10 @@ pub fn confirm<C: StableCell>(
     if !is_named(&kept, number, node) {
         *known = Some(kept);
         return Ok(());
+    }
+    if !has_room(cell, confirmed_length(&kept, number, node)) {
+        *known = Some(kept);
+        return Err(StoreFault::TooLarge);
     }
     let decision = match confirmed_by(alloc, &kept, number, node) {
         Ok(decision) => decision,

@@ -11,6 +11,3 @@ mod store;
 
 pub use fault::StoreFault;
 pub use store::{Refused, Store};
-
-/// The most bytes of a record's spelling, in any cell.
-pub const MAX_RECORD_BYTES: usize = gate_cell::MAX_VALUE_BYTES;

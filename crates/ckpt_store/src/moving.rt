@@ -1,10 +1,14 @@
 // The moves of a record, each in place, and what takes it back. No image is copied.
-ghost use Rattle.std.specs.Prelude.{◌≡◌, ◌<◌, length, IsSome, IsTrue, IfOk, Some};
-ghost use Rattle.record.specs.Moves.{highest_seen, with_tentative, with_permanent, without_tentative, with_epoch, confirmed, without_node, decision_or, decision_by};
+ghost use Rattle.std.specs.Prelude.{◌≡◌, ◌<◌, ◌≤◌, ◌^◌, length, IsSome, IsTrue, IfOk, Some};
+ghost use Rattle.std.specs.Option.{ForSome};
+ghost use Rattle.record.specs.Moves.{highest_seen, with_tentative, with_permanent, without_tentative, with_confirmed, with_epoch, confirmed, without_node, decision_or, decision_by};
+ghost use Rattle.ckpt_codec.specs.RecordText.{IsRecord};
+ghost use Rattle.ckpt_codec.specs.Lengths.{spelled_length, named_count};
 ghost use Rattle.ckpt_store.specs.Refusals.{is_named_by};
 ghost use Rattle.ckpt_store.specs.Undoing.{untaken, demoted, with_held, with_unsettled, replaced, restored, own_in, lowered};
 
 use crate::refusing::is_own_held;
+use ckpt_codec::spelled_length_with;
 use kahn_net::MAX_COUNT;
 use record::{Decision, Image, Record, Tentative};
 use std::alloc::{AllocError, Global};
@@ -151,6 +155,44 @@ pub fn confirmed_by(
         Some(decision) => confirmed_decision(alloc, decision, node),
         None => Ok(None),
     }
+}
+
+fn count_without(participants: &[u8], node: u8) -> usize
+    ensures value { result ≡ length (without_node node participants.now) }
+    ensures bound { result ≤ length participants.now }
+{
+    participants.iter().filter(|p| **p != node).count()
+}
+
+// How many nodes a decision names but this one, if there are any.
+fn named_without(decision: &Decision, node: u8) -> Option<usize>
+    ensures value { result
+        ≡ named_count (decision_by decision.now.number (without_node node decision.now.participants)) }
+    ensures bound { ForSome result (λ n. n < 2 ^ 63) }
+{
+    let count = count_without(decision.participants.as_slice(), node);
+    if count == 0 { None } else { Some(count) }
+}
+
+// How many nodes the decision names that a node's confirmation of this number leaves, if it leaves one.
+fn named_then(kept: &Record, number: u64, node: u8) -> Option<usize>
+    requires { IsTrue (is_named_by number node kept.now.decision) }
+    ensures value { result ≡ named_count (confirmed number node kept.now.decision) }
+    ensures bound { ForSome result (λ n. n < 2 ^ 63) }
+{
+    match &kept.decision {
+        Some(decision) => named_without(decision, node),
+        None => None,
+    }
+}
+
+/// How many bytes spell the record that a node's confirmation of this number leaves. Takes no memory.
+pub fn confirmed_length(kept: &Record, number: u64, node: u8) -> usize
+    requires record { IsRecord kept.now }
+    requires named { IsTrue (is_named_by number node kept.now.decision) }
+    ensures { result ≡ spelled_length (with_confirmed number node kept.now) }
+{
+    spelled_length_with(kept, named_then(kept, number, node))
 }
 
 /// Raises the epoch, lets go of a tentative image of the node's own, and gives that.

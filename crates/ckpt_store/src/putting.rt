@@ -1,16 +1,24 @@
 // One put of a record.
-ghost use Rattle.std.specs.Prelude.{IsTrue};
+ghost use Rattle.std.specs.Prelude.{◌≡◌, IsTrue};
 ghost use Rattle.ckpt_codec.specs.RecordText.{IsRecord};
+ghost use Rattle.ckpt_store.specs.Spelling.{has_room};
 ghost use Rattle.ckpt_store.specs.Putting.{IsPut};
 
-use crate::MAX_RECORD_BYTES;
 use crate::fault::StoreFault;
-use ckpt_codec::write_record;
+use ckpt_codec::{MAX_RECORD_BYTES, spelled_length, write_record};
 use gate_cell::StableCell;
 use record::Record;
 use std::alloc::Global;
 
-// Puts the spelling of a record. The memory for it is taken before the first change.
+/// Whether so many bytes aren't more than a record's spelling may have, and fit the cell.
+pub fn has_room<C: StableCell>(cell: &C, length: usize) -> bool
+    ensures { result ≡ has_room (C.capacity cell.now) length }
+{
+    length <= MAX_RECORD_BYTES && length <= cell.room()
+}
+
+// Puts the spelling of a record. Whether it fits is found before memory is taken for it, and that is taken before the
+// first change.
 pub fn put_record<C: StableCell>(
     alloc: Global,
     cell: &mut C,
@@ -20,10 +28,10 @@ pub fn put_record<C: StableCell>(
     requires ready { IsTrue (C.is_ready cell.old) }
     ensures { IsPut ⟦<C as StableCell>⟧ next.now cell.old cell.new result }
 {
-    let bytes = write_record(alloc, next)?;
-    if bytes.len() > MAX_RECORD_BYTES {
+    if !has_room(cell, spelled_length(next)) {
         return Err(StoreFault::TooLarge);
     }
+    let bytes = write_record(alloc, next)?;
     cell.put(bytes.as_slice())?;
     Ok(())
 }

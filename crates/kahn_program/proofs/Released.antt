@@ -10,29 +10,22 @@ use Rattle.kahn_net.specs.Syntax.{Network, network_of}
 use Rattle.kahn_net.specs.Approximations.{approximation}
 use Rattle.kahn_net.specs.declared.program.Channel.{Channel}
 use Rattle.world.specs.Sound.{goes_outside, output_channels}
-use Rattle.world.specs.Headline as headline
 use Rattle.world.specs.Steps.{WorldView}
-use Rattle.world.specs.Quiet as quiet
 use Rattle.world.specs.OutputLaws.{map_at}
-use Rattle.world.specs.OutputView.{OutputView, output_view, outputs_view}
-use Rattle.world.specs.StationView.{OutletView, StationView, outlet_view, outlet_views}
+use Rattle.world.specs.Headline.{released_prefix}
+use Rattle.world.specs.Invariant.{output_of, outputs_of, WorldInvariant}
+use Rattle.world.specs.OutputView.{OutputView}
+use Rattle.world.specs.Quiet.{are_quiet, AreWhole}
+use Rattle.world.specs.StationView.{OutletView, StationView}
 use Rattle.world.specs.Released.{taken_or, released_of}
 use Rattle.kahn_net.specs.declared.program.Port.{Port}
 use Rattle.kahn_net.specs.declared.program.Port.TheVariants.{Outside, Process}
-use Rattle.node.specs.NodeView.{node_view}
-use Rattle.std.specs.List.{AllByRecursion, AllZip, list_all}
-use Rattle.world.specs.PairLaws.{pairs_refl, pairs_then}
-use Rattle.world.specs.WorldView.{station_view, IsOfSame, IsWhole}
-use Rattle.world.specs.declared.output.Output.{Output}
-use Rattle.world.specs.declared.station.Station.{Station}
-use Rattle.node.specs.declared.cell.StableCell.{Ghosts as CellWords}
-use Rattle.outlet.specs.declared.outlet.Outlet.{Ghosts as OutletWords}
+use Rattle.std.specs.List.{list_all}
 use Rattle.net_check.specs.declared.net.Net.{Net}
 use Rattle.kahn_program.specs.Report.{one_if_output, output_count, report_text}
 use Rattle.kahn_program.specs.Readings.{IsNetOf, AreInputsOf}
 use Rattle.kahn_program.specs.Statuses.{status_of_run}
 use Rattle.kahn_program.specs.Runs.{released_streams, cut_at, first_items, is_whole, run_text, IsRun, IsLast, IsReport, IsReportOf, IsReported, HasWritten}
-use Rattle.kahn_program.specs.Turning.{are_done}
 use Rattle.kahn_program.specs.Runnable.{IsReportFailure}
 use Rattle.kahn_program.specs.declared.failure.Failure.{Failure}
 use Rattle.std.specs.Prelude.{IfErr}
@@ -47,35 +40,35 @@ found_itself : (a : ℕ) → eqb a a ≡ true
 found_itself a = grind (arith, nat_tests)
 
 -- the outlet of this channel that is found first is one of the list
-pub record IsFound {O : Type 0} (taken : O → List ℤ) (failures : O → ℕ) (outputs : List (Output O)) (c : ℕ) : Type 0 where
+pub record IsFound (outlets : List OutletView) (c : ℕ) : Type 0 where
   pub place : ℕ
-  pub output : Output O
-  pub there : slice_get (outputs_view taken outputs) place ≡ Some (output_view taken output)
-  pub channel : output.channel ≡ c
-  pub found : find (λ (outlet : OutletView). eqb outlet.channel c) (outlet_views taken failures outputs) ≡ Some (outlet_view taken failures output)
+  pub outlet : OutletView
+  pub there : slice_get (outputs_of outlets) place ≡ Some (output_of outlet)
+  pub channel : outlet.channel ≡ c
+  pub found : find (λ (other : OutletView). eqb other.channel c) outlets ≡ Some outlet
 
-find_there : {O : Type 0} (taken : O → List ℤ) (failures : O → ℕ) (outputs : List (Output O)) (j c : ℕ) → slice_get (map (λ (output : OutputView). output.channel) (outputs_view taken outputs)) j ≡ Some c → IsFound taken failures outputs c
-find_there taken failures [] j c is = absurd (cc)
-find_there {O} taken failures (x ∷ outputs) j c is = at (eqb x.channel c) refl j (λ k there. find_there taken failures outputs k c there) is
+find_there : (outlets : List OutletView) (j c : ℕ) → slice_get (map (λ (output : OutputView). output.channel) (outputs_of outlets)) j ≡ Some c → IsFound outlets c
+find_there [] j c is = absurd (cc)
+find_there (x ∷ outlets) j c is = at (eqb x.channel c) refl j (λ k there. find_there outlets k c there) is
   where
-    later : eqb x.channel c ≡ false → IsFound taken failures outputs c → IsFound taken failures (x ∷ outputs) c
+    later : eqb x.channel c ≡ false → IsFound outlets c → IsFound (x ∷ outlets) c
     later other f = record {
       place = suc f.place;
-      output = f.output;
+      outlet = f.outlet;
       there = f.there;
       channel = f.channel;
-      found = ap (λ (b : Bool). cond b (Some (outlet_view taken failures x)) (find (λ (outlet : OutletView). eqb outlet.channel c) (outlet_views taken failures outputs))) other ∙ f.found;
+      found = ap (λ (b : Bool). cond b (Some x) (find (λ (outlet : OutletView). eqb outlet.channel c) outlets)) other ∙ f.found;
     }
 
     at : (b : Bool) → eqb x.channel c ≡ b → (k : ℕ)
-        → ((i : ℕ) → slice_get (map (λ (output : OutputView). output.channel) (outputs_view taken outputs)) i ≡ Some c → IsFound taken failures outputs c)
-        → slice_get (map (λ (output : OutputView). output.channel) (outputs_view taken (x ∷ outputs))) k ≡ Some c → IsFound taken failures (x ∷ outputs) c
+        → ((i : ℕ) → slice_get (map (λ (output : OutputView). output.channel) (outputs_of outlets)) i ≡ Some c → IsFound outlets c)
+        → slice_get (map (λ (output : OutputView). output.channel) (outputs_of (x ∷ outlets))) k ≡ Some c → IsFound (x ∷ outlets) c
     at true test k rest there = record {
       place = 0;
-      output = x;
+      outlet = x;
       there = refl;
       channel = same_number x.channel c test;
-      found = ap (λ (b : Bool). cond b (Some (outlet_view taken failures x)) (find (λ (outlet : OutletView). eqb outlet.channel c) (outlet_views taken failures outputs))) test;
+      found = ap (λ (b : Bool). cond b (Some x) (find (λ (outlet : OutletView). eqb outlet.channel c) outlets)) test;
     }
     at false test zero rest there =
         let same : x.channel ≡ c = cc in
@@ -84,42 +77,42 @@ find_there {O} taken failures (x ∷ outputs) j c is = at (eqb x.channel c) refl
         absurd (cc)
     at false test (suc k) rest there = later test (rest k there)
 
--- The streams of one station
+-- The streams of a world, each of which its first station has
 
-module _ {O : Type 0} (taken : O → List ℤ) (failures : O → ℕ) (outputs : List (Output O)) (net : Network) (inputs : List (List ℤ)) (station : StationView)
-    (outlets : station.outlets ≡ outlet_views taken failures outputs) (listed : map (λ (output : OutputView). output.channel) (outputs_view taken outputs) ≡ output_channels 0 net.channels) where
-  found_at : (j c : ℕ) → slice_get (output_channels 0 net.channels) j ≡ Some c → IsFound taken failures outputs c
-  found_at j c is = find_there taken failures outputs j c (ap (λ (numbers : List ℕ). slice_get numbers j) listed ∙ is)
+module _ (net : Network) (station : StationView) (others : List StationView) (listed : map (λ (output : OutputView). output.channel) (outputs_of station.outlets) ≡ output_channels 0 net.channels) where
+  found_at : (j c : ℕ) → slice_get (output_channels 0 net.channels) j ≡ Some c → IsFound station.outlets c
+  found_at j c is = find_there station.outlets j c (ap (λ (numbers : List ℕ). slice_get numbers j) listed ∙ is)
 
-  stream_of : (c : ℕ) (f : IsFound taken failures outputs c) → released_of c (station ∷ []) ≡ taken f.output.outlet
-  stream_of c f =
-      ap (λ (l : List OutletView). taken_or (find (λ (outlet : OutletView). eqb outlet.channel c) l) []) outlets
-      ∙ ap (λ (o : Option OutletView). taken_or o []) f.found
+  stream_of : (c : ℕ) (f : IsFound station.outlets c) → released_of c (station ∷ others) ≡ f.outlet.taken
+  stream_of c f = ap (λ (o : Option OutletView). taken_or o (released_of c others)) f.found
 
-  same_items : (j c : ℕ) (items : List ℤ) → slice_get (output_channels 0 net.channels) j ≡ Some c → slice_get (released_streams net (station ∷ [])) j ≡ Some items → items ≡ released_of c (station ∷ [])
+  same_items : (j c : ℕ) (items : List ℤ) → slice_get (output_channels 0 net.channels) j ≡ Some c → slice_get (released_streams net (station ∷ others)) j ≡ Some items → items ≡ released_of c (station ∷ others)
   same_items j c items is there =
-      let at : Some items ≡ Some (released_of c (station ∷ [])) = sym there ∙ map_at (λ (channel : ℕ). released_of channel (station ∷ [])) (output_channels 0 net.channels) j c is in
+      let at : Some items ≡ Some (released_of c (station ∷ others)) = sym there ∙ map_at (λ (channel : ℕ). released_of channel (station ∷ others)) (output_channels 0 net.channels) j c is in
       cc
 
   -- each is of an output of the station
-  streams_are : (P : List ℤ → ℕ → Type 0) → ((j : ℕ) (output : OutputView) → slice_get (outputs_view taken outputs) j ≡ Some output → P output.taken output.channel)
-      → (j c : ℕ) (items : List ℤ) → slice_get (output_channels 0 net.channels) j ≡ Some c → slice_get (released_streams net (station ∷ [])) j ≡ Some items → P items c
+  streams_are : (P : List ℤ → ℕ → Type 0) → ((j : ℕ) (output : OutputView) → slice_get (outputs_of station.outlets) j ≡ Some output → P output.taken output.channel)
+      → (j c : ℕ) (items : List ℤ) → slice_get (output_channels 0 net.channels) j ≡ Some c → slice_get (released_streams net (station ∷ others)) j ≡ Some items → P items c
   streams_are P all j c items is there =
       let f = found_at j c is in
       subst (λ (list : List ℤ). P list c) (sym (same_items j c items is there ∙ stream_of c f))
-      (subst (P (taken f.output.outlet)) f.channel (all f.place (output_view taken f.output) f.there))
+      (subst (P f.outlet.taken) f.channel (all f.place (output_of f.outlet) f.there))
 
-  pub station_run : (complete : Bool) → headline.AreApproximated net inputs (outputs_view taken outputs) → (IsTrue complete → quiet.AreWhole net inputs (outputs_view taken outputs))
-      → IsRun net inputs (released_streams net (station ∷ [])) complete
-  station_run complete approximated whole = record {
-    count = length_map (output_channels 0 net.channels);
-    prefix = ∥∥₁_map approximated (λ a. (a.0, streams_are (λ items c. IsPrefix items (history_of (approximation net inputs a.0) c)) a.1));
-    whole = λ done. ∥∥₁_map (whole done) (λ a. (a.0, a.1, streams_are (λ items c. items ≡ history_of (approximation net inputs a.0) c) a.2));
-  }
-    where
-      length_map : (cs : List ℕ) → length (map (λ (channel : ℕ). released_of channel (station ∷ [])) cs) ≡ length cs
-      length_map [] = refl
-      length_map (c ∷ cs) = ap suc (length_map cs)
+length_map : (f : ℕ → List ℤ) (cs : List ℕ) → length (map f cs) ≡ length cs
+length_map f [] = refl
+length_map f (c ∷ cs) = ap suc (length_map f cs)
+
+-- what has left a world are the streams of a run
+world_run : (net : Network) (inputs : List (List ℤ)) (stations : List StationView) (round : ℕ) (complete : Bool) → WorldInvariant (record { net = net; inputs = inputs; stations = stations; round = round })
+    → (IsTrue complete → AreWhole (record { net = net; inputs = inputs; stations = stations; round = round })) → IsRun net inputs (released_streams net stations) complete
+world_run net inputs [] round complete inv whole = absurd (let some = inv.inhabited in omega (arith, some))
+world_run net inputs (s ∷ stations) round complete inv whole = record {
+  count = length_map (λ (channel : ℕ). released_of channel (s ∷ stations)) (output_channels 0 net.channels);
+  prefix = ∥∥₁_map (released_prefix (record { net = net; inputs = inputs; stations = s ∷ stations; round = round }) inv)
+      (λ a. (a.0, streams_are net s stations (inv.stations 0 s refl).sound.listed (λ items c. IsPrefix items (history_of (approximation net inputs a.0) c)) (a.1 0 s refl)));
+  whole = λ done. ∥∥₁_map (whole done) (λ a. (a.0, a.1, streams_are net s stations (inv.stations 0 s refl).sound.listed (λ items c. items ≡ history_of (approximation net inputs a.0) c) (a.2 0 s refl)));
+}
 
 -- Streams in order of the channels
 
@@ -139,13 +132,13 @@ streams_next f channels k d before now whole within so_far added =
     ∙ (ap (λ (list : List (List ℤ)). before ++ list) (one_listed f (goes_outside (get_or channels k d).consumer) k rest)
     ∙ (ap (λ (list : List Channel). before ++ map f (output_channels k list)) (sym (drop-cons channels k d within)) ∙ so_far))))
 
--- Stations of the same network and inputs
-
-pub same_then : {C O : Type 0} {cell : CellWords C} {outlet : OutletWords O} (xs ys zs : List (Station C O cell outlet)) → AllZip IsOfSame xs ys → AllZip IsOfSame ys zs → AllZip IsOfSame xs zs
-same_then xs ys zs p q = pairs_then IsOfSame IsOfSame IsOfSame (λ x y z a b. (b.0 ∙ a.0, b.1 ∙ a.1)) xs ys zs p q
-
-pub same_still : {C O : Type 0} {cell : CellWords C} {outlet : OutletWords O} (xs : List (Station C O cell outlet)) → AllZip IsOfSame xs xs
-same_still xs = pairs_refl IsOfSame (λ x. (refl, refl)) xs
+-- the same of a world that is of this network and these inputs
+pub run_of : (world : WorldView) (net : Network) (inputs : List (List ℤ)) (complete : Bool) → world.net ≡ net → world.inputs ≡ inputs → WorldInvariant world → (IsTrue complete → AreWhole world)
+    → IsRun net inputs (released_streams net world.stations) complete
+run_of world net inputs complete same_net same_inputs inv whole =
+    subst (λ (n : Network). IsRun n inputs (released_streams n world.stations) complete) same_net
+    (subst (λ (i : List (List ℤ)). IsRun world.net i (released_streams world.net world.stations) complete) same_inputs
+    (world_run world.net world.inputs world.stations world.round complete inv whole))
 
 -- as many streams as outputs
 pub counted_streams : (f : ℕ → List ℤ) (number : ℕ) (channels : List Channel) → length (map f (output_channels number channels)) ≡ output_count channels
@@ -156,31 +149,6 @@ counted_streams f number (channel ∷ channels) = at channel.consumer (counted_s
         → length (map f (if goes_outside port then number ∷ output_channels (suc number) channels else output_channels (suc number) channels)) ≡ one_if_output port (output_count channels)
     at Outside rest = let more : suc (output_count channels) ≡ output_count channels + 1 = omega arith in ap suc rest ∙ more
     at (Process p) rest = rest
-
--- The streams of a world of one station
-
-one_run : {C O : Type 0} {cell : CellWords C} {outlet : OutletWords O} (complete : Bool) (station : Station C O cell outlet)
-    → (IsTrue complete → quiet.AreWhole (network_of station.net.value.program) station.inputs.value (outputs_view outlet.taken station.outputs.items))
-    → IsRun (network_of station.net.value.program) station.inputs.value (released_streams (network_of station.net.value.program) (station_view station ∷ [])) complete
-one_run {C} {O} {cell} {outlet} complete station whole =
-    station_run outlet.taken outlet.failures station.outputs.items (network_of station.net.value.program) station.inputs.value (station_view station) refl station.sound.listed complete
-    (headline.released_prefix (network_of station.net.value.program) station.inputs.value (node_view station.node.state) (outputs_view outlet.taken station.outputs.items) station.net.value.valid station.fits station.sound)
-    whole
-
-pub world_run : {C O : Type 0} {cell : CellWords C} {outlet : OutletWords O} (net : Network) (inputs : List (List ℤ)) (first now : List (Station C O cell outlet)) (complete : Bool) → length first ≡ 1
-    → AllByRecursion (λ (station : Station C O cell outlet). (network_of station.net.value.program ≡ net) × (station.inputs.value ≡ inputs)) first → AllZip IsOfSame first now
-    → (IsTrue complete → AllByRecursion IsWhole now)
-    → IsRun net inputs (released_streams net (map station_view now)) complete
-world_run net inputs [] now complete one of same whole = absurd (cc)
-world_run net inputs (s ∷ t ∷ first) now complete one of same whole = absurd (cc)
-world_run net inputs (s ∷ []) [] complete one of same whole = absurd same
-world_run net inputs (s ∷ []) (t ∷ u ∷ now) complete one of same whole = absurd same.1
-world_run {C} {O} {cell} {outlet} net inputs (s ∷ []) (t ∷ []) complete one of same whole =
-    let program : network_of t.net.value.program ≡ net = ap (λ a. network_of a.value.program) same.0.0 ∙ of.0.0 in
-    let items : t.inputs.value ≡ inputs = ap (λ a. a.value) same.0.1 ∙ of.0.1 in
-    subst (λ (n : Network). IsRun n inputs (released_streams n (station_view t ∷ [])) complete) program
-    (subst (λ (i : List (List ℤ)). IsRun (network_of t.net.value.program) i (released_streams (network_of t.net.value.program) (station_view t ∷ [])) complete) items
-    (one_run complete t (λ done. (whole done).0)))
 
 -- The report of a run
 
@@ -194,7 +162,7 @@ pub reported : (net : Net) (inputs : List (List ℤ)) (given : List Channel) (ro
     → told ≡ is_whole cut complete
     → text ≡ report_text net.program.channels.items net.channel_names.items streams told
     → IsRun (network_of net.program) inputs (released_streams (network_of net.program) now.stations) complete
-    → complete ≡ are_done now.stations
+    → complete ≡ are_quiet now
     → IsLast (network_of net.program) inputs rounds items now
     → IsReport net rounds items inputs text told
 reported net inputs given rounds items cut streams now text complete told channels where_cut listed whole printed run quiet last =

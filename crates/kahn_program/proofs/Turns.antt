@@ -1,31 +1,27 @@
 -- Turns of a run.
-use Rattle.std.proofs.Common.{◌≡◌, ◌⊎◌, ◌∙◌, ◌∷◌, [], ◌+◌, ◌≤◌, ℕ, suc, ℤ, Bool, true, false, ◌&&◌, List, map, Option, refl, sym, ap, subst, arith}
-use Rattle.std.specs.Prelude.{◌↔◌, IsTrue}
+use Rattle.std.proofs.Common.{◌≡◌, ◌⊎◌, ◌∙◌, ◌∷◌, [], ◌+◌, ◌≤◌, ℕ, suc, ℤ, Bool, true, false, List, map, Option, refl, ap, subst, arith}
 use Rattle.std.specs.List.{AllByRecursion}
-use Rattle.kahn_net.specs.Syntax.{Network, network_of}
+use Rattle.kahn_net.specs.Syntax.{Network}
 use Rattle.kahn_net.specs.declared.program.Channel.{Channel}
 use Rattle.record.specs.RecordView.{RecordView}
-use Rattle.node.specs.NodeView.{node_view}
 use Rattle.node.specs.declared.cell.StableCell.{Ghosts as CellWords}
-use Rattle.outlet.specs.declared.outlet.Outlet.{Ghosts as OutletWords}
 use Rattle.proc_step.specs.declared.job.Job.{Job}
 use Rattle.world.specs.OpeningWorld.{IsUnused, opening_outlet, opening_station, opening_world}
-use Rattle.world.specs.OutputView.{OutputView, output_view, outputs_view}
-use Rattle.world.specs.Quiet.{is_quiet}
 use Rattle.world.specs.Sound.{output_channels}
 use Rattle.world.specs.StationView.{OutletView, outlet_view, outlet_views}
 use Rattle.world.specs.Steps.{WorldView}
-use Rattle.world.specs.WorldView.{rooms, station_view, IsQuiet}
+use Rattle.world.specs.ReplyView.{reply_view}
+use Rattle.world.specs.WorldView.{rooms, station_view}
 use Rattle.world.specs.declared.event.Reply.{Reply}
 use Rattle.world.specs.declared.event.Reply.TheVariants.{Granted, Installed, Discarded, Sent, Started, Decided, Refused, Released, OutletFailed, Down, Idled, NotDue}
 use Rattle.world.specs.declared.output.Output.{Output}
 use Rattle.world.specs.declared.station.Station.{Station}
-use Rattle.kahn_program.specs.Turning.{all_fit, are_done, CameTo, first_world, Follows, IsWorldTurn, output_of, unused_outlet}
+use Rattle.kahn_program.specs.Turning.{all_fit, CameTo, first_world, Follows, IsWorldTurn, unused_outlet}
 use Rattle.kahn_program.specs.Runs.{is_over, IsLast}
 use Rattle.kahn_program.specs.declared.network_run.TheConstants.{MAX_TURNS}
 
 -- where no job was granted nothing follows
-pub nothing_follows : (answer : Reply) (now : WorldView) → ((job : Job) → answer ≡ Granted job → ⊥) → Follows answer now now
+pub nothing_follows : (answer : Reply) (now : WorldView) → ((job : Job) → answer ≡ Granted job → ⊥) → Follows (reply_view answer) now now
 nothing_follows (Granted job) now other = absurd (other job refl)
 nothing_follows Installed now other = refl
 nothing_follows Discarded now other = refl
@@ -40,11 +36,11 @@ nothing_follows Idled now other = refl
 nothing_follows NotDue now other = refl
 
 -- where each record fits a cell
-pub rooms_fit : {C O : Type 0} {cell : CellWords C} {outlet : OutletWords O} → ((c : C) → cell.fits c ≡ (λ (next : RecordView). true)) → (stations : List (Station C O cell outlet)) → rooms stations ≡ all_fit (map station_view stations)
-rooms_fit all [] = refl
-rooms_fit all (s ∷ stations) =
+pub rooms_fit : {C O : Type 0} {cell : CellWords C} (taken : O → List ℤ) (failures : O → ℕ) → ((c : C) → cell.fits c ≡ (λ (next : RecordView). true)) → (stations : List (Station C O cell)) → rooms stations ≡ all_fit (map (station_view taken failures) stations)
+rooms_fit taken failures all [] = refl
+rooms_fit taken failures all (s ∷ stations) =
     ap (λ (f : RecordView → Bool). f ∷ rooms stations) (all s.node.cell)
-    ∙ ap (λ (rest : List (RecordView → Bool)). (λ (next : RecordView). true) ∷ rest) (rooms_fit all stations)
+    ∙ ap (λ (rest : List (RecordView → Bool)). (λ (next : RecordView). true) ∷ rest) (rooms_fit taken failures all stations)
 
 -- one turn more
 pub more_turns : (over : WorldView → Bool) (turns : ℕ) (first before now : WorldView) → CameTo over turns first before → over before ≡ false → IsWorldTurn before now → CameTo over (turns + 1) first now
@@ -73,7 +69,7 @@ module _ {O : Type 0} (taken : O → List ℤ) (failures : O → ℕ) (none : (o
       opening
       ∙ (ap (λ (n : Network). opening_world n others 0 views) same_net
       ∙ (ap (λ (i : List (List ℤ)). opening_world net i 0 views) same_inputs
-      ∙ ap (λ (outlets : List OutletView). record { stations = opening_station net inputs 0 outlets ∷ []; round = 0 })
+      ∙ ap (λ (outlets : List OutletView). record { net = net; inputs = inputs; stations = opening_station net 0 outlets ∷ []; round = 0 })
       (unused_outlets outputs unused ∙ ap (λ (channels : List ℕ). map opening_outlet (map unused_outlet channels)) listed)))
 
 -- The last one
@@ -88,46 +84,3 @@ last_world net inputs given rounds items first now channels opened came =
       came = subst (λ (world : WorldView). CameTo (is_over (output_channels 0 net.channels) rounds items) came.0 world now) opened same;
       over = subst (λ (cs : List Channel). (is_over (output_channels 0 cs) rounds items now ≡ true) ⊎ (MAX_TURNS ≤ came.0)) channels came.2;
     }
-
--- Whether nothing is left to do
-
-same_outputs : {O : Type 0} (taken : O → List ℤ) (failures : O → ℕ) (outputs : List (Output O)) → map output_of (outlet_views taken failures outputs) ≡ outputs_view taken outputs
-same_outputs taken failures [] = refl
-same_outputs taken failures (output ∷ outputs) = ap (λ (rest : List OutputView). output_view taken output ∷ rest) (same_outputs taken failures outputs)
-
-both : (a b : Bool) → IsTrue (a && b) → IsTrue a × IsTrue b
-both true b is = (refl, is)
-both false b is = absurd (cc)
-
-join : (a b : Bool) → IsTrue a → IsTrue b → IsTrue (a && b)
-join true b is and = and
-join false b is and = absurd (cc)
-
-no : false ≡ true → ⊥
-no is = cc
-
-same_truth : (a b : Bool) → (IsTrue a → IsTrue b) → (IsTrue b → IsTrue a) → a ≡ b
-same_truth true true to from = refl
-same_truth false false to from = refl
-same_truth true false to from = absurd (no (to refl))
-same_truth false true to from = absurd (no (from refl))
-
-module _ {C O : Type 0} {cell : CellWords C} {outlet : OutletWords O} where
-  abbrev is_done : Station C O cell outlet → Bool
-  is_done station = is_quiet (network_of station.net.value.program) station.inputs.value (node_view station.node.state) (map output_of (outlet_views outlet.taken outlet.failures station.outputs.items))
-
-  done_outputs : (station : Station C O cell outlet) → is_done station ≡ is_quiet (network_of station.net.value.program) station.inputs.value (node_view station.node.state) (outputs_view outlet.taken station.outputs.items)
-  done_outputs station = ap (is_quiet (network_of station.net.value.program) station.inputs.value (node_view station.node.state)) (same_outputs outlet.taken outlet.failures station.outputs.items)
-
-  quiet_done : (stations : List (Station C O cell outlet)) → AllByRecursion IsQuiet stations → IsTrue (are_done (map station_view stations))
-  quiet_done [] quiet = refl
-  quiet_done (s ∷ stations) quiet = join (is_done s) (are_done (map station_view stations)) (subst IsTrue (sym (done_outputs s)) quiet.0) (quiet_done stations quiet.1)
-
-  done_quiet : (stations : List (Station C O cell outlet)) → IsTrue (are_done (map station_view stations)) → AllByRecursion IsQuiet stations
-  done_quiet [] done = tt
-  done_quiet (s ∷ stations) done =
-      let parts = both (is_done s) (are_done (map station_view stations)) done in
-      (subst IsTrue (done_outputs s) parts.0, done_quiet stations parts.1)
-
-  pub told_done : (stations : List (Station C O cell outlet)) (complete : Bool) → (IsTrue complete ↔ AllByRecursion IsQuiet stations) → complete ≡ are_done (map station_view stations)
-  told_done stations complete is = same_truth complete (are_done (map station_view stations)) (λ done. quiet_done stations (is.0 done)) (λ done. is.1 (done_quiet stations done))

@@ -7,13 +7,14 @@ use Rattle.kahn_net.specs.Syntax.{Network, network_of}
 use Rattle.kahn_net.specs.Approximations.{approximation, IsReached, IsSolution}
 use Rattle.net_check.specs.declared.net.Net.{Net}
 use Rattle.world.specs.Sound.{output_channels}
+use Rattle.world.specs.Quiet.{are_quiet}
 use Rattle.world.specs.Released.{released_of}
 use Rattle.world.specs.StationView.{StationView}
 use Rattle.kahn_program.specs.Readings.{IsNetOf, AreInputsOf}
 use Rattle.kahn_program.specs.Report.{report_text}
 use Rattle.world.specs.Runnable.{CanRun}
 use Rattle.world.specs.Steps.{WorldView}
-use Rattle.kahn_program.specs.Turning.{CameTo, are_done, first_world}
+use Rattle.kahn_program.specs.Turning.{CameTo, first_world}
 use Rattle.kahn_program.specs.declared.network_run.TheConstants.{MAX_TURNS}
 
 -- what the stations' outlets took, for each of a network's outputs in order
@@ -58,7 +59,7 @@ run_text net cut released complete = report_text net.program.channels.items net.
 -- a run is over: nothing is left to do, the rounds are over, or each of these outputs has the items that are asked for
 abbrev pub is_over : List ℕ → ℕ → Option ℕ → WorldView → Bool
 is_over outputs rounds items now =
-    are_done now.stations || (nat_le rounds now.round || is_some (cut_at items (map (λ (channel : ℕ). released_of channel now.stations) outputs)))
+    are_quiet now || (nat_le rounds now.round || is_some (cut_at items (map (λ (channel : ℕ). released_of channel now.stations) outputs)))
 
 -- The world at the end of a run: turn by turn it came from the first one, until the run was over, or so many turns were taken that nobody waits
 -- for them.
@@ -72,9 +73,9 @@ pub record IsLast (net : Network) (inputs : List (List ℤ)) (rounds : ℕ) (ite
 abbrev pub IsReport : Net → ℕ → Option ℕ → List (List ℤ) → List ℕ → Bool → Type 0
 IsReport net rounds items inputs text told =
     ∥ ((now : WorldView) × IsLast (network_of net.program) inputs rounds items now
-    × IsRun (network_of net.program) inputs (released_streams (network_of net.program) now.stations) (are_done now.stations)
-    × (told ≡ is_whole (cut_at items (released_streams (network_of net.program) now.stations)) (are_done now.stations))
-    × (text ≡ run_text net (cut_at items (released_streams (network_of net.program) now.stations)) (released_streams (network_of net.program) now.stations) (are_done now.stations))) ∥₁
+    × IsRun (network_of net.program) inputs (released_streams (network_of net.program) now.stations) (are_quiet now)
+    × (told ≡ is_whole (cut_at items (released_streams (network_of net.program) now.stations)) (are_quiet now))
+    × (text ≡ run_text net (cut_at items (released_streams (network_of net.program) now.stations)) (released_streams (network_of net.program) now.stations) (are_quiet now))) ∥₁
 
 -- A text is the report of the n-th approximation on these inputs: each output's whole history there. It tells `complete` exactly where that
 -- approximation is a solution.

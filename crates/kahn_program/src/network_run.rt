@@ -4,11 +4,12 @@ ghost use Rattle.std.specs.Prelude.{◌≡◌, ◌⊎◌, ◌≤◌, ◌++◌, �
 ghost use Rattle.kahn_net.specs.Fits.{Fits};
 ghost use Rattle.kahn_net.specs.Nodes.{IsOnOneNode};
 ghost use Rattle.kahn_net.specs.Syntax.{network_of};
-ghost use Rattle.std.specs.List.{AllZip, list_all};
+ghost use Rattle.std.specs.List.{list_all};
 ghost use Rattle.world.specs.Released.{released_of};
 ghost use Rattle.world.specs.Sound.{goes_outside, output_channels};
-ghost use Rattle.world.specs.WorldView.{station_view, world_view, IsOfSame};
-ghost use Rattle.kahn_program.specs.Turning.{CameTo, Follows, IsWorldTurn, are_done};
+ghost use Rattle.world.specs.ReplyView.{reply_view};
+ghost use Rattle.world.specs.WholeView.{view_of};
+ghost use Rattle.kahn_program.specs.Turning.{CameTo, Follows, IsWorldTurn};
 ghost use Rattle.kahn_program.specs.Runs.{IsReport, cut_at, first_items, is_over, is_whole};
 ghost use Rattle.kahn_net.specs.declared.limits.TheConstants.{MAX_CHANNELS};
 
@@ -65,10 +66,9 @@ fn follow(
     world: &mut World<MemCell, ListOutlet>,
     answer: Reply,
 ) -> Result<(), Failure>
-    ensures same { AllZip IsOfSame world.old.stations.items world.new.stations.items }
+    ensures same { (world.new.net ≡ world.old.net) × (world.new.inputs ≡ world.old.inputs) }
     ensures follows { OnOk result
-        (Follows answer (world_view world.old.stations.items world.old.round)
-        (world_view world.new.stations.items world.new.round)) }
+        (Follows (reply_view answer) (view_of world.old) (view_of world.new)) }
     ensures err { IfErr result (λ failure. failure ≡ Failure.NoMemory) }
 {
     match answer {
@@ -87,9 +87,8 @@ fn follow(
 
 /// The event that is next. A job that it grants is run and comes back at once.
 fn take_turn(alloc: Global, world: &mut World<MemCell, ListOutlet>) -> Result<(), Failure>
-    ensures same { AllZip IsOfSame world.old.stations.items world.new.stations.items }
-    ensures turn { OnOk result (IsWorldTurn (world_view world.old.stations.items world.old.round)
-        (world_view world.new.stations.items world.new.round)) }
+    ensures same { (world.new.net ≡ world.old.net) × (world.new.inputs ≡ world.old.inputs) }
+    ensures turn { OnOk result (IsWorldTurn (view_of world.old) (view_of world.new)) }
     ensures err { IfErr result (λ failure. failure ≡ Failure.NoMemory) }
 {
     let event = world.pick(NODE);
@@ -102,7 +101,7 @@ fn take_turn(alloc: Global, world: &mut World<MemCell, ListOutlet>) -> Result<()
 /// Whether so many items have left by a channel, if its items go outside.
 fn has_left(number: u8, channel: &Channel, world: &World<MemCell, ListOutlet>, items: u64) -> bool
     ensures { result ≡ (if goes_outside channel.now.consumer
-        then nat_le items (length (released_of number (map station_view world.now.stations.items)))
+        then nat_le items (length (released_of number (view_of world.now).stations))
         else true) }
 {
     match channel.consumer {
@@ -115,7 +114,7 @@ fn has_left(number: u8, channel: &Channel, world: &World<MemCell, ListOutlet>, i
 fn have_left(channels: &[Channel], world: &World<MemCell, ListOutlet>, items: u64) -> bool
     requires { length channels.now ≤ MAX_CHANNELS }
     ensures { result ≡ list_all (λ stream. nat_le items (length stream))
-        (map (λ channel. released_of channel (map station_view world.now.stations.items))
+        (map (λ channel. released_of channel (view_of world.now).stations)
         (output_channels 0 channels.now)) }
 {
     for (number, channel) in channels.iter().enumerate() {
@@ -130,7 +129,7 @@ fn have_left(channels: &[Channel], world: &World<MemCell, ListOutlet>, items: u6
 fn cut(channels: &[Channel], world: &World<MemCell, ListOutlet>, items: Option<u64>) -> Option<u64>
     requires { length channels.now ≤ MAX_CHANNELS }
     ensures { result ≡ cut_at items
-        (map (λ channel. released_of channel (map station_view world.now.stations.items))
+        (map (λ channel. released_of channel (view_of world.now).stations)
         (output_channels 0 channels.now)) }
 {
     match items {
@@ -145,13 +144,6 @@ fn cut(channels: &[Channel], world: &World<MemCell, ListOutlet>, items: Option<u
     }
 }
 
-/// Whether nothing is left to do.
-fn is_complete(world: &World<MemCell, ListOutlet>) -> bool
-    ensures { result ≡ are_done (map station_view world.now.stations.items) }
-{
-    world.complete()
-}
-
 /// Whether a run is over: nothing is left to do, the rounds are over, or each output has the items that are asked for.
 fn is_over(
     channels: &[Channel],
@@ -160,10 +152,9 @@ fn is_over(
     items: Option<u64>,
 ) -> bool
     requires { length channels.now ≤ MAX_CHANNELS }
-    ensures { result ≡ is_over (output_channels 0 channels.now) rounds items
-        (world_view world.now.stations.items world.now.round) }
+    ensures { result ≡ is_over (output_channels 0 channels.now) rounds items (view_of world.now) }
 {
-    is_complete(world) || rounds <= world.round() || cut(channels, world, items).is_some()
+    world.complete() || rounds <= world.round() || cut(channels, world, items).is_some()
 }
 
 /// Takes turns until the run is over.
@@ -175,13 +166,12 @@ fn take_turns(
     items: Option<u64>,
 ) -> Result<(), Failure>
     requires { length channels.now ≤ MAX_CHANNELS }
-    ensures same { AllZip IsOfSame world.old.stations.items world.new.stations.items }
+    ensures same { (world.new.net ≡ world.old.net) × (world.new.inputs ≡ world.old.inputs) }
     ensures came { OnOk result ((turns : ℕ)
         × CameTo (is_over (output_channels 0 channels.now) rounds items) turns
-        (world_view world.old.stations.items world.old.round)
-        (world_view world.new.stations.items world.new.round)
-        × ((is_over (output_channels 0 channels.now) rounds items
-        (world_view world.new.stations.items world.new.round) ≡ true) ⊎ (MAX_TURNS ≤ turns))) }
+        (view_of world.old) (view_of world.new)
+        × ((is_over (output_channels 0 channels.now) rounds items (view_of world.new) ≡ true)
+        ⊎ (MAX_TURNS ≤ turns))) }
     ensures err { IfErr result (λ failure. failure ≡ Failure.NoMemory) }
 {
     for turn in 0..MAX_TURNS {
@@ -229,7 +219,7 @@ fn add_stream<'a>(
 ) -> Result<(), AllocError>
     ensures { OnOk result (streams.new.items ≡ streams.old.items
         ++ (if goes_outside channel.now.consumer then first_items cut (released_of number
-        (map station_view world.now.stations.items)) ∷ [] else [])) }
+        (view_of world.now).stations) ∷ [] else [])) }
 {
     if let Port::Outside = channel.consumer {
         streams.push(Stream::new(first_items(world.released(number), cut)))?;
@@ -246,8 +236,7 @@ fn streams<'a>(
 ) -> Result<Vec<Stream<'a>>, AllocError>
     requires { length channels.now ≤ MAX_CHANNELS }
     ensures { IfOk result (λ streams. streams.items
-        ≡ map (λ channel. first_items cut
-        (released_of channel (map station_view world.now.stations.items)))
+        ≡ map (λ channel. first_items cut (released_of channel (view_of world.now).stations))
         (output_channels 0 channels.now)) }
 {
     let mut streams = Vec::new(alloc);

@@ -10,11 +10,11 @@ use Rattle.kahn_net.specs.declared.program.Port.{Port}
 use Rattle.kahn_net.specs.declared.program.Port.TheVariants.{Outside, Process}
 use Rattle.record.specs.ProcessView.{SavedProcessView}
 use Rattle.record.specs.ImageView.{ImageView}
-use Rattle.record.specs.Ends.{received_of, log_of}
+use Rattle.record.specs.Ends.{received_of}
 use Rattle.turns.specs.Turns.{next_in_turn}
 use Rattle.node.specs.JobView.{JobView}
 use Rattle.node.specs.NodeView.{NodeView, RunningView, RunningNode, running_of, on_running}
-use Rattle.node.specs.Granting.{room_in, job_for}
+use Rattle.node.specs.Granting.{room_of, job_for}
 use Rattle.node.specs.Starting.{is_none}
 use Rattle.kahn_net.specs.declared.limits.TheConstants.{MAX_COUNT}
 
@@ -30,7 +30,7 @@ has_item inputs image channel (Some ends) = has_next inputs image channel ends.p
 -- there is room on a channel
 abbrev pub has_room : ImageView → ℕ → Option Channel → Bool
 has_room image channel None = false
-has_room image channel (Some ends) = nat_lt 0 (room_in (log_of image channel))
+has_room image channel (Some ends) = nat_lt 0 (room_of image channel)
 
 -- this can be done: the process hasn't begun, or gets where an item is at hand, or puts where there is room
 abbrev pub can_go : Network → List (List ℤ) → ImageView → Next → Bool

@@ -1,8 +1,7 @@
 -- Laws of a turn that fits: what it takes is there, what it puts has room, and what is kept of an image is kept by it.
-use Rattle.std.proofs.Common.{◌≡◌, ◌⊎◌, inl, inr, ℕ, zero, suc, ◌+◌, ◌-◌, ◌<◌, ◌≤◌, Bool, true, false, eqb, cond, ℤ, List, [], ◌∷◌, length, drop, map, get_or, Option, Some, None, option_map, refl, sym, ap, subst, ◌∙◌, arith}
+use Rattle.std.proofs.Common.{◌≡◌, ◌⊎◌, inl, inr, ℕ, zero, suc, ◌+◌, ◌-◌, ◌<◌, ◌≤◌, Bool, true, false, eqb, cond, ℤ, List, [], ◌∷◌, ◌++◌, length, drop, map, get_or, Option, Some, None, option_map, refl, sym, ap, subst, ◌∙◌, arith}
 use Rattle.std.specs.Prelude.{slice_get, slice_index, find, min}
 use Rattle.std.proofs.Math.Nat.{min-le_left, min-le_right}
-use Rattle.std.proofs.lemmas.Bool.{cases_lt}
 use Rattle.std.proofs.lemmas.List.{length-append, length-take, length-drop, get_or_past}
 use Rattle.std.proofs.lemmas.Option.{slice_get_cases, get_or_from_slice_get}
 use Rattle.kahn_net.specs.Streams.{history_of}
@@ -13,7 +12,7 @@ use Rattle.kahn_net.specs.Approximations.{approximation}
 use Rattle.kahn_net.specs.declared.program.Channel.{Channel}
 use Rattle.kahn_net.specs.declared.program.Port.{Port}
 use Rattle.kahn_net.specs.declared.program.Port.TheVariants.{Outside, Process}
-use Rattle.retained.specs.LogState.{LogState, IsWithinLimits, Overfills, log_end}
+use Rattle.retained.specs.LogState.{LogState, Overfills, log_end}
 use Rattle.proc_step.specs.Turns.{IsTurn}
 use Rattle.proc_step.specs.TurnLaws.{sent_fits, taken_fits}
 use Rattle.record.specs.ProcessView.{SavedProcessView}
@@ -21,13 +20,15 @@ use Rattle.record.specs.ImageView.{ImageView}
 use Rattle.node.specs.JobView.{JobView}
 use Rattle.node.specs.NodeView.{RunningNode}
 use Rattle.record.specs.Ends.{received_of, received_at, log_of, log_at, sent_in, end_of, base_in, base_of}
-use Rattle.node.specs.Granting.{is_process, next_items, room_in, room_from}
+use Rattle.node.specs.Sharing.{is_logging, log_share, IsWithinShare}
+use Rattle.node.specs.Granting.{is_process, next_items, room_in, room_of, room_from}
 use Rattle.record.specs.Changes.{log_with, pushed, counted, LogTakes}
 use Rattle.node.specs.Installing.{is_consumer, is_producer, taken_from, put_on, saved_pushed, saved_counted, moved, installed, ImageTakes}
 use Rattle.node.specs.Starting.{HasPutMore}
-use Rattle.node.specs.Reached.{ImageStands, HasReached, is_counting, is_logging, IsLaidOut, CountsAreWithin, LogsAreWithin, IsJobOf, IsTurnOf}
+use Rattle.node.specs.Reached.{ImageStands, HasReached, is_counting, IsLaidOut, CountsAreWithin, LogsAreWithin, IsJobOf, IsTurnOf}
 use Rattle.node.specs.ImageLaws.{channel_at, received_is, log_is, map_got, map_keeps, map_twice, end_of_changed}
 use Rattle.node.specs.ReachedLaws.{items_at_hand, items_of_channel}
+use Rattle.node.specs.SharingLaws.{share_within, share_kept}
 use Rattle.node.specs.InstallLaws.{turn_of_job, job_has_code, log_then}
 use Rattle.record.specs.declared.image.SavedEnd.{SavedEnd}
 use Rattle.record.specs.declared.image.End.{End}
@@ -92,36 +93,36 @@ taken_is_there net inputs n made image job code after taken sent stands laid cou
 
 -- the room of a channel on which the process puts, and none on any other
 pub room_from-at : (image : ImageView) (process number : ℕ) (channels : List Channel) (c : ℕ) (channel : Channel) → slice_get channels c ≡ Some channel
-    → slice_index (room_from image process number channels) c ≡ cond (is_process process channel.producer) (room_in (log_of image (number + c))) 0
+    → slice_index (room_from image process number channels) c ≡ cond (is_process process channel.producer) (room_of image (number + c)) 0
 room_from-at image process number [] c channel is = absurd (cc)
 room_from-at image process number (x ∷ channels) zero channel is =
     let same : x ≡ channel = cc in
     let here : number ≡ number + 0 = omega arith in
-    ap (λ (y : Channel). cond (is_process process y.producer) (room_in (log_of image number)) 0) same ∙ ap (λ (n : ℕ). cond (is_process process channel.producer) (room_in (log_of image n)) 0) here
+    ap (λ (y : Channel). cond (is_process process y.producer) (room_of image number) 0) same ∙ ap (λ (n : ℕ). cond (is_process process channel.producer) (room_of image n) 0) here
 room_from-at image process number (x ∷ channels) (suc c) channel is =
     let there : suc number + c ≡ number + suc c = omega arith in
-    room_from-at image process (suc number) channels c channel is ∙ ap (λ (n : ℕ). cond (is_process process channel.producer) (room_in (log_of image n)) 0) there
+    room_from-at image process (suc number) channels c channel is ∙ ap (λ (n : ℕ). cond (is_process process channel.producer) (room_of image n) 0) there
 
 -- what a turn puts on a channel has room in its log
 pub put_has_room : (net : Network) (inputs : List (List ℤ)) (n : ℕ) (made : ℕ → ℕ) (image : ImageView) (job : JobView) (code : Code) (after : Standing) (taken : List ℕ) (sent : List (List ℤ))
     → ImageStands net (approximation net inputs n) made image → IsLaidOut net image → IsJobOf net inputs image job → slice_get net.codes job.process ≡ Some code
-    → IsTurn code job.standing job.items job.room after taken sent → (c : ℕ) → length (put_on net.channels job.process sent c) ≤ room_in (log_of image c)
+    → IsTurn code job.standing job.items job.room after taken sent → (c : ℕ) → length (put_on net.channels job.process sent c) ≤ room_of image c
 put_has_room net inputs n made image job code after taken sent stands laid of there turn c = at (slice_get_cases net.channels c).1
   where
-    by_test : (channel : Channel) → slice_get net.channels c ≡ Some channel → (puts : Bool) → is_process job.process channel.producer ≡ puts → length (cond puts (history_of sent c) []) ≤ room_in (log_of image c)
+    by_test : (channel : Channel) → slice_get net.channels c ≡ Some channel → (puts : Bool) → is_process job.process channel.producer ≡ puts → length (cond puts (history_of sent c) []) ≤ room_of image c
     by_test channel on false test = omega arith
     by_test channel on true test =
         let done = turn_of_job net inputs n made image job code after taken sent stands laid of there turn in
         let few = sent_fits code (approximation net inputs n) (made job.process) job.items job.room after taken sent done c in
         let sum : 0 + c ≡ c = omega arith in
-        let room : slice_index (room_from image job.process 0 net.channels) c ≡ room_in (log_of image c) =
+        let room : slice_index (room_from image job.process 0 net.channels) c ≡ room_of image c =
         room_from-at image job.process 0 net.channels c channel on
-        ∙ (ap (λ (b : Bool). cond b (room_in (log_of image (0 + c))) 0) test ∙ ap (λ (m : ℕ). room_in (log_of image m)) sum) in
+        ∙ (ap (λ (b : Bool). cond b (room_of image (0 + c)) 0) test ∙ ap (λ (m : ℕ). room_of image m) sum) in
         let given = of.room c in
         omega (arith, few, given, room)
 
     at : ((x : Channel) × (c < length net.channels) × (slice_get net.channels c ≡ Some x) × (get_or net.channels c x ≡ x)) ⊎ ((length net.channels ≤ c) × (slice_get net.channels c ≡ None))
-        → length (put_on net.channels job.process sent c) ≤ room_in (log_of image c)
+        → length (put_on net.channels job.process sent c) ≤ room_of image c
     at (inl here) =
         let all = by_test here.0 here.2 (is_process job.process here.0.producer) refl in
         let tested : put_on net.channels job.process sent c ≡ cond (is_process job.process here.0.producer) (history_of sent c) [] =
@@ -131,16 +132,30 @@ put_has_room net inputs n made image job code after taken sent stands laid of th
         let tested : put_on net.channels job.process sent c ≡ [] = ap (λ (o : Option Channel). cond (is_producer job.process o) (history_of sent c) []) past.1 in
         omega (arith, ap (length {A = ℤ}) tested)
 
--- what has room in a log fits it
-fits_log : (log : LogState) (count : ℕ) → IsWithinLimits log → count ≤ room_in (Some log) → Overfills log count → ⊥
-fits_log log count limits room over = at over
-  where
-    all : count ≤ min (MAX_LOG_ITEMS - length log.items) (MAX_COUNT - log_end log)
-    all = let less = min-le_right MAX_JOB_ITEMS (min (MAX_LOG_ITEMS - length log.items) (MAX_COUNT - log_end log)) in omega (arith, room, less)
+-- a log with what it has room for is within its share
+log_with_room : (share : ℕ) (log : LogState) (items : List ℤ) → IsWithinShare share log → length items ≤ room_in share (Some log) → IsWithinShare share (log_with items log)
+log_with_room share log items within room =
+    let sum = length-append log.items items in
+    let all = min-le_right MAX_JOB_ITEMS (min (share - length log.items) (MAX_COUNT - log_end log)) in
+    let few = min-le_left (share - length log.items) (MAX_COUNT - log_end log) in
+    let last = min-le_right (share - length log.items) (MAX_COUNT - log_end log) in
+    let n = within.count in
+    let e = within.last in
+    record { count = omega (arith, sum, room, all, few, n); last = omega (arith, sum, room, all, last, e) }
 
-    at : ((MAX_LOG_ITEMS < length log.items + count) ⊎ (MAX_COUNT < log_end log + count)) → ⊥
-    at (inl many) = let less = min-le_left (MAX_LOG_ITEMS - length log.items) (MAX_COUNT - log_end log) in let n = limits.count in omega (arith, all, less, many, n)
-    at (inr far) = let less = min-le_right (MAX_LOG_ITEMS - length log.items) (MAX_COUNT - log_end log) in let n = limits.last in omega (arith, all, less, far, n)
+-- what has room in a log fits it
+fits_log : (share : ℕ) (log : LogState) (items : List ℤ) → share ≤ MAX_LOG_ITEMS → IsWithinShare share log → length items ≤ room_in share (Some log) → Overfills log (length items) → ⊥
+fits_log share log items below within room over = at over
+  where
+    then_within : IsWithinShare share (log_with items log)
+    then_within = log_with_room share log items within room
+
+    sum : length (log.items ++ items) ≡ length log.items + length items
+    sum = length-append log.items items
+
+    at : ((MAX_LOG_ITEMS < length log.items + length items) ⊎ (MAX_COUNT < log_end log + length items)) → ⊥
+    at (inl many) = let n = then_within.count in omega (arith, below, sum, many, n)
+    at (inr far) = let n = then_within.last in omega (arith, sum, far, n)
 
 -- the lists that fit are short
 history_is_short : (net : Network) (inputs : List (List ℤ)) (c : ℕ) → Fits net inputs → length (history_of inputs c) ≤ MAX_HISTORY_ITEMS
@@ -168,8 +183,9 @@ image_takes_turn net inputs n made image job code after taken sent stands laid c
     at (Some log) e =
         let room = put_has_room net inputs n made image job code after taken sent stands laid of there turn saved.channel in
         let same : log_of image saved.channel ≡ Some log = ap (log_of image) (channel_at net image k saved laid is) ∙ (log_is net image k saved laid is ∙ e) in
-        fits_log log (length (put_on net.channels job.process sent saved.channel)) (logs k saved log is e)
-        (subst (λ (o : Option LogState). length (put_on net.channels job.process sent saved.channel) ≤ room_in o) same room)
+        let share = share_within image in
+        fits_log (log_share image) log (put_on net.channels job.process sent saved.channel) (omega (arith, share)) (logs k saved log is e)
+        (subst (λ (o : Option LogState). length (put_on net.channels job.process sent saved.channel) ≤ room_in (log_share image) o) same room)
 
 -- What a turn keeps
 
@@ -246,26 +262,28 @@ counts_after_turn net inputs n made image job code after taken sent stands laid 
     omega (arith, most, sum) in
     subst (λ (s : SavedEnd). received_at (Some (s.end)) ≤ length (history_of inputs s.channel)) old.2 count
 
--- a log that takes so many items is one with them
-log_takes : (log : LogState) (items : List ℤ) → (Overfills log (length items) → ⊥) → IsWithinLimits (log_with items log)
-log_takes log items takes =
-    let sum = length-append log.items items in
-    let few = not_more MAX_LOG_ITEMS (length log.items + length items) (λ h. takes (inl h)) in
-    let last = not_more MAX_COUNT (log_end log + length items) (λ h. takes (inr h)) in
-    record { count = omega (arith, sum, few); last = omega (arith, sum, last) }
-  where
-    not_more : (a b : ℕ) → (a < b → ⊥) → b ≤ a
-    not_more a b h = elim (cases_lt a b) as (λ _. b ≤ a) [ inl lt ↦ absurd (h lt) | inr le ↦ le ]
+-- as many ends have a log as before
+share_installed : (channels : List Channel) (process : ℕ) (after : Standing) (taken : List ℕ) (sent : List (List ℤ)) (image : ImageView)
+    → log_share (installed channels process after taken sent image) ≡ log_share image
+share_installed channels process after taken sent image =
+    share_kept image (installed channels process after taken sent image) (λ (s : SavedEnd). saved_counted channels process taken (saved_pushed channels process sent s))
+    (λ s. still_logging s.end (put_on channels process sent s.channel) (taken_from channels process taken s.channel))
+    (map_twice (saved_pushed channels process sent) (saved_counted channels process taken) image.ends)
 
-pub logs_installed : (channels : List Channel) (process : ℕ) (after : Standing) (taken : List ℕ) (sent : List (List ℤ)) (image : ImageView)
-    → ImageTakes channels process taken sent image → LogsAreWithin (installed channels process after taken sent image)
-logs_installed channels process after taken sent image takes k saved log is at_end =
-    let old = end_before channels process after taken sent image k saved is in
-    let same : log_at (Some (counted (taken_from channels process taken old.0.channel) (pushed (put_on channels process sent old.0.channel) old.0.end))) ≡ Some log = ap (λ (s : SavedEnd). log_at (Some (s.end))) old.2 ∙ at_end in
-    let before = log_then old.0.end (put_on channels process sent old.0.channel) (taken_from channels process taken old.0.channel) log same in
-    subst IsWithinLimits before.2
-    (log_takes before.0 (put_on channels process sent old.0.channel)
-    (subst (LogTakes (length (put_on channels process sent old.0.channel))) before.1 (takes k old.0 old.1).put))
+logs_after_turn : (net : Network) (inputs : List (List ℤ)) (n : ℕ) (made : ℕ → ℕ) (image : ImageView) (job : JobView) (code : Code) (after : Standing) (taken : List ℕ) (sent : List (List ℤ))
+    → ImageStands net (approximation net inputs n) made image → IsLaidOut net image → LogsAreWithin image → IsJobOf net inputs image job → slice_get net.codes job.process ≡ Some code
+    → IsTurn code job.standing job.items job.room after taken sent → LogsAreWithin (installed net.channels job.process after taken sent image)
+logs_after_turn net inputs n made image job code after taken sent stands laid logs of there turn k saved log is at_end =
+    let old = end_before net.channels job.process after taken sent image k saved is in
+    let put : List ℤ = put_on net.channels job.process sent old.0.channel in
+    let same : log_at (Some (counted (taken_from net.channels job.process taken old.0.channel) (pushed put old.0.end))) ≡ Some log = ap (λ (s : SavedEnd). log_at (Some (s.end))) old.2 ∙ at_end in
+    let before = log_then old.0.end put (taken_from net.channels job.process taken old.0.channel) log same in
+    let room = put_has_room net inputs n made image job code after taken sent stands laid of there turn old.0.channel in
+    let found : log_of image old.0.channel ≡ Some before.0 = ap (log_of image) (channel_at net image k old.0 laid old.1) ∙ (log_is net image k old.0 laid old.1 ∙ before.1) in
+    let within : IsWithinShare (log_share image) (log_with put before.0) =
+    log_with_room (log_share image) before.0 put (logs k old.0 before.0 old.1 before.1)
+    (subst (λ (o : Option LogState). length put ≤ room_in (log_share image) o) found room) in
+    subst (λ (share : ℕ). IsWithinShare share log) (sym (share_installed net.channels job.process after taken sent image)) (subst (IsWithinShare (log_share image)) before.2 within)
 
 more_sent : (end : End) (items : List ℤ) (count : ℕ) → sent_in (log_at (Some end)) ≤ sent_in (log_at (Some (counted count (pushed items end))))
 more_sent (Receives received) items count = omega arith
@@ -321,3 +339,11 @@ pub counts_installed : (net : Network) (inputs : List (List ℤ)) (node : Runnin
 counts_installed net inputs node job after taken sent reached laid counts of turn =
     let code = job_has_code net inputs node.current job laid of in
     counts_after_turn net inputs reached.n reached.current_acts node.current job code.0 after taken sent reached.current laid counts of code.1 (turn code.0 code.1)
+
+-- and each log is within its share
+pub logs_installed : (net : Network) (inputs : List (List ℤ)) (node : NodeView) (job : JobView) (after : Standing) (taken : List ℕ) (sent : List (List ℤ))
+    → HasReached net inputs node → IsLaidOut net node.current → LogsAreWithin node.current → IsJobOf net inputs node.current job → IsTurnOf net job after taken sent
+    → LogsAreWithin (installed net.channels job.process after taken sent node.current)
+logs_installed net inputs node job after taken sent reached laid logs of turn =
+    let code = job_has_code net inputs node.current job laid of in
+    logs_after_turn net inputs reached.n reached.current_acts node.current job code.0 after taken sent reached.current laid logs of code.1 (turn code.0 code.1)

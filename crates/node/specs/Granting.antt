@@ -10,9 +10,9 @@ use Rattle.retained.specs.LogState.{LogState, log_end}
 use Rattle.record.specs.ImageView.{ImageView}
 use Rattle.record.specs.Ends.{received_of, log_of}
 use Rattle.node.specs.JobView.{JobView}
+use Rattle.node.specs.Sharing.{log_share}
 use Rattle.kahn_net.specs.declared.limits.TheConstants.{MAX_COUNT}
 use Rattle.node.specs.declared.granting.TheConstants.{MAX_JOB_ITEMS}
-use Rattle.retained.specs.declared.log.TheConstants.{MAX_LOG_ITEMS}
 
 -- this process stands at an end of a channel
 abbrev pub is_process : ℕ → Port → Bool
@@ -31,16 +31,20 @@ items_from inputs image process number [] = []
 items_from inputs image process number (channel ∷ channels) =
     (if is_process process channel.consumer then next_items inputs image number channel.producer else []) ∷ items_from inputs image process (suc number) channels
 
--- the places that a log has for a job: at most 64, and no more than fit
-abbrev pub room_in : Option LogState → ℕ
-room_in None = 0
-room_in (Some log) = min MAX_JOB_ITEMS (min (MAX_LOG_ITEMS - length log.items) (MAX_COUNT - log_end log))
+-- the places that a log of at most so many items has for a job: at most 64, and no more than fit
+abbrev pub room_in : ℕ → Option LogState → ℕ
+room_in share None = 0
+room_in share (Some log) = min MAX_JOB_ITEMS (min (share - length log.items) (MAX_COUNT - log_end log))
+
+-- the places that the log of a channel has, up to its share
+abbrev pub room_of : ImageView → ℕ → ℕ
+room_of image channel = room_in (log_share image) (log_of image channel)
 
 -- the room that a process has on each channel, the first one of this number: on those on which it puts
 abbrev pub room_from : ImageView → ℕ → ℕ → List Channel → List ℕ
 room_from image process number [] = []
 room_from image process number (channel ∷ channels) =
-    (if is_process process channel.producer then room_in (log_of image number) else 0) ∷ room_from image process (suc number) channels
+    (if is_process process channel.producer then room_of image number else 0) ∷ room_from image process (suc number) channels
 
 -- the job of a process that stands there
 abbrev pub job_for : Network → List (List ℤ) → ImageView → ℕ → Standing → ℕ → JobView

@@ -1,5 +1,6 @@
 pub mod JobView
 pub mod NodeView
+pub mod Sharing
 pub mod Granting
 pub mod Installing
 pub mod Starting
@@ -20,3 +21,6 @@ pub mod ReleaseLaws
 pub mod OpeningLaws
 pub mod GrantLaws
 pub mod SentLaws
+pub mod SharingLaws
+pub mod VariableLaws
+pub mod SizeLaws

@@ -10,7 +10,8 @@ use Rattle.retained.specs.LogState.{LogState, IsLogOf}
 use Rattle.record.specs.ProcessView.{SavedProcessView}
 use Rattle.record.specs.Ends.{received_at, log_at}
 use Rattle.node.specs.Opening.{opening_processes, opening_end, opening_ends, opening_image, opening_running}
-use Rattle.node.specs.Reached.{first_acts, EndStands, ImageStands, HasReached, numbers_from, is_counting, is_logging, IsLaidOut, CountsAreWithin, LogsAreWithin}
+use Rattle.node.specs.Sharing.{is_logging}
+use Rattle.node.specs.Reached.{first_acts, EndStands, ImageStands, HasReached, numbers_from, is_counting, IsLaidOut, CountsAreWithin, LogsAreWithin}
 use Rattle.record.specs.declared.image.SavedEnd.{SavedEnd}
 use Rattle.record.specs.declared.image.End.{End}
 

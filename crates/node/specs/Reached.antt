@@ -8,12 +8,13 @@ use Rattle.kahn_net.specs.Approximations.{approximation}
 use Rattle.kahn_net.specs.declared.program.Channel.{Channel}
 use Rattle.kahn_net.specs.declared.program.Port.TheVariants.{Process}
 use Rattle.proc_step.specs.Turns.{IsTurn}
-use Rattle.retained.specs.LogState.{LogState, IsLogOf, IsWithinLimits}
+use Rattle.retained.specs.LogState.{LogState, IsLogOf}
 use Rattle.record.specs.ProcessView.{SavedProcessView}
 use Rattle.record.specs.ImageView.{ImageView}
 use Rattle.record.specs.Ends.{received_at, log_at}
 use Rattle.node.specs.JobView.{JobView}
 use Rattle.node.specs.NodeView.{RunningNode}
+use Rattle.node.specs.Sharing.{is_logging, log_share, IsWithinShare}
 use Rattle.node.specs.Granting.{items_from, room_from}
 use Rattle.record.specs.declared.image.SavedEnd.{SavedEnd}
 use Rattle.record.specs.declared.image.End.{End}
@@ -68,12 +69,6 @@ is_counting (Receives received) = true
 is_counting (Sends log) = false
 is_counting (Both received log) = true
 
--- an end has a log of what is put there
-abbrev pub is_logging : End → Bool
-is_logging (Receives received) = false
-is_logging (Sends log) = true
-is_logging (Both received log) = true
-
 -- an image of a node that has every process and every channel has one entry for each, in order of their numbers, an end from which a process
 -- gets counts, and one on which a process puts has a log
 pub record IsLaidOut (net : Network) (image : ImageView) : Type 0 where
@@ -88,9 +83,9 @@ pub record IsLaidOut (net : Network) (image : ImageView) : Type 0 where
 abbrev pub CountsAreWithin : List (List ℤ) → ImageView → Type 0
 CountsAreWithin inputs image = (k : ℕ) (saved : SavedEnd) → slice_get image.ends k ≡ Some saved → received_at (Some (saved.end)) ≤ length (history_of inputs saved.channel)
 
--- each log is within the limits that every log keeps
+-- each log has at most its share, and ends at a count
 abbrev pub LogsAreWithin : ImageView → Type 0
-LogsAreWithin image = (k : ℕ) (saved : SavedEnd) (log : LogState) → slice_get image.ends k ≡ Some saved → log_at (Some (saved.end)) ≡ Some log → IsWithinLimits log
+LogsAreWithin image = (k : ℕ) (saved : SavedEnd) (log : LogState) → slice_get image.ends k ≡ Some saved → log_at (Some (saved.end)) ≡ Some log → IsWithinShare (log_share image) log
 
 -- the job that is out is of where its process stands now: with the items that come next, and no more room than there is
 pub record IsJobOf (net : Network) (inputs : List (List ℤ)) (image : ImageView) (job : JobView) : Type 0 where

@@ -9,7 +9,8 @@ use Rattle.kahn_net.specs.declared.program.Port.TheVariants.{Process}
 use Rattle.retained.specs.LogState.{LogState}
 use Rattle.record.specs.ImageView.{ImageView}
 use Rattle.record.specs.Ends.{log_at, log_of, sent_in, sent_of}
-use Rattle.node.specs.Reached.{acts_of, ImageStands, is_logging, IsLaidOut}
+use Rattle.node.specs.Sharing.{is_logging}
+use Rattle.node.specs.Reached.{acts_of, ImageStands, IsLaidOut}
 use Rattle.node.specs.ImageLaws.{numbered_there, channel_at, log_is}
 use Rattle.node.specs.ReleaseLaws.{log_stands}
 use Rattle.record.specs.declared.image.SavedEnd.{SavedEnd}

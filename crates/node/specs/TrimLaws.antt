@@ -10,20 +10,21 @@ use Rattle.kahn_net.specs.Processes.{sent_on}
 use Rattle.kahn_net.specs.declared.program.Channel.{Channel}
 use Rattle.kahn_net.specs.declared.program.Port.{Port}
 use Rattle.kahn_net.specs.declared.program.Port.TheVariants.{Outside, Process}
-use Rattle.retained.specs.LogState.{LogState, IsLogOf, IsWithinLimits, log_end, trimmed}
+use Rattle.retained.specs.LogState.{LogState, IsLogOf, log_end, trimmed}
 use Rattle.record.specs.ImageView.{ImageView}
 use Rattle.node.specs.JobView.{JobView}
 use Rattle.record.specs.Ends.{received_of, received_at, log_of, log_at, sent_in, sent_of, end_of, base_in, base_of}
-use Rattle.node.specs.Granting.{is_process, next_items, items_from, room_in, room_from}
+use Rattle.node.specs.Sharing.{is_logging, log_share, IsWithinShare}
+use Rattle.node.specs.Granting.{is_process, next_items, items_from, room_in, room_of, room_from}
 use Rattle.record.specs.Changes.{trimmed_log, trimmed_end, trimmed_saved, trimmed_image}
-use Rattle.node.specs.Reached.{acts_of, EndStands, ImageStands, is_counting, is_logging, IsLaidOut, CountsAreWithin, LogsAreWithin, IsJobOf}
+use Rattle.node.specs.Reached.{acts_of, EndStands, ImageStands, is_counting, IsLaidOut, CountsAreWithin, LogsAreWithin, IsJobOf}
 use Rattle.node.specs.ImageLaws.{map_got, map_keeps, end_of_changed}
+use Rattle.node.specs.SharingLaws.{share_kept}
 use Rattle.record.specs.declared.image.SavedEnd.{SavedEnd}
 use Rattle.record.specs.declared.image.End.{End}
 use Rattle.record.specs.declared.image.End.TheVariants.{Receives, Sends, Both}
 use Rattle.kahn_net.specs.declared.limits.TheConstants.{MAX_COUNT}
 use Rattle.node.specs.declared.granting.TheConstants.{MAX_JOB_ITEMS}
-use Rattle.retained.specs.declared.log.TheConstants.{MAX_LOG_ITEMS}
 
 -- Logs
 
@@ -100,23 +101,23 @@ still_sent position true (Receives received) = refl
 still_sent position true (Sends log) = (trimmed_end_stays position log).0
 still_sent position true (Both received log) = (trimmed_end_stays position log).0
 
-more_room : (position : ℕ) (log : LogState) → room_in (Some log) ≤ room_in (Some (trimmed_log position log))
-more_room position log =
+more_room : (share position : ℕ) (log : LogState) → room_in share (Some log) ≤ room_in share (Some (trimmed_log position log))
+more_room share position log =
     let stays = trimmed_end_stays position log in
-    let before = min (MAX_LOG_ITEMS - length log.items) (MAX_COUNT - log_end log) in
+    let before = min (share - length log.items) (MAX_COUNT - log_end log) in
     let few = min-le_left MAX_JOB_ITEMS before in
     let all = min-le_right MAX_JOB_ITEMS before in
-    let items = min-le_left (MAX_LOG_ITEMS - length log.items) (MAX_COUNT - log_end log) in
-    let last = min-le_right (MAX_LOG_ITEMS - length log.items) (MAX_COUNT - log_end log) in
-    let in_items : min MAX_JOB_ITEMS before ≤ MAX_LOG_ITEMS - length ((trimmed_log position log).items) = omega (arith, all, items, stays.1) in
+    let items = min-le_left (share - length log.items) (MAX_COUNT - log_end log) in
+    let last = min-le_right (share - length log.items) (MAX_COUNT - log_end log) in
+    let in_items : min MAX_JOB_ITEMS before ≤ share - length ((trimmed_log position log).items) = omega (arith, all, items, stays.1) in
     let in_numbers : min MAX_JOB_ITEMS before ≤ MAX_COUNT - log_end (trimmed_log position log) = omega (arith, all, last, stays.0) in
     le-min few (le-min in_items in_numbers)
 
-room_stays : (position : ℕ) (trims : Bool) (end : End) → room_in (log_at (Some end)) ≤ room_in (log_at (Some (cond trims (trimmed_end position end) end)))
-room_stays position false end = omega arith
-room_stays position true (Receives received) = omega arith
-room_stays position true (Sends log) = more_room position log
-room_stays position true (Both received log) = more_room position log
+room_stays : (share position : ℕ) (trims : Bool) (end : End) → room_in share (log_at (Some end)) ≤ room_in share (log_at (Some (cond trims (trimmed_end position end) end)))
+room_stays share position false end = omega arith
+room_stays share position true (Receives received) = omega arith
+room_stays share position true (Sends log) = more_room share position log
+room_stays share position true (Both received log) = more_room share position log
 
 -- Images
 
@@ -161,13 +162,20 @@ base_trimmed c position image d h =
     at None h = omega arith
     at (Some s) h = base_below position (eqb s.channel c) s.end h
 
-pub room_trimmed : (c position : ℕ) (image : ImageView) (d : ℕ) → room_in (log_of image d) ≤ room_in (log_of (trimmed_image c position image) d)
+-- as many ends have a log
+share_trimmed : (c position : ℕ) (image : ImageView) → log_share (trimmed_image c position image) ≡ log_share image
+share_trimmed c position image =
+    share_kept image (trimmed_image c position image) (trimmed_saved c position) (λ s. still_logging position (eqb s.channel c) s.end) refl
+
+pub room_trimmed : (c position : ℕ) (image : ImageView) (d : ℕ) → room_of image d ≤ room_of (trimmed_image c position image) d
 room_trimmed c position image d =
-    subst (λ (o : Option End). room_in (log_of image d) ≤ room_in (log_at o)) (sym (end_of_trimmed c position image d)) (at (find (λ (s : SavedEnd). eqb s.channel d) image.ends))
+    subst (λ (share : ℕ). room_of image d ≤ room_in share (log_of (trimmed_image c position image) d)) (sym (share_trimmed c position image))
+    (subst (λ (o : Option End). room_of image d ≤ room_in (log_share image) (log_at o)) (sym (end_of_trimmed c position image d)) (at (find (λ (s : SavedEnd). eqb s.channel d) image.ends)))
   where
-    at : (o : Option SavedEnd) → room_in (log_at (option_map (λ (s : SavedEnd). s.end) o)) ≤ room_in (log_at (option_map (λ (s : SavedEnd). (trimmed_saved c position s).end) o))
+    at : (o : Option SavedEnd)
+        → room_in (log_share image) (log_at (option_map (λ (s : SavedEnd). s.end) o)) ≤ room_in (log_share image) (log_at (option_map (λ (s : SavedEnd). (trimmed_saved c position s).end) o))
     at None = omega arith
-    at (Some s) = room_stays position (eqb s.channel c) s.end
+    at (Some s) = room_stays (log_share image) position (eqb s.channel c) s.end
 
 pub laid_out_trimmed : (net : Network) (c position : ℕ) (image : ImageView) → IsLaidOut net image → IsLaidOut net (trimmed_image c position image)
 laid_out_trimmed net c position image laid = record {
@@ -206,15 +214,15 @@ logs_trimmed c position image logs k saved log is at_end =
     let old = map_got (trimmed_saved c position) image.ends k saved is in
     let same : log_at (Some ((trimmed_saved c position old.0).end)) ≡ Some log = ap (λ (s : SavedEnd). log_at (Some (s.end))) old.2 ∙ at_end in
     let before = log_before position (eqb old.0.channel c) old.0.end log same in
-    at before.0 (logs k old.0 before.0 old.1 before.1) before.2
+    subst (λ (share : ℕ). IsWithinShare share log) (sym (share_trimmed c position image)) (at before.0 (logs k old.0 before.0 old.1 before.1) before.2)
   where
-    at : (before : LogState) → IsWithinLimits before → ((before ≡ log) ⊎ (trimmed_log position before ≡ log)) → IsWithinLimits log
-    at before limits (inl same) = subst IsWithinLimits same limits
-    at before limits (inr same) =
+    at : (before : LogState) → IsWithinShare (log_share image) before → ((before ≡ log) ⊎ (trimmed_log position before ≡ log)) → IsWithinShare (log_share image) log
+    at before within (inl same) = subst (IsWithinShare (log_share image)) same within
+    at before within (inr same) =
         let stays = trimmed_end_stays position before in
-        let n = limits.count in
-        let e = limits.last in
-        subst IsWithinLimits same (record { count = omega (arith, stays.1, n); last = omega (arith, stays.0, e) })
+        let n = within.count in
+        let e = within.last in
+        subst (IsWithinShare (log_share image)) same (record { count = omega (arith, stays.1, n); last = omega (arith, stays.0, e) })
 
 -- Jobs
 
@@ -229,12 +237,12 @@ items_same inputs image later process number (x ∷ channels) same =
     at Outside = ap (λ (k : ℕ). take MAX_JOB_ITEMS (drop k (history_of inputs number))) (same number)
     at (Process q) = refl
 
-room_grows : (image later : ImageView) (process number : ℕ) (channels : List Channel) (d : ℕ) → ((d : ℕ) → room_in (log_of image d) ≤ room_in (log_of later d))
+room_grows : (image later : ImageView) (process number : ℕ) (channels : List Channel) (d : ℕ) → ((d : ℕ) → room_of image d ≤ room_of later d)
     → slice_index (room_from image process number channels) d ≤ slice_index (room_from later process number channels) d
 room_grows image later process number [] d more = omega arith
 room_grows image later process number (x ∷ channels) zero more = at (is_process process x.producer)
   where
-    at : (b : Bool) → cond b (room_in (log_of image number)) 0 ≤ cond b (room_in (log_of later number)) 0
+    at : (b : Bool) → cond b (room_of image number) 0 ≤ cond b (room_of later number) 0
     at true = more number
     at false = omega arith
 room_grows image later process number (x ∷ channels) (suc d) more = room_grows image later process (suc number) channels d more

@@ -1,10 +1,12 @@
 // Which process of a node goes on next.
 ghost use Rattle.std.specs.Prelude.{◌≡◌, ◌≤◌, ◌<◌, ◌&&◌, length, slice_get, take, IfSome, option_copied};
 ghost use Rattle.kahn_net.specs.Syntax.{network_of};
+ghost use Rattle.node.specs.Sharing.{log_share};
 ghost use Rattle.node.specs.Choosing.{has_item, has_room, is_ready, ready_process, ready_processes, next_process};
 ghost use Rattle.kahn_net.specs.declared.limits.TheConstants.{MAX_CHANNELS};
 
 use crate::granting::places;
+use crate::sharing::share_of;
 use kahn_net::{Channel, History, MAX_PROCESSES, Port};
 use net_check::Net;
 use proc_step::{NextAct, next_act};
@@ -28,23 +30,31 @@ fn has_item(channels: &[Channel], inputs: &[History], image: &Image, channel: us
     }
 }
 
-// Whether there is room on this channel.
-fn has_room(channels: &[Channel], image: &Image, channel: usize) -> bool
-    requires { length channels.now ≤ MAX_CHANNELS }
+// Whether there is room on this channel, where this is the most items of each log.
+fn has_room(channels: &[Channel], image: &Image, share: usize, channel: usize) -> bool
+    requires few { length channels.now ≤ MAX_CHANNELS }
+    requires share { share ≡ log_share image.now }
     ensures { result ≡ has_room image.now channel (slice_get channels.now channel) }
 {
-    channel < channels.len() && places(image.log(channel as u8)) > 0
+    channel < channels.len() && places(share, image.log(channel as u8)) > 0
 }
 
 // Whether a process can go on.
-fn is_ready(net: &Net, inputs: &[History], image: &Image, saved: &SavedProcess) -> bool
+fn is_ready(
+    net: &Net,
+    inputs: &[History],
+    image: &Image,
+    share: usize,
+    saved: &SavedProcess,
+) -> bool
+    requires { share ≡ log_share image.now }
     ensures { result ≡ is_ready (network_of net.now.program) inputs.now image.now saved.now }
 {
     match net.program.processes.get(usize::from(saved.number)) {
         Some(process) => match next_act(process, &saved.state) {
             NextAct::Begin => true,
             NextAct::Get { channel } => has_item(&net.program.channels, inputs, image, channel),
-            NextAct::Put { channel } => has_room(&net.program.channels, image, channel),
+            NextAct::Put { channel } => has_room(&net.program.channels, image, share, channel),
             NextAct::Nothing => false,
         },
         None => false,
@@ -52,13 +62,19 @@ fn is_ready(net: &Net, inputs: &[History], image: &Image, saved: &SavedProcess) 
 }
 
 // Which processes are ready here: entry p tells it of process p.
-fn ready_processes(net: &Net, inputs: &[History], image: &Image) -> [bool; MAX_PROCESSES]
+fn ready_processes(
+    net: &Net,
+    inputs: &[History],
+    image: &Image,
+    share: usize,
+) -> [bool; MAX_PROCESSES]
+    requires { share ≡ log_share image.now }
     ensures { take (length net.now.program.processes.items) result
         ≡ ready_processes (network_of net.now.program) inputs.now image.now }
 {
     let mut ready = [false; MAX_PROCESSES];
     for saved in &image.processes {
-        if is_ready(net, inputs, image, saved) {
+        if is_ready(net, inputs, image, share, saved) {
             ready[usize::from(saved.number)] = true;
         }
     }
@@ -70,13 +86,15 @@ fn ready_process<'a>(
     net: &Net,
     inputs: &[History],
     image: &'a Image,
+    share: usize,
     number: u8,
 ) -> Option<&'a SavedProcess>
+    requires { share ≡ log_share image.now }
     ensures { option_copied result
         ≡ ready_process (network_of net.now.program) inputs.now image.now number }
 {
     for saved in &image.processes {
-        if saved.number == number && is_ready(net, inputs, image, saved) {
+        if saved.number == number && is_ready(net, inputs, image, share, saved) {
             return Some(saved);
         }
     }
@@ -95,9 +113,10 @@ pub(crate) fn next_process<'a>(
     ensures there { IfSome result
         (λ saved. saved.now.number < length net.now.program.processes.items) }
 {
-    let ready = ready_processes(net, inputs, image);
+    let share = share_of(image);
+    let ready = ready_processes(net, inputs, image, share);
     match next_ready(last, &ready[..net.program.processes.len()]) {
-        Some(number) => ready_process(net, inputs, image, number),
+        Some(number) => ready_process(net, inputs, image, share, number),
         None => None,
     }
 }

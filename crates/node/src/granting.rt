@@ -6,11 +6,12 @@ ghost use Rattle.node.specs.JobView.{job_view};
 ghost use Rattle.node.specs.Granting.{is_process, next_items, items_from, room_in, room_from, job_for};
 ghost use Rattle.kahn_net.specs.declared.limits.TheConstants.{MAX_CHANNELS};
 
+use crate::sharing::share_of;
 use kahn_net::{Channel, History, MAX_COUNT, Port, ProcState};
 use net_check::{Inputs, Net};
 use proc_step::Job;
 use record::Image;
-use retained::{Log, MAX_LOG_ITEMS};
+use retained::Log;
 use std::alloc::{AllocError, Global};
 use std::sync::Arc;
 
@@ -80,14 +81,14 @@ fn copy_items(
     Ok(items)
 }
 
-// The places that a log has for a job.
-pub(crate) fn places(log: Option<&Log>) -> usize
-    ensures { result ≡ room_in (option_copied log.entry) }
+// The places that a log of at most so many items has for a job.
+pub(crate) fn places(share: usize, log: Option<&Log>) -> usize
+    ensures { result ≡ room_in share (option_copied log.entry) }
 {
     match log {
         Some(log) => {
             let positions = (MAX_COUNT - log.end()).min(MAX_JOB_ITEMS as u64) as usize;
-            positions.min(MAX_LOG_ITEMS - log.len())
+            positions.min(share.saturating_sub(log.len()))
         }
         None => 0,
     }
@@ -103,10 +104,11 @@ fn list_room(
     requires { length channels.now ≤ MAX_CHANNELS }
     ensures { IfOk result (λ room. room.items ≡ room_from image.now process 0 channels.now) }
 {
+    let share = share_of(image);
     let mut room = Vec::with_capacity(alloc, channels.len())?;
     for (number, channel) in channels.iter().enumerate() {
         if is_at(channel.producer, process) {
-            room.push(places(image.log(number as u8)))?;
+            room.push(places(share, image.log(number as u8)))?;
         } else {
             room.push(0)?;
         }

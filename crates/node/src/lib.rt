@@ -14,6 +14,7 @@ mod putting;
 mod recover;
 mod releasing;
 mod running;
+mod sharing;
 mod state;
 
 pub use granting::MAX_JOB_ITEMS;
@@ -22,4 +23,5 @@ pub use node::Node;
 pub use opening::opening_record;
 pub use putting::{Putting, Recovery};
 pub use running::Running;
+pub use sharing::share_law;
 pub use state::{NodeState, next_after};

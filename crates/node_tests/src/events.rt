@@ -272,9 +272,17 @@ fn a_cell_may_go_to_another_thread(rt: HostRuntime) {
 const SUM: &str =
     "kahn 1; input i; output o; process sum on 0 { var a; var v; loop { v = get i; a = a + v; put a to o; } }";
 
-fn sum_net(alloc: Global) -> Result<Arc<Net>, Fail> {
-    let net = check(alloc, parse(alloc, SUM)?)?;
+// Two outputs, 0 and 1.
+const PAIR: &str =
+    "kahn 1; output a; output b; process pair on 0 { var v; put v to a; put v to b; }";
+
+fn net_of(alloc: Global, text: &str) -> Result<Arc<Net>, Fail> {
+    let net = check(alloc, parse(alloc, text)?)?;
     Ok(Arc::new(alloc, net)?)
+}
+
+fn sum_net(alloc: Global) -> Result<Arc<Net>, Fail> {
+    net_of(alloc, SUM)
 }
 
 fn items_in(alloc: Global, net: &Net, text: &str) -> Result<Inputs, Fail> {
@@ -293,10 +301,51 @@ fn sum_node(alloc: Global, mode: Mode, received: u64, log: Log) -> Result<NodeSt
         channel: 1,
         end: End::Sends { log },
     };
-    let current = Image {
-        processes,
-        ends: saved_ends(alloc, input, output)?,
+    node_at(
+        alloc,
+        Image {
+            processes,
+            ends: saved_ends(alloc, input, output)?,
+        },
+    )
+}
+
+// A log of so many items.
+fn long_log(alloc: Global, count: usize) -> Result<Log, Fail> {
+    let mut log = Log::new(alloc);
+    for _ in 0..count {
+        log.push(0)?;
+    }
+    Ok(log)
+}
+
+// The node of the pair before its first put, with so many items in the log of output 0.
+fn pair_node(alloc: Global, count: usize) -> Result<NodeState, Fail> {
+    let mut processes = Vec::new(alloc);
+    processes.push(saved_process(alloc, 0, at(alloc, 0), &[0])?)?;
+    let first = SavedEnd {
+        channel: 0,
+        end: End::Sends {
+            log: long_log(alloc, count)?,
+        },
     };
+    let second = SavedEnd {
+        channel: 1,
+        end: End::Sends {
+            log: Log::new(alloc),
+        },
+    };
+    node_at(
+        alloc,
+        Image {
+            processes,
+            ends: saved_ends(alloc, first, second)?,
+        },
+    )
+}
+
+// A node that stands there.
+fn node_at(alloc: Global, current: Image) -> Result<NodeState, Fail> {
     let mut kept = first_record(alloc);
     kept.permanent = current.copy(alloc)?;
     Ok(NodeState {
@@ -549,6 +598,29 @@ fn a_put_waits_for_room(rt: HostRuntime) -> Result<(), Fail> {
     assert!(rt; node.grant(alloc, &net, &inputs)?.is_none());
     let one_place = Log::starting_at(alloc, MAX_COUNT - 1);
     let mut node = sum_node(alloc, at(alloc, 1), 0, one_place)?;
+    let job = granted(alloc, &mut node, &net, &inputs)?;
+    assert_eq!(rt; job.room.as_slice(), [0, 1].as_slice());
+    Ok(())
+}
+
+#[test]
+fn a_log_fills_to_its_share(rt: HostRuntime) -> Result<(), Fail> {
+    let alloc = rt.alloc();
+    let net = net_of(alloc, PAIR)?;
+    let inputs = items_in(alloc, &net, "")?;
+    let mut node = pair_node(alloc, 28_671)?;
+    let job = granted(alloc, &mut node, &net, &inputs)?;
+    assert_eq!(rt; job.room.as_slice(), [1, 64].as_slice());
+    assert!(rt; !pair_node(alloc, 28_672)?.has_job(&net, &inputs));
+    Ok(())
+}
+
+#[test]
+fn one_log_has_it_all(rt: HostRuntime) -> Result<(), Fail> {
+    let alloc = rt.alloc();
+    let net = sum_net(alloc)?;
+    let inputs = items_in(alloc, &net, "i: 5 -2 4")?;
+    let mut node = sum_node(alloc, at(alloc, 1), 0, long_log(alloc, 57_343)?)?;
     let job = granted(alloc, &mut node, &net, &inputs)?;
     assert_eq!(rt; job.room.as_slice(), [0, 1].as_slice());
     Ok(())

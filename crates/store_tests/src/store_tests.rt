@@ -14,6 +14,12 @@ const FIRST: [u8; 32] = [
     1, 0, 0, 0, 0, 0, 0, 0, 0, 0, 2, 0, 0, 0, 0, 0, 0, 0, 0, 0, 0, 0, 0, 0, 0, 0, 0, 0, 0, 0, 0, 0,
 ];
 
+// The record of node 0 of three: its own entry is 5, and nodes 1 and 2 have to confirm the decision of number 5.
+const DECIDED: [u8; 51] = [
+    1, 0, 0, 0, 0, 0, 0, 0, 0, 0, 3, 0, 0, 0, 0, 0, 0, 0, 5, 0, 0, 0, 0, 0, 0, 0, 0, 0, 0, 0, 0, 0,
+    0, 0, 0, 1, 0, 0, 0, 0, 0, 0, 0, 5, 2, 1, 2, 0, 0, 0, 0,
+];
+
 fn formatted(alloc: Global, value: &[u8]) -> Result<GateCell<MemDisk>, Fail> {
     match GateCell::format(alloc, MemDisk::new(alloc, 9)?, value) {
         Ok(cell) => Ok(cell),
@@ -213,6 +219,70 @@ fn a_device_that_fails_leaves_one_of_both(rt: HostRuntime) -> Result<(), Fail> {
         // The gate is written by the third call: a stop there or behind it leaves the old record by fill 0, which names area 0.
         same_at(&rt, &shown(&store)?, &(0, 0, 0, 0, 0, 0), &call);
     }
+    Ok(())
+}
+
+// The decision's number and nodes, each 0 where there is none: node 0 can't be one of them.
+fn decision_in(store: &TestStore) -> Result<(u64, u8, u8), Fail> {
+    let Ok(kept) = store.record() else {
+        return Err("no record".into());
+    };
+    let Some(decision) = &kept.decision else {
+        return Ok((0, 0, 0));
+    };
+    match decision.participants.as_slice() {
+        [one] => Ok((decision.number, *one, 0)),
+        [one, other] => Ok((decision.number, *one, *other)),
+        _ => Err("no node, or more than two".into()),
+    }
+}
+
+// A node confirms: the refusal's number, and the decision then.
+fn confirm(
+    alloc: Global,
+    store: &mut TestStore,
+    number: u64,
+    node: u8,
+) -> Result<(u8, (u64, u8, u8)), Fail> {
+    let refusal = number_of(store.confirm(alloc, number, node));
+    Ok((refusal, decision_in(store)?))
+}
+
+// A crash, and the decision that is found then.
+fn decision_after_a_crash(alloc: Global, store: &mut TestStore) -> Result<(u64, u8, u8), Fail> {
+    store.crash(None);
+    match store.reopen(alloc) {
+        Ok(()) => decision_in(store),
+        Err(_) => Err("not reopened".into()),
+    }
+}
+
+#[test]
+fn confirmations_settle_a_decision(rt: HostRuntime) -> Result<(), Fail> {
+    let alloc = rt.alloc();
+    let mut store = opened(alloc, &DECIDED)?;
+    let two = (5, 1, 2);
+    let one = (5, 2, 0);
+    let none = (0, 0, 0);
+    same(&rt, &decision_in(&store)?, &two, "opened");
+    same(&rt, &take(alloc, &mut store, 0, 6)?, &43, "unsettled");
+    let wrong_number = confirm(alloc, &mut store, 4, 1)?;
+    same(&rt, &wrong_number, &(0, two), "another number");
+    let unnamed = confirm(alloc, &mut store, 5, 0)?;
+    same(&rt, &unnamed, &(0, two), "a node that isn't named");
+    let first = confirm(alloc, &mut store, 5, 1)?;
+    same(&rt, &first, &(0, one), "the other node stays");
+    let crashed = decision_after_a_crash(alloc, &mut store)?;
+    same(&rt, &crashed, &one, "it was put");
+    let again = confirm(alloc, &mut store, 5, 1)?;
+    same(&rt, &again, &(0, one), "the same node again");
+    let last = confirm(alloc, &mut store, 5, 2)?;
+    same(&rt, &last, &(0, none), "the last node");
+    let after = confirm(alloc, &mut store, 5, 2)?;
+    same(&rt, &after, &(0, none), "the last node again");
+    let settled = decision_after_a_crash(alloc, &mut store)?;
+    same(&rt, &settled, &none, "no decision was put");
+    same(&rt, &take(alloc, &mut store, 0, 6)?, &0, "settled");
     Ok(())
 }
 

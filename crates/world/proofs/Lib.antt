@@ -1,8 +1,7 @@
-mod Soundness
-mod Leaving
+mod Cells
 mod Openings
 mod Views
+mod Stations
 mod Showing
 mod Rests
-mod Quieting
 mod Places

@@ -3,26 +3,17 @@ use Rattle.std.proofs.Common.{◌≡◌, ℕ, zero, suc, ◌+◌, ◌<◌, Bool,
 use Rattle.std.specs.Prelude.{if◌then◌else◌}
 use Rattle.std.proofs.Math.Seq.{drop-cons}
 use Rattle.kahn_net.specs.declared.program.Channel.{Channel}
-use Rattle.world.specs.OutputView.{OutputView, output_view, outputs_view}
+use Rattle.world.specs.Invariant.{output_of, outputs_of}
+use Rattle.world.specs.OutputView.{OutputView}
 use Rattle.world.specs.Sound.{goes_outside, output_channels}
 use Rattle.world.specs.OpenLaws.{NothingLeft}
 use Rattle.std.specs.List.{AllByRecursion}
-use Rattle.world.specs.OpeningWorld.{fresh, opening_outlet, IsUnused}
-use Rattle.world.specs.StationView.{OutletView, outlet_view, outlet_views}
+use Rattle.world.specs.OpeningWorld.{fresh, opening_outlet, opening_station, opening_world, IsUnused}
+use Rattle.world.specs.StationView.{OutletView, StationView, outlet_view, outlet_views}
+use Rattle.world.specs.Steps.{WorldView}
+use Rattle.kahn_net.specs.Syntax.{network_of}
+use Rattle.net_check.specs.declared.net.Net.{Net}
 use Rattle.world.specs.declared.output.Output.{Output}
-
--- the outputs as they are seen have the same channels
-pub seen_listed : {O : Type 0} (taken : O → List ℤ) (outputs : List (Output O)) → map (λ (output : OutputView). output.channel) (outputs_view taken outputs) ≡ map (λ (output : Output O). output.channel) outputs
-seen_listed taken [] = refl
-seen_listed taken (output ∷ outputs) = ap (λ (rest : List ℕ). output.channel ∷ rest) (seen_listed taken outputs)
-
--- and nothing has left by them
-pub seen_nothing : {O : Type 0} (taken : O → List ℤ) (outputs : List (Output O)) → AllByRecursion (IsUnused taken) outputs → NothingLeft (outputs_view taken outputs)
-seen_nothing taken [] none j output is = absurd (cc)
-seen_nothing taken (first ∷ outputs) none zero output is =
-    let same : output_view taken first ≡ output = cc in
-    subst (λ (o : OutputView). o.taken ≡ []) same none.0
-seen_nothing taken (first ∷ outputs) none (suc j) output is = seen_nothing taken outputs none.1 j output is
 
 one_listed : (b : Bool) (number : ℕ) (rest : List ℕ) → (if b then number ∷ [] else []) ++ rest ≡ (if b then number ∷ rest else rest)
 one_listed true number rest = refl
@@ -42,18 +33,37 @@ listed_next channels k d before now whole within so_far added =
 
 -- Outputs of which no failure is remembered
 
-pub fresh_listed : {O : Type 0} (outputs : List (Output O)) → map (λ (output : Output O). output.channel) (map fresh outputs) ≡ map (λ (output : Output O). output.channel) outputs
-fresh_listed [] = refl
-fresh_listed (output ∷ outputs) = ap (λ (rest : List ℕ). output.channel ∷ rest) (fresh_listed outputs)
-
 pub fresh_outlets : {O : Type 0} (outputs : List (Output O)) → map (λ (output : Output O). output.outlet) (map fresh outputs) ≡ map (λ (output : Output O). output.outlet) outputs
 fresh_outlets [] = refl
 fresh_outlets {O} (output ∷ outputs) = ap (λ (rest : List O). output.outlet ∷ rest) (fresh_outlets outputs)
 
-pub fresh_unused : {O : Type 0} (taken : O → List ℤ) (outputs : List (Output O)) → AllByRecursion (IsUnused taken) outputs → AllByRecursion (IsUnused taken) (map fresh outputs)
-fresh_unused taken [] none = tt
-fresh_unused taken (output ∷ outputs) none = (none.0, fresh_unused taken outputs none.1)
-
 pub fresh_views : {O : Type 0} (taken : O → List ℤ) (failures : O → ℕ) (outputs : List (Output O)) → outlet_views taken failures (map fresh outputs) ≡ map opening_outlet (outlet_views taken failures outputs)
 fresh_views taken failures [] = refl
 fresh_views taken failures (output ∷ outputs) = ap (λ (rest : List OutletView). opening_outlet (outlet_view taken failures output) ∷ rest) (fresh_views taken failures outputs)
+
+-- The outlets of a world that opens
+
+-- are of the same channels
+pub opened_listed : {O : Type 0} (taken : O → List ℤ) (failures : O → ℕ) (outputs : List (Output O))
+    → map (λ (output : OutputView). output.channel) (outputs_of (map opening_outlet (outlet_views taken failures outputs))) ≡ map (λ (output : Output O). output.channel) outputs
+opened_listed taken failures [] = refl
+opened_listed taken failures (output ∷ outputs) = ap (λ (rest : List ℕ). output.channel ∷ rest) (opened_listed taken failures outputs)
+
+-- and nothing has left by them
+pub opened_nothing : {O : Type 0} (taken : O → List ℤ) (failures : O → ℕ) (outputs : List (Output O)) → AllByRecursion (IsUnused taken) outputs → NothingLeft (outputs_of (map opening_outlet (outlet_views taken failures outputs)))
+opened_nothing taken failures [] none j output is = absurd (cc)
+opened_nothing taken failures (first ∷ outputs) none zero output is =
+    let same : output_of (opening_outlet (outlet_view taken failures first)) ≡ output = cc in
+    subst (λ (o : OutputView). o.taken ≡ []) same none.0
+opened_nothing taken failures (first ∷ outputs) none (suc j) output is = opened_nothing taken failures outputs none.1 j output is
+
+-- the world of one station that opened
+pub opened_world : {S : Type 0} (view : S → StationView) (given net : Net) (inputs : List (List ℤ)) (failures : ℕ) (before after : List OutletView) (stations earlier : List S) (station : S)
+    → earlier ≡ [] → stations ≡ earlier ++ station ∷ [] → given ≡ net → view station ≡ opening_station (network_of given.program) failures before → before ≡ map opening_outlet after
+    → record { net = network_of net.program; inputs = inputs; stations = map view stations; round = 0 } ≡ opening_world (network_of net.program) inputs failures after
+opened_world {S} view given net inputs failures before after stations earlier station none pushed same opening outlets =
+    ap (λ (list : List S). world (map view list)) (pushed ∙ ap (λ (list : List S). list ++ station ∷ []) none)
+    ∙ ap (λ (s : StationView). world (s ∷ [])) (opening ∙ (ap (λ (n : Net). opening_station (network_of n.program) failures before) same ∙ ap (opening_station (network_of net.program) failures) outlets))
+  where
+    world : List StationView → WorldView
+    world list = record { net = network_of net.program; inputs = inputs; stations = list; round = 0 }

@@ -4,22 +4,29 @@ use Rattle.std.specs.Prelude.{Result, Ok, Err, IfOk, OnErr, slice_get, slice_set
 use Rattle.std.proofs.lemmas.List.{map-set}
 use Rattle.std.proofs.lemmas.Option.{slice_get_read}
 use Rattle.std.specs.declared.alloc.AllocError.{AllocError}
+use Rattle.kahn_net.specs.Syntax.{Network}
 use Rattle.record.specs.Ends.{log_of}
 use Rattle.node.specs.NodeView.{NodeView}
 use Rattle.record.specs.Changes.{trimmed_image}
 use Rattle.node.specs.Trimming.{with_current}
+use Rattle.world.specs.Invariant.{outputs_of}
 use Rattle.world.specs.OutputLaws.{map_at}
-use Rattle.world.proofs.Leaving.{set_same}
+use Rattle.world.specs.OutputView.{OutputView, output_view, outputs_view}
 use Rattle.world.specs.StationView.{OutletView, StationView, outlet_view, outlet_views}
 use Rattle.world.specs.Steps.{first_waiting, next_release, IsHanded, IsRelease, IsStationStep, IsActOf, IsAct}
 use Rattle.world.specs.WorldView.{IsCellUnchanged}
-use Rattle.world.specs.declared.event.Event.{Event}
+use Rattle.world.specs.EventView.{EventView}
+use Rattle.world.specs.ReplyView.{reply_view}
 use Rattle.world.specs.declared.station.Station.{Station}
 use Rattle.node.specs.declared.cell.StableCell.{Ghosts as CellWords}
-use Rattle.outlet.specs.declared.outlet.Outlet.{Ghosts as OutletWords}
 use Rattle.record.specs.RecordView.{RecordView}
 use Rattle.world.specs.declared.output.Output.{Output}
 use Rattle.world.specs.declared.event.Reply.{Reply}
+
+set_same : {A : Type 0} (xs : List A) (j : ℕ) (x y : A) → slice_get xs j ≡ Some x → y ≡ x → slice_set xs j y ≡ xs
+set_same [] j x y h e = absurd (cc)
+set_same {A} (z ∷ xs) zero x y h e = let same : z ≡ x = cc in ap (λ (w : A). w ∷ xs) (e ∙ sym same)
+set_same {A} (z ∷ xs) (suc j) x y h e = ap (λ (rest : List A). z ∷ rest) (set_same xs j x y h e)
 
 -- an outlet of the list, as it is seen
 pub outlet_at : {O : Type 0} (taken : O → List ℤ) (failures : O → ℕ) (outputs : List (Output O)) (j : ℕ) (x : Output O) → j < length outputs → x ≡ get_or outputs j x
@@ -32,7 +39,7 @@ outlet_set taken failures outputs j y = map-set (outlet_view taken failures) out
 
 -- Items that leave
 
-next_at : (round place : ℕ) (old : StationView) → old.node.up ≡ true → first_waiting old.node.kept round 0 old.outlets ≡ Some place → next_release round old ≡ Some place
+pub next_at : (round place : ℕ) (old : StationView) → old.node.up ≡ true → first_waiting old.node.kept round 0 old.outlets ≡ Some place → next_release round old ≡ Some place
 next_at round place old up first = ap (λ (b : Bool). cond b (first_waiting old.node.kept round 0 old.outlets) None) up ∙ first
 
 -- nothing is to leave
@@ -41,18 +48,18 @@ none_waits round old up first = ap (λ (b : Bool). cond b (first_waiting old.nod
 
 module _ (round place : ℕ) (old : StationView) (outlet later : OutletView) (node : NodeView) where
   abbrev stands : NodeView → ℕ → ℕ → List OutletView → StationView
-  stands state number failures outlets = record { net = old.net; inputs = old.inputs; number = number; node = state; failures = failures; outlets = outlets; turns = old.turns }
+  stands state number failures outlets = record { number = number; node = state; failures = failures; outlets = outlets; turns = old.turns }
 
   -- one item left, or didn't
   pub release_step : (failures number : ℕ) (outlets : List OutletView) (result : Result Reply AllocError) → old.node.up ≡ true → first_waiting old.node.kept round 0 old.outlets ≡ Some place
       → slice_get old.outlets place ≡ Some outlet
       → number ≡ old.number → failures ≡ old.failures → outlets ≡ slice_set old.outlets place later
       → IfOk result (λ reply. node ≡ with_current (trimmed_image outlet.channel (length later.taken) old.node.current) old.node)
-      → IfOk result (λ reply. IsHanded round (log_of old.node.current outlet.channel) outlet reply later)
-      → IfOk result (λ reply. IsRelease round (next_release round old) old reply (stands node number failures outlets))
+      → IfOk result (λ reply. IsHanded round (log_of old.node.current outlet.channel) outlet (reply_view reply) later)
+      → IfOk result (λ reply. IsRelease round (next_release round old) old (reply_view reply) (stands node number failures outlets))
   release_step failures number outlets (Err e) up first there same_number same_failures set trimmed handed = tt
   release_step failures number outlets (Ok reply) up first there same_number same_failures set trimmed handed =
-      subst (λ (next : Option ℕ). IsRelease round next old reply (stands node number failures outlets)) (sym (next_at round place old up first))
+      subst (λ (next : Option ℕ). IsRelease round next old (reply_view reply) (stands node number failures outlets)) (sym (next_at round place old up first))
       (record {
         outlet = outlet;
         later = later;
@@ -79,20 +86,24 @@ module _ (round place : ℕ) (old : StationView) (outlet later : OutletView) (no
 -- Stations of a world
 
 -- an event at the station of this place is one of the list of stations
-pub acted : {S : Type 0} (view : S → StationView) (room : S → RecordView → Bool) (round : ℕ) (event : Event) (xs : List S) (place : ℕ) (x y : S) (result : Result Reply AllocError) → place < length xs → x ≡ get_or xs place x
-    → IfOk result (λ reply. IsStationStep (room x) round event (view x) reply (view y))
-    → IfOk result (λ reply. IsAct place (map room xs) round event (map view xs) reply (map view (slice_set xs place y)))
-acted view room round event xs place x y (Err e) within is step = tt
-acted {S} view room round event xs place x y (Ok reply) within is step =
+pub acted : {S : Type 0} (net : Network) (inputs : List (List ℤ)) (view : S → StationView) (room : S → RecordView → Bool) (round : ℕ) (event : EventView) (xs : List S) (place : ℕ) (x y : S) (result : Result Reply AllocError) → place < length xs → x ≡ get_or xs place x
+    → IfOk result (λ reply. IsStationStep net inputs (room x) round event (view x) (reply_view reply) (view y))
+    → IfOk result (λ reply. IsAct net inputs place (map room xs) round event (map view xs) (reply_view reply) (map view (slice_set xs place y)))
+acted net inputs view room round event xs place x y (Err e) within is step = tt
+acted {S} net inputs view room round event xs place x y (Ok reply) within is step =
     let there : slice_get xs place ≡ Some x = slice_get_read xs (length xs) place x refl within is in
     let fits : slice_get (map room xs) place ≡ Some (room x) = map_at room xs place x there in
     let seen : slice_get (map view xs) place ≡ Some (view x) = map_at view xs place x there in
-    subst (λ (f : Option (RecordView → Bool)). IsActOf place f (slice_get (map view xs) place) round event (map view xs) reply (map view (slice_set xs place y))) (sym fits)
-    (subst (λ (s : Option StationView). IsActOf place (Some (room x)) s round event (map view xs) reply (map view (slice_set xs place y))) (sym seen)
+    subst (λ (f : Option (RecordView → Bool)). IsActOf net inputs place f (slice_get (map view xs) place) round event (map view xs) (reply_view reply) (map view (slice_set xs place y))) (sym fits)
+    (subst (λ (s : Option StationView). IsActOf net inputs place (Some (room x)) s round event (map view xs) (reply_view reply) (map view (slice_set xs place y))) (sym seen)
     (record { later = view y; step = step; stations = map-set view xs place y }))
 
+-- what is true of the station of this place
+pub seen_at : {S : Type 0} (view : S → StationView) (xs : List S) (place : ℕ) (x : S) → place < length xs → x ≡ get_or xs place x → slice_get (map view xs) place ≡ Some (view x)
+seen_at view xs place x within is = map_at view xs place x (slice_get_read xs (length xs) place x refl within is)
+
 -- a cell that nobody called
-pub cell_stays : {C O : Type 0} {cell : CellWords C} {outlet : OutletWords O} (station : Station C O cell outlet) → IsCellUnchanged station station
+pub cell_stays : {C O : Type 0} {cell : CellWords C} (station : Station C O cell) → IsCellUnchanged station station
 cell_stays station = record {
   same_value = refl;
   same_readiness = refl;
@@ -114,3 +125,8 @@ refused_at {S} view P xs place x y (Err e) within is same =
     same_seen [] place h = refl
     same_seen (z ∷ xs) zero h = let first : z ≡ x = cc in ap (λ (v : StationView). v ∷ map view xs) (same.0 ∙ ap view (sym first))
     same_seen (z ∷ xs) (suc k) h = ap (λ (rest : List StationView). view z ∷ rest) (same_seen xs k h)
+
+-- what has left by the outlets, as it is seen
+pub same_outputs : {O : Type 0} (taken : O → List ℤ) (failures : O → ℕ) (outputs : List (Output O)) → outputs_of (outlet_views taken failures outputs) ≡ outputs_view taken outputs
+same_outputs taken failures [] = refl
+same_outputs taken failures (output ∷ outputs) = ap (λ (rest : List OutputView). output_view taken output ∷ rest) (same_outputs taken failures outputs)

@@ -1,5 +1,6 @@
 -- Which event is next for a node: the first one of a list that is due.
-use Rattle.std.specs.Prelude.{◌==◌, ℕ, ◌%◌, nat_lt, Bool, false, ◌&&◌, ◌||◌, not, if◌then◌else◌, List, [], ◌∷◌, length, Option, Some, None, is_some, slice_get}
+use Rattle.std.specs.Prelude.{◌==◌, ℕ, ◌%◌, nat_lt, Bool, false, ◌&&◌, ◌||◌, not, if◌then◌else◌, List, [], ◌∷◌, length, Option, Some, None, is_some, slice_get, ℤ}
+use Rattle.kahn_net.specs.Syntax.{Network}
 use Rattle.record.specs.ImageView.{ImageView}
 use Rattle.record.specs.Ends.{received_of, sent_of}
 use Rattle.node.specs.Choosing.{next_job}
@@ -8,8 +9,7 @@ use Rattle.record.specs.declared.image.SavedEnd.{SavedEnd}
 use Rattle.world.specs.Turns.{turns_of}
 use Rattle.world.specs.StationView.{StationView}
 use Rattle.world.specs.Steps.{WorldView, next_release}
-use Rattle.world.specs.declared.event.Event.{Event}
-use Rattle.world.specs.declared.event.Event.TheVariants.{Grant, Send, Start, Decide, Release, Idle}
+use Rattle.world.specs.EventView.{EventView, Grant, Send, Start, Decide, Release, Idle}
 use Rattle.world.specs.declared.turning.TheConstants.{MAX_GRANTS}
 
 -- a count of one of these channels is above what it is in an earlier image
@@ -32,19 +32,19 @@ abbrev pub has_sent : ℕ → StationView → Bool
 has_sent round station = (turns_of round station.turns).sent && not ((turns_of round station.turns).sent_holding && is_none station.node.kept.tentative)
 
 -- the first that is due: an item leaves, a job is granted (64 at most a round), a checkpoint is decided or begun, the node sends, or its turn passes
-abbrev pub station_choice : ℕ → ℕ → StationView → Event
-station_choice nodes round station =
+abbrev pub station_choice : Network → List (List ℤ) → ℕ → ℕ → StationView → EventView
+station_choice net inputs nodes round station =
     if is_some (next_release round station) then Release station.number
-    else (if nat_lt (turns_of round station.turns).granted MAX_GRANTS && is_some (next_job station.net station.inputs station.node) then Grant station.number
+    else (if nat_lt (turns_of round station.turns).granted MAX_GRANTS && is_some (next_job net inputs station.node) then Grant station.number
     else (if may_decide station.number station.node then Decide station.number
     else (if wants_checkpoint nodes round station then Start station.number
     else (if station.node.up && not (has_sent round station) then Send station.number
     else Idle station.number))))
 
-abbrev pub choice_of : WorldView → ℕ → Option StationView → Event
+abbrev pub choice_of : WorldView → ℕ → Option StationView → EventView
 choice_of world node None = Idle node
-choice_of world node (Some station) = station_choice (length world.stations) world.round station
+choice_of world node (Some station) = station_choice world.net world.inputs (length world.stations) world.round station
 
 -- the event that is next for this node
-abbrev pub choice : WorldView → ℕ → Event
+abbrev pub choice : WorldView → ℕ → EventView
 choice world node = choice_of world node (slice_get world.stations node)

@@ -1,4 +1,7 @@
 pub mod OutputView
+pub mod DoneView
+pub mod EventView
+pub mod ReplyView
 pub mod Sound
 pub mod Covered
 pub mod Replies
@@ -6,7 +9,12 @@ pub mod Growing
 pub mod OutputLaws
 pub mod TurnLaws
 pub mod LeaveLaws
-pub mod GrantLaws
+pub mod Invariant
+pub mod SoundLaws
+pub mod OrderLaws
+pub mod HandedLaws
+pub mod StepKeeps
+pub mod GrowLaws
 pub mod Headline
 pub mod OpenLaws
 pub mod Pairs
@@ -18,6 +26,7 @@ pub mod Choice
 pub mod Quiet
 pub mod QuietLaws
 pub mod WorldView
+pub mod WholeView
 pub mod Released
 pub mod OpeningWorld
 pub mod Runnable

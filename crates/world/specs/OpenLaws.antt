@@ -1,6 +1,7 @@
 -- A station before its first event: nothing was done, and nothing has left.
-use Rattle.std.proofs.Common.{◌≡◌, ℕ, suc, Bool, true, false, eqb, cond, ℤ, List, [], ◌∷◌, length, take, map, Some, option_map, refl, sym, ap, ◌∙◌, arith}
+use Rattle.std.proofs.Common.{◌≡◌, ℕ, zero, suc, Bool, true, false, eqb, cond, ℤ, List, [], ◌∷◌, length, take, map, Some, option_map, refl, sym, ap, subst, ◌∙◌, arith}
 use Rattle.std.specs.Prelude.{slice_get, find}
+use Rattle.kahn_net.specs.Fits.{Fits}
 use Rattle.kahn_net.specs.Valid.{IsValid}
 use Rattle.kahn_net.specs.Syntax.{Network}
 use Rattle.kahn_net.specs.declared.program.Channel.{Channel}
@@ -10,7 +11,11 @@ use Rattle.record.specs.Ends.{log_at, base_in, base_of}
 use Rattle.node.specs.Opening.{opening_end, opening_ends, opening_image, opening_node}
 use Rattle.node.specs.OpeningLaws.{reached_opening, laid_out_opening, counts_opening, logs_opening}
 use Rattle.record.specs.declared.image.SavedEnd.{SavedEnd}
+use Rattle.node.specs.Starting.{AreInOrder}
+use Rattle.world.specs.Invariant.{outputs_of, StationInvariant, WorldInvariant}
+use Rattle.world.specs.OpeningWorld.{opening_outlet, opening_station, opening_world}
 use Rattle.world.specs.OutputView.{OutputView}
+use Rattle.world.specs.StationView.{OutletView, StationView}
 use Rattle.world.specs.Sound.{output_channels, HasCome, IsSound}
 use Rattle.kahn_net.specs.Streams.{IsPrefix}
 
@@ -58,3 +63,19 @@ module _ (net : Network) (inputs : List (List ℤ)) (nodes number : ℕ) (output
         record { no_gap = omega (arith, base); covered = omega (arith, count) });
     come = ∣ come_opened none ∣₁;
   }
+
+-- the images of an opening node are one after another, being the same
+order_opened : (net : Network) (nodes number : ℕ) → AreInOrder (opening_node net nodes number).kept (opening_node net nodes number).current
+order_opened net nodes number = record { current_ahead = λ c. omega arith; held_ahead = λ held is. absurd (cc); held_behind = λ held is. absurd (cc) }
+
+-- what is true of a world is true of an opening one, of which nothing has left
+pub world_opened : (net : Network) (inputs : List (List ℤ)) (failures : ℕ) (outlets : List OutletView) → IsValid net → Fits net inputs
+    → map (λ (output : OutputView). output.channel) (outputs_of (map opening_outlet outlets)) ≡ output_channels 0 net.channels → NothingLeft (outputs_of (map opening_outlet outlets))
+    → WorldInvariant (opening_world net inputs failures outlets)
+world_opened net inputs failures outlets valid fits listed none = record { valid = valid; fits = fits; inhabited = omega arith; stations = λ i station is. at i station is }
+  where
+    at : (i : ℕ) (station : StationView) → slice_get (opening_station net failures (map opening_outlet outlets) ∷ []) i ≡ Some station → StationInvariant net inputs station
+    at zero station is =
+        let same : opening_station net failures (map opening_outlet outlets) ≡ station = cc in
+        subst (StationInvariant net inputs) same (record { order = order_opened net 1 0; sound = sound_opened net inputs 1 0 (outputs_of (map opening_outlet outlets)) valid listed none })
+    at (suc i) station is = absurd (cc)

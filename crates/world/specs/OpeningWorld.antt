@@ -11,13 +11,13 @@ use Rattle.world.specs.declared.output.Output.{Output}
 abbrev pub opening_outlet : OutletView → OutletView
 opening_outlet outlet = record { channel = outlet.channel; taken = outlet.taken; failed = None; failures = outlet.failures }
 
--- the one station of a network on one node, with these inputs and outlets; its device has failed so often before
-abbrev pub opening_station : Network → List (List ℤ) → ℕ → List OutletView → StationView
-opening_station net inputs failures outlets = record { net = net; inputs = inputs; number = 0; node = opening_node net 1 0; failures = failures; outlets = outlets; turns = no_turns 0 }
+-- the one station of a network on one node, with these outlets; its device has failed so often before
+abbrev pub opening_station : Network → ℕ → List OutletView → StationView
+opening_station net failures outlets = record { number = 0; node = opening_node net 1 0; failures = failures; outlets = outlets; turns = no_turns 0 }
 
 -- the world of that station alone, with outlets as they were given
 abbrev pub opening_world : Network → List (List ℤ) → ℕ → List OutletView → WorldView
-opening_world net inputs failures outlets = record { stations = opening_station net inputs failures (map opening_outlet outlets) ∷ []; round = 0 }
+opening_world net inputs failures outlets = record { net = net; inputs = inputs; stations = opening_station net failures (map opening_outlet outlets) ∷ []; round = 0 }
 
 -- an output of which no failure is remembered
 abbrev pub fresh : {O : Type 0} → Output O → Output O

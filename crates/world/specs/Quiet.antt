@@ -13,7 +13,11 @@ use Rattle.node.specs.NodeView.{NodeView}
 use Rattle.record.specs.Ends.{received_of, sent_of}
 use Rattle.node.specs.Choosing.{next_at}
 use Rattle.node.specs.Starting.{is_none}
+use Rattle.std.specs.List.{list_all}
+use Rattle.world.specs.Invariant.{outputs_of}
 use Rattle.world.specs.OutputView.{OutputView}
+use Rattle.world.specs.StationView.{StationView}
+use Rattle.world.specs.Steps.{WorldView}
 
 -- every item of a channel was received: of an input all that there are, of any other all that was put
 abbrev pub got_all : List (List ℤ) → ImageView → ℕ → Port → Bool
@@ -47,8 +51,16 @@ have_all_left image (output ∷ outputs) = (length output.taken == sent_of image
 abbrev pub is_quiet : Network → List (List ℤ) → NodeView → List OutputView → Bool
 is_quiet net inputs node outputs = node.up && (is_none node.out && (are_at_rest net inputs node.current node.current.processes && have_all_left node.current outputs))
 
--- The streams that left are whole: the approximations come to rest at some n, which is then the network's least solution, and each output
--- has left to its end there.
-abbrev pub AreWhole : Network → List (List ℤ) → List OutputView → Type 0
-AreWhole net inputs outputs = ∥ ((n : ℕ) × IsReached net inputs n
-    × ((j : ℕ) (output : OutputView) → slice_get outputs j ≡ Some output → output.taken ≡ history_of (approximation net inputs n) output.channel)) ∥₁
+-- and at no station of a world
+abbrev pub are_quiet : WorldView → Bool
+are_quiet world = list_all (λ (station : StationView). is_quiet world.net world.inputs station.node (outputs_of station.outlets)) world.stations
+
+-- each output has left to its end in the n-th approximation
+abbrev pub AreAll : Network → List (List ℤ) → List OutputView → ℕ → Type 0
+AreAll net inputs outputs n = (j : ℕ) (output : OutputView) → slice_get outputs j ≡ Some output → output.taken ≡ history_of (approximation net inputs n) output.channel
+
+-- The streams that left a world are whole: the approximations come to rest at some n, which is then the network's least solution, and each
+-- output has left to its end there.
+abbrev pub AreWhole : WorldView → Type 0
+AreWhole world = ∥ ((n : ℕ) × IsReached world.net world.inputs n
+    × ((i : ℕ) (station : StationView) → slice_get world.stations i ≡ Some station → AreAll world.net world.inputs (outputs_of station.outlets) n)) ∥₁

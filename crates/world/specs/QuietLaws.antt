@@ -1,7 +1,7 @@
 -- Where nothing is left to do, the streams that left are whole.
 use Rattle.std.proofs.Common.{◌≡◌, ◌⊎◌, inl, inr, ℕ, zero, suc, ◌+◌, ◌<◌, ◌≤◌, ◌&&◌, ◌==◌, ℤ, List, [], ◌∷◌, ◌++◌, length, take, get_or, Option, Some, None, refl, sym, ap, subst, ◌∙◌, arith}
 use Rattle.std.specs.Prelude.{slice_get, IsTrue}
-use Rattle.std.proofs.Math.Logic.{∥∥₁_map}
+use Rattle.std.proofs.Math.Logic.{∥∥₁_elim, ∥∥₁_map, ∥∥₁_map₂, ∥∥₁_prop}
 use Rattle.std.proofs.lemmas.Bool.{and_parts, eqb-true}
 use Rattle.std.proofs.lemmas.List.{take-append-le, length-append}
 use Rattle.std.proofs.lemmas.Option.{slice_get_cases, slice_get_within}
@@ -13,7 +13,7 @@ use Rattle.kahn_net.specs.Statements.{Step}
 use Rattle.kahn_net.specs.Processes.{Standing, StandsAt, HasPassingLoop, process_trace, sent_on, got_on}
 use Rattle.kahn_net.specs.Resuming.{left_after}
 use Rattle.kahn_net.specs.Approximations.{approximation, IsReached}
-use Rattle.kahn_net.specs.Laws.Approximations.{next_histories_past, inner_empty, approximation_grows}
+use Rattle.kahn_net.specs.Laws.Approximations.{next_histories_past, inner_empty, approximation_grows, agreement}
 use Rattle.kahn_net.specs.Laws.Prefixes.{prefix_refl, prefix_nil, prefix_along}
 use Rattle.kahn_net.specs.Laws.Streams.{longer_process, stands_on}
 use Rattle.kahn_net.specs.Laws.Got.{reads}
@@ -35,10 +35,14 @@ use Rattle.node.specs.ReachedLaws.{input_stays, received_stands}
 use Rattle.node.specs.ReleaseLaws.{acts_put_prefix}
 use Rattle.node.specs.SentLaws.{sent_stands}
 use Rattle.record.specs.declared.image.SavedEnd.{SavedEnd}
+use Rattle.std.specs.List.{list_all}
+use Rattle.world.specs.Invariant.{outputs_of, AreSound, WorldInvariant}
 use Rattle.world.specs.OutputView.{OutputView}
+use Rattle.world.specs.StationView.{StationView}
+use Rattle.world.specs.Steps.{WorldView}
 use Rattle.world.specs.Sound.{HasCome, IsSound}
 use Rattle.world.specs.OutputLaws.{output_channel}
-use Rattle.world.specs.Quiet.{got_all, has_got_all, can_rest, is_at_rest, are_at_rest, have_all_left, is_quiet, AreWhole}
+use Rattle.world.specs.Quiet.{got_all, has_got_all, can_rest, is_at_rest, are_at_rest, have_all_left, is_quiet, are_quiet, AreAll, AreWhole}
 
 -- What the tests say
 
@@ -237,12 +241,50 @@ module _ (net : Network) (inputs : List (List ℤ)) (node : NodeView) (outputs :
       ∙ sym (ap (λ (all : List (List ℤ)). history_of all output.channel) (settled rest) ∙ (put_by_now-at net inputs made output.channel there.0 there.1 ∙ ap (put_so_far inputs made output.channel) from.1))
 
   whole_there : IsTrue (is_quiet net inputs node outputs)
-      → (n : ℕ) × IsReached net inputs n × ((j : ℕ) (output : OutputView) → slice_get outputs j ≡ Some output → output.taken ≡ history_of (approximation net inputs n) output.channel)
+      → (n : ℕ) × IsReached net inputs n × AreAll net inputs outputs n
   whole_there quiet =
       let rest = rest_of net inputs node outputs quiet in
       (suc come.reached.n, settled_rests net inputs made valid fits (λ p code there. all_made p code there rest.0) come.reached.n now_within, taken_whole rest.0 rest.1)
 
--- where nothing is left to do, what has left of each output is its channel's whole history in the least solution
-pub quiet_is_whole : (net : Network) (inputs : List (List ℤ)) (node : NodeView) (outputs : List OutputView) → IsValid net → Fits net inputs → IsSound net inputs node outputs
-    → IsTrue (is_quiet net inputs node outputs) → AreWhole net inputs outputs
-quiet_is_whole net inputs node outputs valid fits sound quiet = ∥∥₁_map sound.come (λ come. whole_there net inputs node outputs valid fits sound come quiet)
+-- Where nothing is left to do at a station, what has left of each output is its channel's whole history in the least solution
+station_whole : (net : Network) (inputs : List (List ℤ)) (node : NodeView) (outputs : List OutputView) → IsValid net → Fits net inputs → IsSound net inputs node outputs
+    → IsTrue (is_quiet net inputs node outputs) → ∥ ((n : ℕ) × IsReached net inputs n × AreAll net inputs outputs n) ∥₁
+station_whole net inputs node outputs valid fits sound quiet = ∥∥₁_map sound.come (λ come. whole_there net inputs node outputs valid fits sound come quiet)
+
+module _ (net : Network) (inputs : List (List ℤ)) where
+  all_later : (outputs : List OutputView) (m n : ℕ) → approximation net inputs n ≡ approximation net inputs m → AreAll net inputs outputs m → AreAll net inputs outputs n
+  all_later outputs m n same all j output is = all j output is ∙ ap (λ (histories : List (List ℤ)). history_of histories output.channel) (sym same)
+
+  -- the approximations come to rest at one place, so one serves all stations
+  all_whole : IsValid net → Fits net inputs → (n : ℕ) → IsReached net inputs n → (stations : List StationView) → AreSound net inputs stations
+      → IsTrue (list_all (λ (station : StationView). is_quiet net inputs station.node (outputs_of station.outlets)) stations)
+      → ∥ ((n : ℕ) × IsReached net inputs n × ((i : ℕ) (station : StationView) → slice_get stations i ≡ Some station → AreAll net inputs (outputs_of station.outlets) n)) ∥₁
+  all_whole valid fits n reached [] sound quiet = ∣ (n, reached, λ i station is. absurd (cc)) ∣₁
+  all_whole valid fits n reached (s ∷ stations) sound quiet =
+      let parts = and_parts (is_quiet net inputs s.node (outputs_of s.outlets)) (list_all (λ (station : StationView). is_quiet net inputs station.node (outputs_of station.outlets)) stations) quiet in
+      ∥∥₁_map₂ (station_whole net inputs s.node (outputs_of s.outlets) valid fits (sound 0 s refl).sound parts.0) (all_whole valid fits n reached stations (λ i station is. sound (suc i) station is) parts.1)
+      (λ one others. (one.0 + others.0, rests one.0 others.0 one.1, at one.0 others.0 one.1 others.1 one.2 others.2))
+    where
+      rests : (m k : ℕ) → IsReached net inputs m → IsReached net inputs (m + k)
+      rests m k there = agreement net inputs m (m + k) there (omega arith) ∙ sym (agreement net inputs m (suc (m + k)) there (omega arith))
+
+      at : (m k : ℕ) → IsReached net inputs m → IsReached net inputs k → AreAll net inputs (outputs_of s.outlets) m
+          → ((i : ℕ) (station : StationView) → slice_get stations i ≡ Some station → AreAll net inputs (outputs_of station.outlets) k)
+          → (i : ℕ) (station : StationView) → slice_get (s ∷ stations) i ≡ Some station → AreAll net inputs (outputs_of station.outlets) (m + k)
+      at m k here there one others zero station is =
+          let same : s ≡ station = cc in
+          subst (λ (t : StationView). AreAll net inputs (outputs_of t.outlets) (m + k)) same (all_later (outputs_of s.outlets) m (m + k) (agreement net inputs m (m + k) here (omega arith)) one)
+      at m k here there one others (suc i) station is = all_later (outputs_of station.outlets) k (m + k) (agreement net inputs k (m + k) there (omega arith)) (others i station is)
+
+  from_first : IsValid net → Fits net inputs → (stations : List StationView) → 0 < length stations → AreSound net inputs stations
+      → IsTrue (list_all (λ (station : StationView). is_quiet net inputs station.node (outputs_of station.outlets)) stations)
+      → ∥ ((n : ℕ) × IsReached net inputs n × ((i : ℕ) (station : StationView) → slice_get stations i ≡ Some station → AreAll net inputs (outputs_of station.outlets) n)) ∥₁
+  from_first valid fits [] some sound quiet = absurd (omega (arith, some))
+  from_first valid fits (s ∷ stations) some sound quiet =
+      ∥∥₁_elim (station_whole net inputs s.node (outputs_of s.outlets) valid fits (sound 0 s refl).sound
+      (and_parts (is_quiet net inputs s.node (outputs_of s.outlets)) (list_all (λ (station : StationView). is_quiet net inputs station.node (outputs_of station.outlets)) stations) quiet).0)
+      ∥∥₁_prop (λ one. all_whole valid fits one.0 one.1 (s ∷ stations) sound quiet)
+
+-- where nothing is left to do in a world, the streams that left are whole
+pub quiet_is_whole : (world : WorldView) → WorldInvariant world → IsTrue (are_quiet world) → AreWhole world
+quiet_is_whole world inv quiet = from_first world.net world.inputs inv.valid inv.fits world.stations inv.inhabited inv.stations quiet

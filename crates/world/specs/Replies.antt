@@ -1,42 +1,51 @@
--- What is answered where a record was put.
-use Rattle.std.specs.Prelude.{Result, Ok, Err}
+-- What is answered, and what an answer and an event tell of memory and cells.
+use Rattle.std.specs.Prelude.{Bool, true, false, Option, Some, None}
+use Rattle.node.specs.JobView.{JobView}
 use Rattle.node.specs.declared.putting.Putting.{Putting}
 use Rattle.node.specs.declared.putting.Putting.TheVariants as putting
-use Rattle.world.specs.declared.event.Event.{Event}
-use Rattle.world.specs.declared.event.Event.TheVariants as event
-use Rattle.world.specs.declared.event.Reply.{Reply}
-use Rattle.world.specs.declared.event.Reply.TheVariants.{Granted, Installed, Discarded, Sent, Started, Decided, Refused, Released, OutletFailed, Down, Idled, NotDue}
+use Rattle.world.specs.EventView.{EventView}
+use Rattle.world.specs.EventView as event
+use Rattle.world.specs.ReplyView.{ReplyView, Granted, Installed, Discarded, Sent, Started, Decided, Refused, Released, OutletFailed, Down, Idled, NotDue}
 
-abbrev pub start_reply : Putting → Reply
+-- the job that can be granted is
+abbrev pub grant_reply : Option JobView → ReplyView
+grant_reply None = NotDue
+grant_reply (Some job) = Granted job
+
+-- what came back is taken in where it is of the job that is out
+abbrev pub install_reply : Bool → ReplyView
+install_reply true = Installed
+install_reply false = Discarded
+
+abbrev pub start_reply : Putting → ReplyView
 start_reply putting.NotDue = NotDue
 start_reply putting.Stored = Started
 start_reply (putting.Refused refusal) = Refused refusal
 start_reply putting.Failed = Down
 
-abbrev pub decision_reply : Putting → Reply
+abbrev pub decision_reply : Putting → ReplyView
 decision_reply putting.NotDue = NotDue
 decision_reply putting.Stored = Decided
 decision_reply (putting.Refused refusal) = Refused refusal
 decision_reply putting.Failed = Down
 
--- the cell wasn't touched, as this answer, or a refusal for want of memory, tells
-abbrev pub LeavesCells : {E : Type 0} → Result Reply E → Type 0
-LeavesCells (Err e) = Unit {0}
-LeavesCells (Ok (Granted job)) = Unit {0}
-LeavesCells (Ok Installed) = Unit {0}
-LeavesCells (Ok Discarded) = Unit {0}
-LeavesCells (Ok Sent) = Unit {0}
-LeavesCells (Ok Started) = ⊥
-LeavesCells (Ok Decided) = ⊥
-LeavesCells (Ok (Refused refusal)) = Unit {0}
-LeavesCells (Ok (Released freed)) = Unit {0}
-LeavesCells (Ok OutletFailed) = Unit {0}
-LeavesCells (Ok Down) = ⊥
-LeavesCells (Ok Idled) = Unit {0}
-LeavesCells (Ok NotDue) = Unit {0}
+-- no cell was touched, as this answer tells
+abbrev pub LeavesCells : ReplyView → Type 0
+LeavesCells (Granted job) = Unit {0}
+LeavesCells Installed = Unit {0}
+LeavesCells Discarded = Unit {0}
+LeavesCells Sent = Unit {0}
+LeavesCells Started = ⊥
+LeavesCells Decided = ⊥
+LeavesCells (Refused refusal) = Unit {0}
+LeavesCells (Released output number) = Unit {0}
+LeavesCells OutletFailed = Unit {0}
+LeavesCells Down = ⊥
+LeavesCells Idled = Unit {0}
+LeavesCells NotDue = Unit {0}
 
 -- an event that takes memory: any but a send and an idle turn
-abbrev pub TakesMemory : Event → Type 0
+abbrev pub TakesMemory : EventView → Type 0
 TakesMemory (event.Grant k) = Unit {0}
 TakesMemory (event.Install done) = Unit {0}
 TakesMemory (event.Send k) = ⊥

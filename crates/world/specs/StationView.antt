@@ -1,6 +1,5 @@
 -- A station without pointers, its cell's contents aside.
 use Rattle.std.specs.Prelude.{ℕ, ℤ, List, map, Option}
-use Rattle.kahn_net.specs.Syntax.{Network}
 use Rattle.node.specs.NodeView.{NodeView}
 use Rattle.world.specs.declared.output.Output.{Output}
 use Rattle.world.specs.declared.round_turns.RoundTurns.{RoundTurns}
@@ -20,8 +19,6 @@ outlet_views taken failures outputs = map (outlet_view taken failures) outputs
 
 -- a node of this number with its outlets; `failures` is how often the device of its cell has failed
 pub record StationView : Type 0 where
-  pub net : Network
-  pub inputs : List (List ℤ)
   pub number : ℕ
   pub node : NodeView
   pub failures : ℕ

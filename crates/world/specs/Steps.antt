@@ -3,14 +3,12 @@
 -- A relation goes by cases of the event; a reply that an event never has is nowhere in its case. An event that can't happen is answered by
 -- `NotDue` and changes nothing, and only such an event is. Free in it are the failures
 -- of devices and outlets alone, and of an outlet's failure, whether it took the item all the same.
-use Rattle.std.specs.Prelude.{◌≡◌, ◌⊎◌, ◌==◌, ℕ, ◌+◌, nat_lt, Bool, true, false, ◌&&◌, ◌||◌, not, if◌then◌else◌, List, [], ◌∷◌, length, Option, Some, None, slice_get, slice_set}
-use Rattle.kahn_net.specs.Syntax.{Code, network_of}
-use Rattle.kahn_net.specs.States.{standing_of}
+use Rattle.std.specs.Prelude.{◌≡◌, ◌⊎◌, ◌==◌, ℕ, ◌+◌, nat_lt, Bool, true, false, ◌&&◌, ◌||◌, not, if◌then◌else◌, ℤ, List, [], ◌∷◌, length, Option, Some, None, slice_get, slice_set}
+use Rattle.kahn_net.specs.Syntax.{Network}
+use Rattle.kahn_net.specs.declared.program.Channel.{Channel}
 use Rattle.retained.specs.LogState.{LogState}
-use Rattle.proc_step.specs.declared.job.Job.{Job}
-use Rattle.proc_step.specs.declared.job.Done.{Done}
 use Rattle.record.specs.Ends.{log_of, sent_of}
-use Rattle.node.specs.JobView.{JobView, job_view}
+use Rattle.node.specs.JobView.{JobView}
 use Rattle.record.specs.RecordView.{RecordView}
 use Rattle.node.specs.NodeView.{NodeView}
 use Rattle.node.specs.Choosing.{next_job, after_grant}
@@ -19,47 +17,41 @@ use Rattle.node.specs.Starting.{is_none, next_number, with_own, decided, IsStart
 use Rattle.record.specs.Changes.{trimmed_image}
 use Rattle.node.specs.Trimming.{with_current, TookNext}
 use Rattle.node.specs.declared.putting.Putting.{Putting}
-use Rattle.world.specs.Replies.{start_reply, decision_reply}
+use Rattle.world.specs.DoneView.{DoneView, IsTurnOfJob}
+use Rattle.world.specs.EventView.{EventView, event_node}
+use Rattle.world.specs.EventView as event
+use Rattle.world.specs.ReplyView.{ReplyView}
+use Rattle.world.specs.ReplyView as reply
+use Rattle.world.specs.Replies.{grant_reply, install_reply, start_reply, decision_reply}
 use Rattle.world.specs.Turns.{turns_of, turns_granted, turns_started, count_send, count_idle}
 use Rattle.world.specs.StationView.{OutletView, StationView}
-use Rattle.world.specs.declared.event.Event.{Event}
-use Rattle.world.specs.declared.event.Event.TheVariants as event
-use Rattle.world.specs.declared.event.Reply.{Reply}
-use Rattle.world.specs.declared.event.Reply.TheVariants as reply
 use Rattle.world.specs.declared.round_turns.RoundTurns.{RoundTurns}
 
 -- One station
 
 -- the same station with its node so, its device having failed so often, and what is remembered of its round
 abbrev pub moved_to : NodeView → ℕ → RoundTurns → StationView → StationView
-moved_to node failures turns station = record { net = station.net; inputs = station.inputs; number = station.number; node = node; failures = failures; outlets = station.outlets; turns = turns }
+moved_to node failures turns station = record { number = station.number; node = node; failures = failures; outlets = station.outlets; turns = turns }
 
--- the job that can be granted is, and is in the reply
-abbrev pub IsGrantReply : Option JobView → Reply → Type 0
-IsGrantReply None answer = answer ≡ reply.NotDue
-IsGrantReply (Some job) answer = (granted : Job) × (answer ≡ reply.Granted granted) × (job_view granted ≡ job)
+-- the job that can be granted is, and is in the answer
+abbrev pub IsGrant : ℕ → Option JobView → StationView → ReplyView → StationView → Type 0
+IsGrant round job old answer new = (answer ≡ grant_reply job) × (new ≡ moved_to (after_grant job old.node) old.failures (turns_granted job round old.turns) old)
 
-abbrev pub IsGrant : ℕ → Option JobView → StationView → Reply → StationView → Type 0
-IsGrant round job old answer new = IsGrantReply job answer × (new ≡ moved_to (after_grant job old.node) old.failures (turns_granted job round old.turns) old)
-
--- what came back is taken in where it is of the job that is out
-abbrev pub install_reply : Bool → Reply
-install_reply true = reply.Installed
-install_reply false = reply.Discarded
-
-pub record IsInstalled (done : Done) (old : StationView) (answer : Reply) (new : StationView) : Type 0 where
+-- what came back is a turn of its job's own code, and is taken in where it is of the job that is out
+pub record IsInstalled (channels : List Channel) (done : DoneView) (old : StationView) (answer : ReplyView) (new : StationView) : Type 0 where
+  pub turn : ∥ IsTurnOfJob done.job done.after done.taken done.sent ∥₁
   pub applied : Bool
-  pub step : IsInstall old.net.channels (job_view done.job) (standing_of done.state) done.taken.items done.sent.items old.node applied new.node
+  pub step : IsInstall channels done.job done.after done.taken done.sent old.node applied new.node
   pub answers : answer ≡ install_reply applied
   pub same : new ≡ moved_to new.node old.failures old.turns old
 
 -- a node that is up sends
-abbrev pub IsSendOf : Bool → ℕ → StationView → Reply → StationView → Type 0
+abbrev pub IsSendOf : Bool → ℕ → StationView → ReplyView → StationView → Type 0
 IsSendOf false round old answer new = (answer ≡ reply.NotDue) × (new ≡ old)
 IsSendOf true round old answer new = (answer ≡ reply.Sent) × (new ≡ moved_to old.node old.failures (count_send (not (is_none old.node.kept.tentative)) (turns_of round old.turns)) old)
 
 -- a checkpoint is begun; `fits` is what the node's cell has room for
-pub record IsBegun (fits : RecordView → Bool) (round : ℕ) (old : StationView) (answer : Reply) (new : StationView) : Type 0 where
+pub record IsBegun (fits : RecordView → Bool) (round : ℕ) (old : StationView) (answer : ReplyView) (new : StationView) : Type 0 where
   pub outcome : Putting
   pub step : IsStart old.number round old.node outcome new.node
   pub put : IsPut (fits (with_own old.number old.node.current old.node.kept)) old.failures new.failures outcome
@@ -67,7 +59,7 @@ pub record IsBegun (fits : RecordView → Bool) (round : ℕ) (old : StationView
   pub same : new ≡ moved_to new.node new.failures (turns_started outcome round old.turns) old
 
 -- and decided
-pub record IsDecided (fits : RecordView → Bool) (round : ℕ) (old : StationView) (answer : Reply) (new : StationView) : Type 0 where
+pub record IsDecided (fits : RecordView → Bool) (round : ℕ) (old : StationView) (answer : ReplyView) (new : StationView) : Type 0 where
   pub outcome : Putting
   pub step : IsDecision old.number round old.node outcome new.node
   pub put : IsPut (fits (decided old.node.kept)) old.failures new.failures outcome
@@ -93,9 +85,9 @@ abbrev pub next_release : ℕ → StationView → Option ℕ
 next_release round station = if station.node.up then first_waiting station.node.kept round 0 station.outlets else None
 
 -- the outlet was handed the next item of this log: it took it, or failed and took it or didn't
-pub record IsHanded (round : ℕ) (log : Option LogState) (outlet : OutletView) (answer : Reply) (later : OutletView) : Type 0 where
+pub record IsHanded (round : ℕ) (log : Option LogState) (outlet : OutletView) (answer : ReplyView) (later : OutletView) : Type 0 where
   pub channel : later.channel ≡ outlet.channel
-  pub came : ((answer ≡ reply.Released (record { output = outlet.channel; number = length later.taken }))
+  pub came : ((answer ≡ reply.Released outlet.channel (length later.taken))
       × TookNext log outlet.taken later.taken × (length later.taken ≡ length outlet.taken + 1) × (later.failed ≡ outlet.failed) × (later.failures ≡ outlet.failures))
       ⊎ ((answer ≡ reply.OutletFailed)
       × ((later.taken ≡ outlet.taken) ⊎ TookNext log outlet.taken later.taken) × (later.failed ≡ Some round) × (later.failures ≡ outlet.failures + 1))
@@ -103,8 +95,6 @@ pub record IsHanded (round : ℕ) (log : Option LogState) (outlet : OutletView) 
 -- and the log lets go of what the outlet has
 abbrev pub released_to : OutletView → ℕ → OutletView → StationView → StationView
 released_to outlet place later station = record {
-  net = station.net;
-  inputs = station.inputs;
   number = station.number;
   node = with_current (trimmed_image outlet.channel (length later.taken) station.node.current) station.node;
   failures = station.failures;
@@ -112,51 +102,39 @@ released_to outlet place later station = record {
   turns = station.turns;
 }
 
-pub record IsReleaseAt (round place : ℕ) (old : StationView) (answer : Reply) (new : StationView) : Type 0 where
+pub record IsReleaseAt (round place : ℕ) (old : StationView) (answer : ReplyView) (new : StationView) : Type 0 where
   pub outlet : OutletView
   pub later : OutletView
   pub there : slice_get old.outlets place ≡ Some outlet
   pub handed : IsHanded round (log_of old.node.current outlet.channel) outlet answer later
   pub same : new ≡ released_to outlet place later old
 
-abbrev pub IsRelease : ℕ → Option ℕ → StationView → Reply → StationView → Type 0
+abbrev pub IsRelease : ℕ → Option ℕ → StationView → ReplyView → StationView → Type 0
 IsRelease round None old answer new = (answer ≡ reply.NotDue) × (new ≡ old)
 IsRelease round (Some place) old answer new = IsReleaseAt round place old answer new
 
 -- a node lets its turn pass
-abbrev pub IsIdle : ℕ → StationView → Reply → StationView → Type 0
+abbrev pub IsIdle : ℕ → StationView → ReplyView → StationView → Type 0
 IsIdle round old answer new = (answer ≡ reply.Idled) × (new ≡ moved_to old.node old.failures (count_idle (turns_of round old.turns)) old)
 
--- An event of the node of this station
-abbrev pub IsStationStep : (RecordView → Bool) → ℕ → Event → StationView → Reply → StationView → Type 0
-IsStationStep fits round (event.Grant k) old answer new = IsGrant round (next_job old.net old.inputs old.node) old answer new
-IsStationStep fits round (event.Install done) old answer new = IsInstalled done old answer new
-IsStationStep fits round (event.Send k) old answer new = IsSendOf old.node.up round old answer new
-IsStationStep fits round (event.Start k) old answer new = IsBegun fits round old answer new
-IsStationStep fits round (event.Decide k) old answer new = IsDecided fits round old answer new
-IsStationStep fits round (event.Release k) old answer new = IsRelease round (next_release round old) old answer new
-IsStationStep fits round (event.Idle k) old answer new = IsIdle round old answer new
+-- An event of the node of this station, of a network that runs on these inputs; `fits` is what the node's cell has room for
+abbrev pub IsStationStep : Network → List (List ℤ) → (RecordView → Bool) → ℕ → EventView → StationView → ReplyView → StationView → Type 0
+IsStationStep net inputs fits round (event.Grant k) old answer new = IsGrant round (next_job net inputs old.node) old answer new
+IsStationStep net inputs fits round (event.Install done) old answer new = IsInstalled net.channels done old answer new
+IsStationStep net inputs fits round (event.Send k) old answer new = IsSendOf old.node.up round old answer new
+IsStationStep net inputs fits round (event.Start k) old answer new = IsBegun fits round old answer new
+IsStationStep net inputs fits round (event.Decide k) old answer new = IsDecided fits round old answer new
+IsStationStep net inputs fits round (event.Release k) old answer new = IsRelease round (next_release round old) old answer new
+IsStationStep net inputs fits round (event.Idle k) old answer new = IsIdle round old answer new
 
 -- A world
 
+-- a network that runs on these inputs: its stations by node number, and the round
 pub record WorldView : Type 0 where
+  pub net : Network
+  pub inputs : List (List ℤ)
   pub stations : List StationView
   pub round : ℕ
-
--- the node of a process
-abbrev pub node_in : Option Code → ℕ
-node_in None = 0
-node_in (Some code) = code.node
-
--- the node of an event
-abbrev pub event_node : Event → ℕ
-event_node (event.Grant k) = k
-event_node (event.Install done) = node_in (slice_get (network_of done.job.net.value.program).codes done.job.process)
-event_node (event.Send k) = k
-event_node (event.Start k) = k
-event_node (event.Decide k) = k
-event_node (event.Release k) = k
-event_node (event.Idle k) = k
 
 -- a round need not wait for this node: it has idled, or it is down and not to be recovered yet
 abbrev pub is_done_with : ℕ → StationView → Bool
@@ -167,7 +145,7 @@ are_done_with round [] = true
 are_done_with round (station ∷ stations) = is_done_with round station && are_done_with round stations
 
 -- the round after this answer: after an idle node it advances if it need wait for nobody
-abbrev pub round_after : Reply → ℕ → List StationView → ℕ
+abbrev pub round_after : ReplyView → ℕ → List StationView → ℕ
 round_after (reply.Granted job) round stations = round
 round_after reply.Installed round stations = round
 round_after reply.Discarded round stations = round
@@ -175,29 +153,31 @@ round_after reply.Sent round stations = round
 round_after reply.Started round stations = round
 round_after reply.Decided round stations = round
 round_after (reply.Refused refusal) round stations = round
-round_after (reply.Released freed) round stations = round
+round_after (reply.Released output number) round stations = round
 round_after reply.OutletFailed round stations = round
 round_after reply.Down round stations = round
 round_after reply.Idled round stations = if are_done_with round stations then next_number round else round
 round_after reply.NotDue round stations = round
 
 -- an event at the station of this place
-pub record IsActAt (place : ℕ) (fits : RecordView → Bool) (station : StationView) (round : ℕ) (event : Event) (old : List StationView) (answer : Reply) (new : List StationView) : Type 0 where
+pub record IsActAt (net : Network) (inputs : List (List ℤ)) (place : ℕ) (fits : RecordView → Bool) (station : StationView) (round : ℕ) (event : EventView) (old : List StationView) (answer : ReplyView) (new : List StationView) : Type 0 where
   pub later : StationView
-  pub step : IsStationStep fits round event station answer later
+  pub step : IsStationStep net inputs fits round event station answer later
   pub stations : new ≡ slice_set old place later
 
 -- and where there may be none
-abbrev pub IsActOf : ℕ → Option (RecordView → Bool) → Option StationView → ℕ → Event → List StationView → Reply → List StationView → Type 0
-IsActOf place (Some fits) (Some station) round event old answer new = IsActAt place fits station round event old answer new
-IsActOf place (Some fits) None round event old answer new = (answer ≡ reply.NotDue) × (new ≡ old)
-IsActOf place None station round event old answer new = (answer ≡ reply.NotDue) × (new ≡ old)
+abbrev pub IsActOf : Network → List (List ℤ) → ℕ → Option (RecordView → Bool) → Option StationView → ℕ → EventView → List StationView → ReplyView → List StationView → Type 0
+IsActOf net inputs place (Some fits) (Some station) round event old answer new = IsActAt net inputs place fits station round event old answer new
+IsActOf net inputs place (Some fits) None round event old answer new = (answer ≡ reply.NotDue) × (new ≡ old)
+IsActOf net inputs place None station round event old answer new = (answer ≡ reply.NotDue) × (new ≡ old)
 
 -- an event at the station of its node; `fits` is, of each station, what its node's cell has room for
-abbrev pub IsAct : ℕ → List (RecordView → Bool) → ℕ → Event → List StationView → Reply → List StationView → Type 0
-IsAct place fits round event old answer new = IsActOf place (slice_get fits place) (slice_get old place) round event old answer new
+abbrev pub IsAct : Network → List (List ℤ) → ℕ → List (RecordView → Bool) → ℕ → EventView → List StationView → ReplyView → List StationView → Type 0
+IsAct net inputs place fits round event old answer new = IsActOf net inputs place (slice_get fits place) (slice_get old place) round event old answer new
 
 -- One event of a world
-pub record IsStep (fits : List (RecordView → Bool)) (event : Event) (old : WorldView) (answer : Reply) (new : WorldView) : Type 0 where
-  pub act : IsAct (event_node event) fits old.round event old.stations answer new.stations
+pub record IsStep (fits : List (RecordView → Bool)) (event : EventView) (old : WorldView) (answer : ReplyView) (new : WorldView) : Type 0 where
+  pub net : new.net ≡ old.net
+  pub inputs : new.inputs ≡ old.inputs
+  pub act : IsAct old.net old.inputs (event_node event) fits old.round event old.stations answer new.stations
   pub round : new.round ≡ round_after answer old.round new.stations

@@ -5,25 +5,22 @@ use Rattle.std.proofs.Math.Bridge.{le_prop}
 use mathlib.Core.HLevel.{⊥_prop}
 use Rattle.kahn_net.specs.Fits.{Fits}
 use Rattle.kahn_net.specs.Valid.{IsValid}
-use Rattle.kahn_net.specs.Syntax.{Code, Network}
+use Rattle.kahn_net.specs.Syntax.{Network}
 use Rattle.kahn_net.specs.Processes.{Standing}
 use Rattle.retained.specs.LogState.{LogState}
-use Rattle.proc_step.specs.Turns.{IsTurn}
 use Rattle.node.specs.JobView.{JobView}
 use Rattle.node.specs.NodeView.{NodeView}
 use Rattle.record.specs.Ends.{log_at, base_of}
 use Rattle.record.specs.Changes.{LogTakes}
 use Rattle.node.specs.Installing.{put_on, installed, with_turn, ImageTakes, IsOut}
-use Rattle.node.specs.Reached.{IsJobOf, IsTurnOf, CountsAreWithin}
+use Rattle.node.specs.Sharing.{log_share, IsWithinShare}
+use Rattle.node.specs.Reached.{IsJobOf, IsTurnOf, CountsAreWithin, LogsAreWithin}
 use Rattle.node.specs.InstallLaws.{reached_install, on_install}
 use Rattle.node.specs.FitLaws.{turn_fits, counts_installed, laid_out_installed, logs_installed, base_installed}
 use Rattle.node.specs.ReleaseLaws.{beginning_stays}
 use Rattle.world.specs.OutputView.{OutputView}
+use Rattle.world.specs.DoneView.{IsTurnOfJob}
 use Rattle.world.specs.Sound.{OutputsAreSound, HasCome, IsSound}
-
--- what comes back is a turn of the job's own code, whatever network that is of
-abbrev pub IsTurnOfJob : JobView → Standing → List ℕ → List (List ℤ) → Type 0
-IsTurnOfJob job after taken sent = (code : Code) → job.code ≡ Some code → IsTurn code job.standing job.items job.room after taken sent
 
 module _ (net : Network) (inputs : List (List ℤ)) (node : NodeView) (outputs : List OutputView) (job : JobView) (after : Standing) (taken : List ℕ) (sent : List (List ℤ)) where
   -- Which code the turn is of
@@ -59,6 +56,16 @@ module _ (net : Network) (inputs : List (List ℤ)) (node : NodeView) (outputs :
       ∥∥₁_elim sound.come le_prop (λ come. ∥∥₁_elim turn le_prop
       (λ t. counts_installed net inputs node job after taken sent come.reached sound.kept.laid_out sound.kept.counts (come.out job out.1) t k saved is))
 
+  logs_then : IsSound net inputs node outputs → IsOut job node → ∥ IsTurnOf net job after taken sent ∥₁ → LogsAreWithin (installed net.channels job.process after taken sent node.current)
+  logs_then sound out turn k saved log is there = record {
+    count = ∥∥₁_elim sound.come le_prop (λ come. ∥∥₁_elim turn le_prop (λ t. (within come t).count));
+    last = ∥∥₁_elim sound.come le_prop (λ come. ∥∥₁_elim turn le_prop (λ t. (within come t).last));
+  }
+    where
+      within : HasCome net inputs node outputs → IsTurnOf net job after taken sent → IsWithinShare (log_share (installed net.channels job.process after taken sent node.current)) log
+      within come t =
+          logs_installed net inputs node job after taken sent come.reached sound.kept.laid_out sound.kept.logs (come.out job out.1) t k saved log is there
+
   come_then : IsSound net inputs node outputs → IsOut job node → HasCome net inputs node outputs → IsTurnOf net job after taken sent
       → HasCome net inputs (with_turn net.channels job.process after taken sent node) outputs
   come_then sound out come turn = record {
@@ -84,7 +91,7 @@ module _ (net : Network) (inputs : List (List ℤ)) (node : NodeView) (outputs :
     kept = record {
       laid_out = laid_out_installed net job.process after taken sent node.current sound.kept.laid_out;
       counts = counts_then sound out turn;
-      logs = logs_installed net.channels job.process after taken sent node.current (takes fits sound out turn);
+      logs = logs_then sound out turn;
     };
     covered = covered_then sound.covered;
     come = ∥∥₁_map₂ sound.come turn (λ come t. come_then sound out come t);

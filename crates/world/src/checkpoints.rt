@@ -1,8 +1,9 @@
 // A station's checkpoints.
 ghost use Rattle.std.specs.Prelude.{◌≡◌, ◌≤◌, IfOk, OnErr};
-ghost use Rattle.world.specs.OutputView.{outputs_view};
-ghost use Rattle.world.specs.Covered.{AreCoveredSince};
+ghost use Rattle.world.specs.Pairs.{LeaveAsMuchSince};
 ghost use Rattle.world.specs.Replies.{start_reply, decision_reply, LeavesCells};
+ghost use Rattle.world.specs.ReplyView.{reply_view};
+ghost use Rattle.world.specs.StationView.{outlet_views};
 ghost use Rattle.world.specs.Turns.{count_start, turns_started};
 ghost use Rattle.world.specs.Steps.{IsBegun, IsDecided};
 ghost use Rattle.world.specs.WorldView.{station_view, IsCellUnchanged};
@@ -26,7 +27,7 @@ impl RoundTurns {
 
     // What is answered to a start, which is noted unless it couldn't happen.
     fn note_start(&mut self, putting: Putting, round: u64) -> Reply
-        ensures reply { result ≡ start_reply putting }
+        ensures reply { reply_view result ≡ start_reply putting }
         ensures turns { self.new ≡ turns_started putting round self.old }
     {
         match putting {
@@ -46,7 +47,7 @@ impl RoundTurns {
 
 // What is answered to a decision.
 fn decision_reply(putting: Putting) -> Reply
-    ensures { result ≡ decision_reply putting }
+    ensures { reply_view result ≡ decision_reply putting }
 {
     match putting {
         Putting::NotDue => Reply::NotDue,
@@ -59,18 +60,19 @@ fn decision_reply(putting: Putting) -> Reply
 impl<C: StableCell, O: Outlet> Station<C, O> {
     /// Begins a checkpoint.
     pub(crate) fn start(&mut self, alloc: Global, round: u64) -> Result<Reply, AllocError>
-        ensures outputs { outputs_view O.taken self.new.outputs.items
-            ≡ outputs_view O.taken self.old.outputs.items }
-        ensures same { (self.new.net ≡ self.old.net) × (self.new.inputs ≡ self.old.inputs)
-            × (self.new.node.number ≡ self.old.node.number) }
-        ensures covered { AreCoveredSince C.moment C.left_since self.old.node.cell
-            self.new.node.cell (outputs_view O.taken self.new.outputs.items) }
+        ensures outputs { outlet_views O.taken O.failures self.new.outputs.items
+            ≡ outlet_views O.taken O.failures self.old.outputs.items }
+        ensures leaves { LeaveAsMuchSince C.moment C.left_since self.old.node.cell
+            self.new.node.cell self.old.node.state.kept.permanent }
         ensures later { C.moment self.old.node.cell ≤ C.moment self.new.node.cell }
-        ensures refused { OnErr result (station_view self.new ≡ station_view self.old) }
+        ensures refused { OnErr result
+            (station_view O.taken O.failures self.new ≡ station_view O.taken O.failures self.old) }
         ensures step { IfOk result
-            (λ reply. IsBegun (C.fits self.old.node.cell) round (station_view self.old) reply
-            (station_view self.new)) }
-        ensures unchanged { LeavesCells result → IsCellUnchanged self.old self.new }
+            (λ reply. IsBegun (C.fits self.old.node.cell) round
+            (station_view O.taken O.failures self.old) (reply_view reply)
+            (station_view O.taken O.failures self.new)) }
+        ensures unchanged { IfOk result (λ reply. LeavesCells (reply_view reply))
+            → IsCellUnchanged self.old self.new }
     {
         let putting = self.node.start(alloc, round)?;
         Ok(self.turns.note_start(putting, round))
@@ -78,18 +80,19 @@ impl<C: StableCell, O: Outlet> Station<C, O> {
 
     /// Makes the station's own tentative image permanent.
     pub(crate) fn decide(&mut self, alloc: Global, round: u64) -> Result<Reply, AllocError>
-        ensures outputs { outputs_view O.taken self.new.outputs.items
-            ≡ outputs_view O.taken self.old.outputs.items }
-        ensures same { (self.new.net ≡ self.old.net) × (self.new.inputs ≡ self.old.inputs)
-            × (self.new.node.number ≡ self.old.node.number) }
-        ensures covered { AreCoveredSince C.moment C.left_since self.old.node.cell
-            self.new.node.cell (outputs_view O.taken self.new.outputs.items) }
+        ensures outputs { outlet_views O.taken O.failures self.new.outputs.items
+            ≡ outlet_views O.taken O.failures self.old.outputs.items }
+        ensures leaves { LeaveAsMuchSince C.moment C.left_since self.old.node.cell
+            self.new.node.cell self.old.node.state.kept.permanent }
         ensures later { C.moment self.old.node.cell ≤ C.moment self.new.node.cell }
-        ensures refused { OnErr result (station_view self.new ≡ station_view self.old) }
+        ensures refused { OnErr result
+            (station_view O.taken O.failures self.new ≡ station_view O.taken O.failures self.old) }
         ensures step { IfOk result
-            (λ reply. IsDecided (C.fits self.old.node.cell) round (station_view self.old) reply
-            (station_view self.new)) }
-        ensures unchanged { LeavesCells result → IsCellUnchanged self.old self.new }
+            (λ reply. IsDecided (C.fits self.old.node.cell) round
+            (station_view O.taken O.failures self.old) (reply_view reply)
+            (station_view O.taken O.failures self.new)) }
+        ensures unchanged { IfOk result (λ reply. LeavesCells (reply_view reply))
+            → IsCellUnchanged self.old self.new }
     {
         let putting = self.node.decide(alloc, round)?;
         Ok(decision_reply(putting))

@@ -3,14 +3,14 @@ ghost use Rattle.std.specs.Prelude.{◌≡◌, ◌++◌, ◌≤◌, [], ◌∷�
 ghost use Rattle.kahn_net.specs.Fits.{Fits};
 ghost use Rattle.kahn_net.specs.Nodes.{IsOnOneNode};
 ghost use Rattle.kahn_net.specs.Syntax.{network_of};
-ghost use Rattle.node.specs.NodeView.{node_view};
 ghost use Rattle.node.specs.Cell.{HasFailed};
-ghost use Rattle.node.specs.Opening.{opening_record, opening_node};
+ghost use Rattle.node.specs.Opening.{opening_record};
 ghost use Rattle.world.specs.Sound.{goes_outside, output_channels};
 ghost use Rattle.std.specs.List.{AllByRecursion};
 ghost use Rattle.world.specs.OpeningWorld.{fresh, opening_station, opening_world, IsUnused};
 ghost use Rattle.world.specs.StationView.{outlet_views};
-ghost use Rattle.world.specs.WorldView.{station_view, world_view, HasOutlets, IsOpenedOn, IsStationOf};
+ghost use Rattle.world.specs.WholeView.{view_of};
+ghost use Rattle.world.specs.WorldView.{station_view, HasOutlets, IsOpenedOn};
 ghost use Rattle.kahn_net.specs.declared.limits.TheConstants.{MAX_CHANNELS};
 
 use crate::output::Output;
@@ -95,40 +95,28 @@ impl<C: StableCell, O: Outlet> Station<C, O> {
     /// The one station of a network on one node, before its first event: its node's opening record is put into the cell.
     fn open(
         alloc: Global,
-        net: Arc<Net>,
-        inputs: Arc<Inputs>,
+        net: &Net,
         cell: C,
         outputs: Vec<Output<O>>,
     ) -> Result<Station<C, O>, CellFault>
-        requires fits { Fits (network_of net.value.program) inputs.value }
         requires ready { IsTrue (C.is_ready cell) }
-        requires listed { map (λ output. output.channel) outputs.items
-            ≡ output_channels 0 (network_of net.value.program).channels }
-        requires empty { AllByRecursion (IsUnused O.taken) outputs.items }
-        ensures node { IfOk result
-            (λ station. node_view station.node.state
-            ≡ opening_node (network_of net.value.program) 1 0) }
         ensures opening { IfOk result
-            (λ station. station_view station
-            ≡ opening_station (network_of net.value.program) inputs.value (C.failure_count cell)
+            (λ station. station_view O.taken O.failures station
+            ≡ opening_station (network_of net.now.program) (C.failure_count cell)
             (outlet_views O.taken O.failures outputs.items)) }
-        ensures same { IfOk result
-            (λ station. (station.net ≡ net) × (station.inputs ≡ inputs)
-            × (station.outputs ≡ outputs)) }
+        ensures same { IfOk result (λ station. station.outputs ≡ outputs) }
         ensures fits { IfOk result
-            (λ station. IsTrue (C.fits cell (opening_record (network_of net.value.program) 1 0))
+            (λ station. IsTrue (C.fits cell (opening_record (network_of net.now.program) 1 0))
             × (C.failure_count station.node.cell ≡ C.failure_count cell)) }
         ensures too_large { IsErrOf result CellFault.TooLarge
-            → C.fits cell (opening_record (network_of net.value.program) 1 0) ≡ false }
+            → C.fits cell (opening_record (network_of net.now.program) 1 0) ≡ false }
         ensures device { IsErrOf result CellFault.Device → HasFailed C.failure_count cell }
         ensures reopen { ¬ (IsErrOf result CellFault.Reopen) }
         ensures any_moment { IfOk result
-            (IsOpenedOn cell (opening_record (network_of net.value.program) 1 0)) }
+            (IsOpenedOn cell (opening_record (network_of net.now.program) 1 0)) }
     {
-        let node = Node::open(alloc, &net, 0, 1, cell)?;
+        let node = Node::open(alloc, net, 0, 1, cell)?;
         Ok(Station {
-            net,
-            inputs,
             node,
             outputs,
             turns: RoundTurns::new(0),
@@ -155,11 +143,11 @@ impl<C: StableCell, O: Outlet> World<C, O> {
         requires empty { AllByRecursion (IsUnused O.taken) outputs.items }
         // It is the opening world of the network and the inputs, with the outlets that were given.
         ensures opening { IfOk result
-            (λ world. world_view world.stations.items world.round
+            (λ world. view_of world
             ≡ opening_world (network_of net.value.program) inputs.value (C.failure_count cell)
             (outlet_views O.taken O.failures outputs.items)) }
         ensures same { IfOk result
-            (λ world. AllByRecursion (IsStationOf net inputs) world.stations.items) }
+            (λ world. (world.net ≡ net) × (world.inputs ≡ inputs)) }
         ensures outlets { IfOk result
             (λ world. AllByRecursion (HasOutlets outputs.items) world.stations.items) }
         ensures one { IfOk result (λ world. length world.stations.items ≡ 1) }
@@ -178,9 +166,14 @@ impl<C: StableCell, O: Outlet> World<C, O> {
     {
         let mut outputs = outputs;
         forget_failures(&mut outputs);
-        let station = Station::open(alloc, net, inputs, cell, outputs)?;
+        let station = Station::open(alloc, &net, cell, outputs)?;
         let mut stations = Vec::with_capacity(alloc, 1)?;
         stations.push(station)?;
-        Ok(World { stations, round: 0 })
+        Ok(World {
+            net,
+            inputs,
+            stations,
+            round: 0,
+        })
     }
 }

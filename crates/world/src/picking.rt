@@ -8,13 +8,16 @@ ghost use Rattle.node.specs.Starting.{is_own, may_decide};
 ghost use Rattle.world.specs.Choice.{counts_rose, has_turn, wants_checkpoint, has_sent, station_choice, choice};
 ghost use Rattle.world.specs.Steps.{next_release};
 ghost use Rattle.world.specs.Turns.{turns_of};
-ghost use Rattle.world.specs.WorldView.{station_view, world_view};
+ghost use Rattle.world.specs.EventView.{event_view};
+ghost use Rattle.world.specs.WholeView.{view_of};
+ghost use Rattle.world.specs.WorldView.{station_view};
 
 use crate::event::Event;
 use crate::releasing::next_output;
 use crate::station::Station;
 use crate::turning::MAX_GRANTS;
 use crate::world::World;
+use net_check::{Inputs, Net};
 use node::{NodeState, StableCell, can_start};
 use outlet::Outlet;
 use record::{Image, Record};
@@ -66,25 +69,25 @@ fn has_turn(nodes: usize, round: u64, number: u8) -> bool
 impl<C: StableCell, O: Outlet> Station<C, O> {
     // Whether an item is next to leave here.
     fn has_release(&self, round: u64) -> bool
-        ensures { result ≡ is_some (next_release round (station_view self.now)) }
+        ensures { result ≡ is_some (next_release round (station_view O.taken O.failures self.now)) }
     {
         let node = &self.node;
         node.state.up && next_output(&node.state.kept, &self.outputs, round).is_some()
     }
 
     // Whether a job is next: a process is ready, and fewer were granted in this round than may be.
-    fn has_grant(&self, round: u64) -> bool
+    fn has_grant(&self, net: &Net, inputs: &Inputs, round: u64) -> bool
         ensures { result ≡ (nat_lt (turns_of round self.now.turns).granted MAX_GRANTS
-            && is_some (next_job (network_of self.now.net.value.program) self.now.inputs.value
+            && is_some (next_job (network_of net.now.program) inputs.now
             (node_view self.now.node.state))) }
     {
         let node = &self.node;
-        self.turns.of(round).granted < MAX_GRANTS && node.state.has_job(&self.net, &self.inputs)
+        self.turns.of(round).granted < MAX_GRANTS && node.state.has_job(net, inputs)
     }
 
     // Whether its node is the one whose turn it is to begin a checkpoint in this round, and has something new to keep.
     fn wants_checkpoint(&self, nodes: usize, round: u64) -> bool
-        ensures { result ≡ wants_checkpoint nodes round (station_view self.now) }
+        ensures { result ≡ wants_checkpoint nodes round (station_view O.taken O.failures self.now) }
     {
         let node = &self.node;
         let state = &node.state;
@@ -96,7 +99,7 @@ impl<C: StableCell, O: Outlet> Station<C, O> {
 
     // Whether its node has sent in this round; what it sent while it held a tentative image doesn't count afterwards.
     fn has_sent(&self, round: u64) -> bool
-        ensures { result ≡ has_sent round (station_view self.now) }
+        ensures { result ≡ has_sent round (station_view O.taken O.failures self.now) }
     {
         let turns = self.turns.of(round);
         let node = &self.node;
@@ -104,15 +107,16 @@ impl<C: StableCell, O: Outlet> Station<C, O> {
     }
 
     // The event that is next for its node.
-    fn pick(&self, nodes: usize, round: u64) -> Event
-        ensures { result ≡ station_choice nodes round (station_view self.now) }
+    fn pick(&self, net: &Net, inputs: &Inputs, nodes: usize, round: u64) -> Event
+        ensures { event_view result ≡ station_choice (network_of net.now.program) inputs.now nodes
+            round (station_view O.taken O.failures self.now) }
     {
         let node = &self.node;
         let state = &node.state;
         let number = node.number;
         if self.has_release(round) {
             Event::Release(number)
-        } else if self.has_grant(round) {
+        } else if self.has_grant(net, inputs, round) {
             Event::Grant(number)
         } else if may_decide(state, number) {
             Event::Decide(number)
@@ -130,10 +134,10 @@ impl<C: StableCell, O: Outlet> World<C, O> {
     /// The event that is next for a node: a release, a grant (at most 64 a round), a decision, a start, a send, or else
     /// letting its turn pass. Takes no memory.
     pub fn pick(&self, node: u8) -> Event
-        ensures { result ≡ choice (world_view self.now.stations.items self.now.round) node }
+        ensures { event_view result ≡ choice (view_of self.now) node }
     {
         match self.stations.get(usize::from(node)) {
-            Some(station) => station.pick(self.stations.len(), self.round),
+            Some(station) => station.pick(&self.net, &self.inputs, self.stations.len(), self.round),
             None => Event::Idle(node),
         }
     }

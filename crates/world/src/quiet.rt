@@ -1,12 +1,12 @@
 // When nothing is left to do.
-ghost use Rattle.std.specs.Prelude.{◌≡◌, ◌↔◌, ◌≤◌, length, slice_get, IsTrue};
+ghost use Rattle.std.specs.Prelude.{◌≡◌, ◌≤◌, length, slice_get, IsTrue};
 ghost use Rattle.kahn_net.specs.Streams.{history_of};
 ghost use Rattle.kahn_net.specs.Syntax.{network_of};
 ghost use Rattle.node.specs.NodeView.{node_view};
-ghost use Rattle.world.specs.OutputView.{outputs_view};
-ghost use Rattle.std.specs.List.{AllByRecursion};
-ghost use Rattle.world.specs.WorldView.{IsQuiet, IsWhole};
-ghost use Rattle.world.specs.Quiet.{has_got_all, is_at_rest, are_at_rest, have_all_left, is_quiet};
+ghost use Rattle.world.specs.Invariant.{outputs_of};
+ghost use Rattle.world.specs.Quiet.{has_got_all, is_at_rest, are_at_rest, have_all_left, is_quiet, are_quiet, AreWhole};
+ghost use Rattle.world.specs.StationView.{outlet_views};
+ghost use Rattle.world.specs.WholeView.{view_of};
 ghost use Rattle.kahn_net.specs.declared.limits.TheConstants.{MAX_CHANNELS};
 
 use crate::output::Output;
@@ -73,7 +73,8 @@ fn are_at_rest(net: &Net, inputs: &[History], image: &Image) -> bool
 
 // Whether each outlet has all that was put.
 fn have_all_left<O: Outlet>(image: &Image, outputs: &[Output<O>]) -> bool
-    ensures { result ≡ have_all_left image.now (outputs_view O.taken outputs.now) }
+    ensures { result ≡ have_all_left image.now
+        (outputs_of (outlet_views O.taken O.failures outputs.now)) }
 {
     for output in outputs {
         if output.outlet.len() != image.sent(output.channel) {
@@ -86,15 +87,16 @@ fn have_all_left<O: Outlet>(image: &Image, outputs: &[Output<O>]) -> bool
 impl<C: StableCell, O: Outlet> Station<C, O> {
     // Whether nothing is left to do here: the node is up, no job is out, and no process can do more than it did, all of
     // which has left.
-    fn is_complete(&self) -> bool
-        ensures { result ≡ is_quiet (network_of self.now.net.value.program) self.now.inputs.value
-            (node_view self.now.node.state) (outputs_view O.taken self.now.outputs.items) }
+    fn is_complete(&self, net: &Net, inputs: &[History]) -> bool
+        ensures { result ≡ is_quiet (network_of net.now.program) inputs.now
+            (node_view self.now.node.state)
+            (outputs_of (outlet_views O.taken O.failures self.now.outputs.items)) }
     {
         let node = &self.node;
         let state = &node.state;
         state.up
             && state.out.is_none()
-            && are_at_rest(&self.net, self.inputs.as_slice(), &state.current)
+            && are_at_rest(net, inputs, &state.current)
             && have_all_left(&state.current, &self.outputs)
     }
 }
@@ -104,13 +106,14 @@ impl<C: StableCell, O: Outlet> World<C, O> {
     /// out, and each outlet has all that was put. Takes no memory.
     pub fn complete(&self) -> bool
         // It says just that, of each station.
-        ensures quiet { IsTrue result ↔ AllByRecursion IsQuiet self.now.stations.items }
+        ensures quiet { result ≡ are_quiet (view_of self.now) }
         // And then the approximations have come to rest, at the network's least solution, and each stream that has left
         // is its channel's whole history there.
-        ensures whole { IsTrue result → AllByRecursion IsWhole self.now.stations.items }
+        ensures whole { IsTrue result → AreWhole (view_of self.now) }
     {
+        let inputs = self.inputs.as_slice();
         for station in &self.stations {
-            if !station.is_complete() {
+            if !station.is_complete(&self.net, inputs) {
                 return false;
             }
         }

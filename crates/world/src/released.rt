@@ -1,8 +1,8 @@
 // What has left the system.
-ghost use Rattle.std.specs.Prelude.{◌≡◌, ◌==◌, find, map, option_copied, option_map};
+ghost use Rattle.std.specs.Prelude.{◌≡◌, ◌==◌, find, option_copied, option_map};
 ghost use Rattle.world.specs.StationView.{OutletView, outlet_views};
 ghost use Rattle.world.specs.Released.{released_of};
-ghost use Rattle.world.specs.WorldView.{station_view};
+ghost use Rattle.world.specs.WholeView.{view_of};
 
 use crate::output::Output;
 use crate::station::Station;
@@ -28,7 +28,7 @@ fn released_by<O: Outlet>(outputs: &[Output<O>], channel: u8) -> Option<&[i64]>
 impl<C: StableCell, O: Outlet> World<C, O> {
     /// The items that have left by the output of this channel, in order; none where the channel is no output.
     pub fn released(&self, channel: u8) -> &[i64]
-        ensures { result.now ≡ released_of channel (map station_view self.now.stations.items) }
+        ensures { result.now ≡ released_of channel (view_of self.now).stations }
     {
         for station in &self.stations {
             if let Some(items) = released_by(&station.outputs, channel) {

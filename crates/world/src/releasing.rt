@@ -1,17 +1,13 @@
 // A station's outputs: one item leaves the system.
-ghost use Rattle.std.specs.Prelude.{◌≡◌, ◌⊎◌, ◌<◌, ◌+◌, ℤ, List, length, IfSome, IfOk, OnErr, Some, slice_get};
-ghost use Rattle.retained.specs.LogState.{LogState, IsLogOf};
-ghost use Rattle.record.specs.Ends.{log_of, sent_of};
+ghost use Rattle.std.specs.Prelude.{◌≡◌, ◌<◌, ℕ, length, IfSome, IfOk, OnErr, Some, slice_get};
+ghost use Rattle.record.specs.Ends.{log_of};
 ghost use Rattle.record.specs.Changes.{trimmed_image};
 ghost use Rattle.node.specs.Trimming.{with_current, HasNext};
 ghost use Rattle.node.specs.NodeView.{node_view};
-ghost use Rattle.world.specs.OutputView.{OutputView, outputs_view};
-ghost use Rattle.world.specs.Covered.{AreCoveredSince};
-ghost use Rattle.world.specs.Growing.{EachBegins};
-ghost use Rattle.world.specs.StationView.{outlet_view, outlet_views};
+ghost use Rattle.world.specs.ReplyView.{reply_view};
+ghost use Rattle.world.specs.StationView.{OutletView, outlet_view, outlet_views};
 ghost use Rattle.world.specs.Steps.{has_failed_in, is_waiting, first_waiting, next_release, IsHanded, IsRelease};
 ghost use Rattle.world.specs.WorldView.{station_view};
-ghost use Rattle.kahn_net.specs.Streams.{IsPrefix};
 
 use crate::event::{Freed, Reply};
 use crate::output::Output;
@@ -46,9 +42,6 @@ pub(crate) fn next_output<O: Outlet>(
     outputs: &[Output<O>],
     round: u64,
 ) -> Option<usize>
-    ensures waiting { IfSome result
-        (λ j. (output : OutputView) → slice_get (outputs_view O.taken outputs.now) j ≡ Some output
-        → length output.taken < sent_of kept.now.permanent output.channel) }
     ensures within { IfSome result (λ j. j < length outputs.now) }
     ensures first { result ≡ first_waiting kept.now round 0
         (outlet_views O.taken O.failures outputs.now) }
@@ -69,14 +62,6 @@ fn release_at<C: StableCell, O: Outlet>(
 ) -> Result<Reply, AllocError>
     requires { HasNext (log_of node.old.state.current output.old.channel)
         (length (O.taken output.old.outlet)) }
-    ensures channel { output.new.channel ≡ output.old.channel }
-    ensures length { (length (O.taken output.new.outlet) ≡ length (O.taken output.old.outlet))
-        ⊎ (length (O.taken output.new.outlet) ≡ length (O.taken output.old.outlet) + 1) }
-    ensures begins { IsPrefix (O.taken output.old.outlet) (O.taken output.new.outlet) }
-    ensures history { (log : LogState)
-        (history : List ℤ) → log_of node.old.state.current output.old.channel ≡ Some log
-        → IsLogOf log history → IsPrefix (O.taken output.old.outlet) history
-        → IsPrefix (O.taken output.new.outlet) history }
     ensures refused { OnErr result
         ((node_view node.new.state ≡ node_view node.old.state)
         × (outlet_view O.taken O.failures output.new ≡ outlet_view O.taken O.failures output.old)) }
@@ -87,7 +72,7 @@ fn release_at<C: StableCell, O: Outlet>(
     ensures same { (node.new.cell ≡ node.old.cell) × (node.new.number ≡ node.old.number) }
     ensures handed { IfOk result
         (λ reply. IsHanded round (log_of node.old.state.current output.old.channel)
-        (outlet_view O.taken O.failures output.old) reply
+        (outlet_view O.taken O.failures output.old) (reply_view reply)
         (outlet_view O.taken O.failures output.new)) }
 {
     let channel = output.channel;
@@ -105,19 +90,19 @@ fn release_at<C: StableCell, O: Outlet>(
 }
 
 impl<C: StableCell, O: Outlet> Station<C, O> {
-    /// Lets one item leave.
+    /// Lets one item leave, which its log has where an outlet waits for it.
     pub(crate) fn release(&mut self, round: u64) -> Result<Reply, AllocError>
-        ensures begins { EachBegins (outputs_view O.taken self.old.outputs.items)
-            (outputs_view O.taken self.new.outputs.items) }
-        ensures same { (self.new.net ≡ self.old.net) × (self.new.inputs ≡ self.old.inputs)
-            × (self.new.node.number ≡ self.old.node.number) }
+        requires { (place : ℕ) (outlet : OutletView)
+            → next_release round (station_view O.taken O.failures self.old) ≡ Some place
+            → slice_get (outlet_views O.taken O.failures self.old.outputs.items) place ≡ Some outlet
+            → HasNext (log_of self.old.node.state.current outlet.channel) (length outlet.taken) }
         ensures cell { self.new.node.cell ≡ self.old.node.cell }
-        ensures covered { AreCoveredSince C.moment C.left_since self.old.node.cell
-            self.new.node.cell (outputs_view O.taken self.new.outputs.items) }
-        ensures refused { OnErr result (station_view self.new ≡ station_view self.old) }
+        ensures refused { OnErr result
+            (station_view O.taken O.failures self.new ≡ station_view O.taken O.failures self.old) }
         ensures step { IfOk result
-            (λ reply. IsRelease round (next_release round (station_view self.old))
-            (station_view self.old) reply (station_view self.new)) }
+            (λ reply. IsRelease round (next_release round (station_view O.taken O.failures self.old))
+            (station_view O.taken O.failures self.old) (reply_view reply)
+            (station_view O.taken O.failures self.new)) }
     {
         let node = &self.node;
         if !node.state.up {

@@ -4,19 +4,24 @@ ghost use Rattle.kahn_net.specs.Syntax.{network_of};
 ghost use Rattle.node.specs.NodeView.{node_view};
 ghost use Rattle.node.specs.JobView.{job_view};
 ghost use Rattle.node.specs.Choosing.{next_job};
-ghost use Rattle.world.specs.OutputView.{outputs_view};
-ghost use Rattle.world.specs.Covered.{AreCoveredSince};
+ghost use Rattle.node.specs.Installing.{ImageTakes, IsOut};
+ghost use Rattle.world.specs.DoneView.{done_view};
+ghost use Rattle.world.specs.Replies.{grant_reply};
+ghost use Rattle.world.specs.ReplyView.{reply_view};
+ghost use Rattle.world.specs.StationView.{outlet_views};
 ghost use Rattle.world.specs.Turns.{count_grant, turns_granted};
-ghost use Rattle.world.specs.Steps.{IsGrantReply, IsGrant, IsInstalled};
+ghost use Rattle.world.specs.Steps.{IsGrant, IsInstalled};
 ghost use Rattle.world.specs.WorldView.{station_view};
 
 use crate::event::Reply;
 use crate::round_turns::RoundTurns;
 use crate::station::Station;
+use net_check::{Inputs, Net};
 use node::StableCell;
 use outlet::Outlet;
 use proc_step::{Done, Job};
 use std::alloc::{AllocError, Global};
+use std::sync::Arc;
 
 /// The most jobs that are counted in a round.
 pub(crate) const MAX_GRANTS: u8 = 64;
@@ -35,7 +40,7 @@ impl RoundTurns {
 
     // What is answered where a job was granted, or none.
     fn note_grant(&mut self, granted: Option<Job>, round: u64) -> Reply
-        ensures reply { IsGrantReply (option_map job_view granted) result }
+        ensures reply { reply_view result ≡ grant_reply (option_map job_view granted) }
         ensures turns { self.new ≡ turns_granted (option_map job_view granted) round self.old }
     {
         match granted {
@@ -50,39 +55,48 @@ impl RoundTurns {
 
 impl<C: StableCell, O: Outlet> Station<C, O> {
     /// Grants a job.
-    pub(crate) fn grant(&mut self, alloc: Global, round: u64) -> Result<Reply, AllocError>
-        ensures outputs { outputs_view O.taken self.new.outputs.items
-            ≡ outputs_view O.taken self.old.outputs.items }
-        ensures same { (self.new.net ≡ self.old.net) × (self.new.inputs ≡ self.old.inputs)
-            × (self.new.node.number ≡ self.old.node.number) }
+    pub(crate) fn grant(
+        &mut self,
+        alloc: Global,
+        net: &Arc<Net>,
+        inputs: &Inputs,
+        round: u64,
+    ) -> Result<Reply, AllocError>
+        ensures outputs { outlet_views O.taken O.failures self.new.outputs.items
+            ≡ outlet_views O.taken O.failures self.old.outputs.items }
         ensures cell { self.new.node.cell ≡ self.old.node.cell }
-        ensures covered { AreCoveredSince C.moment C.left_since self.old.node.cell
-            self.new.node.cell (outputs_view O.taken self.new.outputs.items) }
-        ensures refused { OnErr result (station_view self.new ≡ station_view self.old) }
+        ensures refused { OnErr result
+            (station_view O.taken O.failures self.new ≡ station_view O.taken O.failures self.old) }
         ensures step { IfOk result
-            (λ reply. IsGrant round (next_job
-            (network_of self.old.net.value.program) self.old.inputs.value
-            (node_view self.old.node.state)) (station_view self.old) reply
-            (station_view self.new)) }
+            (λ reply. IsGrant round (next_job (network_of net.now.value.program) inputs.now
+            (node_view self.old.node.state)) (station_view O.taken O.failures self.old)
+            (reply_view reply) (station_view O.taken O.failures self.new)) }
     {
-        let granted = self.node.grant(alloc, &self.net, &self.inputs)?;
+        let granted = self.node.grant(alloc, net, inputs)?;
         Ok(self.turns.note_grant(granted, round))
     }
 
-    /// Takes in what came of a job.
-    pub(crate) fn install(&mut self, alloc: Global, done: &Done) -> Result<Reply, AllocError>
-        ensures outputs { outputs_view O.taken self.new.outputs.items
-            ≡ outputs_view O.taken self.old.outputs.items }
-        ensures same { (self.new.net ≡ self.old.net) × (self.new.inputs ≡ self.old.inputs)
-            × (self.new.node.number ≡ self.old.node.number) }
+    /// Takes in what came of a job, which fits where the job is out.
+    pub(crate) fn install(
+        &mut self,
+        alloc: Global,
+        net: &Net,
+        done: &Done,
+    ) -> Result<Reply, AllocError>
+        requires { IsOut (job_view done.now.job) (node_view self.old.node.state)
+            → ImageTakes (network_of net.now.program).channels done.now.job.process
+            done.now.taken.items done.now.sent.items self.old.node.state.current }
+        ensures outputs { outlet_views O.taken O.failures self.new.outputs.items
+            ≡ outlet_views O.taken O.failures self.old.outputs.items }
         ensures cell { self.new.node.cell ≡ self.old.node.cell }
-        ensures covered { AreCoveredSince C.moment C.left_since self.old.node.cell
-            self.new.node.cell (outputs_view O.taken self.new.outputs.items) }
-        ensures refused { OnErr result (station_view self.new ≡ station_view self.old) }
+        ensures refused { OnErr result
+            (station_view O.taken O.failures self.new ≡ station_view O.taken O.failures self.old) }
         ensures step { IfOk result
-            (λ reply. IsInstalled done.now (station_view self.old) reply (station_view self.new)) }
+            (λ reply. IsInstalled (network_of net.now.program).channels (done_view done.now)
+            (station_view O.taken O.failures self.old) (reply_view reply)
+            (station_view O.taken O.failures self.new)) }
     {
-        match self.node.install(alloc, &self.net.program.channels, done) {
+        match self.node.install(alloc, &net.program.channels, done) {
             Ok(true) => Ok(Reply::Installed),
             Ok(false) => Ok(Reply::Discarded),
             Err(_) => Err(AllocError),

@@ -1,10 +1,10 @@
 -- Laws of sites: a statement has its own, and those after it theirs; from a site on it's the rest of the statement that has it, and then
 -- the statements after it.
-use Rattle.std.proofs.Common.{◌≡◌, ◌==◌, ℕ, suc, ◌+◌, ◌<◌, ◌≤◌, Bool, true, false, cond, List, ℤ, refl, sym, ap, ◌∙◌, subst, arith, Vec, Global, inl, inr}
+use Rattle.std.proofs.Common.{◌≡◌, ◌==◌, ℕ, ◌+◌, ◌<◌, ◌≤◌, Bool, true, false, cond, List, ℤ, sym, ap, ◌∙◌, arith, Vec, Global, inl, inr}
 use Rattle.std.proofs.lemmas.Bool.{cases_lt, lt-ltb, le-ltb}
 use Rattle.std.proofs.lemmas.Bool.Decides.{nat_tests}
 use Rattle.std.specs.Prelude.{nat_lt}
-use Rattle.kahn_net.specs.Syntax.{Block, Nothing, GetThen, PutThen, IfThen, then_of, row_block, block_of, tree_of}
+use Rattle.kahn_net.specs.Syntax.{Block, Nothing, GetThen, PutThen, then_of, row_block, block_of, tree_of}
 use Rattle.kahn_net.specs.Statements.{Trace, trace_of, then_do, sites_of}
 use Rattle.kahn_net.specs.Resuming.{trace_on}
 use Rattle.kahn_net.specs.NextActs.{Next, Gets, Puts, NoNext, next_on}

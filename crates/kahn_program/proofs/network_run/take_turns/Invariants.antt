@@ -1,13 +1,13 @@
-use Rattle.std.specs.List.{AllZip}
-use Rattle.world.specs.WorldView.{world_view, IsOfSame}
+use Rattle.std.proofs.Common.{◌≡◌}
+use Rattle.world.specs.WholeView.{view_of}
 use Rattle.world.specs.Sound.{output_channels}
 use Rattle.kahn_program.specs.Runs.{is_over}
 use Rattle.kahn_program.specs.Turning.{CameTo}
 use Rattle.kahn_program.proofs.network_run.take_turns.Given as goal
 
--- the stations are of the same network and inputs as before, and so many turns led to where they are
+-- the network and the inputs are the same as before, and so many turns led to where the world is
 abbrev pub invariant-loop-turn : goal.invariant-loop-turn
 invariant-loop-turn l = record {
-  same : AllZip IsOfSame l.fn.world.stations.items l.world.stations.items;
-  came : CameTo (is_over (output_channels 0 l.channels) l.rounds l.items) l.turn (world_view l.fn.world.stations.items l.fn.world.round) (world_view l.world.stations.items l.world.round);
+  same : (l.world.net ≡ l.fn.world.net) × (l.world.inputs ≡ l.fn.world.inputs);
+  came : CameTo (is_over (output_channels 0 l.channels) l.rounds l.items) l.turn (view_of l.fn.world) (view_of l.world);
 }

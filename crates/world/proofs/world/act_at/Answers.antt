@@ -1,49 +1,41 @@
-use Rattle.std.proofs.Common.{refl, inl, rules, arith}
-use Rattle.world.specs.declared.station.Station.{Station}
-use Rattle.node.specs.NodeView.{node_view}
-use Rattle.world.specs.PairLaws.{pairs_refl, pairs_set}
-use Rattle.world.proofs.Soundness.{covered_still}
-use Rattle.world.proofs.Leaving.{begins_same}
-use Rattle.world.proofs.Views.{acted, cell_stays, refused_at}
+use Rattle.std.proofs.Common.{rules}
+use Rattle.kahn_net.specs.Syntax.{network_of}
+use Rattle.world.specs.EventView.{event_view}
+use Rattle.world.specs.PairLaws.{on_err_map, pairs_refl, pairs_set}
 use Rattle.world.specs.WorldView.{station_view}
+use Rattle.world.specs.declared.station.Station.{Station}
+use Rattle.world.proofs.Stations.{all_still, all_grown}
+use Rattle.world.proofs.Views.{acted, cell_stays, refused_at, seen_at}
 use Rattle.world.proofs.world.act_at.Goals as goal
+
+pub act-requires : goal.act-requires
+act-requires g c = record {
+  fits = c.requires.fits;
+  sound = c.requires.sound c.args.number (station_view g.O.Outlet.taken g.O.Outlet.failures c.index_mut.result.now) (seen_at (station_view g.O.Outlet.taken g.O.Outlet.failures) c.args.stations.now.items c.args.number c.index_mut.result.now (search rules) c.index_mut.ensures.value);
+}
 
 pub returns-then-number-len-clause-grown : goal.returns-then-number-len-clause-grown
 returns-then-number-len-clause-grown g c =
-    let C = g.C.StableCell in
-    pairs_refl _ (λ station. record {
-      later = omega arith;
-      begins = begins_same _;
-      covered = covered_still _ _ _ C.moment C.left_since C.may_leave (node_view station.node.state) station.node.cell station.sound g.met.C.StableCell.only_now station.node.durable;
-      apart = inl refl;
-    }) _
+    all_still {cell = g.C.StableCell} g.O.Outlet.taken g.O.Outlet.failures g.met.C.StableCell.only_now (network_of c.args.net.now.value.program) c.args.inputs.now c.args.stations.now.items c.requires.sound
 
-pub returns-then-number-len-clause-same : goal.returns-then-number-len-clause-same
-returns-then-number-len-clause-same g c = pairs_refl _ (λ station. (refl, refl)) _
+pub returns-then-number-len-clause-unchanged : goal.returns-then-number-len-clause-unchanged
+returns-then-number-len-clause-unchanged g c = λ h. pairs_refl _ _ (λ i station is. cell_stays station)
 
 pub returns-clause-grown : goal.returns-clause-grown
 returns-clause-grown g c =
-    let C = g.C.StableCell in
-    pairs_set _ (λ station. record {
-      later = omega arith;
-      begins = begins_same _;
-      covered = covered_still _ _ _ C.moment C.left_since C.may_leave (node_view station.node.state) station.node.cell station.sound g.met.C.StableCell.only_now station.node.durable;
-      apart = inl refl;
-    }) _ _ c.index_mut.result.now _ (search rules) c.index_mut.ensures.value c.act.ensures.grown
-
-pub returns-clause-same : goal.returns-clause-same
-returns-clause-same g c = pairs_set _ (λ station. (refl, refl)) _ _ c.index_mut.result.now _ (search rules) c.index_mut.ensures.value (c.act.ensures.same.0, c.act.ensures.same.1)
+    let net = c.args.net.now.value in
+    let x = c.index_mut.result.now in
+    all_grown {cell = g.C.StableCell} g.O.Outlet.taken g.O.Outlet.failures g.met.C.StableCell.only_now (network_of net.program) c.args.inputs.now net.valid c.requires.fits (g.C.StableCell.fits x.node.cell) c.args.round (event_view c.args.event.now) c.args.stations.now.items c.args.number x _ c.act.result
+    c.requires.sound (search rules) c.index_mut.ensures.value c.act.ensures.moved c.act.ensures.step (on_err_map c.act.result c.act.ensures.refused (λ same. same.0))
 
 pub returns-clause-refused : goal.returns-clause-refused
 returns-clause-refused g c =
-    refused_at station_view _ c.args.stations.now.items c.args.number c.index_mut.result.now _ c.act.result (search rules) c.index_mut.ensures.value c.act.ensures.refused
-
-pub returns-then-number-len-clause-unchanged : goal.returns-then-number-len-clause-unchanged
-returns-then-number-len-clause-unchanged g c = λ h. pairs_refl _ cell_stays _
+    refused_at (station_view g.O.Outlet.taken g.O.Outlet.failures) _ c.args.stations.now.items c.args.number c.index_mut.result.now _ c.act.result (search rules) c.index_mut.ensures.value c.act.ensures.refused
 
 pub returns-clause-step : goal.returns-clause-step
 returns-clause-step g c =
-    acted station_view (λ (station : Station g.row.C.Denot g.row.O.Denot g.C.StableCell g.O.Outlet). g.C.StableCell.fits station.node.cell) c.args.round c.args.event.now c.args.stations.now.items c.args.number c.index_mut.result.now _ c.act.result (search rules) c.index_mut.ensures.value c.act.ensures.step
+    acted (network_of c.args.net.now.value.program) c.args.inputs.now (station_view g.O.Outlet.taken g.O.Outlet.failures) (λ (station : Station g.row.C.Denot g.row.O.Denot g.C.StableCell). g.C.StableCell.fits station.node.cell)
+    c.args.round (event_view c.args.event.now) c.args.stations.now.items c.args.number c.index_mut.result.now _ c.act.result (search rules) c.index_mut.ensures.value c.act.ensures.step
 
 pub returns-clause-unchanged : goal.returns-clause-unchanged
-returns-clause-unchanged g c = λ leaves. pairs_set _ cell_stays _ _ c.index_mut.result.now _ (search rules) c.index_mut.ensures.value (c.act.ensures.unchanged leaves)
+returns-clause-unchanged g c = λ leaves. pairs_set _ _ _ c.index_mut.result.now _ (λ i station is. cell_stays station) (search rules) c.index_mut.ensures.value (c.act.ensures.unchanged leaves)

@@ -1,14 +1,16 @@
-use Rattle.std.proofs.Common.{rules}
-use Rattle.kahn_net.specs.Syntax.{network_of}
-use Rattle.node.specs.NodeView.{node_view}
-use Rattle.world.specs.OutputView.{outputs_view}
+use Rattle.std.proofs.Common.{List, ap, sym, ◌∙◌}
+use Rattle.std.proofs.lemmas.List.{drop_all}
+use Rattle.world.specs.Quiet.{are_quiet}
 use Rattle.world.specs.QuietLaws.{quiet_is_whole}
-use Rattle.world.specs.PairLaws.{every_map}
-use Rattle.world.proofs.Quieting.{every_past}
+use Rattle.world.specs.WholeView.{view_of}
+use Rattle.world.specs.WorldView.{world_view}
+use Rattle.world.specs.declared.station.Station.{Station}
 use Rattle.world.proofs.world.World.complete.Goals as goal
 
 pub returns-clause-whole : goal.returns-clause-whole
 returns-clause-whole g c is =
-    every_map _ _
-    (λ station quiet. quiet_is_whole (network_of station.net.value.program) station.inputs.value (node_view station.node.state) (outputs_view g.O.Outlet.taken station.outputs.items) station.net.value.valid station.fits station.sound quiet) _
-    (c.loop-station.invariant.0 (every_past _ _ c.loop-station.station-index (search rules)))
+    let now = c.args.self.now in
+    let O = g.O.Outlet in
+    quiet_is_whole (view_of now) now.sound
+    (sym c.loop-station.invariant
+    ∙ ap (λ (l : List (Station g.row.C.Denot g.row.O.Denot g.C.StableCell)). are_quiet (world_view O.taken O.failures now.net now.inputs l now.round)) (drop_all c.loop-station.station-index c.deref-station-items.result.now c.loop-station-test.false))

@@ -1,0 +1,32 @@
+-- How many items each log of an image may have: an equal share of those for which a record has room.
+use Rattle.std.specs.Prelude.{ℕ, ◌≤◌, ◌/◌, Bool, true, false, length}
+use Rattle.std.specs.List.{count_by}
+use Rattle.retained.specs.LogState.{LogState, log_end}
+use Rattle.record.specs.ImageView.{ImageView}
+use Rattle.record.specs.declared.image.SavedEnd.{SavedEnd}
+use Rattle.record.specs.declared.image.End.{End}
+use Rattle.record.specs.declared.image.End.TheVariants.{Receives, Sends, Both}
+use Rattle.kahn_net.specs.declared.limits.TheConstants.{MAX_COUNT}
+use Rattle.ckpt_codec.specs.declared.lengths.TheConstants.{MAX_RETAINED_ITEMS}
+
+-- an end has a log of what is put there
+abbrev pub is_logging : End → Bool
+is_logging (Receives received) = false
+is_logging (Sends log) = true
+is_logging (Both received log) = true
+
+abbrev pub has_log : SavedEnd → Bool
+has_log saved = is_logging saved.end
+
+-- how many ends of an image have a log
+abbrev pub log_count : ImageView → ℕ
+log_count image = count_by has_log image.ends
+
+-- the most items of each of its logs
+abbrev pub log_share : ImageView → ℕ
+log_share image = MAX_RETAINED_ITEMS / log_count image
+
+-- a log has at most so many items, and its end is a count
+pub record IsWithinShare (share : ℕ) (log : LogState) : Type 0 where
+  pub count : length log.items ≤ share
+  pub last : log_end log ≤ MAX_COUNT

@@ -1,0 +1,67 @@
+// How many items each log of an image may have.
+ghost use Rattle.std.specs.Prelude.{◌≡◌, ◌≤◌, ℕ, ℤ, List};
+ghost use Rattle.kahn_net.specs.Syntax.{Network};
+ghost use Rattle.kahn_net.specs.Valid.{IsValid};
+ghost use Rattle.kahn_net.specs.declared.limits.TheConstants.{MAX_NODES};
+ghost use Rattle.record.specs.ImageView.{ImageView};
+ghost use Rattle.record.specs.RecordView.{RecordView};
+ghost use Rattle.ckpt_codec.specs.SizeLaws.{IsImageWithin, IsRecordWithin};
+ghost use Rattle.ckpt_codec.specs.declared.lengths.TheConstants.{MAX_RETAINED_ITEMS};
+ghost use Rattle.node.specs.Sharing.{is_logging, log_count, log_share};
+ghost use Rattle.node.specs.Starting.{with_own, decided};
+ghost use Rattle.node.specs.Opening.{opening_record};
+ghost use Rattle.node.specs.NodeView.{RunningNode};
+ghost use Rattle.node.specs.Reached.{HasReached, ImageStands, IsLaidOut, LogsAreWithin};
+
+use ckpt_codec::MAX_RETAINED_ITEMS;
+use record::{End, Image};
+
+// Whether an end has a log.
+fn is_logging(end: &End) -> bool
+    ensures { result ≡ is_logging end.now }
+{
+    match end {
+        End::Receives { .. } => false,
+        End::Sends { .. } | End::Both { .. } => true,
+    }
+}
+
+// How many ends of an image have a log.
+fn count_logs(image: &Image) -> usize
+    ensures { result ≡ log_count image.now }
+{
+    image
+        .ends
+        .iter()
+        .filter(|saved| is_logging(&saved.end))
+        .count()
+}
+
+/// The most items of each log of an image: an equal share of those for which a record has room.
+pub(crate) fn share_of(image: &Image) -> usize
+    ensures { result ≡ log_share image.now }
+{
+    match count_logs(image) {
+        0 => 0,
+        logs => MAX_RETAINED_ITEMS / logs,
+    }
+}
+
+/// An image of a valid network, each log of which has at most its share, is within the bounds of which a record holds two; so is a
+/// node's current one, however far it has come. And so is a node's first record, with such an image that of a start, and that of a
+/// decision. `ckpt_codec::bounded_records_fit` says that they fit.
+pub fn share_law()
+    ensures image { (net : Network) (histories : List (List ℤ)) (made : ℕ → ℕ) (image : ImageView)
+        → IsValid net → IsLaidOut net image → ImageStands net histories made image
+        → LogsAreWithin image → IsImageWithin MAX_RETAINED_ITEMS image }
+    ensures current { (net : Network) (inputs : List (List ℤ)) (node : RunningNode)
+        → IsValid net → IsLaidOut net node.current → LogsAreWithin node.current
+        → ∥ HasReached net inputs node ∥₁ → IsImageWithin MAX_RETAINED_ITEMS node.current }
+    ensures opening { (net : Network) (nodes number : ℕ) → IsValid net → nodes ≤ MAX_NODES
+        → IsRecordWithin MAX_RETAINED_ITEMS (opening_record net nodes number) }
+    ensures started { (node : ℕ) (image : ImageView) (kept : RecordView)
+        → IsImageWithin MAX_RETAINED_ITEMS image → IsRecordWithin MAX_RETAINED_ITEMS kept
+        → IsRecordWithin MAX_RETAINED_ITEMS (with_own node image kept) }
+    ensures decided { (kept : RecordView) → IsRecordWithin MAX_RETAINED_ITEMS kept
+        → IsRecordWithin MAX_RETAINED_ITEMS (decided kept) }
+{}

@@ -1,0 +1,39 @@
+-- Events without pointers.
+use Rattle.std.specs.Prelude.{ℕ, Option, Some, None}
+use Rattle.kahn_net.specs.Syntax.{Code}
+use Rattle.world.specs.DoneView.{DoneView, done_view}
+use Rattle.world.specs.declared.event.Event.{Event}
+use Rattle.world.specs.declared.event.Event.TheVariants as event
+
+pub data EventView : Type 0 where
+  Grant : (node : ℕ) → EventView
+  Install : (done : DoneView) → EventView
+  Send : (node : ℕ) → EventView
+  Start : (node : ℕ) → EventView
+  Decide : (node : ℕ) → EventView
+  Release : (node : ℕ) → EventView
+  Idle : (node : ℕ) → EventView
+
+abbrev pub event_view : Event → EventView
+event_view (event.Grant k) = Grant k
+event_view (event.Install done) = Install (done_view done)
+event_view (event.Send k) = Send k
+event_view (event.Start k) = Start k
+event_view (event.Decide k) = Decide k
+event_view (event.Release k) = Release k
+event_view (event.Idle k) = Idle k
+
+-- the node of a process
+abbrev pub node_in : Option Code → ℕ
+node_in None = 0
+node_in (Some code) = code.node
+
+-- the node of an event
+abbrev pub event_node : EventView → ℕ
+event_node (Grant k) = k
+event_node (Install done) = node_in done.job.code
+event_node (Send k) = k
+event_node (Start k) = k
+event_node (Decide k) = k
+event_node (Release k) = k
+event_node (Idle k) = k
