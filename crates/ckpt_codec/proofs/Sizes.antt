@@ -141,7 +141,7 @@ length-head kept =
     regroup : (v : ℕ) → 1 + (1 + (8 + (1 + v))) ≡ 11 + v
     regroup v = omega arith
 
-length-record : (kept : RecordView) → length (record_text kept) ≡ record_length kept
+pub length-record : (kept : RecordView) → length (record_text kept) ≡ record_length kept
 length-record kept =
     let h = 11 + 8 * length kept.highest in
     let d = decision_length kept.decision in
