@@ -1,4 +1,5 @@
 mod Cells
+mod Records
 mod Openings
 mod Views
 mod Stations
