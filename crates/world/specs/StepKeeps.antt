@@ -1,7 +1,7 @@
 -- One law: whatever event happens, what is true of a world stays so.
 use Rattle.std.proofs.Common.{◌≡◌, ◌≢◌, ◌⊎◌, ℕ, zero, suc, ◌<◌, ◌≤◌, Bool, true, false, List, ℤ, [], ◌∷◌, length, Option, Some, None, refl, sym, ap, subst, ◌∙◌, arith}
 use Rattle.std.specs.Prelude.{slice_get, slice_set}
-use Rattle.std.proofs.lemmas.List.{map-set}
+use Rattle.std.proofs.lemmas.List.{length-set, map-set}
 use Rattle.kahn_net.specs.Fits.{Fits}
 use Rattle.kahn_net.specs.Syntax.{Network}
 use Rattle.kahn_net.specs.Valid.{IsValid}
@@ -14,7 +14,6 @@ use Rattle.node.specs.Choosing.{next_job, after_grant}
 use Rattle.node.specs.Installing.{with_turn, IsInstall}
 use Rattle.node.specs.FitLaws.{put_more_installed}
 use Rattle.node.specs.TrimLaws.{put_more_trimmed}
-use Rattle.node.specs.Starting.{AreInOrder}
 use Rattle.node.specs.Trimming.{with_current, HasNext, TookNext}
 use Rattle.world.specs.DoneView.{DoneView, IsTurnOfJob}
 use Rattle.world.specs.EventView.{EventView, event_node}
@@ -26,7 +25,7 @@ use Rattle.world.specs.OrderLaws.{order_granted, order_ahead, order_started, ord
 use Rattle.world.specs.OutputLaws.{map_at}
 use Rattle.world.specs.OutputView.{OutputView}
 use Rattle.world.specs.ReplyView.{ReplyView}
-use Rattle.world.specs.Sound.{IsSound}
+use Rattle.world.specs.Sound.{IsInOrder, IsSound}
 use Rattle.world.specs.SoundLaws.{granted_sound, start_sound, decision_sound}
 use Rattle.world.specs.StationView.{StationView}
 use Rattle.world.specs.Steps.{moved_to, next_release, IsSendOf, IsReleaseAt, IsRelease, IsStationStep, IsActOf, IsAct, IsStep, WorldView, round_after}
@@ -34,7 +33,7 @@ use Rattle.world.specs.TurnLaws.{sound_done}
 use Rattle.world.specs.declared.round_turns.RoundTurns.{RoundTurns}
 
 module _ (net : Network) (inputs : List (List ℤ)) where
-  moved_keeps : (node : NodeView) (failures : ℕ) (turns : RoundTurns) (old : StationView) → AreInOrder node.kept node.current → IsSound net inputs node (outputs_of old.outlets)
+  moved_keeps : (node : NodeView) (failures : ℕ) (turns : RoundTurns) (old : StationView) → IsInOrder node → IsSound net inputs node (outputs_of old.outlets)
       → StationInvariant net inputs (moved_to node failures turns old)
   moved_keeps node failures turns old order sound = record { order = order; sound = sound }
 
@@ -69,7 +68,7 @@ module _ (net : Network) (inputs : List (List ℤ)) where
       covers : length step.later.taken ≤ sent_of old.node.kept.permanent step.outlet.channel
       covers = let one = took_one (log_of old.node.current step.outlet.channel) step.outlet.taken step.later.taken took in omega (arith, one, more)
 
-      order : AreInOrder old.node.kept node.current
+      order : IsInOrder node
       order = order_ahead old.node.kept old.node.current node.current (λ c. (let same = put_more_trimmed step.outlet.channel (length step.later.taken) old.node.current c in omega (arith, same))) inv.order
 
       there : slice_get (outputs_of old.outlets) place ≡ Some (output_of step.outlet)
@@ -136,16 +135,11 @@ module _ (net : Network) (inputs : List (List ℤ)) where
         subst (AreSound net inputs) (sym act.stations) (set_keeps old place act.later sound (station_keeps room round e station answer act.later (sound place station there) act.step))
 
 -- there are as many as before
-set_length : (xs : List StationView) (place : ℕ) (y : StationView) → length (slice_set xs place y) ≡ length xs
-set_length [] place y = refl
-set_length (x ∷ xs) zero y = refl
-set_length (x ∷ xs) (suc place) y = ap suc (set_length xs place y)
-
 act_length : (net : Network) (inputs : List (List ℤ)) (place : ℕ) (room : Option (RecordView → Bool)) (o : Option StationView) (round : ℕ) (e : EventView) (old : List StationView) (answer : ReplyView) (new : List StationView)
     → IsActOf net inputs place room o round e old answer new → length new ≡ length old
 act_length net inputs place None o round e old answer new act = ap (length {A = StationView}) act.1
 act_length net inputs place (Some room) None round e old answer new act = ap (length {A = StationView}) act.1
-act_length net inputs place (Some room) (Some station) round e old answer new act = ap (length {A = StationView}) act.stations ∙ set_length old place act.later
+act_length net inputs place (Some room) (Some station) round e old answer new act = ap (length {A = StationView}) act.stations ∙ length-set old place act.later
 
 -- A world
 
