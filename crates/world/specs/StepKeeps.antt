@@ -42,14 +42,14 @@ module _ (net : Network) (inputs : List (List ℤ)) where
 
   -- A turn that comes back
 
-  turn_keeps : (done : DoneView) (old : StationView) (applied : Bool) (node : NodeView) → IsValid net → Fits net inputs → StationInvariant net inputs old → ∥ IsTurnOfJob done.job done.after done.taken done.sent ∥₁
+  turn_keeps : (done : DoneView) (old : StationView) (applied : Bool) (node : NodeView) → Fits net inputs → StationInvariant net inputs old → ∥ IsTurnOfJob done.job done.after done.taken done.sent ∥₁
       → IsInstall net.channels done.job done.after done.taken done.sent old.node applied node → StationInvariant net inputs (moved_to node old.failures old.turns old)
-  turn_keeps done old true node valid fits inv turn step =
+  turn_keeps done old true node fits inv turn step =
       subst (λ (n : NodeView). StationInvariant net inputs (moved_to n old.failures old.turns old)) (sym step.1)
       (moved_keeps (with_turn net.channels done.job.process done.after done.taken done.sent old.node) old.failures old.turns old
       (order_ahead old.node.kept old.node.current _ (put_more_installed net.channels done.job.process done.after done.taken done.sent old.node.current) inv.order)
-      (sound_done net inputs old.node (outputs_of old.outlets) done.job done.after done.taken done.sent valid fits inv.sound step.0 turn))
-  turn_keeps done old false node valid fits inv turn step = subst (λ (n : NodeView). StationInvariant net inputs (moved_to n old.failures old.turns old)) (sym step.1) (moved_keeps old.node old.failures old.turns old inv.order inv.sound)
+      (sound_done net inputs old.node (outputs_of old.outlets) done.job done.after done.taken done.sent fits inv.sound step.0 turn))
+  turn_keeps done old false node fits inv turn step = subst (λ (n : NodeView). StationInvariant net inputs (moved_to n old.failures old.turns old)) (sym step.1) (moved_keeps old.node old.failures old.turns old inv.order inv.sound)
 
   -- An item that leaves
 
@@ -101,13 +101,13 @@ module _ (net : Network) (inputs : List (List ℤ)) where
 
   -- Each event of a station
 
-  module _ (valid : IsValid net) (fits : Fits net inputs) where
+  module _ (fits : Fits net inputs) where
     pub station_keeps : (room : RecordView → Bool) (round : ℕ) (e : EventView) (old : StationView) (answer : ReplyView) (new : StationView) → StationInvariant net inputs old
         → IsStationStep net inputs room round e old answer new → StationInvariant net inputs new
     station_keeps room round (event.Grant k) old answer new inv step =
         let job = next_job net inputs old.node in
         same_keeps _ new step.1 (moved_keeps (after_grant job old.node) old.failures _ old (order_granted job old.node inv.order) (granted_sound net inputs (outputs_of old.outlets) job old.node refl inv.sound))
-    station_keeps room round (event.Install done) old answer new inv step = same_keeps _ new step.same (turn_keeps done old step.applied new.node valid fits inv step.turn step.step)
+    station_keeps room round (event.Install done) old answer new inv step = same_keeps _ new step.same (turn_keeps done old step.applied new.node fits inv step.turn step.step)
     station_keeps room round (event.Send k) old answer new inv step = send_keeps old.node.up round old answer new inv step
     station_keeps room round (event.Start k) old answer new inv step =
         same_keeps _ new step.same (moved_keeps new.node new.failures _ old (order_started old.number round old.node step.outcome new.node step.step inv.order)
@@ -146,7 +146,7 @@ act_length net inputs place (Some room) (Some station) round e old answer new ac
 -- whatever event happens, and whatever is answered
 pub step_keeps : (rooms : List (RecordView → Bool)) (e : EventView) (old : WorldView) (answer : ReplyView) (new : WorldView) → WorldInvariant old → IsStep rooms e old answer new → WorldInvariant new
 step_keeps rooms e old answer new inv step =
-    let stations = act_keeps old.net old.inputs inv.valid inv.fits (event_node e) (slice_get rooms (event_node e)) (slice_get old.stations (event_node e)) old.round e old.stations answer new.stations refl inv.stations step.act in
+    let stations = act_keeps old.net old.inputs inv.fits (event_node e) (slice_get rooms (event_node e)) (slice_get old.stations (event_node e)) old.round e old.stations answer new.stations refl inv.stations step.act in
     let count : length new.stations ≡ length old.stations = act_length old.net old.inputs (event_node e) (slice_get rooms (event_node e)) (slice_get old.stations (event_node e)) old.round e old.stations answer new.stations step.act in
     record {
       valid = subst IsValid (sym step.net) inv.valid;
