@@ -5,8 +5,9 @@ use Rattle.record.specs.Ends.{sent_of}
 use Rattle.record.specs.ImageView.{ImageView}
 use Rattle.record.specs.RecordView.{RecordView}
 use Rattle.node.specs.NodeView.{NodeView}
-use Rattle.node.specs.Starting.{with_own, decided, HasPutMore, LeavesAsMuch, AreInOrder}
+use Rattle.node.specs.Starting.{with_own, decided, HasPutMore, LeavesAsMuch}
 use Rattle.world.specs.Pairs.{LeaveAsMuchSince}
+use Rattle.world.specs.Sound.{IsInOrder}
 use Rattle.world.specs.SoundLaws.{decided_more}
 
 leaves_next : (image : ImageView) (kept : RecordView) (left : Option RecordView) → left ≡ Some kept → HasPutMore image kept.permanent → LeavesAsMuch image left
@@ -37,5 +38,5 @@ module _ {C : Type 0} (moment : C → ℕ) (left_since : C → ℕ → Option Re
   through_start number any = through (with_own number old.current old.kept) any (λ channel. omega arith)
 
   -- and that of a decision
-  pub through_decision : AreInOrder old.kept old.current → LeavesOnly moment left_since cell cell' (λ left. may_leave cell left ⊎ (left ≡ Some (decided old.kept))) → LeaveAsMuchSince moment left_since cell cell' old.kept.permanent
+  pub through_decision : IsInOrder old → LeavesOnly moment left_since cell cell' (λ left. may_leave cell left ⊎ (left ≡ Some (decided old.kept))) → LeaveAsMuchSince moment left_since cell cell' old.kept.permanent
   through_decision order any = through (decided old.kept) any (decided_more old order old.kept.tentative refl)

@@ -1,7 +1,7 @@
 -- What has left a station only grows by an event, and is covered at each moment of it.
-use Rattle.std.proofs.Common.{◌≡◌, ◌≢◌, ◌⊎◌, inl, inr, ℕ, zero, suc, ◌≤◌, Bool, true, false, List, ℤ, [], ◌∷◌, length, Option, Some, None, refl, sym, ap, subst, ◌∙◌, arith}
+use Rattle.std.proofs.Common.{◌≡◌, ◌≢◌, ◌⊎◌, inl, inr, ℕ, ◌≤◌, Bool, true, false, List, ℤ, Option, Some, None, refl, sym, ap, subst, ◌∙◌, arith}
 use Rattle.std.specs.Prelude.{slice_get, slice_set}
-use Rattle.std.proofs.lemmas.List.{map-set}
+use Rattle.std.proofs.lemmas.List.{length-set, map-set}
 use Rattle.kahn_net.specs.Streams.{IsPrefix}
 use Rattle.kahn_net.specs.Laws.Prefixes.{prefix_refl}
 use Rattle.kahn_net.specs.Syntax.{Network}
@@ -40,15 +40,10 @@ begins_same xs = record {
 begins_still : (old new : StationView) → new.outlets ≡ old.outlets → EachBegins (outputs_of old.outlets) (outputs_of new.outlets)
 begins_still old new same = subst (λ (outlets : List OutletView). EachBegins (outputs_of old.outlets) (outputs_of outlets)) (sym same) (begins_same (outputs_of old.outlets))
 
-length_set : (xs : List OutputView) (j : ℕ) (y : OutputView) → length (slice_set xs j y) ≡ length xs
-length_set [] j y = refl
-length_set (z ∷ xs) zero y = refl
-length_set (z ∷ xs) (suc j) y = ap suc (length_set xs j y)
-
 -- where one of them has more
 begins_set : (xs : List OutputView) (j : ℕ) (x y : OutputView) → slice_get xs j ≡ Some x → y.channel ≡ x.channel → IsPrefix x.taken y.taken → EachBegins xs (slice_set xs j y)
 begins_set xs j x y is channel begins = record {
-  count = length_set xs j y;
+  count = length-set xs j y;
   begins = λ i output later h g. at i output later h (set_cases xs j i y later g);
 }
   where

@@ -3,9 +3,8 @@ use Rattle.std.specs.Prelude.{◌≡◌, ◌<◌, ℕ, ℤ, List, length, map, S
 use Rattle.kahn_net.specs.Fits.{Fits}
 use Rattle.kahn_net.specs.Syntax.{Network}
 use Rattle.kahn_net.specs.Valid.{IsValid}
-use Rattle.node.specs.Starting.{AreInOrder}
 use Rattle.world.specs.OutputView.{OutputView}
-use Rattle.world.specs.Sound.{IsSound}
+use Rattle.world.specs.Sound.{IsInOrder, IsSound}
 use Rattle.world.specs.StationView.{OutletView, StationView}
 use Rattle.world.specs.Steps.{WorldView}
 
@@ -19,7 +18,7 @@ outputs_of outlets = map output_of outlets
 -- A station of a network that runs on these inputs: its images are one after another, and stand on one approximation of the histories; what
 -- has left is a beginning of what was put there, and its permanent image covers it.
 pub record StationInvariant (net : Network) (inputs : List (List ℤ)) (station : StationView) : Type 0 where
-  pub order : AreInOrder station.node.kept station.node.current
+  pub order : IsInOrder station.node
   pub sound : IsSound net inputs station.node (outputs_of station.outlets)
 
 -- the same of each of these stations

@@ -11,12 +11,11 @@ use Rattle.record.specs.Ends.{log_at, base_in, base_of}
 use Rattle.node.specs.Opening.{opening_end, opening_ends, opening_image, opening_node}
 use Rattle.node.specs.OpeningLaws.{reached_opening, laid_out_opening, counts_opening, logs_opening}
 use Rattle.record.specs.declared.image.SavedEnd.{SavedEnd}
-use Rattle.node.specs.Starting.{AreInOrder}
 use Rattle.world.specs.Invariant.{outputs_of, StationInvariant, WorldInvariant}
 use Rattle.world.specs.OpeningWorld.{opening_outlet, opening_station, opening_world}
 use Rattle.world.specs.OutputView.{OutputView}
 use Rattle.world.specs.StationView.{OutletView, StationView}
-use Rattle.world.specs.Sound.{output_channels, HasCome, IsSound}
+use Rattle.world.specs.Sound.{output_channels, HasCome, IsInOrder, IsSound}
 use Rattle.kahn_net.specs.Streams.{IsPrefix}
 
 -- nothing has left of any output
@@ -65,7 +64,7 @@ module _ (net : Network) (inputs : List (List ℤ)) (nodes number : ℕ) (output
   }
 
 -- the images of an opening node are one after another, being the same
-order_opened : (net : Network) (nodes number : ℕ) → AreInOrder (opening_node net nodes number).kept (opening_node net nodes number).current
+order_opened : (net : Network) (nodes number : ℕ) → IsInOrder (opening_node net nodes number)
 order_opened net nodes number = record { current_ahead = λ c. omega arith; held_ahead = λ held is. absurd (cc); held_behind = λ held is. absurd (cc) }
 
 -- what is true of a world is true of an opening one, of which nothing has left

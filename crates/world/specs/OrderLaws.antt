@@ -7,10 +7,11 @@ use Rattle.node.specs.JobView.{JobView}
 use Rattle.node.specs.NodeView.{NodeView}
 use Rattle.node.specs.Choosing.{after_grant}
 use Rattle.node.specs.Starting.{AreInOrder, HasPutMore, with_own, decided_with, IsStart, IsDecision}
+use Rattle.world.specs.Sound.{IsInOrder}
 use Rattle.node.specs.declared.putting.Putting.{Putting}
 use Rattle.node.specs.declared.putting.Putting.TheVariants.{NotDue, Stored, Refused, Failed}
 
-pub order_granted : (job : Option JobView) (node : NodeView) → AreInOrder node.kept node.current → AreInOrder (after_grant job node).kept (after_grant job node).current
+pub order_granted : (job : Option JobView) (node : NodeView) → IsInOrder node → IsInOrder (after_grant job node)
 order_granted None node order = order
 order_granted (Some job) node order = order
 
@@ -37,14 +38,14 @@ order_kept kept (Some held) current is order = record {
   held_behind = λ other e. absurd (cc);
 }
 
-pub order_started : (number round : ℕ) (old : NodeView) (outcome : Putting) (new : NodeView) → IsStart number round old outcome new → AreInOrder old.kept old.current → AreInOrder new.kept new.current
-order_started number round old NotDue new step order = subst (λ (n : NodeView). AreInOrder n.kept n.current) (sym step.1) order
-order_started number round old Stored new step order = subst (λ (n : NodeView). AreInOrder n.kept n.current) (sym step.2) (order_own number old.kept old.current order)
-order_started number round old (Refused refusal) new step order = subst (λ (n : NodeView). AreInOrder n.kept n.current) (sym step.2) order
-order_started number round old Failed new step order = subst (λ (n : NodeView). AreInOrder n.kept n.current) (sym step.2) order
+pub order_started : (number round : ℕ) (old : NodeView) (outcome : Putting) (new : NodeView) → IsStart number round old outcome new → IsInOrder old → IsInOrder new
+order_started number round old NotDue new step order = subst IsInOrder (sym step.1) order
+order_started number round old Stored new step order = subst IsInOrder (sym step.2) (order_own number old.kept old.current order)
+order_started number round old (Refused refusal) new step order = subst IsInOrder (sym step.2) order
+order_started number round old Failed new step order = subst IsInOrder (sym step.2) order
 
-pub order_decided : (number round : ℕ) (old : NodeView) (outcome : Putting) (new : NodeView) → IsDecision number round old outcome new → AreInOrder old.kept old.current → AreInOrder new.kept new.current
-order_decided number round old NotDue new step order = subst (λ (n : NodeView). AreInOrder n.kept n.current) (sym step.1) order
-order_decided number round old Stored new step order = subst (λ (n : NodeView). AreInOrder n.kept n.current) (sym step.1) (order_kept old.kept old.kept.tentative old.current refl order)
-order_decided number round old (Refused refusal) new step order = subst (λ (n : NodeView). AreInOrder n.kept n.current) (sym step.2) order
-order_decided number round old Failed new step order = subst (λ (n : NodeView). AreInOrder n.kept n.current) (sym step.1) order
+pub order_decided : (number round : ℕ) (old : NodeView) (outcome : Putting) (new : NodeView) → IsDecision number round old outcome new → IsInOrder old → IsInOrder new
+order_decided number round old NotDue new step order = subst IsInOrder (sym step.1) order
+order_decided number round old Stored new step order = subst IsInOrder (sym step.1) (order_kept old.kept old.kept.tentative old.current refl order)
+order_decided number round old (Refused refusal) new step order = subst IsInOrder (sym step.2) order
+order_decided number round old Failed new step order = subst IsInOrder (sym step.1) order

@@ -8,6 +8,7 @@ use Rattle.kahn_net.specs.declared.program.Port.{Port}
 use Rattle.kahn_net.specs.declared.program.Port.TheVariants.{Outside, Process}
 use Rattle.node.specs.JobView.{JobView}
 use Rattle.node.specs.NodeView.{NodeView}
+use Rattle.node.specs.Starting.{AreInOrder}
 use Rattle.record.specs.Ends.{base_of, sent_of}
 use Rattle.node.specs.Reached.{HasReached, IsLaidOut, CountsAreWithin, LogsAreWithin, IsJobOf, acts_of}
 use Rattle.world.specs.OutputView.{OutputView}
@@ -24,6 +25,10 @@ pub record NodeIsSound (net : Network) (inputs : List (List ℤ)) (node : NodeVi
   pub laid_out : IsLaidOut net node.current
   pub counts : CountsAreWithin inputs node.current
   pub logs : LogsAreWithin node.current
+
+-- its images are one after another: what it keeps over a crash, and what it has now
+abbrev pub IsInOrder : NodeView → Type 0
+IsInOrder node = AreInOrder node.kept node.current
 
 -- the log of an output goes back to what its outlet has, and the permanent image covers all of that
 pub record OutputIsSound (node : NodeView) (output : OutputView) : Type 0 where

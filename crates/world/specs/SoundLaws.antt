@@ -6,7 +6,7 @@ use Rattle.record.specs.Ends.{sent_of}
 use Rattle.node.specs.JobView.{JobView}
 use Rattle.node.specs.NodeView.{NodeView}
 use Rattle.node.specs.Reached.{IsJobOf}
-use Rattle.node.specs.Starting.{with_own, with_kept, decided, decided_with, stopped, IsStart, IsDecision, HasPutMore, AreInOrder}
+use Rattle.node.specs.Starting.{with_own, with_kept, decided, decided_with, stopped, IsStart, IsDecision, HasPutMore}
 use Rattle.node.specs.StepLaws.{reached_start, reached_decide, reached_stopped, reached_grant, on_start, on_decide, on_stopped, on_grant}
 use Rattle.record.specs.declared.record.Tentative.{Tentative}
 use Rattle.node.specs.declared.putting.Putting.{Putting}
@@ -15,10 +15,10 @@ use Rattle.node.specs.Choosing.{next_job, after_grant}
 use Rattle.node.specs.GrantLaws.{job_granted}
 use Rattle.node.specs.ReleaseLaws.{beginning_stays}
 use Rattle.world.specs.OutputView.{OutputView}
-use Rattle.world.specs.Sound.{HasCome, IsSound}
+use Rattle.world.specs.Sound.{HasCome, IsInOrder, IsSound}
 
 -- a tentative image that becomes permanent has put at least as much
-pub decided_more : (old : NodeView) → AreInOrder old.kept old.current → (held : Option Tentative) → old.kept.tentative ≡ held → HasPutMore old.kept.permanent (decided_with old.kept held).permanent
+pub decided_more : (old : NodeView) → IsInOrder old → (held : Option Tentative) → old.kept.tentative ≡ held → HasPutMore old.kept.permanent (decided_with old.kept held).permanent
 decided_more old order None h = λ channel. omega arith
 decided_more old order (Some held) h = order.held_ahead held h
 
@@ -76,7 +76,7 @@ module _ (net : Network) (inputs : List (List ℤ)) (outputs : List OutputView) 
     released = λ j p output channel h at from. beginning_stays net inputs old _ come.reached _ output.channel p output.taken (on_decide net inputs old come.reached) (come.released j p output channel h at from);
   }
 
-  decided_sound : (old : NodeView) → AreInOrder old.kept old.current → IsSound net inputs old outputs → IsSound net inputs (with_kept (decided old.kept) old) outputs
+  decided_sound : (old : NodeView) → IsInOrder old → IsSound net inputs old outputs → IsSound net inputs (with_kept (decided old.kept) old) outputs
   decided_sound old order sound = record {
     listed = sound.listed;
     kept = record { laid_out = sound.kept.laid_out; counts = sound.kept.counts; logs = sound.kept.logs };
@@ -88,7 +88,7 @@ module _ (net : Network) (inputs : List (List ℤ)) (outputs : List OutputView) 
   }
 
   -- whatever came of a decision
-  pub decision_sound : (number round : ℕ) (old : NodeView) (outcome : Putting) (new : NodeView) → IsDecision number round old outcome new → AreInOrder old.kept old.current → IsSound net inputs old outputs → IsSound net inputs new outputs
+  pub decision_sound : (number round : ℕ) (old : NodeView) (outcome : Putting) (new : NodeView) → IsDecision number round old outcome new → IsInOrder old → IsSound net inputs old outputs → IsSound net inputs new outputs
   decision_sound number round old NotDue new step order sound = same_sound old new step.1 sound
   decision_sound number round old Stored new step order sound = same_sound _ new step.1 (decided_sound old order sound)
   decision_sound number round old (Refused refusal) new step order sound = same_sound old new step.2 sound

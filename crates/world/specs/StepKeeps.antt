@@ -1,7 +1,7 @@
 -- One law: whatever event happens, what is true of a world stays so.
 use Rattle.std.proofs.Common.{◌≡◌, ◌≢◌, ◌⊎◌, ℕ, zero, suc, ◌<◌, ◌≤◌, Bool, true, false, List, ℤ, [], ◌∷◌, length, Option, Some, None, refl, sym, ap, subst, ◌∙◌, arith}
 use Rattle.std.specs.Prelude.{slice_get, slice_set}
-use Rattle.std.proofs.lemmas.List.{map-set}
+use Rattle.std.proofs.lemmas.List.{length-set, map-set}
 use Rattle.kahn_net.specs.Fits.{Fits}
 use Rattle.kahn_net.specs.Syntax.{Network}
 use Rattle.kahn_net.specs.Valid.{IsValid}
@@ -14,7 +14,6 @@ use Rattle.node.specs.Choosing.{next_job, after_grant}
 use Rattle.node.specs.Installing.{with_turn, IsInstall}
 use Rattle.node.specs.FitLaws.{put_more_installed}
 use Rattle.node.specs.TrimLaws.{put_more_trimmed}
-use Rattle.node.specs.Starting.{AreInOrder}
 use Rattle.node.specs.Trimming.{with_current, HasNext, TookNext}
 use Rattle.world.specs.DoneView.{DoneView, IsTurnOfJob}
 use Rattle.world.specs.EventView.{EventView, event_node}
@@ -26,7 +25,7 @@ use Rattle.world.specs.OrderLaws.{order_granted, order_ahead, order_started, ord
 use Rattle.world.specs.OutputLaws.{map_at}
 use Rattle.world.specs.OutputView.{OutputView}
 use Rattle.world.specs.ReplyView.{ReplyView}
-use Rattle.world.specs.Sound.{IsSound}
+use Rattle.world.specs.Sound.{IsInOrder, IsSound}
 use Rattle.world.specs.SoundLaws.{granted_sound, start_sound, decision_sound}
 use Rattle.world.specs.StationView.{StationView}
 use Rattle.world.specs.Steps.{moved_to, next_release, IsSendOf, IsReleaseAt, IsRelease, IsStationStep, IsActOf, IsAct, IsStep, WorldView, round_after}
@@ -34,7 +33,7 @@ use Rattle.world.specs.TurnLaws.{sound_done}
 use Rattle.world.specs.declared.round_turns.RoundTurns.{RoundTurns}
 
 module _ (net : Network) (inputs : List (List ℤ)) where
-  moved_keeps : (node : NodeView) (failures : ℕ) (turns : RoundTurns) (old : StationView) → AreInOrder node.kept node.current → IsSound net inputs node (outputs_of old.outlets)
+  moved_keeps : (node : NodeView) (failures : ℕ) (turns : RoundTurns) (old : StationView) → IsInOrder node → IsSound net inputs node (outputs_of old.outlets)
       → StationInvariant net inputs (moved_to node failures turns old)
   moved_keeps node failures turns old order sound = record { order = order; sound = sound }
 
@@ -43,14 +42,14 @@ module _ (net : Network) (inputs : List (List ℤ)) where
 
   -- A turn that comes back
 
-  turn_keeps : (done : DoneView) (old : StationView) (applied : Bool) (node : NodeView) → IsValid net → Fits net inputs → StationInvariant net inputs old → ∥ IsTurnOfJob done.job done.after done.taken done.sent ∥₁
+  turn_keeps : (done : DoneView) (old : StationView) (applied : Bool) (node : NodeView) → Fits net inputs → StationInvariant net inputs old → ∥ IsTurnOfJob done.job done.after done.taken done.sent ∥₁
       → IsInstall net.channels done.job done.after done.taken done.sent old.node applied node → StationInvariant net inputs (moved_to node old.failures old.turns old)
-  turn_keeps done old true node valid fits inv turn step =
+  turn_keeps done old true node fits inv turn step =
       subst (λ (n : NodeView). StationInvariant net inputs (moved_to n old.failures old.turns old)) (sym step.1)
       (moved_keeps (with_turn net.channels done.job.process done.after done.taken done.sent old.node) old.failures old.turns old
       (order_ahead old.node.kept old.node.current _ (put_more_installed net.channels done.job.process done.after done.taken done.sent old.node.current) inv.order)
-      (sound_done net inputs old.node (outputs_of old.outlets) done.job done.after done.taken done.sent valid fits inv.sound step.0 turn))
-  turn_keeps done old false node valid fits inv turn step = subst (λ (n : NodeView). StationInvariant net inputs (moved_to n old.failures old.turns old)) (sym step.1) (moved_keeps old.node old.failures old.turns old inv.order inv.sound)
+      (sound_done net inputs old.node (outputs_of old.outlets) done.job done.after done.taken done.sent fits inv.sound step.0 turn))
+  turn_keeps done old false node fits inv turn step = subst (λ (n : NodeView). StationInvariant net inputs (moved_to n old.failures old.turns old)) (sym step.1) (moved_keeps old.node old.failures old.turns old inv.order inv.sound)
 
   -- An item that leaves
 
@@ -69,7 +68,7 @@ module _ (net : Network) (inputs : List (List ℤ)) where
       covers : length step.later.taken ≤ sent_of old.node.kept.permanent step.outlet.channel
       covers = let one = took_one (log_of old.node.current step.outlet.channel) step.outlet.taken step.later.taken took in omega (arith, one, more)
 
-      order : AreInOrder old.node.kept node.current
+      order : IsInOrder node
       order = order_ahead old.node.kept old.node.current node.current (λ c. (let same = put_more_trimmed step.outlet.channel (length step.later.taken) old.node.current c in omega (arith, same))) inv.order
 
       there : slice_get (outputs_of old.outlets) place ≡ Some (output_of step.outlet)
@@ -102,13 +101,13 @@ module _ (net : Network) (inputs : List (List ℤ)) where
 
   -- Each event of a station
 
-  module _ (valid : IsValid net) (fits : Fits net inputs) where
+  module _ (fits : Fits net inputs) where
     pub station_keeps : (room : RecordView → Bool) (round : ℕ) (e : EventView) (old : StationView) (answer : ReplyView) (new : StationView) → StationInvariant net inputs old
         → IsStationStep net inputs room round e old answer new → StationInvariant net inputs new
     station_keeps room round (event.Grant k) old answer new inv step =
         let job = next_job net inputs old.node in
         same_keeps _ new step.1 (moved_keeps (after_grant job old.node) old.failures _ old (order_granted job old.node inv.order) (granted_sound net inputs (outputs_of old.outlets) job old.node refl inv.sound))
-    station_keeps room round (event.Install done) old answer new inv step = same_keeps _ new step.same (turn_keeps done old step.applied new.node valid fits inv step.turn step.step)
+    station_keeps room round (event.Install done) old answer new inv step = same_keeps _ new step.same (turn_keeps done old step.applied new.node fits inv step.turn step.step)
     station_keeps room round (event.Send k) old answer new inv step = send_keeps old.node.up round old answer new inv step
     station_keeps room round (event.Start k) old answer new inv step =
         same_keeps _ new step.same (moved_keeps new.node new.failures _ old (order_started old.number round old.node step.outcome new.node step.step inv.order)
@@ -136,23 +135,18 @@ module _ (net : Network) (inputs : List (List ℤ)) where
         subst (AreSound net inputs) (sym act.stations) (set_keeps old place act.later sound (station_keeps room round e station answer act.later (sound place station there) act.step))
 
 -- there are as many as before
-set_length : (xs : List StationView) (place : ℕ) (y : StationView) → length (slice_set xs place y) ≡ length xs
-set_length [] place y = refl
-set_length (x ∷ xs) zero y = refl
-set_length (x ∷ xs) (suc place) y = ap suc (set_length xs place y)
-
 act_length : (net : Network) (inputs : List (List ℤ)) (place : ℕ) (room : Option (RecordView → Bool)) (o : Option StationView) (round : ℕ) (e : EventView) (old : List StationView) (answer : ReplyView) (new : List StationView)
     → IsActOf net inputs place room o round e old answer new → length new ≡ length old
 act_length net inputs place None o round e old answer new act = ap (length {A = StationView}) act.1
 act_length net inputs place (Some room) None round e old answer new act = ap (length {A = StationView}) act.1
-act_length net inputs place (Some room) (Some station) round e old answer new act = ap (length {A = StationView}) act.stations ∙ set_length old place act.later
+act_length net inputs place (Some room) (Some station) round e old answer new act = ap (length {A = StationView}) act.stations ∙ length-set old place act.later
 
 -- A world
 
 -- whatever event happens, and whatever is answered
 pub step_keeps : (rooms : List (RecordView → Bool)) (e : EventView) (old : WorldView) (answer : ReplyView) (new : WorldView) → WorldInvariant old → IsStep rooms e old answer new → WorldInvariant new
 step_keeps rooms e old answer new inv step =
-    let stations = act_keeps old.net old.inputs inv.valid inv.fits (event_node e) (slice_get rooms (event_node e)) (slice_get old.stations (event_node e)) old.round e old.stations answer new.stations refl inv.stations step.act in
+    let stations = act_keeps old.net old.inputs inv.fits (event_node e) (slice_get rooms (event_node e)) (slice_get old.stations (event_node e)) old.round e old.stations answer new.stations refl inv.stations step.act in
     let count : length new.stations ≡ length old.stations = act_length old.net old.inputs (event_node e) (slice_get rooms (event_node e)) (slice_get old.stations (event_node e)) old.round e old.stations answer new.stations step.act in
     record {
       valid = subst IsValid (sym step.net) inv.valid;
