@@ -22,4 +22,5 @@ pub mod GrantLaws
 pub mod SentLaws
 pub mod SharingLaws
 pub mod VariableLaws
+pub mod SiteLaws
 pub mod SizeLaws
