@@ -23,4 +23,5 @@ pub mod SentLaws
 pub mod SharingLaws
 pub mod VariableLaws
 pub mod SiteLaws
+pub mod LikeLaws
 pub mod SizeLaws
