@@ -1,9 +1,9 @@
 -- Each record has the fields of one whose items are of 64 bits, as far as bytes can tell.
-use Rattle.std.proofs.Common.{◌≡◌, ℕ, suc, ◌^◌, ◌<◌, ◌%◌, Bool, true, false, nat_eq, cond, ℤ, List, [], ◌∷◌, ◌++◌, length, map, slice_index, Option, Some, None, Ok, Err, refl, sym, ap, subst, ◌∙◌, arith}
+use Rattle.std.proofs.Common.{◌≡◌, ℕ, suc, ◌^◌, ◌<◌, Bool, true, false, nat_eq, cond, ℤ, List, [], ◌∷◌, ◌++◌, length, map, slice_index, Option, Some, None, Ok, Err, refl, sym, ap, subst, ◌∙◌}
 use Rattle.std.specs.Prelude.{FitsSigned}
 use Rattle.std.specs.List.{AllByRecursion}
-use Rattle.std.specs.Int.{w64, cast_signed, cast_unsigned}
-use Rattle.std.proofs.lemmas.Int.{of_z-to_z}
+use Rattle.std.specs.Int.{w64, cast_unsigned, int_wrap}
+use Rattle.std.proofs.lemmas.Int.{SFits-int_wrap, int_wrap_fits}
 use Rattle.kahn_net.specs.Processes.{Standing}
 use Rattle.kahn_net.specs.Processes.Standing.{NotBegun, At, Done}
 use Rattle.kahn_net.specs.declared.limits.TheConstants.{MAX_COUNT, MAX_PROCESSES, MAX_CHANNELS, MAX_VARIABLES}
@@ -23,7 +23,7 @@ use Rattle.ckpt_codec.specs.Reading.{Found, number_at}
 use Rattle.ckpt_codec.proofs.Scan.{Outcome, behind_it, judged, scan_field, scan, AreBytes}
 use Rattle.ckpt_codec.proofs.Scan.Outcome.{Passed, Stuck, Differs}
 use Rattle.ckpt_codec.proofs.Text.{field_passed, Walk, walk_of}
-use Rattle.ckpt_codec.proofs.Parts.{signed_fits, IsImage}
+use Rattle.ckpt_codec.proofs.Parts.{IsImage}
 use Rattle.ckpt_codec.proofs.Records.{IsTentative, IsKept}
 
 -- ---- fields that bytes can't tell apart: the same but for a value that is too large for them
@@ -98,25 +98,17 @@ stuck_alike (field ∷ fields) (other ∷ others) bytes fault alike are e =
 -- ---- items of 64 bits
 
 abbrev fitting : ℤ → ℤ
-fitting z = cast_signed w64 (cast_unsigned w64 z % 256 ^ 8)
+fitting z = int_wrap w64 z
 
 AreItems : List ℤ → Type 0
 AreItems zs = AllByRecursion (FitsSigned w64) zs
 
 item_alike : (z : ℤ) → Alike (item z) (item (fitting z))
-item_alike z =
-    let less : cast_unsigned w64 z % 256 ^ 8 < 256 ^ 8 = below (cast_unsigned w64 z) in
-    record {
-      width = refl;
-      allows = λ v. refl;
-      value = λ lt. sym (of_z-to_z w64 (cast_unsigned w64 z % 256 ^ 8) less ∙ small (cast_unsigned w64 z) lt);
-    }
-  where
-    below : (n : ℕ) → n % 256 ^ 8 < 256 ^ 8
-    below n = omega arith
-
-    small : (n : ℕ) → n < 256 ^ 8 → n % 256 ^ 8 ≡ n
-    small n lt = omega arith
+item_alike z = record {
+  width = refl;
+  allows = λ v. refl;
+  value = λ lt. ap (cast_unsigned w64) (sym (int_wrap_fits w64 (int_wrap w64 z) (SFits-int_wrap w64 z)));
+}
 
 items_alike : (zs : List ℤ) → AllAlike (map item zs) (map item (map fitting zs))
 items_alike [] = tt
@@ -124,10 +116,7 @@ items_alike (z ∷ zs) = (item_alike z, items_alike zs)
 
 items_fit : (zs : List ℤ) → AllByRecursion (FitsSigned w64) (map fitting zs)
 items_fit [] = tt
-items_fit (z ∷ zs) = (signed_fits (cast_unsigned w64 z % 256 ^ 8) (below (cast_unsigned w64 z)), items_fit zs)
-  where
-    below : (n : ℕ) → n % 256 ^ 8 < 256 ^ 8
-    below n = omega arith
+items_fit (z ∷ zs) = (SFits-int_wrap w64 z, items_fit zs)
 
 pub length-fitting : (zs : List ℤ) → length zs ≡ length (map fitting zs)
 length-fitting [] = refl

@@ -1,11 +1,11 @@
 -- The readers of a record's parts are lawful.
-use Rattle.std.proofs.Common.{◌≡◌, ℕ, zero, suc, ◌+◌, ◌^◌, ◌<◌, ◌≤◌, Bool, true, false, ◌&&◌, not, nat_eq, nat_lt, nat_le, cond, ℤ, pos, negsuc, List, [], ◌∷◌, ◌++◌, length, map, drop, Option, Some, None, Ok, Err, refl, sym, ap, ◌∙◌, arith, rules}
+use Rattle.std.proofs.Common.{◌≡◌, ℕ, zero, suc, ◌+◌, ◌^◌, ◌<◌, ◌≤◌, Bool, true, false, ◌&&◌, not, nat_eq, nat_lt, nat_le, cond, ℤ, pos, List, [], ◌∷◌, ◌++◌, length, map, drop, Option, Some, None, Ok, Err, refl, sym, ap, ◌∙◌, arith, rules}
 use Rattle.std.specs.Prelude.{FitsSigned}
 use Rattle.std.specs.List.{AllByRecursion}
-use Rattle.std.specs.Int.{w64, cast_signed, cast_unsigned}
+use Rattle.std.specs.Int.{w64, cast_signed, cast_unsigned, int_wrap}
 use Rattle.std.proofs.lemmas.Bool.{eqb-true, leb-true}
 use Rattle.std.proofs.lemmas.List.{nil_from_length}
-use Rattle.std.proofs.lemmas.Int.{of_z-to_z, to_z-of_z}
+use Rattle.std.proofs.lemmas.Int.{of_z-to_z, to_z-of_z, int_wrap_fits}
 use Rattle.std.proofs.Math.Facts.{sfits_to_z, Fits-of_lt}
 use Rattle.byteorder.specs.Endian.{big_number}
 use Rattle.byteorder.specs.Numbers.{big_from-lt}
@@ -23,6 +23,7 @@ use Rattle.record.specs.declared.image.End.{End}
 use Rattle.record.specs.declared.image.End.TheVariants.{Receives, Sends, Both}
 use Rattle.ckpt_codec.specs.Fields.{Field}
 use Rattle.ckpt_codec.specs.RecordText.{any, at_most, exactly, count, item, flag, between, wanted_or, participants, decision_fields, first_of, rest_of, wanted, variables_of, mode_fields, process_fields, processes_fields, role_of, retained_count, end_fields, saved_end_fields, ends_fields, processes_in, ends_in, image_fields, items_of_end}
+use Rattle.ckpt_codec.specs.ItemLaws.{wrapped_fits}
 use Rattle.ckpt_codec.specs.declared.fault.CodecFault.TheVariants.{Truncated}
 use Rattle.ckpt_codec.specs.Reading.{◌>>=◌, Found, Reader, number_at, if_passes, field_at, wanted_test, item_at, count_at, flag_at, optional, each_as, unchanged, entries_at, nodes_at, highest_at, participant_at, past_participant, participants_at, participant_count_at, participant_list_at, decided_at, decision_at, items_at, depth_at, passes_at, place_at, Footing, standing_on, footing_in, footing_at, mode_at, variable_count_at, variables_at, state_at, process_at, nth, number_wanted, variables_wanted, process_like, past_process, processes_at, process_count_at, process_list_at, retained_at, retained_items_at, log_at, end_at, role_at, role_end_at, saved_end_at, channel_wanted, role_wanted, end_like, past_end, ends_at, end_count_at, end_list_at, image_at}
 use Rattle.ckpt_codec.specs.Reading.Footing.{BeforeAll, AtPoint, PastAll}
@@ -63,10 +64,6 @@ any_less : (width : ℕ) → Lawful (λ n. n < 256 ^ width) (λ n. any width n �
 any_less width =
     same_reader (number_at width) (field_lawful (λ n. n < 256 ^ width) (any width) width (λ v. true) (λ n. refl) (λ n lt e. lt) 0 (omega (arith, big_from-lt 0 width [] (λ k. omega arith)))) (λ bytes. passes_all (number_at width bytes))
 
-pub unsigned_fits : (z : ℤ) → FitsSigned w64 z → cast_unsigned w64 z < 256 ^ 8
-unsigned_fits (pos n) fits = let lt = fits.sfits in omega arith
-unsigned_fits (negsuc n) fits = omega arith
-
 pub signed_fits : (n : ℕ) → n < 256 ^ 8 → FitsSigned w64 (cast_signed w64 n)
 signed_fits n lt = sfits_to_z {w = w64} {n = n} (Fits-of_lt lt)
 
@@ -74,8 +71,9 @@ pub item_lawful : Lawful (FitsSigned w64) (λ z. item z ∷ []) item_at
 unfolding item_at number_at
 item_lawful =
     same_reader item_at
-    (mapped (FitsSigned w64) (λ z. item z ∷ []) (cast_signed w64) (cast_unsigned w64) (any_less 8)
-    (λ z fits. (unsigned_fits z fits, to_z-of_z w64 z fits, refl)) (λ n lt. (signed_fits n lt, of_z-to_z w64 n lt)))
+    (mapped (FitsSigned w64) (λ z. item z ∷ []) (cast_signed w64) (λ z. cast_unsigned w64 (int_wrap w64 z)) (any_less 8)
+    (λ z fits. (wrapped_fits z, ap (λ (v : ℤ). cast_signed w64 (cast_unsigned w64 v)) (int_wrap_fits w64 z fits) ∙ to_z-of_z w64 z fits, refl))
+    (λ n lt. (signed_fits n lt, ap (cast_unsigned w64) (int_wrap_fits w64 (cast_signed w64 n) (signed_fits n lt)) ∙ of_z-to_z w64 n lt)))
     (λ bytes. chosen (nat_lt (length bytes) 8) (big_number 8 bytes) (drop 8 bytes))
   where
     chosen : (short : Bool) (n : ℕ) (rest : List ℕ) → cond {A = Found ℤ} short (Err Truncated) (Ok (cast_signed w64 n, rest))

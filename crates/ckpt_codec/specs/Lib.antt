@@ -5,3 +5,4 @@ pub mod Reading
 pub mod Spelling
 pub mod Lengths
 pub mod SizeLaws
+pub mod ItemLaws

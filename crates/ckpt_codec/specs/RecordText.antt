@@ -2,7 +2,7 @@
 -- depends on the fields before it alone.
 use Rattle.std.specs.Prelude.{◌≡◌, ℕ, suc, ◌+◌, true, ◌==◌, ◌&&◌, not, nat_lt, nat_le, ℤ, List, [], ◌∷◌, ◌++◌, length, map, Option, Some, None, slice_index, All, FitsSigned}
 use Rattle.std.specs.List.{flat_map}
-use Rattle.std.specs.Int.{w64, cast_unsigned}
+use Rattle.std.specs.Int.{w64, cast_unsigned, int_wrap}
 use Rattle.kahn_net.specs.Processes.{Standing}
 use Rattle.kahn_net.specs.Processes.Standing.{NotBegun, At, Done}
 use Rattle.kahn_net.specs.declared.limits.TheConstants.{MAX_COUNT, MAX_NODES, MAX_PROCESSES, MAX_CHANNELS, MAX_VARIABLES}
@@ -35,9 +35,9 @@ exactly width wanted n = record { width = width; allows = λ v. v == wanted; val
 abbrev pub count : ℕ → Field
 count n = at_most 8 MAX_COUNT n
 
--- an item or a variable, in two's complement
+-- an item or a variable, in two's complement modulo 2^64
 abbrev pub item : ℤ → Field
-item v = any 8 (cast_unsigned w64 v)
+item v = any 8 (cast_unsigned w64 (int_wrap w64 v))
 
 -- 0 where a part is left out, and 1 where it follows
 abbrev pub flag : ℕ → Field

@@ -1,7 +1,7 @@
 -- The bytes of a record part by part, whatever the parts are compared with.
 use Rattle.std.specs.Prelude.{ℕ, ◌^◌, ◌<◌, ℤ, List, ◌++◌, length, Option, Some, None, All, FitsSigned}
 use Rattle.std.specs.List.{flat_map}
-use Rattle.std.specs.Int.{w64, cast_unsigned}
+use Rattle.std.specs.Int.{w64, cast_unsigned, int_wrap}
 use Rattle.kahn_net.specs.Processes.{Standing}
 use Rattle.kahn_net.specs.Processes.Standing.{NotBegun, At, Done}
 use Rattle.retained.specs.LogState.{LogState}
@@ -17,7 +17,7 @@ use Rattle.ckpt_codec.specs.Fields.{number_text}
 use Rattle.ckpt_codec.specs.RecordText.{variables_of, role_of, items_of_end}
 
 unfoldable pub item_text : ℤ → List ℕ
-item_text z = number_text 8 (cast_unsigned w64 z)
+item_text z = number_text 8 (cast_unsigned w64 (int_wrap w64 z))
 
 abbrev pub items_text : List ℤ → List ℕ
 items_text zs = flat_map item_text zs

@@ -17,6 +17,7 @@ use Rattle.proc_step.specs.Turns.{IsTurn}
 use Rattle.proc_step.specs.TurnLaws.{sent_fits, taken_fits}
 use Rattle.record.specs.ProcessView.{SavedProcessView}
 use Rattle.record.specs.ImageView.{ImageView}
+use Rattle.ckpt_codec.specs.RecordText.{role_of}
 use Rattle.node.specs.JobView.{JobView}
 use Rattle.node.specs.NodeView.{RunningNode}
 use Rattle.record.specs.Ends.{received_of, received_at, log_of, log_at, sent_in, end_of, base_in, base_of}
@@ -25,7 +26,7 @@ use Rattle.node.specs.Granting.{is_process, next_items, room_in, room_of, room_f
 use Rattle.record.specs.Changes.{log_with, pushed, counted, LogTakes}
 use Rattle.node.specs.Installing.{is_consumer, is_producer, taken_from, put_on, saved_pushed, saved_counted, moved, installed, ImageTakes}
 use Rattle.node.specs.Starting.{HasPutMore}
-use Rattle.node.specs.Reached.{ImageStands, HasReached, is_counting, IsLaidOut, CountsAreWithin, LogsAreWithin, IsJobOf, IsTurnOf}
+use Rattle.node.specs.Reached.{ImageStands, HasReached, is_counting, role_between, IsLaidOut, CountsAreWithin, LogsAreWithin, IsJobOf, IsTurnOf}
 use Rattle.node.specs.ImageLaws.{channel_at, received_is, log_is, map_got, map_keeps, map_twice, end_of_changed}
 use Rattle.node.specs.ReachedLaws.{items_at_hand, items_of_channel}
 use Rattle.node.specs.SharingLaws.{share_within, share_kept}
@@ -217,6 +218,11 @@ still_logging (Receives received) items count = refl
 still_logging (Sends log) items count = refl
 still_logging (Both received log) items count = refl
 
+still_its_role : (end : End) (items : List ℤ) (count : ℕ) → role_of (counted count (pushed items end)) ≡ role_of end
+still_its_role (Receives received) items count = refl
+still_its_role (Sends log) items count = refl
+still_its_role (Both received log) items count = refl
+
 pub laid_out_installed : (net : Network) (process : ℕ) (after : Standing) (taken : List ℕ) (sent : List (List ℤ)) (image : ImageView)
     → IsLaidOut net image → IsLaidOut net (installed net.channels process after taken sent image)
 laid_out_installed net process after taken sent image laid = record {
@@ -226,6 +232,7 @@ laid_out_installed net process after taken sent image laid = record {
       ∙ (map_keeps (λ (s : SavedEnd). s.channel) (saved_pushed net.channels process sent) image.ends (λ s. refl) ∙ laid.ends);
   counting = counting;
   logging = logging;
+  roles = roles;
 }
   where
     counting : (k p : ℕ) (saved : SavedEnd) (channel : Channel) → slice_get (installed net.channels process after taken sent image).ends k ≡ Some saved → slice_get net.channels saved.channel ≡ Some channel
@@ -245,6 +252,15 @@ laid_out_installed net process after taken sent image laid = record {
         ap (λ (s : SavedEnd). is_logging s.end) (sym old.2)
         ∙ (still_logging old.0.end (put_on net.channels process sent old.0.channel) (taken_from net.channels process taken old.0.channel)
         ∙ laid.logging k p old.0 channel old.1 (ap (slice_get net.channels) number ∙ on) from)
+
+    roles : (k : ℕ) (saved : SavedEnd) (channel : Channel) → slice_get (installed net.channels process after taken sent image).ends k ≡ Some saved → slice_get net.channels saved.channel ≡ Some channel
+        → role_of saved.end ≡ role_between channel.producer channel.consumer
+    roles k saved channel is on =
+        let old = end_before net.channels process after taken sent image k saved is in
+        let number : old.0.channel ≡ saved.channel = ap (λ (s : SavedEnd). s.channel) old.2 in
+        ap (λ (s : SavedEnd). role_of s.end) (sym old.2)
+        ∙ (still_its_role old.0.end (put_on net.channels process sent old.0.channel) (taken_from net.channels process taken old.0.channel)
+        ∙ laid.roles k old.0 channel old.1 (ap (slice_get net.channels) number ∙ on))
 
 at_most_counted : (end : End) (items : List ℤ) (count : ℕ) → received_at (Some (counted count (pushed items end))) ≤ received_at (Some end) + count
 at_most_counted (Receives received) items count = omega arith

@@ -23,4 +23,6 @@ pub mod GrantLaws
 pub mod SentLaws
 pub mod SharingLaws
 pub mod VariableLaws
+pub mod SiteLaws
+pub mod LikeLaws
 pub mod SizeLaws

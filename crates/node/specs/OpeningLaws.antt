@@ -9,9 +9,10 @@ use Rattle.kahn_net.specs.declared.program.Port.TheVariants.{Outside, Process}
 use Rattle.retained.specs.LogState.{LogState, IsLogOf}
 use Rattle.record.specs.ProcessView.{SavedProcessView}
 use Rattle.record.specs.Ends.{received_at, log_at}
+use Rattle.ckpt_codec.specs.RecordText.{role_of}
 use Rattle.node.specs.Opening.{opening_processes, opening_end, opening_ends, opening_image, opening_running}
 use Rattle.node.specs.Sharing.{is_logging}
-use Rattle.node.specs.Reached.{first_acts, EndStands, ImageStands, HasReached, numbers_from, is_counting, IsLaidOut, CountsAreWithin, LogsAreWithin}
+use Rattle.node.specs.Reached.{first_acts, EndStands, ImageStands, HasReached, numbers_from, is_counting, role_between, IsLaidOut, CountsAreWithin, LogsAreWithin}
 use Rattle.record.specs.declared.image.SavedEnd.{SavedEnd}
 use Rattle.record.specs.declared.image.End.{End}
 
@@ -69,6 +70,11 @@ logs_there : (producer consumer : Port) (q : ℕ) → producer ≡ Process q →
 logs_there Outside consumer q from = absurd (cc)
 logs_there (Process p) Outside q from = refl
 logs_there (Process p) (Process r) q from = refl
+
+role_there : (producer consumer : Port) → role_of (opening_end producer consumer) ≡ role_between producer consumer
+role_there Outside consumer = refl
+role_there (Process p) Outside = refl
+role_there (Process p) (Process q) = refl
 
 no_acts : (code : Option Code) (histories : List (List ℤ)) → first_acts code histories 0 ≡ []
 no_acts None histories = refl
@@ -138,6 +144,8 @@ laid_out_opening net = record {
       ap is_counting (own_end net k saved channel is on) ∙ counts_there channel.producer channel.consumer p to;
   logging = λ k p saved channel is on from.
       ap is_logging (own_end net k saved channel is on) ∙ logs_there channel.producer channel.consumer p from;
+  roles = λ k saved channel is on.
+      ap role_of (own_end net k saved channel is on) ∙ role_there channel.producer channel.consumer;
 }
 
 pub counts_opening : (net : Network) (inputs : List (List ℤ)) → CountsAreWithin inputs (opening_image net)

@@ -6,12 +6,14 @@ use Rattle.kahn_net.specs.Statements.{Step}
 use Rattle.kahn_net.specs.Processes.{Standing, StandsAt, process_trace, sent_on, got_on}
 use Rattle.kahn_net.specs.Approximations.{approximation}
 use Rattle.kahn_net.specs.declared.program.Channel.{Channel}
-use Rattle.kahn_net.specs.declared.program.Port.TheVariants.{Process}
+use Rattle.kahn_net.specs.declared.program.Port.{Port}
+use Rattle.kahn_net.specs.declared.program.Port.TheVariants.{Outside, Process}
 use Rattle.proc_step.specs.Turns.{IsTurn}
 use Rattle.retained.specs.LogState.{LogState, IsLogOf}
 use Rattle.record.specs.ProcessView.{SavedProcessView}
 use Rattle.record.specs.ImageView.{ImageView}
 use Rattle.record.specs.Ends.{received_at, log_at}
+use Rattle.ckpt_codec.specs.RecordText.{role_of}
 use Rattle.node.specs.JobView.{JobView}
 use Rattle.node.specs.NodeView.{RunningNode}
 use Rattle.node.specs.Sharing.{is_logging, log_share, IsWithinShare}
@@ -69,8 +71,14 @@ is_counting (Receives received) = true
 is_counting (Sends log) = false
 is_counting (Both received log) = true
 
+-- the role of an end of a channel whose items come from there and go there: it receives, sends, or does both
+abbrev pub role_between : Port → Port → ℕ
+role_between Outside consumer = 0
+role_between (Process p) Outside = 1
+role_between (Process p) (Process q) = 2
+
 -- an image of a node that has every process and every channel has one entry for each, in order of their numbers, an end from which a process
--- gets counts, and one on which a process puts has a log
+-- gets counts, one on which a process puts has a log, and each has the role of its channel's ports
 pub record IsLaidOut (net : Network) (image : ImageView) : Type 0 where
   pub processes : map (λ (saved : SavedProcessView). saved.number) image.processes ≡ numbers_from 0 (length net.codes)
   pub ends : map (λ (saved : SavedEnd). saved.channel) image.ends ≡ numbers_from 0 (length net.channels)
@@ -78,6 +86,8 @@ pub record IsLaidOut (net : Network) (image : ImageView) : Type 0 where
       → channel.consumer ≡ Process p → is_counting saved.end ≡ true
   pub logging : (k p : ℕ) (saved : SavedEnd) (channel : Channel) → slice_get image.ends k ≡ Some saved → slice_get net.channels saved.channel ≡ Some channel
       → channel.producer ≡ Process p → is_logging saved.end ≡ true
+  pub roles : (k : ℕ) (saved : SavedEnd) (channel : Channel) → slice_get image.ends k ≡ Some saved → slice_get net.channels saved.channel ≡ Some channel
+      → role_of saved.end ≡ role_between channel.producer channel.consumer
 
 -- no more was received than there is
 abbrev pub CountsAreWithin : List (List ℤ) → ImageView → Type 0

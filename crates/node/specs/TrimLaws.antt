@@ -12,12 +12,13 @@ use Rattle.kahn_net.specs.declared.program.Port.{Port}
 use Rattle.kahn_net.specs.declared.program.Port.TheVariants.{Outside, Process}
 use Rattle.retained.specs.LogState.{LogState, IsLogOf, log_end, trimmed}
 use Rattle.record.specs.ImageView.{ImageView}
+use Rattle.ckpt_codec.specs.RecordText.{role_of}
 use Rattle.node.specs.JobView.{JobView}
 use Rattle.record.specs.Ends.{received_of, received_at, log_of, log_at, sent_in, sent_of, end_of, base_in, base_of}
 use Rattle.node.specs.Sharing.{is_logging, log_share, IsWithinShare}
 use Rattle.node.specs.Granting.{is_process, next_items, items_from, room_in, room_of, room_from}
 use Rattle.record.specs.Changes.{trimmed_log, trimmed_end, trimmed_saved, trimmed_image}
-use Rattle.node.specs.Reached.{acts_of, EndStands, ImageStands, is_counting, IsLaidOut, CountsAreWithin, LogsAreWithin, IsJobOf}
+use Rattle.node.specs.Reached.{acts_of, EndStands, ImageStands, is_counting, role_between, IsLaidOut, CountsAreWithin, LogsAreWithin, IsJobOf}
 use Rattle.node.specs.ImageLaws.{map_got, map_keeps, end_of_changed}
 use Rattle.node.specs.SharingLaws.{share_kept}
 use Rattle.record.specs.declared.image.SavedEnd.{SavedEnd}
@@ -85,6 +86,12 @@ still_logging position false end = refl
 still_logging position true (Receives received) = refl
 still_logging position true (Sends log) = refl
 still_logging position true (Both received log) = refl
+
+still_its_role : (position : ℕ) (trims : Bool) (end : End) → role_of (cond trims (trimmed_end position end) end) ≡ role_of end
+still_its_role position false end = refl
+still_its_role position true (Receives received) = refl
+still_its_role position true (Sends log) = refl
+still_its_role position true (Both received log) = refl
 
 -- the log of a trimmed end is one of before, trimmed or not
 log_before : (position : ℕ) (trims : Bool) (end : End) (log : LogState) → log_at (Some (cond trims (trimmed_end position end) end)) ≡ Some log
@@ -183,6 +190,7 @@ laid_out_trimmed net c position image laid = record {
   ends = map_keeps (λ (s : SavedEnd). s.channel) (trimmed_saved c position) image.ends (λ s. refl) ∙ laid.ends;
   counting = counting;
   logging = logging;
+  roles = roles;
 }
   where
     counting : (k p : ℕ) (saved : SavedEnd) (channel : Channel) → slice_get (map (trimmed_saved c position) image.ends) k ≡ Some saved → slice_get net.channels saved.channel ≡ Some channel
@@ -200,6 +208,14 @@ laid_out_trimmed net c position image laid = record {
         let number : old.0.channel ≡ saved.channel = ap (λ (s : SavedEnd). s.channel) old.2 in
         ap (λ (s : SavedEnd). is_logging s.end) (sym old.2)
         ∙ (still_logging position (eqb old.0.channel c) old.0.end ∙ laid.logging k p old.0 channel old.1 (ap (slice_get net.channels) number ∙ on) from)
+
+    roles : (k : ℕ) (saved : SavedEnd) (channel : Channel) → slice_get (map (trimmed_saved c position) image.ends) k ≡ Some saved → slice_get net.channels saved.channel ≡ Some channel
+        → role_of saved.end ≡ role_between channel.producer channel.consumer
+    roles k saved channel is on =
+        let old = map_got (trimmed_saved c position) image.ends k saved is in
+        let number : old.0.channel ≡ saved.channel = ap (λ (s : SavedEnd). s.channel) old.2 in
+        ap (λ (s : SavedEnd). role_of s.end) (sym old.2)
+        ∙ (still_its_role position (eqb old.0.channel c) old.0.end ∙ laid.roles k old.0 channel old.1 (ap (slice_get net.channels) number ∙ on))
 
 pub counts_trimmed : (inputs : List (List ℤ)) (c position : ℕ) (image : ImageView) → CountsAreWithin inputs image → CountsAreWithin inputs (trimmed_image c position image)
 counts_trimmed inputs c position image counts k saved is =

@@ -9,7 +9,7 @@ use Rattle.node.specs.NodeView.{NodeView}
 use Rattle.node.specs.Starting.{is_running}
 use Rattle.node.specs.Trimming.{current_log, trimmed_node}
 use Rattle.world.specs.Invariant.{outputs_of}
-use Rattle.world.specs.OutputLaws.{map_at}
+use Rattle.world.specs.OutputLaws.{map_at, set_same}
 use Rattle.world.specs.OutputView.{OutputView, output_view, outputs_view}
 use Rattle.world.specs.StationView.{OutletView, StationView, outlet_view, outlet_views}
 use Rattle.world.specs.Steps.{first_waiting, next_release, IsHanded, IsRelease, IsStationStep, IsActOf, IsAct}
@@ -21,11 +21,6 @@ use Rattle.gate_cell.specs.declared.cell.StableCell.{Ghosts as CellWords}
 use Rattle.record.specs.RecordView.{RecordView}
 use Rattle.world.specs.declared.output.Output.{Output}
 use Rattle.world.specs.declared.event.Reply.{Reply}
-
-set_same : {A : Type 0} (xs : List A) (j : ℕ) (x y : A) → slice_get xs j ≡ Some x → y ≡ x → slice_set xs j y ≡ xs
-set_same [] j x y h e = absurd (cc)
-set_same {A} (z ∷ xs) zero x y h e = let same : z ≡ x = cc in ap (λ (w : A). w ∷ xs) (e ∙ sym same)
-set_same {A} (z ∷ xs) (suc j) x y h e = ap (λ (rest : List A). z ∷ rest) (set_same xs j x y h e)
 
 -- an outlet of the list, as it is seen
 pub outlet_at : {O : Type 0} (taken : O → List ℤ) (failures : O → ℕ) (outputs : List (Output O)) (j : ℕ) (x : Output O) → j < length outputs → x ≡ get_or outputs j x
@@ -79,7 +74,7 @@ module _ (round place : ℕ) (old : StationView) (outlet later : OutletView) (no
   release_refused failures number outlets (Err e) there same_number same_failures set same =
       ap (λ (n : ℕ). stands node n failures outlets) same_number
       ∙ (ap (λ (n : ℕ). stands node old.number n outlets) same_failures
-      ∙ (ap (stands node old.number old.failures) (set ∙ set_same old.outlets place outlet later there same.1)
+      ∙ (ap (stands node old.number old.failures) (set ∙ (ap (slice_set old.outlets place) same.1 ∙ set_same old.outlets place outlet there))
       ∙ ap (λ (state : NodeView). stands state old.number old.failures old.outlets) same.0))
 
 -- Stations of a world

@@ -119,7 +119,7 @@ module _ (net : Network) (inputs : List (List ℤ)) where
           subst (λ (n : RunningNode). RunsSoundly net inputs n (outputs_of old.outlets)) before.2
           (record {
             order = order_ahead now.kept now.current _ (put_more_installed net.channels done.job.process done.after done.taken done.sent now.current) sound.order;
-            sound = sound_done net inputs now (outputs_of old.outlets) done.job done.after done.taken done.sent valid fits sound.sound out turn;
+            sound = sound_done net inputs now (outputs_of old.outlets) done.job done.after done.taken done.sent fits sound.sound out turn;
           })
 
   -- A checkpoint

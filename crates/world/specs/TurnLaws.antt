@@ -4,7 +4,6 @@ use Rattle.std.proofs.Math.Logic.{∥∥₁_elim, ∥∥₁_map₂}
 use Rattle.std.proofs.Math.Bridge.{le_prop}
 use mathlib.Core.HLevel.{⊥_prop}
 use Rattle.kahn_net.specs.Fits.{Fits}
-use Rattle.kahn_net.specs.Valid.{IsValid}
 use Rattle.kahn_net.specs.Syntax.{Network}
 use Rattle.kahn_net.specs.Processes.{Standing}
 use Rattle.retained.specs.LogState.{LogState}
@@ -23,9 +22,7 @@ use Rattle.world.specs.DoneView.{IsTurnOfJob}
 use Rattle.world.specs.Sound.{OutputsAreSound, HasCome, IsSound}
 
 module _ (net : Network) (inputs : List (List ℤ)) (node : RunningNode) (outputs : List OutputView) (job : JobView) (after : Standing) (taken : List ℕ) (sent : List (List ℤ)) where
-  -- Which code the turn is of
-
-  -- or of the job's own code: the job that is out is of this network
+  -- the job that is out is of this network, so a turn of its own code is one of the network's
   turn_of_done : IsJobOf net inputs node.current job → IsTurnOfJob job after taken sent → IsTurnOf net job after taken sent
   turn_of_done of turn code there = turn code (of.code ∙ there)
 
@@ -97,13 +94,11 @@ module _ (net : Network) (inputs : List (List ℤ)) (node : RunningNode) (output
     come = ∥∥₁_map₂ sound.come turn (λ come t. come_then sound out come t);
   }
 
-  -- Of the code that the process has
-
   -- The same of what a job that was run says of itself
 
-  pub takes_done : IsValid net → Fits net inputs → IsSound net inputs node outputs → node.out ≡ Some job → ∥ IsTurnOfJob job after taken sent ∥₁ → ImageTakes net.channels job.process taken sent node.current
-  takes_done valid fits sound out turn = takes fits sound out (turn_of_sound sound out turn)
+  pub takes_done : Fits net inputs → IsSound net inputs node outputs → node.out ≡ Some job → ∥ IsTurnOfJob job after taken sent ∥₁ → ImageTakes net.channels job.process taken sent node.current
+  takes_done fits sound out turn = takes fits sound out (turn_of_sound sound out turn)
 
-  pub sound_done : IsValid net → Fits net inputs → IsSound net inputs node outputs → node.out ≡ Some job → ∥ IsTurnOfJob job after taken sent ∥₁
+  pub sound_done : Fits net inputs → IsSound net inputs node outputs → node.out ≡ Some job → ∥ IsTurnOfJob job after taken sent ∥₁
       → IsSound net inputs (with_turn net.channels job.process after taken sent node) outputs
-  sound_done valid fits sound out turn = stays fits sound out (turn_of_sound sound out turn)
+  sound_done fits sound out turn = stays fits sound out (turn_of_sound sound out turn)

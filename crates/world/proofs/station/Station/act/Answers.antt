@@ -15,7 +15,7 @@ install-requires g c = λ out.
     let was = station_view g.O.Outlet.taken g.O.Outlet.failures c.args.self.now in
     let done = done_view c.in-Install.done in
     subst (λ (n : Net). ImageTakes (network_of n.program).channels done.job.process done.taken done.sent was.node.current) (sym c.deref.ensures)
-    (takes_done (network_of net.program) c.args.inputs.now was.node (outputs_of was.outlets) done.job done.after done.taken done.sent net.valid c.requires.fits c.requires.sound.sound out c.in-Install.done.turn)
+    (takes_done (network_of net.program) c.args.inputs.now was.node (outputs_of was.outlets) done.job done.after done.taken done.sent c.requires.fits c.requires.sound.sound out c.in-Install.done.turn)
 
 pub release-requires : goal.release-requires
 release-requires g c = λ place outlet next there.
