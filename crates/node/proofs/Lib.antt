@@ -2,6 +2,7 @@ pub mod Records
 mod Raising
 mod Checkpoints
 mod Recoveries
+mod Arming
 mod Starts
 mod Handing
 mod Slices

@@ -31,6 +31,7 @@ use net_check::{Inputs, Net};
 use outlet::{Outlet, OutletFault};
 use proc_step::{Done, Job};
 use retained::LogFault;
+use sector_disk::ArmedFault;
 use std::alloc::{AllocError, Global};
 use std::sync::Arc;
 
@@ -217,6 +218,19 @@ impl<C: StableCell> Node<C> {
         ensures same_number { self.new.number ≡ self.old.number }
     {
         recover(alloc, self.number, &mut self.state, &mut self.store, round)
+    }
+
+    /// Prepares a failure of the node's disk, where there is one. Without memory (1) it prepares nothing.
+    pub fn arm(&mut self, fault: ArmedFault) -> Result<(), AllocError>
+        ensures same { view_of self.new ≡ view_of self.old }
+        ensures any_moment { LeavesAsBefore self.old.store self.new.store }
+        ensures same_room { C.capacity (cell_in self.new.store)
+            ≡ C.capacity (cell_in self.old.store) }
+        ensures failures { C.failure_count (cell_in self.new.store)
+            ≡ C.failure_count (cell_in self.old.store) }
+        ensures same_number { self.new.number ≡ self.old.number }
+    {
+        self.store.arm(fault)
     }
 
     /// Hands an outlet the item of this channel that comes next for it, and lets the log go of what the outlet has.

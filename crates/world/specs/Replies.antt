@@ -7,7 +7,7 @@ use Rattle.node.specs.declared.putting.Recovery.{Recovery}
 use Rattle.node.specs.declared.putting.Recovery.TheVariants as recovery
 use Rattle.world.specs.EventView.{EventView}
 use Rattle.world.specs.EventView as event
-use Rattle.world.specs.ReplyView.{ReplyView, Granted, Installed, Discarded, Sent, Started, Decided, Refused, Released, OutletFailed, Crashed, Recovered, InDoubt, Down, Idled, NotDue}
+use Rattle.world.specs.ReplyView.{ReplyView, Granted, Installed, Discarded, Sent, Started, Decided, Refused, Released, OutletFailed, Crashed, Recovered, InDoubt, Down, Acted, Idled, NotDue}
 
 -- the job that can be granted is
 abbrev pub grant_reply : Option JobView → ReplyView
@@ -58,10 +58,12 @@ AnswerLeaves (Some Crashed) = ⊥
 AnswerLeaves (Some Recovered) = ⊥
 AnswerLeaves (Some InDoubt) = ⊥
 AnswerLeaves (Some Down) = ⊥
+AnswerLeaves (Some Acted) = ⊥
 AnswerLeaves (Some Idled) = Unit {0}
 AnswerLeaves (Some NotDue) = Unit {0}
 
--- A recovery looks at the device before it can be refused, so it leaves its cell alone only where it can't happen.
+-- A recovery looks at the device before it can be refused, and what is prepared is prepared in the cell, so these leave it alone only where
+-- they can't happen.
 abbrev pub LeavesCells : EventView → Option ReplyView → Type 0
 LeavesCells (event.Grant k) answer = AnswerLeaves answer
 LeavesCells (event.Install done) answer = AnswerLeaves answer
@@ -71,6 +73,7 @@ LeavesCells (event.Decide k) answer = AnswerLeaves answer
 LeavesCells (event.Release k) answer = AnswerLeaves answer
 LeavesCells (event.Crash k fill rounds) answer = AnswerLeaves answer
 LeavesCells (event.Recover k) answer = answer ≡ Some NotDue
+LeavesCells (event.Arm k fault) answer = answer ≡ Some NotDue
 LeavesCells (event.Idle k) answer = AnswerLeaves answer
 
 -- an event that takes memory: any but a send, a crash and an idle turn
@@ -83,4 +86,5 @@ TakesMemory (event.Decide k) = Unit {0}
 TakesMemory (event.Release k) = Unit {0}
 TakesMemory (event.Crash k fill rounds) = ⊥
 TakesMemory (event.Recover k) = Unit {0}
+TakesMemory (event.Arm k fault) = Unit {0}
 TakesMemory (event.Idle k) = ⊥

@@ -18,6 +18,7 @@ pub data ReplyView : Type 0 where
   Recovered : ReplyView
   InDoubt : ReplyView
   Down : ReplyView
+  Acted : ReplyView
   Idled : ReplyView
   NotDue : ReplyView
 
@@ -35,6 +36,7 @@ reply_view reply.Crashed = Crashed
 reply_view reply.Recovered = Recovered
 reply_view reply.InDoubt = InDoubt
 reply_view reply.Down = Down
+reply_view reply.Acted = Acted
 reply_view reply.Idled = Idled
 reply_view reply.NotDue = NotDue
 

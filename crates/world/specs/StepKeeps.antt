@@ -358,6 +358,7 @@ module _ (net : Network) (inputs : List (List ℤ)) where
     station_keeps room round (event.Release k) old answer new inv step = release_or_not round (next_release round old) old answer new refl inv step
     station_keeps room round (event.Crash k fill rounds) old answer new inv step = same_keeps _ new step.same (crash_keeps (round_later round rounds) old step.was_up new.node _ inv step.step)
     station_keeps room round (event.Recover k) old answer new inv step = same_keeps _ new step.same (recovery_keeps round old step.outcome new.node new.failures _ inv step.step)
+    station_keeps room round (event.Arm k fault) old answer new inv step = same_keeps old new step.1 inv
     station_keeps room round (event.Idle k) old answer new inv step = same_keeps _ new step.1 (moved_keeps old.node old.failures _ old inv.kept inv.runs)
 
     -- Stations of a list

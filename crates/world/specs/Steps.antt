@@ -149,6 +149,7 @@ IsStationStep net inputs fits round (event.Decide k) old answer new = IsDecided 
 IsStationStep net inputs fits round (event.Release k) old answer new = IsRelease round (next_release round old) old answer new
 IsStationStep net inputs fits round (event.Crash k fill rounds) old answer new = IsFallen rounds round old answer new
 IsStationStep net inputs fits round (event.Recover k) old answer new = IsBack fits round old answer new
+IsStationStep net inputs fits round (event.Arm k fault) old answer new = (answer ≡ reply.Acted) × (new ≡ old)
 IsStationStep net inputs fits round (event.Idle k) old answer new = IsIdle round old answer new
 
 -- A world
@@ -183,6 +184,7 @@ round_after reply.Crashed round stations = round
 round_after reply.Recovered round stations = round
 round_after reply.InDoubt round stations = round
 round_after reply.Down round stations = round
+round_after reply.Acted round stations = round
 round_after reply.Idled round stations = if are_done_with round stations then next_number round else round
 round_after reply.NotDue round stations = round
 

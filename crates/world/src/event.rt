@@ -1,6 +1,7 @@
 //! Events, and what comes of them.
 
 use proc_step::{Done, Job};
+use sector_disk::ArmedFault;
 
 /// What can happen. Each names its node, and `Install` that of its job's process.
 #[derive(Drop)]
@@ -22,6 +23,8 @@ pub enum Event {
     Crash { node: u8, fill: u8, rounds: u64 },
     /// The node, which is down, comes back in its next epoch.
     Recover(u8),
+    /// A failure of the node's disk is prepared.
+    Arm { node: u8, fault: ArmedFault },
     /// The node lets its turn pass.
     Idle(u8),
 }
@@ -58,6 +61,8 @@ pub enum Reply {
     InDoubt,
     /// The device failed in this event, and the node is down.
     Down,
+    /// What was to be prepared is.
+    Acted,
     Idled,
     /// The event can't happen now, or its node isn't of this world. Nothing is changed.
     NotDue,

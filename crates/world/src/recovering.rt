@@ -5,7 +5,7 @@ ghost use Rattle.ckpt_store.specs.StoreView.{cell_in};
 ghost use Rattle.node.specs.NodeOf.{view_of};
 ghost use Rattle.world.specs.Pairs.{LeaveAsMuchSince};
 ghost use Rattle.world.specs.Replies.{crash_reply, recovery_reply};
-ghost use Rattle.world.specs.ReplyView.{NotDue, reply_view};
+ghost use Rattle.world.specs.ReplyView.{Acted, NotDue, reply_view};
 ghost use Rattle.world.specs.StationView.{outlet_views};
 ghost use Rattle.world.specs.Steps.{IsBack, IsFallen, round_later};
 ghost use Rattle.world.specs.WorldView.{station_view, IsCellUnchanged};
@@ -16,6 +16,7 @@ use gate_cell::StableCell;
 use kahn_net::MAX_COUNT;
 use node::Recovery;
 use outlet::Outlet;
+use sector_disk::ArmedFault;
 use std::alloc::{AllocError, Global};
 
 // The round that comes so many later. The last one is the greatest number.
@@ -83,7 +84,27 @@ impl<C: StableCell, O: Outlet> Station<C, O> {
         ensures unchanged { IfOk result
             (λ reply. reply_view reply ≡ NotDue → IsCellUnchanged self.old self.new) }
     {
-        let recovery = self.node.recover(alloc, round)?;
-        Ok(recovery_reply(recovery))
+        match self.node.recover(alloc, round) {
+            Ok(recovery) => Ok(recovery_reply(recovery)),
+            Err(_) => Err(AllocError),
+        }
+    }
+
+    /// A failure of its node's disk is prepared.
+    pub(crate) fn arm(&mut self, fault: ArmedFault) -> Result<Reply, AllocError>
+        ensures outputs { outlet_views O.taken O.failures self.new.outputs.items
+            ≡ outlet_views O.taken O.failures self.old.outputs.items }
+        ensures leaves { LeaveAsMuchSince C.moment C.left_since (cell_in self.old.node.store)
+            (cell_in self.new.node.store) (view_of self.old.node).kept.permanent }
+        ensures later { C.moment (cell_in self.old.node.store)
+            ≤ C.moment (cell_in self.new.node.store) }
+        ensures same { station_view O.taken O.failures self.new
+            ≡ station_view O.taken O.failures self.old }
+        ensures answer { IfOk result (λ reply. reply_view reply ≡ Acted) }
+    {
+        match self.node.arm(fault) {
+            Ok(()) => Ok(Reply::Acted),
+            Err(_) => Err(AllocError),
+        }
     }
 }

@@ -49,6 +49,7 @@ fn node_of(event: &Event) -> u8
         Event::Release(node) => *node,
         Event::Crash { node, .. } => *node,
         Event::Recover(node) => *node,
+        Event::Arm { node, .. } => *node,
         Event::Idle(node) => *node,
     }
 }

@@ -3,14 +3,14 @@ use Rattle.world.proofs.Records.{epoch_more}
 use Rattle.world.proofs.Cells.{through, through_crash}
 use Rattle.world.proofs.station.Station.recover.Goals as goal
 
-pub returns-in_err-recovery-clause-leaves : goal.returns-in_err-recovery-clause-leaves
-returns-in_err-recovery-clause-leaves g c =
+pub returns-in-Err-clause-leaves : goal.returns-in-Err-clause-leaves
+returns-in-Err-clause-leaves g c =
     let was = c.args.self.now in
     let C = g.C.StableCell in
     through C was.node.store _ was.node.kept.settled _ c.recover.ensures.any_moment (epoch_more (view_of was.node))
 
-pub returns-clause-leaves : goal.returns-clause-leaves
-returns-clause-leaves g c =
+pub returns-in-Ok-clause-leaves : goal.returns-in-Ok-clause-leaves
+returns-in-Ok-clause-leaves g c =
     let was = c.args.self.now in
     let C = g.C.StableCell in
     through C was.node.store _ was.node.kept.settled _ c.recover.ensures.any_moment (epoch_more (view_of was.node))
