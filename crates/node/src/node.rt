@@ -1,5 +1,5 @@
 //! A node, and its events.
-ghost use Rattle.std.specs.Prelude.{◌≡◌, ◌⊎◌, ◌+◌, ◌<◌, ℤ, List, length, IfOk, IsErrOf, IsSome, IsTrue, OnErr, OnOk, Some, is_some, option_map};
+ghost use Rattle.std.specs.Prelude.{◌≡◌, ◌⊎◌, ◌+◌, ◌<◌, ℤ, List, false, length, IfOk, IsErrOf, IsSome, IsTrue, None, OnErr, OnOk, Some, is_some, option_map};
 ghost use Rattle.kahn_net.specs.Streams.{IsPrefix};
 ghost use Rattle.kahn_net.specs.States.{standing_of};
 ghost use Rattle.kahn_net.specs.Syntax.{network_of};
@@ -188,6 +188,8 @@ impl<C: StableCell> Node<C> {
             ≡ C.capacity (cell_in self.old.store) }
         ensures failures { C.failure_count (cell_in self.new.store)
             ≡ C.failure_count (cell_in self.old.store) }
+        ensures unknown { IsTrue result → known_in self.new.store ≡ None }
+        ensures unchanged { result ≡ false → self.new.store ≡ self.old.store }
         ensures same_number { self.new.number ≡ self.old.number }
     {
         crash(
@@ -211,6 +213,10 @@ impl<C: StableCell> Node<C> {
             (fits_in (C.capacity (cell_in self.old.store)) (with_epoch (view_of self.old).kept))
             (C.failure_count (cell_in self.old.store))
             (C.failure_count (cell_in self.new.store))) }
+        ensures refused_failures { OnErr result (C.failure_count (cell_in self.new.store)
+            ≡ C.failure_count (cell_in self.old.store)) }
+        ensures unchanged { IfOk result (λ outcome. outcome ≡ Recovery.NotDue
+            → self.new.store ≡ self.old.store) }
         ensures any_moment { LeavesNext (with_epoch (view_of self.old).kept)
             self.old.store self.new.store }
         ensures same_room { C.capacity (cell_in self.new.store)

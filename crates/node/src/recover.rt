@@ -1,5 +1,5 @@
 // A node crashes, and comes back.
-ghost use Rattle.std.specs.Prelude.{◌≡◌, IfOk, IsSome, OnErr, Some, is_some};
+ghost use Rattle.std.specs.Prelude.{◌≡◌, false, IfOk, IsSome, IsTrue, None, OnErr, Some, is_some};
 ghost use Rattle.sector_disk.specs.Clock.{Only};
 ghost use Rattle.ckpt_store.specs.Spelling.{fits_in};
 ghost use Rattle.ckpt_store.specs.StoreView.{cell_in, known_in, record_in};
@@ -34,6 +34,8 @@ pub(crate) fn crash<C: StableCell>(
     ensures any_moment { LeavesAsBefore store.old store.new }
     ensures same_room { C.capacity (cell_in store.new) ≡ C.capacity (cell_in store.old) }
     ensures failures { C.failure_count (cell_in store.new) ≡ C.failure_count (cell_in store.old) }
+    ensures unknown { IsTrue result → known_in store.new ≡ None }
+    ensures unchanged { result ≡ false → store.new ≡ store.old }
 {
     if state.is_down() {
         return false;
@@ -132,6 +134,9 @@ pub(crate) fn recover<C: StableCell>(
     ensures put { IfOk result (IsRecoveryPut
         (fits_in (C.capacity (cell_in store.old)) (with_epoch (record_in store.old)))
         (C.failure_count (cell_in store.old)) (C.failure_count (cell_in store.new))) }
+    ensures refused_failures { OnErr result
+        (C.failure_count (cell_in store.new) ≡ C.failure_count (cell_in store.old)) }
+    ensures unchanged { IfOk result (λ outcome. outcome ≡ Recovery.NotDue → store.new ≡ store.old) }
     ensures any_moment { LeavesNext (with_epoch (record_in store.old)) store.old store.new }
     ensures same_room { C.capacity (cell_in store.new) ≡ C.capacity (cell_in store.old) }
 {

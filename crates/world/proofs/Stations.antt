@@ -4,6 +4,7 @@ use Rattle.std.specs.Prelude.{Result, Ok, Err, IfOk, OnErr, slice_set}
 use Rattle.std.specs.List.{AllZip}
 use Rattle.std.specs.declared.alloc.AllocError.{AllocError}
 use Rattle.kahn_net.specs.Fits.{Fits}
+use Rattle.kahn_net.specs.Valid.{IsValid}
 use Rattle.kahn_net.specs.Syntax.{Network}
 use Rattle.record.specs.RecordView.{RecordView}
 use Rattle.ckpt_store.specs.StoreView.{cell_in, record_in}
@@ -26,11 +27,11 @@ use Rattle.world.specs.declared.event.Reply.{Reply}
 use Rattle.world.specs.declared.station.Station.{Station}
 use Rattle.world.proofs.Views.{same_outputs, seen_at}
 
-module _ (net : Network) (inputs : List (List ℤ)) (fits : Fits net inputs) (room : RecordView → Bool) (round : ℕ) (event : EventView) where
+module _ (net : Network) (inputs : List (List ℤ)) (valid : IsValid net) (fits : Fits net inputs) (room : RecordView → Bool) (round : ℕ) (event : EventView) where
   -- what is seen after an event that was refused, or wasn't
   sound_then : (old : StationView) (new : StationView) (result : Result Reply AllocError) → StationInvariant net inputs old
       → IfOk result (λ reply. IsStationStep net inputs room round event old (reply_view reply) new) → OnErr result (new ≡ old) → StationInvariant net inputs new
-  sound_then old new (Ok reply) inv step same = station_keeps net inputs fits room round event old (reply_view reply) new inv step
+  sound_then old new (Ok reply) inv step same = station_keeps net inputs valid fits room round event old (reply_view reply) new inv step
   sound_then old new (Err e) inv step same = subst (StationInvariant net inputs) (sym same) inv
 
 module _ (net : Network) (inputs : List (List ℤ)) (room : RecordView → Bool) (round : ℕ) (event : EventView) where
@@ -58,7 +59,7 @@ module _ {C O : Type 0} {cell : CellWords C} (taken : O → List ℤ) (failures 
   pub all_still : (stations : List (Station C O cell)) → AreSound net inputs (map (station_view taken failures) stations) → AllZip (IsGrown taken) stations stations
   all_still stations sound = pairs_refl (IsGrown taken) stations (λ i station is. still station (sound i (station_view taken failures station) (map_at (station_view taken failures) stations i station is)))
 
-  module _ (fits : Fits net inputs) (room : RecordView → Bool) (round : ℕ) (event : EventView) where
+  module _ (valid : IsValid net) (fits : Fits net inputs) (room : RecordView → Bool) (round : ℕ) (event : EventView) where
     -- the stations of a list of which one had an event
     pub all_grown : (stations : List (Station C O cell)) (place : ℕ) (x y : Station C O cell) (result : Result Reply AllocError) → AreSound net inputs (map (station_view taken failures) stations)
         → place < length stations → x ≡ get_or stations place x
@@ -68,7 +69,7 @@ module _ {C O : Type 0} {cell : CellWords C} (taken : O → List ℤ) (failures 
         → AllZip (IsGrown taken) stations (slice_set stations place y)
     all_grown stations place x y result sound within is moved step same =
         let inv = sound place (station_view taken failures x) (seen_at (station_view taken failures) stations place x within is) in
-        let later = sound_then net inputs fits room round event (station_view taken failures x) (station_view taken failures y) result inv step same in
+        let later = sound_then net inputs valid fits room round event (station_view taken failures x) (station_view taken failures y) result inv step same in
         pairs_set (IsGrown taken) stations place x y (λ i station at. still station (sound i (station_view taken failures station) (map_at (station_view taken failures) stations i station at))) within is
         (seen_grown x y (has_grown cell.moment cell.left_since cell.may_leave only_now (record_in x.node.store).permanent (record_in y.node.store).permanent (outlet_views taken failures x.outputs.items) (outlet_views taken failures y.outputs.items)
         (cell_in x.node.store) (cell_in y.node.store) inv.kept.covered later.kept.covered (leaves_own cell y.node.store y.node.kept.settled) moved (begins_then net inputs room round event (station_view taken failures x) (station_view taken failures y) result step same)))

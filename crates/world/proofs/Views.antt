@@ -33,27 +33,19 @@ outlet_set taken failures outputs j y = map-set (outlet_view taken failures) out
 
 -- Items that leave
 
-pub next_at : (round place : ℕ) (old : StationView) → is_running old.node.mode ≡ true → first_waiting old.node.kept round 0 old.outlets ≡ Some place → next_release round old ≡ Some place
-next_at round place old up first = ap (λ (b : Bool). cond b (first_waiting old.node.kept round 0 old.outlets) None) up ∙ first
-
--- nothing is to leave
-pub none_waits : (round : ℕ) (old : StationView) → is_running old.node.mode ≡ true → first_waiting old.node.kept round 0 old.outlets ≡ None → next_release round old ≡ None
-none_waits round old up first = ap (λ (b : Bool). cond b (first_waiting old.node.kept round 0 old.outlets) None) up ∙ first
-
 module _ (round place : ℕ) (old : StationView) (outlet later : OutletView) (node : NodeView) where
   abbrev stands : NodeView → ℕ → ℕ → List OutletView → StationView
   stands state number failures outlets = record { number = number; node = state; failures = failures; outlets = outlets; turns = old.turns }
 
   -- one item left, or didn't
-  pub release_step : (failures number : ℕ) (outlets : List OutletView) (result : Result Reply AllocError) → is_running old.node.mode ≡ true → first_waiting old.node.kept round 0 old.outlets ≡ Some place
-      → slice_get old.outlets place ≡ Some outlet
+  pub release_step : (failures number : ℕ) (outlets : List OutletView) (result : Result Reply AllocError) → next_release round old ≡ Some place → slice_get old.outlets place ≡ Some outlet
       → number ≡ old.number → failures ≡ old.failures → outlets ≡ slice_set old.outlets place later
       → IfOk result (λ reply. node ≡ trimmed_node outlet.channel (length later.taken) old.node)
       → IfOk result (λ reply. IsHanded round (current_log outlet.channel old.node.mode) outlet (reply_view reply) later)
       → IfOk result (λ reply. IsRelease round (next_release round old) old (reply_view reply) (stands node number failures outlets))
-  release_step failures number outlets (Err e) up first there same_number same_failures set trimmed handed = tt
-  release_step failures number outlets (Ok reply) up first there same_number same_failures set trimmed handed =
-      subst (λ (next : Option ℕ). IsRelease round next old (reply_view reply) (stands node number failures outlets)) (sym (next_at round place old up first))
+  release_step failures number outlets (Err e) next there same_number same_failures set trimmed handed = tt
+  release_step failures number outlets (Ok reply) next there same_number same_failures set trimmed handed =
+      subst (λ (next : Option ℕ). IsRelease round next old (reply_view reply) (stands node number failures outlets)) (sym next)
       (record {
         outlet = outlet;
         later = later;

@@ -25,7 +25,8 @@ use Rattle.record.specs.declared.image.SavedEnd.{SavedEnd}
 use Rattle.record.specs.declared.image.End.{End}
 use Rattle.record.specs.declared.image.End.TheVariants.{Receives, Sends, Both}
 use Rattle.world.specs.OutputView.{OutputView}
-use Rattle.world.specs.Sound.{OutputIsSound, OutputsAreSound, HasCome, IsInOrder, IsSound}
+use Rattle.node.specs.Starting.{AreInOrder}
+use Rattle.world.specs.Sound.{OutputIsSound, OutputsAreSound, HasCome, IsSound}
 use Rattle.world.specs.OutputLaws.{set_cases, set_keeps, same_output}
 use Rattle.kahn_net.specs.Streams.{IsPrefix}
 
@@ -95,7 +96,7 @@ module _ (net : Network) (inputs : List (List ℤ)) (node : RunningNode) (output
   -- The next item
 
   -- where the permanent image covers more than has left, the log has the item that comes next
-  pub has_next : (j : ℕ) (output : OutputView) → IsSound net inputs node outputs → IsInOrder node → slice_get outputs j ≡ Some output
+  pub has_next : (j : ℕ) (output : OutputView) → IsSound net inputs node outputs → AreInOrder node.kept node.current → slice_get outputs j ≡ Some output
       → length output.taken < sent_of node.kept.permanent output.channel → HasNext (log_of node.current output.channel) (length output.taken)
   has_next j output sound order is more = at (log_of node.current output.channel) (sound.covered j output is).no_gap ahead
     where

@@ -28,7 +28,7 @@ pub returns-clause-grown : goal.returns-clause-grown
 returns-clause-grown g c =
     let net = c.args.net.now.value in
     let x = c.index_mut.result.now in
-    all_grown {cell = g.C.StableCell} g.O.Outlet.taken g.O.Outlet.failures g.met.C.StableCell.only_now (network_of net.program) c.args.inputs.now c.requires.fits (fits_in (g.C.StableCell.capacity (cell_in x.node.store))) c.args.round (event_view c.args.event.now) c.args.stations.now.items c.args.number x _ c.act.result
+    all_grown {cell = g.C.StableCell} g.O.Outlet.taken g.O.Outlet.failures g.met.C.StableCell.only_now (network_of net.program) c.args.inputs.now net.valid c.requires.fits (fits_in (g.C.StableCell.capacity (cell_in x.node.store))) c.args.round (event_view c.args.event.now) c.args.stations.now.items c.args.number x _ c.act.result
     c.requires.sound (search rules) c.index_mut.ensures.value c.act.ensures.moved c.act.ensures.step (on_err_map c.act.result c.act.ensures.refused (λ same. same.0))
 
 pub returns-clause-refused : goal.returns-clause-refused

@@ -7,10 +7,10 @@ pub returns-in_err-putting-clause-leaves : goal.returns-in_err-putting-clause-le
 returns-in_err-putting-clause-leaves g c =
     let was = c.args.self.now in
     let C = g.C.StableCell in
-    through C was.node.store _ was.node.kept.settled _ c.start.ensures.any_moment (start_more was.node.number (view_of was.node))
+    through C was.node.store c.start.new.self.store was.node.kept.settled _ c.start.ensures.any_moment (start_more was.node.number (view_of was.node))
 
 pub returns-clause-leaves : goal.returns-clause-leaves
 returns-clause-leaves g c =
     let was = c.args.self.now in
     let C = g.C.StableCell in
-    through C was.node.store _ was.node.kept.settled _ c.start.ensures.any_moment (start_more was.node.number (view_of was.node))
+    through C was.node.store c.start.new.self.store was.node.kept.settled _ c.start.ensures.any_moment (start_more was.node.number (view_of was.node))
