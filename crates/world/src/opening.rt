@@ -1,8 +1,11 @@
 // A world before its first event.
-ghost use Rattle.std.specs.Prelude.{◌≡◌, ◌++◌, ◌≤◌, [], ◌∷◌, if◌then◌else◌, length, map, IfOk, OnOk};
+ghost use Rattle.std.specs.Prelude.{◌≡◌, ◌++◌, ◌≤◌, [], ◌∷◌, if◌then◌else◌, length, map, IfOk, IsSome, OnOk};
 ghost use Rattle.kahn_net.specs.Fits.{Fits};
 ghost use Rattle.kahn_net.specs.Nodes.{IsOnOneNode};
 ghost use Rattle.kahn_net.specs.Syntax.{network_of};
+ghost use Rattle.gate_cell.specs.GateCell.{failures_of};
+ghost use Rattle.ckpt_codec.specs.RecordText.{IsRecord};
+ghost use Rattle.ckpt_store.specs.StoreView.{cell_in, known_in, record_in};
 ghost use Rattle.node.specs.LikeLaws.{HasOuterChannels};
 ghost use Rattle.world.specs.Sound.{goes_outside, output_channels};
 ghost use Rattle.std.specs.List.{AllByRecursion};
@@ -23,6 +26,7 @@ use kahn_net::{Channel, Port};
 use net_check::{Inputs, Net};
 use node::{Node, opening_record};
 use outlet::{ListOutlet, Outlet};
+use record::Record;
 use sector_disk::Disk;
 use std::alloc::{AllocError, Global};
 use std::sync::Arc;
@@ -94,6 +98,31 @@ fn forget_failures<O: Outlet>(outputs: &mut Vec<Output<O>>)
     }
 }
 
+// A store on a disk that is formatted with this record. The disk's calls are counted from here on.
+fn open_store<D: Disk>(
+    alloc: Global,
+    disk: D,
+    kept: &Record,
+) -> Result<Store<GateCell<D>>, StoreFault>
+    requires { IsRecord kept.now }
+    ensures record { IfOk result (λ store. record_in store ≡ kept.now) }
+    ensures known { IfOk result (λ store. IsSome (known_in store)) }
+    ensures failures { IfOk result
+        (λ store. failures_of (cell_in store) ≡ D.failure_count disk) }
+{
+    let bytes = write_record(alloc, kept)?;
+    let cell = match GateCell::format(alloc, disk, bytes.as_slice()) {
+        Ok(cell) => cell,
+        Err((fault, _)) => return Err(StoreFault::from(fault)),
+    };
+    let mut store = match Store::open(alloc, cell) {
+        Ok(store) => store,
+        Err(refused) => return Err(refused.fault),
+    };
+    store.recount();
+    Ok(store)
+}
+
 impl<D: Disk, O: Outlet> Station<GateCell<D>, O> {
     /// The one station of a network on one node, before its first event: its disk is formatted with the opening record.
     fn open(
@@ -109,15 +138,7 @@ impl<D: Disk, O: Outlet> Station<GateCell<D>, O> {
         ensures same { IfOk result (λ station. station.outputs ≡ outputs) }
     {
         let first = opening_record(alloc, net, 0, 1)?;
-        let bytes = write_record(alloc, &first)?;
-        let cell = match GateCell::format(alloc, disk, bytes.as_slice()) {
-            Ok(cell) => cell,
-            Err((fault, _)) => return Err(StoreFault::from(fault)),
-        };
-        let store = match Store::open(alloc, cell) {
-            Ok(store) => store,
-            Err(refused) => return Err(refused.fault),
-        };
+        let store = open_store(alloc, disk, &first)?;
         let node = Node::run_from(alloc, 0, store)?;
         Ok(Station {
             node,

@@ -1,4 +1,6 @@
 use Rattle.std.proofs.Common.{ℕ, Option, refl, sym, ap, subst}
+use Rattle.ckpt_store.specs.StoreView.{cell_in}
+use Rattle.ckpt_store.specs.declared.store.Store.{Store}
 use Rattle.node.specs.NodeOf.{view_of}
 use Rattle.world.specs.ReplyView as reply
 use Rattle.world.specs.StationView.{outlet_view}
@@ -26,7 +28,7 @@ returns-clause-refused g c =
     let now = c.release_at.new in
     release_refused c.args.round j was (outlet_view taken failures x) (outlet_view taken failures now.output) (view_of now.node) _ now.node.number _ c.release_at.result
     (outlet_at taken failures c.args.self.now.outputs.items j x c.in-Some.ensures.within c.index_mut.ensures.value)
-    made.same.1 _ (outlet_set taken failures c.args.self.now.outputs.items j now.output) made.refused
+    made.same.1 (ap (λ (store : Store g.row.C.Denot g.C.StableCell). g.C.StableCell.failure_count (cell_in store)) made.same.0) (outlet_set taken failures c.args.self.now.outputs.items j now.output) made.refused
 
 pub returns-in_default-clause-step : goal.returns-in_default-clause-step
 returns-in_default-clause-step g c =
@@ -44,4 +46,4 @@ returns-clause-step g c =
     let now = c.release_at.new in
     release_step c.args.round j was (outlet_view taken failures x) (outlet_view taken failures now.output) (view_of now.node) _ now.node.number _ c.release_at.result
     (sym c.in-Some.ensures.next) (outlet_at taken failures c.args.self.now.outputs.items j x c.in-Some.ensures.within c.index_mut.ensures.value)
-    made.same.1 _ (outlet_set taken failures c.args.self.now.outputs.items j now.output) made.trimmed made.handed
+    made.same.1 (ap (λ (store : Store g.row.C.Denot g.C.StableCell). g.C.StableCell.failure_count (cell_in store)) made.same.0) (outlet_set taken failures c.args.self.now.outputs.items j now.output) made.trimmed made.handed
