@@ -148,11 +148,7 @@ fn done_on(alloc: Global, text: &str) -> Result<Done, Fail> {
 }
 
 // What comes of another world's job on these items.
-fn foreign_answer(
-    alloc: Global,
-    run: &mut Run<ListOutlet>,
-    text: &str,
-) -> Result<Answer, Fail> {
+fn foreign_answer(alloc: Global, run: &mut Run<ListOutlet>, text: &str) -> Result<Answer, Fail> {
     let done = done_on(alloc, text)?;
     answer_to(&mut run.world, alloc, Event::Install(done))
 }
@@ -212,9 +208,19 @@ fn a_device_that_fails_at_a_start(rt: HostRuntime) -> Result<(), Fail> {
         ],
     )?;
     same(&rt, &standing(&run.world)?, &(true, 1, 1), "down");
-    same(&rt, &choice(&run.world, 0), &(Happens::Idle, 0), "this round");
+    same(
+        &rt,
+        &choice(&run.world, 0),
+        &(Happens::Idle, 0),
+        "this round",
+    );
     run.goes(&rt, rt.alloc(), &[Happens::Idle])?;
-    same(&rt, &choice(&run.world, 0), &(Happens::Recover, 0), "the next");
+    same(
+        &rt,
+        &choice(&run.world, 0),
+        &(Happens::Recover, 0),
+        "the next",
+    );
     run.follow(
         &rt,
         rt.alloc(),
@@ -289,7 +295,8 @@ fn disks_on_which_no_world_is_made(rt: HostRuntime) -> Result<(), Fail> {
 // for 46 items, and 507 for 47. Three sectors hold 504.
 #[test]
 fn a_disk_that_just_holds_two_images(rt: HostRuntime) -> Result<(), Fail> {
-    let text = "i: 1 1 1 1 1 1 1 1 1 1 1 1 1 1 1 1 1 1 1 1 1 1 1 1 1 1 1 1 1 1 1 1 1 1 1 1 1 1 1 1 1 1 1 1 1 1";
+    let text =
+        "i: 1 1 1 1 1 1 1 1 1 1 1 1 1 1 1 1 1 1 1 1 1 1 1 1 1 1 1 1 1 1 1 1 1 1 1 1 1 1 1 1 1 1 1 1 1 1";
     let mut run = sum_run_on(rt.alloc(), text, 3)?;
     run.goes(&rt, rt.alloc(), &TURN_AND_CHECKPOINT)?;
     same(&rt, &shown(&run.world)?, &(0, 1, 0, 46, 46), "the record");
@@ -298,7 +305,8 @@ fn a_disk_that_just_holds_two_images(rt: HostRuntime) -> Result<(), Fail> {
 
 #[test]
 fn a_disk_that_does_not_hold_two_images(rt: HostRuntime) -> Result<(), Fail> {
-    let text = "i: 1 1 1 1 1 1 1 1 1 1 1 1 1 1 1 1 1 1 1 1 1 1 1 1 1 1 1 1 1 1 1 1 1 1 1 1 1 1 1 1 1 1 1 1 1 1 1";
+    let text =
+        "i: 1 1 1 1 1 1 1 1 1 1 1 1 1 1 1 1 1 1 1 1 1 1 1 1 1 1 1 1 1 1 1 1 1 1 1 1 1 1 1 1 1 1 1 1 1 1 1";
     let mut run = sum_run_on(rt.alloc(), text, 3)?;
     run.follow(
         &rt,

@@ -1,7 +1,9 @@
 //! Runs of the running sum of 1 2 3 whose disk is stopped at one of its calls, or at two.
 
 use crate::asserting::{same, same_at};
-use crate::sums::{Answer, Happens, OUTPUT, Run, TestCell, answer_to, shown, standing, sum_run, sums};
+use crate::sums::{
+    Answer, Happens, OUTPUT, Run, TestCell, answer_to, shown, standing, sum_run, sums,
+};
 use outlet::ListOutlet;
 use sector_disk::{Disk, SECTOR_BYTES};
 use std::alloc::Global;
@@ -132,14 +134,7 @@ fn a_start_stopped_at_each_call(rt: HostRuntime) -> Result<(), Fail> {
     for (call, even, odd) in [(1, 0, 0), (2, 0, 0), (3, 0, 1), (4, 0, 1)] {
         for (fill, entry) in [(0, even), (254, even), (1, odd), (255, odd)] {
             let before = [Happens::Grant, Happens::Install];
-            let found = recovered_after(
-                &rt,
-                rt.alloc(),
-                &before,
-                Happens::Start,
-                call,
-                fill,
-            )?;
+            let found = recovered_after(&rt, rt.alloc(), &before, Happens::Start, call, fill)?;
             same_at(&rt, &found, &(1, entry, 0, 0, 0), &(call, fill));
         }
     }
@@ -153,14 +148,7 @@ fn a_decision_stopped_at_each_call(rt: HostRuntime) -> Result<(), Fail> {
     for (call, even, odd) in [(5, 0, 0), (6, 0, 0), (7, 3, 0), (8, 3, 0)] {
         for (fill, count) in [(0, even), (254, even), (1, odd), (255, odd)] {
             let before = [Happens::Grant, Happens::Install, Happens::Start];
-            let found = recovered_after(
-                &rt,
-                rt.alloc(),
-                &before,
-                Happens::Decide,
-                call,
-                fill,
-            )?;
+            let found = recovered_after(&rt, rt.alloc(), &before, Happens::Decide, call, fill)?;
             same_at(&rt, &found, &(1, 1, 0, count, count), &(call, fill));
         }
     }

@@ -348,7 +348,11 @@ impl<O: Outlet> Run<O> {
 }
 
 /// The running sum on these items, on a disk of so many sectors.
-pub(crate) fn sum_run_on(alloc: Global, text: &str, sectors: usize) -> Result<Run<ListOutlet>, Fail> {
+pub(crate) fn sum_run_on(
+    alloc: Global,
+    text: &str,
+    sectors: usize,
+) -> Result<Run<ListOutlet>, Fail> {
     Ok(Run {
         world: sum_world(alloc, text, disk_of(alloc, sectors)?)??,
         done: None,
