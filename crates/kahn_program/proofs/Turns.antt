@@ -86,15 +86,16 @@ module _ {O : Type 0} (taken : O → List ℤ) (failures : O → ℕ) (none : (o
       ∙ ap (λ (rest : List OutletView). opening_outlet (unused_outlet output.channel) ∷ rest) (unused_outlets outputs unused.1)
 
   pub opens_first : (net other : Network) (inputs others : List (List ℤ)) (outputs : List (Output O)) (first : WorldView) → other ≡ net → others ≡ inputs
-      → first ≡ opening_world other others 0 (outlet_views taken failures outputs)
+      → (failed : ℕ) → failed ≡ 0 → first ≡ opening_world other others failed (outlet_views taken failures outputs)
       → map (λ (output : Output O). output.channel) outputs ≡ output_channels 0 net.channels → AllByRecursion (IsUnused taken) outputs → first ≡ first_world net inputs
-  opens_first net other inputs others outputs first same_net same_inputs opening listed unused =
+  opens_first net other inputs others outputs first same_net same_inputs failed never opening listed unused =
       let views = outlet_views taken failures outputs in
       opening
+      ∙ (ap (λ (n : ℕ). opening_world other others n views) never
       ∙ (ap (λ (n : Network). opening_world n others 0 views) same_net
       ∙ (ap (λ (i : List (List ℤ)). opening_world net i 0 views) same_inputs
       ∙ ap (λ (outlets : List OutletView). record { net = net; inputs = inputs; stations = opening_station net 0 outlets ∷ []; round = 0 })
-      (unused_outlets outputs unused ∙ ap (λ (channels : List ℕ). map opening_outlet (map unused_outlet channels)) listed)))
+      (unused_outlets outputs unused ∙ ap (λ (channels : List ℕ). map opening_outlet (map unused_outlet channels)) listed))))
 
 -- The last one
 

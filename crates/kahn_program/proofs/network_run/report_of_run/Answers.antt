@@ -1,4 +1,4 @@
-use Rattle.std.proofs.Common.{refl, ◌≡◌, ℕ, ℤ, List, length, sym, ap, ◌∙◌}
+use Rattle.std.proofs.Common.{refl, ◌≡◌, ℕ, ℤ, List, length, sym, ap, subst, ◌∙◌}
 use Rattle.kahn_net.specs.Syntax.{network_of}
 use Rattle.net_check.specs.declared.net.Net.{Net}
 use Rattle.world.specs.Released.{released_of}
@@ -7,6 +7,10 @@ use Rattle.kahn_program.specs.Report.{output_count, report_text}
 use Rattle.kahn_program.specs.Runs.{first_items}
 use Rattle.kahn_program.proofs.Released.{counted_streams, run_of, reported}
 use Rattle.kahn_program.proofs.Turns.{last_world, opens_first}
+use Rattle.kahn_program.proofs.Outer.{outer_of}
+use Rattle.node.specs.LikeLaws.{HasOuterChannels}
+use Rattle.kahn_net.specs.Syntax.{Network}
+use Rattle.sector_disk.specs.Schedule.{FaultState}
 use Rattle.kahn_program.proofs.network_run.report_of_run.Goals as goal
 
 pub report-requires : goal.report-requires
@@ -29,7 +33,7 @@ returns-in-Ok-report-clause-ok c =
     let run = run_of (world_of now) (network_of net.program) c.args.inputs c.complete.result network items now.sound c.complete.ensures.whole in
     let given : c.as_slice-channels.result.now ≡ net.program.channels.items = c.as_slice-channels.ensures.value ∙ ap (λ (n : Net). n.program.channels.items) (c.deref.ensures ∙ c.in-Ok-new.ensures.ok) in
     let opened = opens_first _ _ (λ outlet. refl) (network_of net.program) _ c.args.inputs _ c.in-Ok.outputs.items (world_of first) (ap (λ (n : Net). network_of n.program) shared) c.in-Ok-new-2.ensures.ok
-    c.in-Ok-new-4.ensures.opening c.in-Ok.ensures.listed c.in-Ok.ensures.empty in
+    _ (ap (λ (f : FaultState). f.failures) c.in-Ok-new-3.ensures.faults) c.in-Ok-new-4.ensures.opening c.in-Ok.ensures.listed c.in-Ok.ensures.empty in
     let last = last_world (network_of net.program) c.args.inputs c.as_slice-channels.result.now c.args.rounds c.args.items (world_of first) (world_of now) given opened c.in_ok-take_turns.ensures.came in
     reported net c.args.inputs c.as_slice-channels.result.now c.args.rounds c.args.items c.cut-cut.result c.in-Ok-streams.streams.items (world_of now) c.in-Ok-report.bytes.items c.complete.result told
     given
@@ -39,3 +43,8 @@ returns-in-Ok-report-clause-ok c =
     (c.in-Ok-report.ensures ∙ (ap (λ (n : Net). report_text n.program.channels.items n.channel_names.items c.deref-3.result.now told) seen
     ∙ ap (λ (l : List (List ℤ)). report_text net.program.channels.items net.channel_names.items l told) c.deref-3.ensures.value))
     run c.complete.ensures.quiet last
+
+pub new-4-requires-outer : goal.new-4-requires-outer
+new-4-requires-outer c =
+    let shared = c.in-Ok-try_clone.ensures ∙ c.in-Ok-new.ensures.ok in
+    subst (λ (n : Network). HasOuterChannels n) (sym (ap (λ (n : Net). network_of n.program) shared)) (outer_of (network_of c.args.net.program) c.requires.runnable)
