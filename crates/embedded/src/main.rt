@@ -1,12 +1,15 @@
 //! A world in a program of one's own: the running sum of 1 2 3, event by event.
 #![tactic(auto)]
 
+ghost use Rattle.std.specs.Prelude.{◌*◌, ◌^◌, ◌<◌};
+ghost use Rattle.sector_disk.specs.declared.TheConstants.{SECTOR_BYTES};
+
 use gate_cell::GateCell;
 use net_check::{bind, check};
 use net_text::{parse, parse_inputs};
 use outlet::ListOutlet;
 use sector_disk::MemDisk;
-use std::alloc::Global;
+use std::alloc::{AllocError, Global};
 use std::sync::Arc;
 use world::{Event, Reply, World, can_run, list_outputs};
 
@@ -15,6 +18,13 @@ process sum on 0 { var a; var v; loop { v = get i; a = a + v; put a to o; } }";
 
 /// The sectors of the disk: room behind the gate for a record of 1,048,576 bytes in each of its two areas.
 const SECTORS: usize = 4_101;
+
+/// A disk in memory of so many sectors.
+fn empty_disk(alloc: Global, sectors: usize) -> Result<MemDisk, AllocError>
+    requires { SECTOR_BYTES * sectors < 2 ^ 64 }
+{
+    MemDisk::new(alloc, sectors)
+}
 
 /// One event. `World::apply` refuses for want of memory alone.
 fn apply(
@@ -51,7 +61,7 @@ fn main(rt: HostRuntime) -> anyhow::Result<()> {
     let outputs = list_outputs(alloc, &net)?;
     let net = Arc::new(alloc, net)?;
     let inputs = Arc::new(alloc, inputs)?;
-    let disk = MemDisk::new(alloc, SECTORS)?;
+    let disk = empty_disk(alloc, SECTORS)?;
     let mut world = World::new(alloc, net, inputs, disk, outputs)?;
     for _ in 0..100 {
         if world.complete() {

@@ -14,4 +14,4 @@ outer_of net run c channel is = at channel.producer channel.consumer (run.outsid
     at : (producer consumer : Port) → IsTrue (is_outside producer || is_outside consumer) → (producer ≡ Outside) ⊎ (consumer ≡ Outside)
     at Outside consumer open_end = inl refl
     at (Process p) Outside open_end = inr refl
-    at (Process p) (Process q) open_end = absurd (open_end)
+    at (Process p) (Process q) open_end = absurd (cc)

@@ -1,9 +1,11 @@
 //! A network's run, and its report.
 
-ghost use Rattle.std.specs.Prelude.{◌≡◌, ◌⊎◌, ◌≤◌, ◌++◌, ℕ, ◌∷◌, [], if◌then◌else◌, true, nat_le, length, map, IfErr, IfOk, OnOk};
+ghost use Rattle.std.specs.Prelude.{◌≡◌, ◌⊎◌, ◌*◌, ◌^◌, ◌<◌, ◌≤◌, ◌++◌, ℕ, ◌∷◌, [], if◌then◌else◌, true, nat_le, length, map, IfErr, IfOk, OnOk};
 ghost use Rattle.kahn_net.specs.Fits.{Fits};
 ghost use Rattle.kahn_net.specs.Syntax.{network_of};
 ghost use Rattle.std.specs.List.{list_all};
+ghost use Rattle.sector_disk.specs.MemDisk.{failures_of};
+ghost use Rattle.sector_disk.specs.declared.TheConstants.{SECTOR_BYTES};
 ghost use Rattle.world.specs.Released.{released_of};
 ghost use Rattle.world.specs.Runnable.{CanRun};
 ghost use Rattle.world.specs.Sound.{goes_outside, output_channels};
@@ -37,6 +39,15 @@ const SECTORS: usize = 4_101;
 
 /// The world of a run: of one node on a disk in memory, with outlets in memory.
 type RunWorld = World<GateCell<MemDisk>, ListOutlet>;
+
+/// A disk in memory of so many sectors, which never failed. (What it holds is left out of the contract: of a given number, a
+/// proof that has it in reach would write out all the zeros.)
+fn empty_disk(alloc: Global, sectors: usize) -> Result<MemDisk, AllocError>
+    requires { SECTOR_BYTES * sectors < 2 ^ 64 }
+    ensures { IfOk result (λ disk. failures_of disk ≡ 0) }
+{
+    MemDisk::new(alloc, sectors)
+}
 
 /// A failure of the store in which the world keeps its record.
 fn store_failure(fault: StoreFault) -> Failure
@@ -263,7 +274,7 @@ pub fn report_of_run(
     let Ok(share) = Arc::try_clone(&net) else {
         return Err(Failure::NoMemory);
     };
-    let Ok(disk) = MemDisk::new(alloc, SECTORS) else {
+    let Ok(disk) = empty_disk(alloc, SECTORS) else {
         return Err(Failure::NoMemory);
     };
     let mut world = match World::new(alloc, share, inputs, disk, outputs) {

@@ -1,11 +1,14 @@
 //! What a world asks of its device.
 
+ghost use Rattle.std.specs.Prelude.{◌*◌, ◌^◌, ◌<◌};
+ghost use Rattle.sector_disk.specs.declared.TheConstants.{SECTOR_BYTES};
+
 use gate_cell::GateCell;
 use net_check::{bind, check};
 use net_text::{parse, parse_inputs};
 use outlet::ListOutlet;
 use sector_disk::{Disk, MemDisk};
-use std::alloc::Global;
+use std::alloc::{AllocError, Global};
 use std::sync::Arc;
 use std::test::Fail;
 use world::{Event, Reply, World, can_run, list_outputs};
@@ -18,6 +21,13 @@ const SECTORS: usize = 4_101;
 
 type DiskWorld = World<GateCell<MemDisk>, ListOutlet>;
 
+/// A disk in memory of so many sectors.
+fn empty_disk(alloc: Global, sectors: usize) -> Result<MemDisk, AllocError>
+    requires { SECTOR_BYTES * sectors < 2 ^ 64 }
+{
+    MemDisk::new(alloc, sectors)
+}
+
 /// The world of the running sum of 1 2 3.
 fn open(alloc: Global) -> Result<DiskWorld, Fail> {
     let net = check(alloc, parse(alloc, SUM)?)?;
@@ -28,7 +38,7 @@ fn open(alloc: Global) -> Result<DiskWorld, Fail> {
     let outputs = list_outputs(alloc, &net)?;
     let net = Arc::new(alloc, net)?;
     let inputs = Arc::new(alloc, inputs)?;
-    let disk = MemDisk::new(alloc, SECTORS)?;
+    let disk = empty_disk(alloc, SECTORS)?;
     match World::new(alloc, net, inputs, disk, outputs) {
         Ok(world) => Ok(world),
         Err(_) => Err(Fail::new("the disk has room for the opening record")),

@@ -10,7 +10,6 @@ use Rattle.kahn_program.proofs.Turns.{last_world, opens_first}
 use Rattle.kahn_program.proofs.Outer.{outer_of}
 use Rattle.node.specs.LikeLaws.{HasOuterChannels}
 use Rattle.kahn_net.specs.Syntax.{Network}
-use Rattle.sector_disk.specs.Schedule.{FaultState}
 use Rattle.kahn_program.proofs.network_run.report_of_run.Goals as goal
 
 pub report-requires : goal.report-requires
@@ -24,16 +23,16 @@ pub returns-in-Ok-report-clause-ok : goal.returns-in-Ok-report-clause-ok
 returns-in-Ok-report-clause-ok c =
     let net = c.args.net in
     let now = c.take_turns.new.world in
-    let first = c.in-Ok-new-4.world in
+    let first = c.in-Ok-new-3.world in
     let shared = c.in-Ok-try_clone.ensures ∙ c.in-Ok-new.ensures.ok in
     let seen : c.deref-2.result.now ≡ net = c.deref-2.ensures ∙ c.in-Ok-new.ensures.ok in
     let told = c.is_whole-complete.result in
-    let network : network_of now.net.value.program ≡ network_of net.program = ap (λ a. network_of a.value.program) (c.take_turns.ensures.same.0 ∙ c.in-Ok-new-4.ensures.same.0) ∙ ap (λ (n : Net). network_of n.program) shared in
-    let items : now.inputs.value ≡ c.args.inputs = ap (λ a. a.value) (c.take_turns.ensures.same.1 ∙ c.in-Ok-new-4.ensures.same.1) ∙ c.in-Ok-new-2.ensures.ok in
+    let network : network_of now.net.value.program ≡ network_of net.program = ap (λ a. network_of a.value.program) (c.take_turns.ensures.same.0 ∙ c.in-Ok-new-3.ensures.same.0) ∙ ap (λ (n : Net). network_of n.program) shared in
+    let items : now.inputs.value ≡ c.args.inputs = ap (λ a. a.value) (c.take_turns.ensures.same.1 ∙ c.in-Ok-new-3.ensures.same.1) ∙ c.in-Ok-new-2.ensures.ok in
     let run = run_of (world_of now) (network_of net.program) c.args.inputs c.complete.result network items now.sound c.complete.ensures.whole in
     let given : c.as_slice-channels.result.now ≡ net.program.channels.items = c.as_slice-channels.ensures.value ∙ ap (λ (n : Net). n.program.channels.items) (c.deref.ensures ∙ c.in-Ok-new.ensures.ok) in
     let opened = opens_first _ _ (λ outlet. refl) (network_of net.program) _ c.args.inputs _ c.in-Ok.outputs.items (world_of first) (ap (λ (n : Net). network_of n.program) shared) c.in-Ok-new-2.ensures.ok
-    _ (ap (λ (f : FaultState). f.failures) c.in-Ok-new-3.ensures.faults) c.in-Ok-new-4.ensures.opening c.in-Ok.ensures.listed c.in-Ok.ensures.empty in
+    _ c.in-Ok-empty_disk.ensures c.in-Ok-new-3.ensures.opening c.in-Ok.ensures.listed c.in-Ok.ensures.empty in
     let last = last_world (network_of net.program) c.args.inputs c.as_slice-channels.result.now c.args.rounds c.args.items (world_of first) (world_of now) given opened c.in_ok-take_turns.ensures.came in
     reported net c.args.inputs c.as_slice-channels.result.now c.args.rounds c.args.items c.cut-cut.result c.in-Ok-streams.streams.items (world_of now) c.in-Ok-report.bytes.items c.complete.result told
     given
@@ -44,7 +43,7 @@ returns-in-Ok-report-clause-ok c =
     ∙ ap (λ (l : List (List ℤ)). report_text net.program.channels.items net.channel_names.items l told) c.deref-3.ensures.value))
     run c.complete.ensures.quiet last
 
-pub new-4-requires-outer : goal.new-4-requires-outer
-new-4-requires-outer c =
+pub new-requires-3-clause-outer : goal.new-requires-3-clause-outer
+new-requires-3-clause-outer c =
     let shared = c.in-Ok-try_clone.ensures ∙ c.in-Ok-new.ensures.ok in
     subst (λ (n : Network). HasOuterChannels n) (sym (ap (λ (n : Net). network_of n.program) shared)) (outer_of (network_of c.args.net.program) c.requires.runnable)
