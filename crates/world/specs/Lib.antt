@@ -16,6 +16,7 @@ pub mod SoundLaws
 pub mod OrderLaws
 pub mod HandedLaws
 pub mod StepKeeps
+pub mod ActLaws
 pub mod GrowLaws
 pub mod Headline
 pub mod OpenLaws

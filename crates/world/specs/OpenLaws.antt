@@ -11,6 +11,7 @@ use Rattle.record.specs.Ends.{log_at, base_in, base_of}
 use Rattle.node.specs.Opening.{opening_end, opening_ends, opening_image, opening_running}
 use Rattle.node.specs.OpeningLaws.{reached_opening, laid_out_opening, counts_opening, logs_opening}
 use Rattle.record.specs.declared.image.SavedEnd.{SavedEnd}
+use Rattle.node.specs.LikeLaws.{HasOuterChannels}
 use Rattle.node.specs.Starting.{AreInOrder}
 use Rattle.world.specs.Invariant.{outputs_of, RunsSoundly, StationInvariant, WorldInvariant}
 use Rattle.world.specs.RecordSound.{ImageIsSound}
@@ -95,10 +96,10 @@ station_opened net inputs failures outlets valid listed none = record {
     runs = opens_soundly net inputs (outputs_of outlets) valid listed none
 
 -- what is true of a world is true of an opening one, of which nothing has left
-pub world_opened : (net : Network) (inputs : List (List ℤ)) (failures : ℕ) (outlets : List OutletView) → IsValid net → Fits net inputs
+pub world_opened : (net : Network) (inputs : List (List ℤ)) (failures : ℕ) (outlets : List OutletView) → IsValid net → Fits net inputs → HasOuterChannels net
     → map (λ (output : OutputView). output.channel) (outputs_of (map opening_outlet outlets)) ≡ output_channels 0 net.channels → NothingLeft (outputs_of (map opening_outlet outlets))
     → WorldInvariant (opening_world net inputs failures outlets)
-world_opened net inputs failures outlets valid fits listed none = record { valid = valid; fits = fits; inhabited = omega arith; stations = λ i station is. at i station is }
+world_opened net inputs failures outlets valid fits outer listed none = record { valid = valid; fits = fits; outer = outer; inhabited = omega arith; stations = λ i station is. at i station is }
   where
     at : (i : ℕ) (station : StationView) → slice_get (opening_station net failures (map opening_outlet outlets) ∷ []) i ≡ Some station → StationInvariant net inputs station
     at zero station is =

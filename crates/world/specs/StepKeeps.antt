@@ -16,6 +16,7 @@ use Rattle.record.specs.RecordView.{RecordView}
 use Rattle.record.specs.declared.record.Tentative.{Tentative}
 use Rattle.node.specs.JobView.{JobView}
 use Rattle.node.specs.NodeView.{NodeView, ModeView, Down, InDoubt, Runs, RunningView, RunningNode, running_node, running_in, running_of, on_mode, on_running}
+use Rattle.node.specs.LikeLaws.{HasOuterChannels}
 use Rattle.node.specs.Choosing.{next_job, after_grant, job_at, node_job, granted, with_grant}
 use Rattle.node.specs.Installing.{with_turn, turned, IsOut, IsInstall}
 use Rattle.node.specs.FitLaws.{put_more_installed}
@@ -399,6 +400,7 @@ step_keeps rooms e old answer new inv step =
     record {
       valid = subst IsValid (sym step.net) inv.valid;
       fits = subst (λ (n : Network). Fits n new.inputs) (sym step.net) (subst (Fits old.net) (sym step.inputs) inv.fits);
+      outer = subst HasOuterChannels (sym step.net) inv.outer;
       inhabited = omega (arith, count, inv.inhabited);
       stations = subst (λ (n : Network). AreSound n new.inputs new.stations) (sym step.net) (subst (λ (i : List (List ℤ)). AreSound old.net i new.stations) (sym step.inputs) stations);
     }

@@ -3,6 +3,7 @@ ghost use Rattle.std.specs.Prelude.{◌≡◌, map, IfOk, IfErr, OnErr};
 ghost use Rattle.std.specs.List.{AllZip};
 ghost use Rattle.kahn_net.specs.Fits.{Fits};
 ghost use Rattle.kahn_net.specs.Syntax.{network_of};
+ghost use Rattle.node.specs.LikeLaws.{HasOuterChannels};
 ghost use Rattle.world.specs.EventView.{event_node, event_view};
 ghost use Rattle.world.specs.Headline.{AreApproximated};
 ghost use Rattle.world.specs.Invariant.{AreSound, WorldInvariant};
@@ -65,6 +66,7 @@ fn act_at<C: StableCell, O: Outlet>(
     event: &Event,
 ) -> Result<Reply, AllocError>
     requires fits { Fits (network_of net.now.value.program) inputs.now }
+    requires outer { HasOuterChannels (network_of net.now.value.program) }
     requires sound { AreSound (network_of net.now.value.program) inputs.now
         (map (station_view O.taken O.failures) stations.old.items) }
     ensures grown { AllZip (IsGrown O.taken) stations.old.items stations.new.items }
