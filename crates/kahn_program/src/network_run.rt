@@ -62,11 +62,7 @@ fn store_failure(fault: StoreFault) -> Failure
 }
 
 /// What follows an answer: a job that was granted is run, and comes back at once.
-fn follow(
-    alloc: Global,
-    world: &mut RunWorld,
-    answer: Reply,
-) -> Result<(), Failure>
+fn follow(alloc: Global, world: &mut RunWorld, answer: Reply) -> Result<(), Failure>
     ensures same { (world.new.net ≡ world.old.net) × (world.new.inputs ≡ world.old.inputs) }
     ensures follows { OnOk result
         (Follows (reply_view answer) (world_of world.old) (world_of world.new)) }
@@ -146,12 +142,7 @@ fn cut(channels: &[Channel], world: &RunWorld, items: Option<u64>) -> Option<u64
 }
 
 /// Whether a run is over: nothing is left to do, the rounds are over, or each output has the items that are asked for.
-fn is_over(
-    channels: &[Channel],
-    world: &RunWorld,
-    rounds: u64,
-    items: Option<u64>,
-) -> bool
+fn is_over(channels: &[Channel], world: &RunWorld, rounds: u64, items: Option<u64>) -> bool
     requires { length channels.now ≤ MAX_CHANNELS }
     ensures { result ≡ is_over (output_channels 0 channels.now) rounds items (world_of world.now) }
 {
