@@ -341,7 +341,7 @@ counts_installed net inputs node job after taken sent reached laid counts of tur
     counts_after_turn net inputs reached.n reached.current_acts node.current job code.0 after taken sent reached.current laid counts of code.1 (turn code.0 code.1)
 
 -- and each log is within its share
-pub logs_installed : (net : Network) (inputs : List (List ℤ)) (node : NodeView) (job : JobView) (after : Standing) (taken : List ℕ) (sent : List (List ℤ))
+pub logs_installed : (net : Network) (inputs : List (List ℤ)) (node : RunningNode) (job : JobView) (after : Standing) (taken : List ℕ) (sent : List (List ℤ))
     → HasReached net inputs node → IsLaidOut net node.current → LogsAreWithin node.current → IsJobOf net inputs node.current job → IsTurnOf net job after taken sent
     → LogsAreWithin (installed net.channels job.process after taken sent node.current)
 logs_installed net inputs node job after taken sent reached laid logs of turn =

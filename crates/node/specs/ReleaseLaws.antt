@@ -65,6 +65,9 @@ acts_are_front (Some code) histories m n c le =
           ∙ ap (λ (steps : List Step). sent_on c steps ++ sent_on c (drop m (take n (process_trace code histories).steps))) front);
     })
 
+pub acts_grow : (net : Network) (histories : List (List ℤ)) (made later : ℕ → ℕ) (c p : ℕ) → made p ≤ later p → IsPrefix (sent_on c (acts_of net histories made p)) (sent_on c (acts_of net histories later p))
+acts_grow net histories made later c p far = acts_are_front (slice_get net.codes p) histories (made p) (later p) c far
+
 -- a beginning of a beginning
 beginning_of_whole : (taken part whole : List ℤ) → IsPrefix part whole → IsPrefix taken part → IsPrefix taken whole
 beginning_of_whole taken part whole front begins =

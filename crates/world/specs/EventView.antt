@@ -12,6 +12,8 @@ pub data EventView : Type 0 where
   Start : (node : ℕ) → EventView
   Decide : (node : ℕ) → EventView
   Release : (node : ℕ) → EventView
+  Crash : (node : ℕ) → (fill : ℕ) → (rounds : ℕ) → EventView
+  Recover : (node : ℕ) → EventView
   Idle : (node : ℕ) → EventView
 
 abbrev pub event_view : Event → EventView
@@ -21,6 +23,8 @@ event_view (event.Send k) = Send k
 event_view (event.Start k) = Start k
 event_view (event.Decide k) = Decide k
 event_view (event.Release k) = Release k
+event_view (event.Crash k fill rounds) = Crash k fill rounds
+event_view (event.Recover k) = Recover k
 event_view (event.Idle k) = Idle k
 
 -- the node of a process
@@ -36,4 +40,6 @@ event_node (Send k) = k
 event_node (Start k) = k
 event_node (Decide k) = k
 event_node (Release k) = k
+event_node (Crash k fill rounds) = k
+event_node (Recover k) = k
 event_node (Idle k) = k

@@ -3,6 +3,8 @@ pub mod DoneView
 pub mod EventView
 pub mod ReplyView
 pub mod Sound
+pub mod RecordSound
+pub mod RecordLaws
 pub mod Covered
 pub mod Replies
 pub mod Growing

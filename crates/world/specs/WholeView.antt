@@ -1,6 +1,6 @@
 -- A whole world without pointers.
 use Rattle.std.specs.List.{AllZip}
-use Rattle.node.specs.declared.cell.StableCell.{Ghosts as CellWords}
+use Rattle.gate_cell.specs.declared.cell.StableCell.{Ghosts as CellWords}
 use Rattle.outlet.specs.declared.outlet.Outlet.{Ghosts as OutletWords}
 use Rattle.world.specs.Steps.{WorldView}
 use Rattle.world.specs.WorldView.{world_view, IsGrown}

@@ -17,6 +17,11 @@ pub enum Event {
     Decide(u8),
     /// One item of an output that a permanent checkpoint covers leaves the system.
     Release(u8),
+    /// The node crashes: what it had in memory is gone, and its disk is settled by this byte. It may be recovered so many
+    /// rounds later.
+    Crash { node: u8, fill: u8, rounds: u64 },
+    /// The node, which is down, comes back in its next epoch.
+    Recover(u8),
     /// The node lets its turn pass.
     Idle(u8),
 }
@@ -40,12 +45,17 @@ pub enum Reply {
     Sent,
     Started,
     Decided,
-    /// A start or a decision was refused: its record would be too large (22), or the number of a start would pass
-    /// 2^63 - 1 (44).
+    /// A start, a decision or a recovery was refused: its record would be too large (22), or the number of a start or the
+    /// epoch of a recovery would pass 2^63 - 1 (44).
     Refused(u8),
     Released(Freed),
     /// The outlet failed. It took the item or didn't.
     OutletFailed,
+    Crashed,
+    /// The node runs again, from its permanent image.
+    Recovered,
+    /// The node is up again, and holds another's tentative image: it waits for the verdict.
+    InDoubt,
     /// The device failed in this event, and the node is down.
     Down,
     Idled,
