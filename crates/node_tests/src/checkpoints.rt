@@ -1,6 +1,6 @@
 //! A node takes a tentative image, and makes it permanent.
 
-ghost use Rattle.std.specs.Prelude.{IsTrue};
+ghost use Rattle.std.specs.Prelude.{◌≡◌, [], IsTrue};
 ghost use Rattle.node.specs.NodeOf.{view_of};
 ghost use Rattle.node.specs.Starting.{IsLikeNow};
 
@@ -23,26 +23,31 @@ const DECIDED: [u8; 51] = [
     0, 0, 0, 1, 0, 0, 0, 0, 0, 0, 0, 5, 2, 1, 2, 0, 0, 0, 0,
 ];
 
-fn is_empty(image: &Image) -> bool {
-    image.processes.len() == 0 && image.ends.len() == 0
+// Whether an image has no process and no channel.
+fn is_nothing(image: &Image) -> bool
+    ensures { IsTrue result → (image.now.processes ≡ []) × (image.now.ends ≡ []) }
+{
+    image.processes.is_empty() && image.ends.is_empty()
 }
 
-// Starts at a node that has nothing, if it is up.
+// Whether a node, if it runs, has nothing, now and in its permanent image.
+fn has_nothing(node: &TestNode) -> bool
+    ensures { IsTrue result → IsLikeNow (view_of node.now) }
+{
+    let state = &node.state;
+    match &state.mode {
+        Mode::Running(running) => match node.store.record() {
+            Ok(kept) => is_nothing(&kept.permanent) && is_nothing(&running.current),
+            Err(_) => false,
+        },
+        Mode::Down | Mode::InDoubt => true,
+    }
+}
+
+// Starts at a node that has nothing.
 fn start(alloc: Global, node: &mut TestNode, round: u64) -> Result<Putting, Fail> {
-    let shared: &TestNode = node;
-    if let Mode::Running(running) = &shared.state.mode {
-        match shared.store.record() {
-            Ok(kept) => {
-                if kept.permanent.processes.len() != 0
-                    || kept.permanent.ends.len() != 0
-                    || running.current.processes.len() != 0
-                    || running.current.ends.len() != 0
-                {
-                    return Err("it has something".into());
-                }
-            }
-            Err(_) => return Err("no record".into()),
-        }
+    if !has_nothing(node) {
+        return Err("it has something".into());
     }
     Ok(node.start(alloc, round)?)
 }
