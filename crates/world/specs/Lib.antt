@@ -33,3 +33,4 @@ pub mod WholeView
 pub mod Released
 pub mod OpeningWorld
 pub mod Runnable
+pub mod OuterLaws

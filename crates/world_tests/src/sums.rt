@@ -34,7 +34,7 @@ pub(crate) const ITEMS: &str = "i: 1 2 3";
 
 pub(crate) type TestCell = GateCell<MemDisk>;
 
-#[tactic(auto, using(crate::proofs::Outer::outer_of))]
+#[tactic(auto, using(world::specs::OuterLaws::outer_of))]
 fn sum_net(alloc: Global) -> Result<Net, Fail>
     ensures one_node { IfOk result (λ net. IsOnOneNode (network_of net.program)) }
     ensures outer { IfOk result (λ net. HasOuterChannels (network_of net.program)) }

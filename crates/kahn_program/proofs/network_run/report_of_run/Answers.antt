@@ -7,7 +7,7 @@ use Rattle.kahn_program.specs.Report.{output_count, report_text}
 use Rattle.kahn_program.specs.Runs.{first_items}
 use Rattle.kahn_program.proofs.Released.{counted_streams, run_of, reported}
 use Rattle.kahn_program.proofs.Turns.{last_world, opens_first}
-use Rattle.kahn_program.proofs.Outer.{outer_of}
+use Rattle.world.specs.OuterLaws.{outer_of}
 use Rattle.node.specs.LikeLaws.{HasOuterChannels}
 use Rattle.kahn_net.specs.Syntax.{Network}
 use Rattle.kahn_program.proofs.network_run.report_of_run.Goals as goal

@@ -4,7 +4,7 @@ use Rattle.record.specs.ImageView.{ImageView}
 use Rattle.node.specs.Installing.{EndTakes}
 use Rattle.record.specs.declared.image.SavedEnd.{SavedEnd}
 use Rattle.node_tests.proofs.Seen.{holds_next, gone_through}
-use Rattle.node_tests.proofs.events.image_fits.Goals as goal
+use Rattle.node_tests.proofs.taking.image_fits.Goals as goal
 
 pub loop-saved-preserved : goal.loop-saved-preserved
 loop-saved-preserved c =
