@@ -5,7 +5,7 @@ use crate::sums::{
     Answer, Happens, OUTPUT, Run, TestCell, answer_to, shown, standing, sum_run, sums,
 };
 use outlet::ListOutlet;
-use sector_disk::{Disk, SECTOR_BYTES};
+use sector_disk::{Disk, MemDisk, SECTOR_BYTES};
 use std::alloc::Global;
 use std::process::Abort;
 use std::test::Fail;
@@ -83,13 +83,18 @@ fn a_disk_stopped_twice(rt: HostRuntime) -> Result<(), Fail> {
     Ok(())
 }
 
+// The disk of a world, as it stands.
+fn disk_of(world: World<TestCell, ListOutlet>) -> Result<MemDisk, Fail> {
+    let mut stations = world.close();
+    match stations.pop() {
+        Some(station) => Ok(station.node.store.close().close()),
+        None => Err("no station".into()),
+    }
+}
+
 // The device calls of a world whose run is over, and the first byte of its gate.
 fn calls_and_gate(world: World<TestCell, ListOutlet>) -> Result<(u64, u8), Fail> {
-    let mut stations = world.close();
-    let Some(station) = stations.pop() else {
-        return Err("no station".into());
-    };
-    let mut disk = station.node.store.close().close();
+    let mut disk = disk_of(world)?;
     let calls = disk.calls();
     let mut gate = [7; SECTOR_BYTES];
     match disk.read(0, &mut gate) {
