@@ -29,7 +29,6 @@ fn empty_disk(alloc: Global, sectors: usize) -> Result<MemDisk, AllocError>
 }
 
 /// The world of the running sum of 1 2 3.
-#[tactic(auto, using(world::specs::OuterLaws::outer_of))]
 fn open(alloc: Global) -> Result<DiskWorld, Fail> {
     let net = check(alloc, parse(alloc, SUM)?)?;
     if !can_run(&net) {

@@ -1,12 +1,11 @@
 // A world before its first event.
 ghost use Rattle.std.specs.Prelude.{◌≡◌, ◌++◌, ◌≤◌, [], ◌∷◌, if◌then◌else◌, length, map, IfOk, IsSome, OnOk};
 ghost use Rattle.kahn_net.specs.Fits.{Fits};
-ghost use Rattle.kahn_net.specs.Nodes.{IsOnOneNode};
 ghost use Rattle.kahn_net.specs.Syntax.{network_of};
 ghost use Rattle.gate_cell.specs.GateCell.{failures_of};
 ghost use Rattle.ckpt_codec.specs.RecordText.{IsRecord};
 ghost use Rattle.ckpt_store.specs.StoreView.{cell_in, known_in, record_in};
-ghost use Rattle.node.specs.LikeLaws.{HasOuterChannels};
+ghost use Rattle.world.specs.Runnable.{CanRun};
 ghost use Rattle.world.specs.Sound.{goes_outside, output_channels};
 ghost use Rattle.std.specs.List.{AllByRecursion};
 ghost use Rattle.world.specs.OpeningWorld.{fresh, opening_station, opening_world, IsUnused};
@@ -160,8 +159,7 @@ impl<D: Disk, O: Outlet> World<GateCell<D>, O> {
         disk: D,
         outputs: Vec<Output<O>>,
     ) -> Result<World<GateCell<D>, O>, StoreFault>
-        requires one_node { IsOnOneNode (network_of net.value.program) }
-        requires outer { HasOuterChannels (network_of net.value.program) }
+        requires runnable { CanRun (network_of net.value.program) }
         requires fits { Fits (network_of net.value.program) inputs.value }
         requires listed { map (λ output. output.channel) outputs.items
             ≡ output_channels 0 (network_of net.value.program).channels }

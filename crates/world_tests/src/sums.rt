@@ -3,9 +3,8 @@
 ghost use Rattle.std.specs.Prelude.{◌≡◌, IfOk, [], map};
 ghost use Rattle.std.specs.List.{AllByRecursion};
 ghost use Rattle.kahn_net.specs.Fits.{Fits};
-ghost use Rattle.kahn_net.specs.Nodes.{IsOnOneNode};
 ghost use Rattle.kahn_net.specs.Syntax.{network_of};
-ghost use Rattle.node.specs.LikeLaws.{HasOuterChannels};
+ghost use Rattle.world.specs.Runnable.{CanRun};
 ghost use Rattle.world.specs.OpeningWorld.{IsUnused};
 ghost use Rattle.world.specs.Sound.{output_channels};
 
@@ -34,10 +33,8 @@ pub(crate) const ITEMS: &str = "i: 1 2 3";
 
 pub(crate) type TestCell = GateCell<MemDisk>;
 
-#[tactic(auto, using(world::specs::OuterLaws::outer_of))]
 fn sum_net(alloc: Global) -> Result<Net, Fail>
-    ensures one_node { IfOk result (λ net. IsOnOneNode (network_of net.program)) }
-    ensures outer { IfOk result (λ net. HasOuterChannels (network_of net.program)) }
+    ensures { IfOk result (λ net. CanRun (network_of net.program)) }
 {
     let net = check(alloc, parse(alloc, SUM)?)?;
     if !can_run(&net) {

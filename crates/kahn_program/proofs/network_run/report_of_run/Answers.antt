@@ -7,8 +7,7 @@ use Rattle.kahn_program.specs.Report.{output_count, report_text}
 use Rattle.kahn_program.specs.Runs.{first_items}
 use Rattle.kahn_program.proofs.Released.{counted_streams, run_of, reported}
 use Rattle.kahn_program.proofs.Turns.{last_world, opens_first}
-use Rattle.world.specs.OuterLaws.{outer_of}
-use Rattle.node.specs.LikeLaws.{HasOuterChannels}
+use Rattle.world.specs.Runnable.{CanRun}
 use Rattle.kahn_net.specs.Syntax.{Network}
 use Rattle.kahn_program.proofs.network_run.report_of_run.Goals as goal
 
@@ -43,7 +42,7 @@ returns-in-Ok-report-clause-ok c =
     ∙ ap (λ (l : List (List ℤ)). report_text net.program.channels.items net.channel_names.items l told) c.deref-3.ensures.value))
     run c.complete.ensures.quiet last
 
-pub new-requires-3-clause-outer : goal.new-requires-3-clause-outer
-new-requires-3-clause-outer c =
+pub new-requires-3-clause-runnable : goal.new-requires-3-clause-runnable
+new-requires-3-clause-runnable c =
     let shared = c.in-Ok-try_clone.ensures ∙ c.in-Ok-new.ensures.ok in
-    subst (λ (n : Network). HasOuterChannels n) (sym (ap (λ (n : Net). network_of n.program) shared)) (outer_of (network_of c.args.net.program) c.requires.runnable)
+    subst (λ (n : Network). CanRun n) (sym (ap (λ (n : Net). network_of n.program) shared)) c.requires.runnable
