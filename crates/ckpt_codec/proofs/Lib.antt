@@ -6,7 +6,7 @@ mod Parts
 mod Text
 mod Records
 mod Items
-mod Exactness
+pub mod Exactness
 mod Spelled
 mod Walking
 mod Sizes

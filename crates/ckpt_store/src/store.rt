@@ -33,7 +33,7 @@ pub struct Refused<C: StableCell> {
 }
 
 impl<C: StableCell> Store<C> {
-    ghost use Rattle.ckpt_store.specs.StoreView.{cell_in, known_in, Holds, Changes, Stays, Opens, Reopens, IsUntouched};
+    ghost use Rattle.ckpt_store.specs.StoreView.{cell_in, known_in, record_in, Holds, Changes, Stays, Opens, Reopens, IsUntouched};
 
     /// Opens the record that the cell's value spells. It never writes.
     ///
@@ -64,7 +64,8 @@ impl<C: StableCell> Store<C> {
 
     /// The record. Refuses with `Reopen` (23) alone, exactly where the store isn't ready.
     pub fn record(&self) -> Result<&Record, StoreFault>
-        ensures { MatchResult result (λ kept. known_in self.now ≡ Some kept.now)
+        ensures { MatchResult result
+            (λ kept. (known_in self.now ≡ Some kept.now) × (record_in self.now ≡ kept.now))
             (λ fault. (fault ≡ StoreFault.Reopen) × (known_in self.now ≡ None)) }
     {
         match &self.known {

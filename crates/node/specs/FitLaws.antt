@@ -19,7 +19,7 @@ use Rattle.record.specs.ProcessView.{SavedProcessView}
 use Rattle.record.specs.ImageView.{ImageView}
 use Rattle.ckpt_codec.specs.RecordText.{role_of}
 use Rattle.node.specs.JobView.{JobView}
-use Rattle.node.specs.NodeView.{NodeView}
+use Rattle.node.specs.NodeView.{RunningNode}
 use Rattle.record.specs.Ends.{received_of, received_at, log_of, log_at, sent_in, end_of, base_in, base_of}
 use Rattle.node.specs.Sharing.{is_logging, log_share, IsWithinShare}
 use Rattle.node.specs.Granting.{is_process, next_items, room_in, room_of, room_from}
@@ -341,7 +341,7 @@ put_more_installed channels process after taken sent image c =
 -- Nodes
 
 -- a turn on the job that was out fits what the node has now
-pub turn_fits : (net : Network) (inputs : List (List ℤ)) (node : NodeView) (job : JobView) (after : Standing) (taken : List ℕ) (sent : List (List ℤ))
+pub turn_fits : (net : Network) (inputs : List (List ℤ)) (node : RunningNode) (job : JobView) (after : Standing) (taken : List ℕ) (sent : List (List ℤ))
     → HasReached net inputs node → IsLaidOut net node.current → CountsAreWithin inputs node.current → LogsAreWithin node.current → Fits net inputs
     → IsJobOf net inputs node.current job → IsTurnOf net job after taken sent → ImageTakes net.channels job.process taken sent node.current
 turn_fits net inputs node job after taken sent reached laid counts logs fits of turn =
@@ -349,7 +349,7 @@ turn_fits net inputs node job after taken sent reached laid counts logs fits of 
     image_takes_turn net inputs reached.n reached.current_acts node.current job code.0 after taken sent reached.current laid counts logs fits of code.1 (turn code.0 code.1)
 
 -- and then no more was received than there is
-pub counts_installed : (net : Network) (inputs : List (List ℤ)) (node : NodeView) (job : JobView) (after : Standing) (taken : List ℕ) (sent : List (List ℤ))
+pub counts_installed : (net : Network) (inputs : List (List ℤ)) (node : RunningNode) (job : JobView) (after : Standing) (taken : List ℕ) (sent : List (List ℤ))
     → HasReached net inputs node → IsLaidOut net node.current → CountsAreWithin inputs node.current → IsJobOf net inputs node.current job → IsTurnOf net job after taken sent
     → CountsAreWithin inputs (installed net.channels job.process after taken sent node.current)
 counts_installed net inputs node job after taken sent reached laid counts of turn =
@@ -357,7 +357,7 @@ counts_installed net inputs node job after taken sent reached laid counts of tur
     counts_after_turn net inputs reached.n reached.current_acts node.current job code.0 after taken sent reached.current laid counts of code.1 (turn code.0 code.1)
 
 -- and each log is within its share
-pub logs_installed : (net : Network) (inputs : List (List ℤ)) (node : NodeView) (job : JobView) (after : Standing) (taken : List ℕ) (sent : List (List ℤ))
+pub logs_installed : (net : Network) (inputs : List (List ℤ)) (node : RunningNode) (job : JobView) (after : Standing) (taken : List ℕ) (sent : List (List ℤ))
     → HasReached net inputs node → IsLaidOut net node.current → LogsAreWithin node.current → IsJobOf net inputs node.current job → IsTurnOf net job after taken sent
     → LogsAreWithin (installed net.channels job.process after taken sent node.current)
 logs_installed net inputs node job after taken sent reached laid logs of turn =

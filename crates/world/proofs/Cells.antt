@@ -1,42 +1,50 @@
 -- What a crash may leave of a station's cell.
-use Rattle.std.proofs.Common.{◌≡◌, ◌⊎◌, ℕ, ◌≤◌, Option, Some, None, inl, inr, refl, sym, subst, ◌∙◌, arith}
-use Rattle.sector_disk.specs.Clock.{LeavesOnly}
+use Rattle.std.proofs.Common.{◌≡◌, ◌⊎◌, inl, inr, ⊎_elim, ℕ, ◌≤◌, List, Option, Some, None, refl, sym, subst, ap, ◌∙◌, arith}
+use Rattle.sector_disk.specs.Clock.{Only}
+use Rattle.gate_cell.specs.declared.cell.StableCell.{Ghosts as CellWords}
 use Rattle.record.specs.Ends.{sent_of}
 use Rattle.record.specs.ImageView.{ImageView}
 use Rattle.record.specs.RecordView.{RecordView}
-use Rattle.node.specs.NodeView.{NodeView}
-use Rattle.node.specs.Starting.{with_own, decided, HasPutMore, LeavesAsMuch}
+use Rattle.ckpt_store.specs.Spelling.{Spells}
+use Rattle.ckpt_store.specs.StoreView.{cell_in, record_in}
+use Rattle.ckpt_store.specs.declared.store.Store.{Store}
+use Rattle.ckpt_store.proofs.Seen.{spelled_is}
+use Rattle.node.specs.Starting.{HasPutMore}
+use Rattle.node.specs.StoredView.{LeavesNext, LeavesAsBefore}
+use Rattle.world.specs.Covered.{LeavesAsMuch}
 use Rattle.world.specs.Pairs.{LeaveAsMuchSince}
-use Rattle.world.specs.Sound.{IsInOrder}
-use Rattle.world.specs.SoundLaws.{decided_more}
 
-leaves_next : (image : ImageView) (kept : RecordView) (left : Option RecordView) → left ≡ Some kept → HasPutMore image kept.permanent → LeavesAsMuch image left
-leaves_next image kept left is more = record {
-  something = λ none. absurd (nothing kept (sym is ∙ none));
-  as_much = λ other e channel. subst (λ (k : RecordView). sent_of image channel ≤ sent_of k.permanent channel) (same kept other (sym is ∙ e)) (more channel);
+-- what was left spells one record alone
+one_record : (kept other : RecordView) (left : Option (List ℕ)) → Spells kept left → Spells other left → kept ≡ other
+one_record kept other None is too = absurd is
+one_record kept other (Some bytes) is too = sym (spelled_is kept bytes is) ∙ spelled_is other bytes too
+
+-- a record that was left, and has put at least as much
+leaves_record : (image : ImageView) (kept : RecordView) (left : Option (List ℕ)) → Spells kept left → HasPutMore image kept.permanent → LeavesAsMuch image left
+leaves_record image kept left is more = record {
+  something = ∣ (kept, is) ∣₁;
+  as_much = λ other too channel. subst (λ (r : RecordView). sent_of image channel ≤ sent_of r.permanent channel) (one_record kept other left is too) (more channel);
 }
-  where
-    nothing : (k : RecordView) → Some k ≡ None → ⊥
-    nothing k e = cc
 
-    same : (k other : RecordView) → Some k ≡ Some other → k ≡ other
-    same k other e = cc
+module _ {C : Type 0} (words : CellWords C) where
+  -- the record of a store that a crash leaves alone
+  pub leaves_own : (store : Store C words) → Only (Some (words.value (cell_in store))) (words.may_leave (cell_in store)) → (left : Option (List ℕ)) → words.may_leave (cell_in store) left
+      → LeavesAsMuch (record_in store).permanent left
+  leaves_own store settled left might = record {
+    something = store.kept.leaves left might;
+    as_much = λ other too channel. (
+        let same : record_in store ≡ other = spelled_is other (words.value (cell_in store)) (subst (λ (l : Option (List ℕ)). Spells other l) (settled left might) too) in
+        let count : sent_of (record_in store).permanent channel ≡ sent_of other.permanent channel = ap (λ (r : RecordView). sent_of r.permanent channel) same in
+        omega (arith, count));
+  }
 
-module _ {C : Type 0} (moment : C → ℕ) (left_since : C → ℕ → Option RecordView → Type 0) (may_leave : C → Option RecordView → Type 0) (old : NodeView) (cell cell' : C)
-    (durable : (left : Option RecordView) → may_leave cell left → LeavesAsMuch old.kept.permanent left) where
-  -- through a put of a record that has put at least as much
-  through : (kept : RecordView) → LeavesOnly moment left_since cell cell' (λ left. may_leave cell left ⊎ (left ≡ Some kept)) → HasPutMore old.kept.permanent kept.permanent
-      → LeaveAsMuchSince moment left_since cell cell' old.kept.permanent
-  through kept any more left since = at (any.each left since)
-    where
-      at : may_leave cell left ⊎ (left ≡ Some kept) → LeavesAsMuch old.kept.permanent left
-      at (inl was) = durable left was
-      at (inr is) = leaves_next old.kept.permanent kept left is more
+  module _ (old new : Store C words) (settled : Only (Some (words.value (cell_in old))) (words.may_leave (cell_in old))) where
+    -- through a put of a record that has put at least as much
+    pub through : (next : RecordView) → LeavesNext next old new → HasPutMore (record_in old).permanent next.permanent
+        → LeaveAsMuchSince words.moment words.left_since (cell_in old) (cell_in new) (record_in old).permanent
+    through next run more left since =
+        ⊎_elim (leaves_own old settled left) (λ is. leaves_record (record_in old).permanent next left is more) (run.each left since)
 
-  -- the put of a start, which leaves the permanent image alone
-  pub through_start : (number : ℕ) → LeavesOnly moment left_since cell cell' (λ left. may_leave cell left ⊎ (left ≡ Some (with_own number old.current old.kept))) → LeaveAsMuchSince moment left_since cell cell' old.kept.permanent
-  through_start number any = through (with_own number old.current old.kept) any (λ channel. omega arith)
-
-  -- and that of a decision
-  pub through_decision : IsInOrder old → LeavesOnly moment left_since cell cell' (λ left. may_leave cell left ⊎ (left ≡ Some (decided old.kept))) → LeaveAsMuchSince moment left_since cell cell' old.kept.permanent
-  through_decision order any = through (decided old.kept) any (decided_more old order old.kept.tentative refl)
+    -- and where nothing was put
+    pub through_crash : LeavesAsBefore old new → LeaveAsMuchSince words.moment words.left_since (cell_in old) (cell_in new) (record_in old).permanent
+    through_crash run left since = leaves_own old settled left (run.each left since)

@@ -3,6 +3,8 @@ pub mod DoneView
 pub mod EventView
 pub mod ReplyView
 pub mod Sound
+pub mod RecordSound
+pub mod RecordLaws
 pub mod Covered
 pub mod Replies
 pub mod Growing
@@ -14,6 +16,7 @@ pub mod SoundLaws
 pub mod OrderLaws
 pub mod HandedLaws
 pub mod StepKeeps
+pub mod ActLaws
 pub mod GrowLaws
 pub mod Headline
 pub mod OpenLaws
@@ -30,3 +33,4 @@ pub mod WholeView
 pub mod Released
 pub mod OpeningWorld
 pub mod Runnable
+pub mod OuterLaws

@@ -4,14 +4,12 @@ use Rattle.record.specs.ImageView.{ImageView}
 use Rattle.record.specs.RecordView.{RecordView}
 use Rattle.record.specs.declared.record.Tentative.{Tentative}
 use Rattle.node.specs.JobView.{JobView}
-use Rattle.node.specs.NodeView.{NodeView}
+use Rattle.node.specs.NodeView.{RunningNode}
 use Rattle.node.specs.Choosing.{after_grant}
-use Rattle.node.specs.Starting.{AreInOrder, HasPutMore, with_own, decided_with, IsStart, IsDecision}
-use Rattle.world.specs.Sound.{IsInOrder}
-use Rattle.node.specs.declared.putting.Putting.{Putting}
-use Rattle.node.specs.declared.putting.Putting.TheVariants.{NotDue, Stored, Refused, Failed}
+use Rattle.record.specs.Moves.{last_image}
+use Rattle.node.specs.Starting.{AreInOrder, HasPutMore, with_own, decided}
 
-pub order_granted : (job : Option JobView) (node : NodeView) → IsInOrder node → IsInOrder (after_grant job node)
+pub order_granted : (job : Option JobView) (node : RunningNode) → AreInOrder node.kept node.current → AreInOrder (after_grant job node).kept (after_grant job node).current
 order_granted None node order = order
 order_granted (Some job) node order = order
 
@@ -23,29 +21,20 @@ order_ahead kept current later more order = record {
   held_behind = λ held is c. (let a = order.held_behind held is c in let b = more c in omega (arith, a, b));
 }
 
-order_own : (number : ℕ) (kept : RecordView) (current : ImageView) → AreInOrder kept current → AreInOrder (with_own number current kept) current
+pub order_own : (number : ℕ) (kept : RecordView) (current : ImageView) → AreInOrder kept current → AreInOrder (with_own number current kept) current
 order_own number kept current order = record {
   current_ahead = order.current_ahead;
   held_ahead = λ held is. (let same : current ≡ held.image = cc in subst (HasPutMore kept.permanent) same order.current_ahead);
   held_behind = λ held is. (let same : current ≡ held.image = cc in subst (λ (i : ImageView). HasPutMore i current) same (λ c. omega arith));
 }
 
-order_kept : (kept : RecordView) (o : Option Tentative) (current : ImageView) → kept.tentative ≡ o → AreInOrder kept current → AreInOrder (decided_with kept o) current
-order_kept kept None current is order = order
-order_kept kept (Some held) current is order = record {
-  current_ahead = order.held_behind held is;
+order_last : (kept : RecordView) (o : Option Tentative) (current : ImageView) → kept.tentative ≡ o → AreInOrder kept current → HasPutMore (last_image kept.permanent o) current
+order_last kept None current is order = order.current_ahead
+order_last kept (Some held) current is order = order.held_behind held is
+
+pub order_decided : (kept : RecordView) (current : ImageView) → AreInOrder kept current → AreInOrder (decided kept) current
+order_decided kept current order = record {
+  current_ahead = order_last kept kept.tentative current refl order;
   held_ahead = λ other e. absurd (cc);
   held_behind = λ other e. absurd (cc);
 }
-
-pub order_started : (number round : ℕ) (old : NodeView) (outcome : Putting) (new : NodeView) → IsStart number round old outcome new → IsInOrder old → IsInOrder new
-order_started number round old NotDue new step order = subst IsInOrder (sym step.1) order
-order_started number round old Stored new step order = subst IsInOrder (sym step.2) (order_own number old.kept old.current order)
-order_started number round old (Refused refusal) new step order = subst IsInOrder (sym step.2) order
-order_started number round old Failed new step order = subst IsInOrder (sym step.2) order
-
-pub order_decided : (number round : ℕ) (old : NodeView) (outcome : Putting) (new : NodeView) → IsDecision number round old outcome new → IsInOrder old → IsInOrder new
-order_decided number round old NotDue new step order = subst IsInOrder (sym step.1) order
-order_decided number round old Stored new step order = subst IsInOrder (sym step.1) (order_kept old.kept old.kept.tentative old.current refl order)
-order_decided number round old (Refused refusal) new step order = subst IsInOrder (sym step.2) order
-order_decided number round old Failed new step order = subst IsInOrder (sym step.1) order

@@ -13,6 +13,7 @@ mod opening;
 mod output;
 mod picking;
 mod quiet;
+mod recovering;
 mod released;
 mod releasing;
 mod round_turns;

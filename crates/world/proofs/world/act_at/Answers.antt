@@ -1,5 +1,7 @@
 use Rattle.std.proofs.Common.{rules}
 use Rattle.kahn_net.specs.Syntax.{network_of}
+use Rattle.ckpt_store.specs.Spelling.{fits_in}
+use Rattle.ckpt_store.specs.StoreView.{cell_in}
 use Rattle.world.specs.EventView.{event_view}
 use Rattle.world.specs.PairLaws.{on_err_map, pairs_refl, pairs_set}
 use Rattle.world.specs.WorldView.{station_view}
@@ -11,6 +13,7 @@ use Rattle.world.proofs.world.act_at.Goals as goal
 pub act-requires : goal.act-requires
 act-requires g c = record {
   fits = c.requires.fits;
+  outer = c.requires.outer;
   sound = c.requires.sound c.args.number (station_view g.O.Outlet.taken g.O.Outlet.failures c.index_mut.result.now) (seen_at (station_view g.O.Outlet.taken g.O.Outlet.failures) c.args.stations.now.items c.args.number c.index_mut.result.now (search rules) c.index_mut.ensures.value);
 }
 
@@ -25,7 +28,7 @@ pub returns-clause-grown : goal.returns-clause-grown
 returns-clause-grown g c =
     let net = c.args.net.now.value in
     let x = c.index_mut.result.now in
-    all_grown {cell = g.C.StableCell} g.O.Outlet.taken g.O.Outlet.failures g.met.C.StableCell.only_now (network_of net.program) c.args.inputs.now c.requires.fits (g.C.StableCell.fits x.node.cell) c.args.round (event_view c.args.event.now) c.args.stations.now.items c.args.number x _ c.act.result
+    all_grown {cell = g.C.StableCell} g.O.Outlet.taken g.O.Outlet.failures g.met.C.StableCell.only_now (network_of net.program) c.args.inputs.now net.valid c.requires.fits (fits_in (g.C.StableCell.capacity (cell_in x.node.store))) c.args.round (event_view c.args.event.now) c.args.stations.now.items c.args.number x _ c.act.result
     c.requires.sound (search rules) c.index_mut.ensures.value c.act.ensures.moved c.act.ensures.step (on_err_map c.act.result c.act.ensures.refused (λ same. same.0))
 
 pub returns-clause-refused : goal.returns-clause-refused
@@ -34,7 +37,7 @@ returns-clause-refused g c =
 
 pub returns-clause-step : goal.returns-clause-step
 returns-clause-step g c =
-    acted (network_of c.args.net.now.value.program) c.args.inputs.now (station_view g.O.Outlet.taken g.O.Outlet.failures) (λ (station : Station g.row.C.Denot g.row.O.Denot g.C.StableCell). g.C.StableCell.fits station.node.cell)
+    acted (network_of c.args.net.now.value.program) c.args.inputs.now (station_view g.O.Outlet.taken g.O.Outlet.failures) (λ (station : Station g.row.C.Denot g.row.O.Denot g.C.StableCell). fits_in (g.C.StableCell.capacity (cell_in station.node.store)))
     c.args.round (event_view c.args.event.now) c.args.stations.now.items c.args.number c.index_mut.result.now _ c.act.result (search rules) c.index_mut.ensures.value c.act.ensures.step
 
 pub returns-clause-unchanged : goal.returns-clause-unchanged

@@ -1,0 +1,161 @@
+//! Runs of the running sum of 1 2 3 whose disk is stopped at one of its calls, or at two.
+
+use crate::asserting::{same, same_at};
+use crate::sums::{
+    Answer, Happens, OUTPUT, Run, TestCell, answer_to, shown, standing, sum_run, sums,
+};
+use outlet::ListOutlet;
+use sector_disk::{Disk, MemDisk, SECTOR_BYTES};
+use std::alloc::Global;
+use std::process::Abort;
+use std::test::Fail;
+use world::{Event, Reply, World};
+
+// The event that is next. A job that it grants is run, and taken in.
+fn take_turn(alloc: Global, world: &mut World<TestCell, ListOutlet>) -> Result<(), Fail> {
+    let event = world.pick(0);
+    match world.apply(alloc, event) {
+        Ok(Reply::Granted(job)) => {
+            let done = job.run(alloc)?;
+            answer_to(world, alloc, Event::Install(done))?;
+            Ok(())
+        }
+        Ok(_) => Ok(()),
+        Err(_) => Err("no memory".into()),
+    }
+}
+
+// Asserts that what has left is a beginning of 1 3 6.
+fn begins(rt: &impl Abort, found: &[i64], row: (u64, u64, u8)) {
+    same_at(rt, &found, &sums(found.len()), &row);
+}
+
+// Takes turns until nothing is left to do.
+fn run_out(
+    rt: &impl Abort,
+    alloc: Global,
+    run: &mut Run<ListOutlet>,
+    row: (u64, u64, u8),
+) -> Result<(), Fail> {
+    for _ in 0..100 {
+        if run.world.complete() {
+            same_at(rt, &run.world.released(OUTPUT), &sums(3), &row);
+            return Ok(());
+        }
+        take_turn(alloc, &mut run.world)?;
+        begins(rt, run.world.released(OUTPUT), row);
+    }
+    Err("not complete".into())
+}
+
+// A run whose disk is stopped at these calls.
+fn stopped_run(rt: &impl Abort, alloc: Global, row: (u64, u64, u8)) -> Result<(), Fail> {
+    let (first, second, fill) = row;
+    let mut run = sum_run(alloc)?;
+    run.goes(
+        rt,
+        alloc,
+        &[Happens::Arm(first, fill), Happens::Arm(second, fill)],
+    )?;
+    run_out(rt, alloc, &mut run, row)
+}
+
+#[test]
+fn a_disk_stopped_at_each_call(rt: HostRuntime) -> Result<(), Fail> {
+    for call in 1..13u64 {
+        for fill in [0, 1, 254, 255] {
+            stopped_run(&rt, rt.alloc(), (call, call, fill))?;
+        }
+    }
+    Ok(())
+}
+
+#[test]
+fn a_disk_stopped_twice(rt: HostRuntime) -> Result<(), Fail> {
+    // Behind the first stop a recovery takes three calls and four.
+    for call in 1..9u64 {
+        for later in 1..9u64 {
+            for fill in [0, 255] {
+                stopped_run(&rt, rt.alloc(), (call, call + later, fill))?;
+            }
+        }
+    }
+    Ok(())
+}
+
+// The disk of a world, as it stands.
+fn disk_of(world: World<TestCell, ListOutlet>) -> Result<MemDisk, Fail> {
+    let mut stations = world.close();
+    match stations.pop() {
+        Some(station) => Ok(station.node.store.close().close()),
+        None => Err("no station".into()),
+    }
+}
+
+// The device calls of a world whose run is over, and the first byte of its gate.
+fn calls_and_gate(world: World<TestCell, ListOutlet>) -> Result<(u64, u8), Fail> {
+    let mut disk = disk_of(world)?;
+    let calls = disk.calls();
+    let mut gate = [7; SECTOR_BYTES];
+    match disk.read(0, &mut gate) {
+        Ok(()) => Ok((calls, gate[0])),
+        Err(_) => Err("not read".into()),
+    }
+}
+
+#[test]
+fn a_run_makes_eight_device_calls(rt: HostRuntime) -> Result<(), Fail> {
+    let mut run = sum_run(rt.alloc())?;
+    run_out(&rt, rt.alloc(), &mut run, (0, 0, 0))?;
+    // A start and a decision, of four calls each: the first turns the gate to area 1, the second turns it back.
+    same(&rt, &calls_and_gate(run.world)?, &(8, 0), "calls and gate");
+    Ok(())
+}
+
+// The record with which the node comes back whose start or decision is stopped at this call.
+fn recovered_after(
+    rt: &impl Abort,
+    alloc: Global,
+    before: &[Happens],
+    stopped: Happens,
+    call: u64,
+    fill: u8,
+) -> Result<(u64, u64, u64, u64, u64), Fail> {
+    let mut run = sum_run(alloc)?;
+    run.goes(rt, alloc, &[Happens::Arm(call, fill)])?;
+    run.goes(rt, alloc, before)?;
+    let found = run.apply(alloc, stopped)?;
+    same_at(rt, &found, &Answer::Down, &(call, fill));
+    same_at(rt, &standing(&run.world)?, &(true, 1, 1), &(call, fill));
+    run.goes(rt, alloc, &[Happens::Idle, Happens::Recover])?;
+    shown(&run.world)
+}
+
+// A start puts its record into area 1. Calls 1 and 2 write and sync it, and the gate names area 0 meanwhile. From call 3 on
+// until the end of call 4 the gate is in doubt: an even byte in it names area 0, an odd one area 1, in which the start's
+// number is seen. The recovery lets its image go.
+#[test]
+fn a_start_stopped_at_each_call(rt: HostRuntime) -> Result<(), Fail> {
+    for (call, even, odd) in [(1, 0, 0), (2, 0, 0), (3, 0, 1), (4, 0, 1)] {
+        for (fill, entry) in [(0, even), (254, even), (1, odd), (255, odd)] {
+            let before = [Happens::Grant, Happens::Install];
+            let found = recovered_after(&rt, rt.alloc(), &before, Happens::Start, call, fill)?;
+            same_at(&rt, &found, &(1, entry, 0, 0, 0), &(call, fill));
+        }
+    }
+    Ok(())
+}
+
+// A decision behind it puts its record into area 0 in the same way, with the gate naming area 1 until call 7: there an even
+// byte names the new record, whose permanent image has all three items, and an odd one the old record.
+#[test]
+fn a_decision_stopped_at_each_call(rt: HostRuntime) -> Result<(), Fail> {
+    for (call, even, odd) in [(5, 0, 0), (6, 0, 0), (7, 3, 0), (8, 3, 0)] {
+        for (fill, count) in [(0, even), (254, even), (1, odd), (255, odd)] {
+            let before = [Happens::Grant, Happens::Install, Happens::Start];
+            let found = recovered_after(&rt, rt.alloc(), &before, Happens::Decide, call, fill)?;
+            same_at(&rt, &found, &(1, 1, 0, count, count), &(call, fill));
+        }
+    }
+    Ok(())
+}
