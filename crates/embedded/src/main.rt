@@ -1,4 +1,4 @@
-//! A world in a program of one's own: the running sum of 1 2 3, event by event.
+//! A world in a program of one's own: the running sum of 1 2 3, event by event, with a crash in the middle.
 #![tactic(auto)]
 
 ghost use Rattle.std.specs.Prelude.{◌*◌, ◌^◌, ◌<◌};
@@ -19,11 +19,23 @@ process sum on 0 { var a; var v; loop { v = get i; a = a + v; put a to o; } }";
 /// The sectors of the disk: room behind the gate for a record of 1,048,576 bytes in each of its two areas.
 const SECTORS: usize = 4_101;
 
+/// The turn before which the node crashes: it has taken a tentative image then, and not made it permanent.
+const CRASHES_AT: u32 = 2;
+
 /// A disk in memory of so many sectors.
 fn empty_disk(alloc: Global, sectors: usize) -> Result<MemDisk, AllocError>
     requires { SECTOR_BYTES * sectors < 2 ^ 64 }
 {
     MemDisk::new(alloc, sectors)
+}
+
+/// The node crashes: what it had in memory is gone. It may be recovered a round later.
+fn crash() -> Event {
+    Event::Crash {
+        node: 0,
+        fill: 0,
+        rounds: 1,
+    }
 }
 
 /// One event. `World::apply` refuses for want of memory alone.
@@ -63,9 +75,12 @@ fn main(rt: HostRuntime) -> anyhow::Result<()> {
     let inputs = Arc::new(alloc, inputs)?;
     let disk = empty_disk(alloc, SECTORS)?;
     let mut world = World::new(alloc, net, inputs, disk, outputs)?;
-    for _ in 0..100 {
+    for turn in 0..100 {
         if world.complete() {
             break;
+        }
+        if turn == CRASHES_AT {
+            apply(alloc, &mut world, crash())?;
         }
         step(alloc, &mut world)?;
     }

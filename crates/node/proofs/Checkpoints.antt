@@ -65,7 +65,7 @@ module _ {C : Type 0} (words : CellWords C)
       stored : (p : Result (Unit {0}) StoreFault) → put ≡ p → OnOk p ((record_in new ≡ change (record_in old)) × IsSome (known_in new) × (after ≡ before))
       stored (Ok x) is =
           let done = subst (λ (p : Result (Unit {0}) StoreFault). OnOk p ((record_in mid ≡ change (record_in old)) × IsSome (known_in mid))) is
-              (change_done words includes_now may_stay ready_settled cause change old mid put some fine changes) in
+          (change_done words includes_now may_stay ready_settled cause change old mid put some fine changes) in
           let same = stays (ap has_failed is) in
           (subst (λ (s : Store C words). record_in s ≡ change (record_in old)) (sym same.0) done.0, subst (λ (s : Store C words). IsSome (known_in s)) (sym same.0) done.1, same.1)
       stored (Err e) is = tt
@@ -75,7 +75,7 @@ module _ {C : Type 0} (words : CellWords C)
       refused (Err e) is = λ test. (
           let same = stays (ap has_failed is ∙ test) in
           let kept = subst (λ (p : Result (Unit {0}) StoreFault). OnErr p (¬ (IsErrOf p fault.Device) → (record_in mid ≡ record_in old) × IsSome (known_in mid) × (cell_in mid ≡ cell_in old))) is
-              (change_refused words includes_now may_stay ready_settled cause change old mid put some fine changes) (not_device (Err e) test) in
+          (change_refused words includes_now may_stay ready_settled cause change old mid put some fine changes) (not_device (Err e) test) in
           (subst (λ (s : Store C words). record_in s ≡ record_in old) (sym same.0) kept.0, subst (λ (s : Store C words). IsSome (known_in s)) (sym same.0) kept.1, same.1))
 
       ready : has_failed put ≡ false → IsSome (known_in new)
@@ -130,19 +130,19 @@ module _ {C : Type 0} {words : CellWords C} (next : RecordView) (round : ℕ) (o
       → (x : Putting) → put_outcome put ≡ Some x → P x now
   ends_step P done large device =
       by_kind (λ p. OnOk p ((record_in new ≡ next) × IsSome (known_in new) × (after ≡ before)) → OnErr p (has_failed p ≡ false → (record_in new ≡ record_in old) × IsSome (known_in new) × (after ≡ before))
-          → (IsTrue (has_failed p) → ((record_in new ≡ record_in old) ⊎ (record_in new ≡ next)) × ((kept : RecordView) → node_view kept after ≡ crashed (next_number round) (node_view kept before)))
-          → (x : Putting) → put_outcome p ≡ Some x → P x now)
+      → (IsTrue (has_failed p) → ((record_in new ≡ record_in old) ⊎ (record_in new ≡ next)) × ((kept : RecordView) → node_view kept after ≡ crashed (next_number round) (node_view kept before)))
+      → (x : Putting) → put_outcome p ≡ Some x → P x now)
       (λ stored refused failed x is.
-          subst (λ (y : Putting). P y now) (is_some_of is)
-          (subst (P Stored) (sym (ap (λ (r : RecordView). node_view r after) stored.0 ∙ ap (node_view next) stored.2)) done))
+      subst (λ (y : Putting). P y now) (is_some_of is)
+      (subst (P Stored) (sym (ap (λ (r : RecordView). node_view r after) stored.0 ∙ ap (node_view next) stored.2)) done))
       (λ stored refused failed x is. absurd (cc))
       (λ stored refused failed x is.
-          let same = refused refl in
-          subst (λ (y : Putting). P y now) (is_some_of is) (subst (P (Refused 22)) (sym (same_view same.0 same.2)) large))
+      let same = refused refl in
+      subst (λ (y : Putting). P y now) (is_some_of is) (subst (P (Refused 22)) (sym (same_view same.0 same.2)) large))
       (λ stored refused failed x is.
-          let down = failed refl in
-          subst (λ (y : Putting). P y now) (is_some_of is)
-          (device now (⊎_elim (λ kept. inl (ap (λ (r : RecordView). node_view r after) kept ∙ down.1 (record_in old))) (λ kept. inr (ap (λ (r : RecordView). node_view r after) kept ∙ down.1 next)) down.0)))
+      let down = failed refl in
+      subst (λ (y : Putting). P y now) (is_some_of is)
+      (device now (⊎_elim (λ kept. inl (ap (λ (r : RecordView). node_view r after) kept ∙ down.1 (record_in old))) (λ kept. inr (ap (λ (r : RecordView). node_view r after) kept ∙ down.1 next)) down.0)))
       put ends.refusals ends.stored ends.refused ends.failed
     where
       is_some_of : {x y : Putting} → Some x ≡ Some y → x ≡ y

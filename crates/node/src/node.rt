@@ -50,11 +50,7 @@ impl<C: StableCell> Node<C> {
     ghost use Rattle.node.specs.NodeOf.{view_of};
 
     /// A node that runs from the permanent image of its store's record, and never went down.
-    pub fn run_from(
-        alloc: Global,
-        number: u8,
-        store: Store<C>,
-    ) -> Result<Node<C>, AllocError>
+    pub fn run_from(alloc: Global, number: u8, store: Store<C>) -> Result<Node<C>, AllocError>
         requires known { IsSome (known_in store) }
         requires listed { number < length (record_in store).highest }
         requires named { (record_in store).node ≡ number }
@@ -192,13 +188,7 @@ impl<C: StableCell> Node<C> {
         ensures unchanged { result ≡ false → self.new.store ≡ self.old.store }
         ensures same_number { self.new.number ≡ self.old.number }
     {
-        crash(
-            self.number,
-            &mut self.state,
-            &mut self.store,
-            fill,
-            restart,
-        )
+        crash(self.number, &mut self.state, &mut self.store, fill, restart)
     }
 
     /// Comes back, if it is down: in its next epoch, without a tentative image of its own, which is one put. It then runs

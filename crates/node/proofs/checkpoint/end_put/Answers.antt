@@ -5,12 +5,13 @@ use Rattle.node.proofs.checkpoint.end_put.Goals as goal
 
 pub returns-clause-failed : goal.returns-clause-failed
 returns-clause-failed g c = λ test. (
-    record {
-      down = c.crash.ensures.down;
-      left = c.crash.ensures.left;
-      settled = c.crash.ensures.settled;
-      any_moment = c.crash.ensures.any_moment;
-      same_room = c.crash.ensures.same_room;
-      failures = c.crash.ensures.failures;
-    },
-    λ kept. c.stop.ensures kept ∙ ap (λ (n : ℕ). crashed n (node_view kept c.args.state.now)) c.next_after.ensures)
+  record {
+    down = c.crash.ensures.down;
+    left = c.crash.ensures.left;
+    settled = c.crash.ensures.settled;
+    any_moment = c.crash.ensures.any_moment;
+    same_room = c.crash.ensures.same_room;
+    failures = c.crash.ensures.failures;
+  },
+  λ kept. c.stop.ensures kept ∙ ap (λ (n : ℕ). crashed n (node_view kept c.args.state.now)) c.next_after.ensures,
+)
