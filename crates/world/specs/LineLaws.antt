@@ -1,5 +1,5 @@
 -- Laws of the recovery line: of what an event may leave of one station, and of the line of all.
-use Rattle.std.proofs.Common.{◌≡◌, ◌⊎◌, inl, inr, ⊎_elim, ℕ, zero, suc, ◌+◌, ◌<◌, ◌≤◌, Bool, true, false, eqb, cond, ℤ, List, [], ◌∷◌, map, length, Option, Some, None, option_map, refl, sym, ap, subst, ◌∙◌, arith}
+use Rattle.std.proofs.Common.{◌≡◌, ◌≢◌, ◌⊎◌, inl, inr, ⊎_elim, ℕ, zero, suc, ◌+◌, ◌<◌, ◌≤◌, Bool, true, false, eqb, cond, ℤ, List, [], ◌∷◌, map, length, Option, Some, None, option_map, refl, sym, ap, subst, ◌∙◌, arith}
 use Rattle.std.specs.Prelude.{slice_get, find}
 use Rattle.std.specs.List.{AllZip}
 use Rattle.std.proofs.lemmas.Bool.Decides.{eqb_tells}
@@ -154,30 +154,49 @@ place_of number (x ∷ channels) (suc k) channel is to = at (goes_outside x.cons
 find_there : (outlets : List OutletView) (c j : ℕ) (outlet : OutletView) → slice_get outlets j ≡ Some outlet → outlet.channel ≡ c
     → (i : ℕ) × (x : OutletView) × (find (λ (o : OutletView). eqb o.channel c) outlets ≡ Some x) × (slice_get outlets i ≡ Some x) × (x.channel ≡ c)
 find_there [] c j outlet is of = absurd (cc)
-find_there (o ∷ outlets) c j outlet is of = at (eqb_tells o.channel c) j is
+find_there (o ∷ outlets) c j outlet is of = at (eqb_tells o.channel c) j (λ i there. find_there outlets c i outlet there of) is
   where
-    at : ((eqb o.channel c ≡ true) × (o.channel ≡ c)) ⊎ ((eqb o.channel c ≡ false) × ¬ (o.channel ≡ c)) → (j : ℕ) → slice_get (o ∷ outlets) j ≡ Some outlet
+    at : ((eqb o.channel c ≡ true) × (o.channel ≡ c)) ⊎ ((eqb o.channel c ≡ false) × (o.channel ≢ c)) → (j : ℕ)
+        → ((i : ℕ) → slice_get outlets i ≡ Some outlet → (k : ℕ) × (x : OutletView) × (find (λ (y : OutletView). eqb y.channel c) outlets ≡ Some x) × (slice_get outlets k ≡ Some x) × (x.channel ≡ c))
+        → slice_get (o ∷ outlets) j ≡ Some outlet
         → (i : ℕ) × (x : OutletView) × (cond (eqb o.channel c) (Some o) (find (λ (y : OutletView). eqb y.channel c) outlets) ≡ Some x) × (slice_get (o ∷ outlets) i ≡ Some x) × (x.channel ≡ c)
-    at (inl here) j is = (0, o, ap (λ (b : Bool). cond b (Some o) (find (λ (y : OutletView). eqb y.channel c) outlets)) here.0, refl, here.1)
-    at (inr there) zero is = let same : o ≡ outlet = cc in absurd (there.1 (ap (λ (y : OutletView). y.channel) same ∙ of))
-    at (inr there) (suc j) is =
-        let rest = find_there outlets c j outlet is of in
+    at (inl here) j later is = (0, o, ap (λ (b : Bool). cond b (Some o) (find (λ (y : OutletView). eqb y.channel c) outlets)) here.0, refl, here.1)
+    at (inr there) zero later is = let same : o ≡ outlet = cc in absurd (there.1 (ap (λ (y : OutletView). y.channel) same ∙ of))
+    at (inr there) (suc j) later is =
+        let rest = later j is in
         (suc rest.0, rest.1, ap (λ (b : Bool). cond b (Some o) (find (λ (y : OutletView). eqb y.channel c) outlets)) there.0 ∙ rest.2, rest.3, rest.4)
 
--- what a station shows of an output's channel is what one of its outlets took
+-- a station has an outlet for an output's channel
+outlet_there : (net : Network) (outlets : List OutletView) (c : ℕ) (channel : Channel) → map (λ (output : OutputView). output.channel) (outputs_of outlets) ≡ output_channels 0 net.channels
+    → slice_get net.channels c ≡ Some channel → channel.consumer ≡ Outside → (j : ℕ) × (outlet : OutletView) × (slice_get outlets j ≡ Some outlet) × (outlet.channel ≡ c)
+outlet_there net outlets c channel listed on to = at (place_of 0 net.channels c channel on to)
+  where
+    at_outlet : (j : ℕ) (output : OutputView) → output.channel ≡ c → (outlet : OutletView) × (slice_get outlets j ≡ Some outlet) × (output_of outlet ≡ output)
+        → (j : ℕ) × (outlet : OutletView) × (slice_get outlets j ≡ Some outlet) × (outlet.channel ≡ c)
+    at_outlet j output of r = (j, r.0, r.1, ap (λ (o : OutputView). o.channel) r.2 ∙ of)
+
+    at_output : (j : ℕ) → (output : OutputView) × (slice_get (outputs_of outlets) j ≡ Some output) × (output.channel ≡ c)
+        → (j : ℕ) × (outlet : OutletView) × (slice_get outlets j ≡ Some outlet) × (outlet.channel ≡ c)
+    at_output j r = at_outlet j r.0 r.2 (map_got output_of outlets j r.0 r.1)
+
+    at : (j : ℕ) × (slice_get (output_channels 0 net.channels) j ≡ Some (0 + c)) → (j : ℕ) × (outlet : OutletView) × (slice_get outlets j ≡ Some outlet) × (outlet.channel ≡ c)
+    at r =
+        let sum : 0 + c ≡ c = omega arith in
+        at_output r.0 (map_got (λ (output : OutputView). output.channel) (outputs_of outlets) r.0 c (ap (λ (numbers : List ℕ). slice_get numbers r.0) listed ∙ (r.1 ∙ ap (λ (n : ℕ). Some n) sum)))
+
+-- and what is shown of that channel is what one such outlet took
 shown : (net : Network) (station : StationView) (others : List StationView) (c : ℕ) (channel : Channel) → map (λ (output : OutputView). output.channel) (outputs_of station.outlets) ≡ output_channels 0 net.channels
     → slice_get net.channels c ≡ Some channel → channel.consumer ≡ Outside
     → (i : ℕ) × (x : OutletView) × (slice_get station.outlets i ≡ Some x) × (x.channel ≡ c) × (released_of c (station ∷ others) ≡ x.taken)
-shown net station others c channel listed on to =
-    let place = place_of 0 net.channels c channel on to in
-    let sum : 0 + c ≡ c = omega arith in
-    let listed_there : slice_get (map (λ (output : OutputView). output.channel) (outputs_of station.outlets)) place.0 ≡ Some c =
-    ap (λ (numbers : List ℕ). slice_get numbers place.0) listed ∙ (place.1 ∙ ap (λ (n : ℕ). Some n) sum) in
-    let output = map_got (λ (output : OutputView). output.channel) (outputs_of station.outlets) place.0 c listed_there in
-    let outlet = map_got output_of station.outlets place.0 output.0 output.1 in
-    let number : outlet.0.channel ≡ c = ap (λ (o : OutputView). o.channel) outlet.2 ∙ output.2 in
-    let found = find_there station.outlets c place.0 outlet.0 outlet.1 number in
-    (found.0, found.1, found.3, found.4, ap (λ (o : Option OutletView). taken_or o (released_of c others)) found.2)
+shown net station others c channel listed on to = at (outlet_there net station.outlets c channel listed on to)
+  where
+    found : (i : ℕ) × (x : OutletView) × (find (λ (o : OutletView). eqb o.channel c) station.outlets ≡ Some x) × (slice_get station.outlets i ≡ Some x) × (x.channel ≡ c)
+        → (i : ℕ) × (x : OutletView) × (slice_get station.outlets i ≡ Some x) × (x.channel ≡ c) × (released_of c (station ∷ others) ≡ x.taken)
+    found r = (r.0, r.1, r.3, r.4, ap (λ (o : Option OutletView). taken_or o (released_of c others)) r.2)
+
+    at : (j : ℕ) × (outlet : OutletView) × (slice_get station.outlets j ≡ Some outlet) × (outlet.channel ≡ c)
+        → (i : ℕ) × (x : OutletView) × (slice_get station.outlets i ≡ Some x) × (x.channel ≡ c) × (released_of c (station ∷ others) ≡ x.taken)
+    at r = found (find_there station.outlets c r.0 r.1 r.2 r.3)
 
 -- ---- the line is sound, and covers
 
