@@ -12,7 +12,7 @@ use Rattle.ckpt_store.specs.StoreView.{cell_in, record_in}
 use Rattle.node.specs.LikeLaws.{HasOuterChannels}
 use Rattle.node.specs.Starting.{IsBehind}
 use Rattle.world.specs.Invariant.{outputs_of, AreSound, WorldInvariant}
-use Rattle.world.specs.LineLaws.{line_ahead, line_of}
+use Rattle.world.specs.LineLaws.{line_ahead, line_of, fit_undecided, kept_undecided}
 use Rattle.world.specs.RecoveryLine.{records_of, AreInLine, AreLeftSince, MayBeLeft, KeepsLine, HasOneLine, FitsOutputs, StaysInLine}
 use Rattle.world.specs.StationView.{StationView}
 use Rattle.world.specs.WorldView.{station_view}
@@ -28,7 +28,7 @@ module _ {C O : Type 0} {cell : CellWords C} (taken : O → List ℤ) (failures 
   all_spelled (old ∷ olds) [] lefts stays since = absurd since
   all_spelled (old ∷ olds) (new ∷ news) [] stays since = absurd since
   all_spelled (old ∷ olds) (new ∷ news) (left ∷ lefts) stays since =
-      ∥∥₁_map₂ (stays.0 left since.0).something (all_spelled olds news lefts stays.1 since.1) (λ one others. (one.0 ∷ others.0, (one.1, others.1)))
+      ∥∥₁_map₂ (stays.0.leaves left since.0).something (all_spelled olds news lefts stays.1 since.1) (λ one others. (one.0 ∷ others.0, (one.1, others.1)))
 
   -- these records fit what had left before and what has left by now, and aren't behind
   abbrev Follow : List (Station C O cell) → List (Station C O cell) → List RecordView → Type 0
@@ -46,9 +46,17 @@ module _ {C O : Type 0} {cell : CellWords C} (taken : O → List ℤ) (failures 
   all_follow (old ∷ olds) (new ∷ news) [] records stays since spelled = absurd since
   all_follow (old ∷ olds) (new ∷ news) (left ∷ lefts) [] stays since spelled = absurd spelled
   all_follow (old ∷ olds) (new ∷ news) (left ∷ lefts) (kept ∷ records) stays since spelled =
-      let one = stays.0 left since.0 in
+      let one = stays.0.leaves left since.0 in
       let others = all_follow olds news lefts records stays.1 since.1 spelled.1 in
       ((one.at_first kept spelled.0, others.0), (one.at_last kept spelled.0, others.1), (one.not_behind kept spelled.0, others.2))
+
+  -- what the nodes keep in the end isn't behind
+  all_go_on : (olds news : List (Station C O cell)) → AllZip (StaysInLine taken failures) olds news
+      → AllZip (λ (old kept : RecordView). IsBehind old.permanent kept.permanent) (records_of (map (station_view taken failures) olds)) (records_of (map (station_view taken failures) news))
+  all_go_on [] [] stays = tt
+  all_go_on [] (new ∷ news) stays = absurd stays
+  all_go_on (old ∷ olds) [] stays = absurd stays
+  all_go_on (old ∷ olds) (new ∷ news) stays = (stays.0.goes_on, all_go_on olds news stays.1)
 
   -- so an event keeps the line
   pub keeps_line : (net : Network) (inputs : List (List ℤ)) (olds news : List (Station C O cell)) (before after : ℕ)
@@ -62,8 +70,11 @@ module _ {C O : Type 0} {cell : CellWords C} (taken : O → List ℤ) (failures 
         record {
           at_first = line_of net inputs was.outer was.alone (map (station_view taken failures) olds) records was.inhabited was.stations follow.0;
           at_last = line_of net inputs was.outer was.alone (map (station_view taken failures) news) records is.inhabited is.stations follow.1;
-          not_behind = line_ahead net inputs was.outer was.alone (map (station_view taken failures) olds) records was.stations follow.0 follow.2;
+          not_behind = line_ahead net inputs was.outer was.alone (map (station_view taken failures) olds) records was.stations
+              (fit_undecided net inputs was.outer was.alone (map (station_view taken failures) olds) records follow.0) follow.2;
         });
+    goes_on = line_ahead net inputs was.outer was.alone (map (station_view taken failures) olds) (records_of (map (station_view taken failures) news)) was.stations
+        (kept_undecided net inputs was.outer was.alone (map (station_view taken failures) news) is.stations) (all_go_on olds news stays);
   }
 
   -- what a crash leaves now is what the nodes keep

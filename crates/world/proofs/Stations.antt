@@ -8,13 +8,15 @@ use Rattle.kahn_net.specs.Valid.{IsValid}
 use Rattle.kahn_net.specs.Syntax.{Network}
 use Rattle.record.specs.RecordView.{RecordView}
 use Rattle.ckpt_store.specs.StoreView.{cell_in, record_in, record_spelled}
+use Rattle.node.specs.Starting.{IsBehind}
 use Rattle.world.proofs.Cells.{leaves_own, own_left}
 use Rattle.gate_cell.specs.declared.cell.StableCell.{Ghosts as CellWords}
 use Rattle.world.specs.EventView.{EventView}
 use Rattle.world.specs.Growing.{EachBegins}
 use Rattle.world.specs.GrowLaws.{begins_same, step_begins, has_grown, still_grown}
 use Rattle.world.specs.Invariant.{outputs_of, AreSound, StationInvariant}
-use Rattle.world.specs.LineLaws.{next_ahead, either_in_line, same_in_line}
+use Rattle.world.specs.LineLaws.{next_ahead, step_ahead, either_in_line, same_in_line}
+use Rattle.world.specs.OrderLaws.{behind_itself}
 use Rattle.world.specs.OutputLaws.{map_at}
 use Rattle.world.specs.OutputView.{OutputView, outputs_view}
 use Rattle.world.specs.PairLaws.{pairs_refl, pairs_set}
@@ -43,6 +45,12 @@ module _ (net : Network) (inputs : List (List ℤ)) (room : RecordView → Bool)
   begins_then old new (Ok reply) step same = step_begins net inputs room round event old (reply_view reply) new step
   begins_then old new (Err e) step same = subst (λ (s : StationView). EachBegins (outputs_of old.outlets) (outputs_of s.outlets)) (sym same) (begins_same (outputs_of old.outlets))
 
+  -- and the record that is kept isn't behind
+  ahead_then : (old : StationView) (new : StationView) (result : Result Reply AllocError) → StationInvariant net inputs old
+      → IfOk result (λ reply. IsStationStep net inputs room round event old (reply_view reply) new) → OnErr result (new ≡ old) → IsBehind old.node.kept.permanent new.node.kept.permanent
+  ahead_then old new (Ok reply) inv step same = step_ahead net inputs room round event old (reply_view reply) new inv step
+  ahead_then old new (Err e) inv step same = subst (λ (s : StationView). IsBehind old.node.kept.permanent s.node.kept.permanent) (sym same) (behind_itself old.node.kept.permanent)
+
 module _ {C O : Type 0} {cell : CellWords C} (taken : O → List ℤ) (failures : O → ℕ) (only_now : (c : C) (left : Option (List ℕ)) → cell.left_since c (cell.moment c) left → cell.may_leave c left)
     (net : Network) (inputs : List (List ℤ)) where
   -- as it is seen, so it is
@@ -64,14 +72,14 @@ module _ {C O : Type 0} {cell : CellWords C} (taken : O → List ℤ) (failures 
 
   -- what a crash leaves of a station whose cell nobody called is the record of before
   untouched_in_line : (old new : Station C O cell) → StationInvariant net inputs (station_view taken failures old) → StationInvariant net inputs (station_view taken failures new) → cell_in old.node.store ≡ cell_in new.node.store
-      → StaysInLine taken failures old new
+      → (left : Option (List ℕ)) → cell.left_since (cell_in new.node.store) (cell.moment (cell_in old.node.store)) left → LeavesInLine (station_view taken failures old) (station_view taken failures new) left
   untouched_in_line old new inv later same left since =
       same_in_line net inputs (station_view taken failures old) (station_view taken failures new) left inv later (ap (λ (c : C). record_spelled (cell.value c)) (sym same))
       (own_left cell old.node.store (record_in old.node.store) old.node.kept.settled left
       (only_now (cell_in old.node.store) left (subst (λ (c : C). cell.left_since c (cell.moment (cell_in old.node.store)) left) (sym same) since)))
 
   still_in_line : (station : Station C O cell) → StationInvariant net inputs (station_view taken failures station) → StaysInLine taken failures station station
-  still_in_line station inv = untouched_in_line station station inv inv refl
+  still_in_line station inv = record { leaves = untouched_in_line station station inv inv refl; goes_on = behind_itself (record_in station.node.store).permanent }
 
   pub all_still_in_line : (stations : List (Station C O cell)) → AreSound net inputs (map (station_view taken failures) stations) → AllZip (StaysInLine taken failures) stations stations
   all_still_in_line stations sound =
@@ -80,7 +88,7 @@ module _ {C O : Type 0} {cell : CellWords C} (taken : O → List ℤ) (failures 
   -- and of one with an event
   event_in_line : (event : EventView) (old new : Station C O cell) → StationInvariant net inputs (station_view taken failures old) → StationInvariant net inputs (station_view taken failures new)
       → HasMoved cell.moment cell.left_since (cell_in old.node.store) (cell_in new.node.store) (record_in old.node.store) (next_kept event (station_view taken failures old)) (outlet_views taken failures old.outputs.items) (outlet_views taken failures new.outputs.items)
-      → StaysInLine taken failures old new
+      → (left : Option (List ℕ)) → cell.left_since (cell_in new.node.store) (cell.moment (cell_in old.node.store)) left → LeavesInLine (station_view taken failures old) (station_view taken failures new) left
   event_in_line event old new inv later moved left since = at moved.apart
     where
       at : (cell_in old.node.store ≡ cell_in new.node.store)
@@ -115,4 +123,4 @@ module _ {C O : Type 0} {cell : CellWords C} (taken : O → List ℤ) (failures 
         let inv = sound place (station_view taken failures x) (seen_at (station_view taken failures) stations place x within is) in
         let later = sound_then net inputs valid fits room round event (station_view taken failures x) (station_view taken failures y) result inv step same in
         pairs_set (StaysInLine taken failures) stations place x y (λ i station at. still_in_line station (sound i (station_view taken failures station) (map_at (station_view taken failures) stations i station at))) within is
-        (event_in_line event x y inv later moved)
+        (record { leaves = event_in_line event x y inv later moved; goes_on = ahead_then net inputs room round event (station_view taken failures x) (station_view taken failures y) result inv step same })

@@ -1,6 +1,6 @@
 -- Laws of the recovery line: of what an event may leave of one station, and of the line of all.
 use Rattle.std.proofs.Common.{◌≡◌, ◌≢◌, ◌⊎◌, inl, inr, ⊎_elim, ℕ, zero, suc, ◌+◌, ◌<◌, ◌≤◌, Bool, true, false, eqb, cond, ℤ, List, [], ◌∷◌, map, length, Option, Some, None, option_map, refl, sym, ap, subst, ◌∙◌, arith}
-use Rattle.std.specs.Prelude.{slice_get, find}
+use Rattle.std.specs.Prelude.{slice_get, find, not}
 use Rattle.std.specs.List.{AllZip}
 use Rattle.std.proofs.lemmas.Bool.Decides.{eqb_tells}
 use Rattle.kahn_net.specs.Nodes.{IsOnOneNode}
@@ -10,18 +10,26 @@ use Rattle.kahn_net.specs.declared.program.Port.{Port}
 use Rattle.kahn_net.specs.declared.program.Port.TheVariants.{Outside, Process}
 use Rattle.record.specs.DecisionView.{DecisionView}
 use Rattle.record.specs.Ends.{base_of, sent_of}
+use Rattle.record.specs.Moves.{with_epoch}
 use Rattle.record.specs.RecordView.{RecordView}
 use Rattle.ckpt_store.specs.Spelling.{Spells}
 use Rattle.node.specs.ImageLaws.{map_got}
 use Rattle.node.specs.LikeLaws.{HasOuterChannels}
-use Rattle.node.specs.NodeView.{ModeView, Down, InDoubt, Runs, running_in}
+use Rattle.node.specs.Installing.{IsInstall}
+use Rattle.node.specs.NodeView.{NodeView, ModeView, Down, InDoubt, Runs, running_in}
 use Rattle.node.specs.Reached.{role_between}
-use Rattle.node.specs.Starting.{IsBehind, own_at, with_own_now}
+use Rattle.node.specs.Recovering.{IsCrash, IsRecovery, put_off}
+use Rattle.node.specs.Starting.{IsBehind, HasFailedAt, IsStart, IsDecision, is_down, own_at, with_own_now, decided, with_kept}
+use Rattle.node.specs.declared.putting.Putting.{Putting}
+use Rattle.node.specs.declared.putting.Putting.TheVariants.{NotDue, Stored, Refused, Failed}
+use Rattle.node.specs.declared.putting.Recovery.{Recovery}
+use Rattle.node.specs.declared.putting.Recovery.TheVariants as recovery
 use Rattle.protocol.specs.Images.{Image, AtMost, IsOutput}
 use Rattle.protocol.specs.Line.{NotBehind}
 use Rattle.protocol.specs.Observers.{decisions_of, decides}
 use Rattle.protocol.specs.Records.{Record, Tentative, effective, chosen}
 use Rattle.world.specs.Covered.{LeavesEither}
+use Rattle.world.specs.DoneView.{DoneView}
 use Rattle.world.specs.EventView.{EventView}
 use Rattle.world.specs.EventView as event
 use Rattle.world.specs.Invariant.{output_of, outputs_of, AreSound, StationInvariant}
@@ -30,11 +38,13 @@ use Rattle.world.specs.OutputLaws.{map_at}
 use Rattle.world.specs.OutputView.{OutputView}
 use Rattle.world.specs.RecordLaws.{last_more, record_decided, record_epoch}
 use Rattle.world.specs.RecordSound.{RecordIsSound}
-use Rattle.world.specs.RecoveryLine.{next_kept, node_at, producer_of, consumer_of, net_seen, record_or_new, records_seen, outlets_seen, records_of, IsLineOf, FitsOutputs, LeavesInLine}
+use Rattle.world.specs.RecoveryLine.{next_kept, node_at, producer_of, consumer_of, net_seen, record_or_new, records_seen, outlets_seen, records_of, IsLineOf, FitsOutputs, LeavesInLine, LinesFollow}
 use Rattle.world.specs.Released.{taken_or, released_of}
 use Rattle.world.specs.Sound.{goes_outside, output_channels}
 use Rattle.world.specs.StationView.{OutletView, StationView}
 use Rattle.world.specs.StepKeeps.{own_now_kept}
+use Rattle.world.specs.Steps.{round_later, next_release, IsSendOf, IsRelease, IsStationStep}
+use Rattle.world.specs.ReplyView.{ReplyView}
 
 -- ---- what an event may leave of one station
 
@@ -104,10 +114,78 @@ module _ (net : Network) (inputs : List (List ℤ)) where
       it kept (inl same) = same
       it kept (inr same) = same
 
+  -- ---- the record at the end of an event
+
+  send_kept : (b : Bool) (round : ℕ) (old : StationView) (answer : ReplyView) (new : StationView) → IsSendOf b round old answer new → new.node.kept ≡ old.node.kept
+  send_kept false round old answer new step = ap (λ (s : StationView). s.node.kept) step.1
+  send_kept true round old answer new step = ap (λ (s : StationView). s.node.kept) step.1
+
+  install_kept : (channels : List Channel) (done : DoneView) (old : NodeView) (applied : Bool) (new : NodeView) → IsInstall channels done.job done.after done.taken done.sent old applied new → new.kept ≡ old.kept
+  install_kept channels done old true new step = ap (λ (n : NodeView). n.kept) step.1
+  install_kept channels done old false new step = ap (λ (n : NodeView). n.kept) step.1
+
+  failed_kept : (round : ℕ) (next : RecordView) (old new : NodeView) → HasFailedAt round next old new → (new.kept ≡ old.kept) ⊎ (new.kept ≡ next)
+  failed_kept round next old new (inl same) = inl (ap (λ (n : NodeView). n.kept) same)
+  failed_kept round next old new (inr same) = inr (ap (λ (n : NodeView). n.kept) same)
+
+  start_kept : (number round : ℕ) (old : NodeView) (outcome : Putting) (new : NodeView) → IsStart number round old outcome new → (new.kept ≡ old.kept) ⊎ (new.kept ≡ with_own_now number old)
+  start_kept number round old NotDue new step = inl (ap (λ (n : NodeView). n.kept) step.1)
+  start_kept number round old Stored new step = inr (ap (λ (n : NodeView). n.kept) step.2)
+  start_kept number round old (Refused refusal) new step = inl (ap (λ (n : NodeView). n.kept) step.2)
+  start_kept number round old Failed new step = failed_kept round (with_own_now number old) old new step.2
+
+  decision_kept : (number round : ℕ) (old : NodeView) (outcome : Putting) (new : NodeView) → IsDecision number round old outcome new → (new.kept ≡ old.kept) ⊎ (new.kept ≡ decided old.kept)
+  decision_kept number round old NotDue new step = inl (ap (λ (n : NodeView). n.kept) step.1)
+  decision_kept number round old Stored new step = inr (ap (λ (n : NodeView). n.kept) step.1)
+  decision_kept number round old (Refused refusal) new step = inl (ap (λ (n : NodeView). n.kept) step.2)
+  decision_kept number round old Failed new step = failed_kept round (decided old.kept) old new step.1
+
+  release_kept : (round : ℕ) (o : Option ℕ) (old : StationView) (answer : ReplyView) (new : StationView) → IsRelease round o old answer new → new.node.kept ≡ old.node.kept
+  release_kept round None old answer new step = ap (λ (s : StationView). s.node.kept) step.1
+  release_kept round (Some place) old answer new step = ap (λ (s : StationView). s.node.kept) step.same
+
+  crash_kept : (restart : ℕ) (old : NodeView) (was_up : Bool) (new : NodeView) → IsCrash restart old was_up new → new.kept ≡ old.kept
+  crash_kept restart old false new step = ap (λ (n : NodeView). n.kept) step.1
+  crash_kept restart old true new step = ap (λ (n : NodeView). n.kept) step.1
+
+  recovery_kept : (round : ℕ) (old : NodeView) (outcome : Recovery) (new : NodeView) → IsRecovery round old outcome new → (new.kept ≡ old.kept) ⊎ (new.kept ≡ with_epoch old.kept)
+  recovery_kept round old recovery.NotDue new step = inl (ap (λ (n : NodeView). n.kept) step.1)
+  recovery_kept round old recovery.Recovered new step = inr (ap (λ (n : NodeView). n.kept) step.3)
+  recovery_kept round old recovery.Waiting new step = inr (ap (λ (n : NodeView). n.kept) step.3)
+  recovery_kept round old (recovery.Refused refusal) new step = inl (ap (λ (n : NodeView). n.kept) step.2)
+  recovery_kept round old recovery.Failed new step = at step.1
+    where
+      at : (new ≡ put_off round old) ⊎ (new ≡ put_off round (with_kept (with_epoch old.kept) old)) → (new.kept ≡ old.kept) ⊎ (new.kept ≡ with_epoch old.kept)
+      at (inl same) = inl (ap (λ (n : NodeView). n.kept) same)
+      at (inr same) = inr (ap (λ (n : NodeView). n.kept) same)
+
+  -- it is the one of before or the one that the event puts
+  step_kept : (room : RecordView → Bool) (round : ℕ) (e : EventView) (old : StationView) (answer : ReplyView) (new : StationView) → IsStationStep net inputs room round e old answer new
+      → (new.node.kept ≡ old.node.kept) ⊎ (new.node.kept ≡ next_kept e old)
+  step_kept room round (event.Grant k) old answer new step = inl (ap (λ (s : StationView). s.node.kept) step.1)
+  step_kept room round (event.Install done) old answer new step = inl (install_kept net.channels done old.node step.applied new.node step.step)
+  step_kept room round (event.Send k) old answer new step = inl (send_kept (not (is_down old.node.mode)) round old answer new step)
+  step_kept room round (event.Start k) old answer new step = start_kept old.number round old.node step.outcome new.node step.step
+  step_kept room round (event.Decide k) old answer new step = decision_kept old.number round old.node step.outcome new.node step.step
+  step_kept room round (event.Release k) old answer new step = inl (release_kept round (next_release round old) old answer new step)
+  step_kept room round (event.Crash k fill rounds) old answer new step = inl (crash_kept (round_later round rounds) old.node step.was_up new.node step.step)
+  step_kept room round (event.Recover k) old answer new step = recovery_kept round old.node step.outcome new.node step.step
+  step_kept room round (event.Arm k fault) old answer new step = inl (ap (λ (s : StationView). s.node.kept) step.1)
+  step_kept room round (event.Idle k) old answer new step = inl (ap (λ (s : StationView). s.node.kept) step.1)
+
+  -- so its permanent image isn't behind
+  pub step_ahead : (room : RecordView → Bool) (round : ℕ) (e : EventView) (old : StationView) (answer : ReplyView) (new : StationView) → StationInvariant net inputs old → IsStationStep net inputs room round e old answer new
+      → IsBehind old.node.kept.permanent new.node.kept.permanent
+  step_ahead room round e old answer new inv step = at (step_kept room round e old answer new step)
+    where
+      at : (new.node.kept ≡ old.node.kept) ⊎ (new.node.kept ≡ next_kept e old) → IsBehind old.node.kept.permanent new.node.kept.permanent
+      at (inl same) = subst (λ (r : RecordView). IsBehind old.node.kept.permanent r.permanent) (sym same) (behind_itself old.node.kept.permanent)
+      at (inr same) = subst (λ (r : RecordView). IsBehind old.node.kept.permanent r.permanent) (sym same) (next_ahead e old inv)
+
 -- ---- the line of all
 
 -- no decision stands in these records
-abbrev NoneDecided : List RecordView → Type 0
+abbrev pub NoneDecided : List RecordView → Type 0
 NoneDecided records = (i : ℕ) (kept : RecordView) → slice_get records i ≡ Some kept → kept.decision ≡ None
 
 -- so no image counts but a permanent one
@@ -235,7 +313,7 @@ module _ (net : Network) (inputs : List (List ℤ)) (outer : HasOuterChannels ne
   abbrev Fit : List StationView → List RecordView → Type 0
   Fit stations records = AllZip (λ (station : StationView) (kept : RecordView). FitsOutputs (outputs_of station.outlets) kept) stations records
 
-  fit_undecided : (stations : List StationView) (records : List RecordView) → Fit stations records → NoneDecided records
+  pub fit_undecided : (stations : List StationView) (records : List RecordView) → Fit stations records → NoneDecided records
   fit_undecided [] [] fit i kept is = absurd (cc)
   fit_undecided [] (r ∷ records) fit i kept is = absurd fit
   fit_undecided (s ∷ stations) [] fit i kept is = absurd fit
@@ -281,14 +359,21 @@ module _ (net : Network) (inputs : List (List ℤ)) (outer : HasOuterChannels ne
       none : NoneDecided records
       none = fit_undecided stations records fit
 
-  kept_undecided : (stations : List StationView) → AreSound net inputs stations → NoneDecided (records_of stations)
+  pub kept_undecided : (stations : List StationView) → AreSound net inputs stations → NoneDecided (records_of stations)
   kept_undecided stations sound i kept is =
       let station = map_got (λ (s : StationView). s.node.kept) stations i kept is in
       subst (λ (r : RecordView). r.decision ≡ None) station.2 (sound i station.0 station.1).kept.undecided
 
-  -- and it isn't behind the line of what these stations keep, where none of the permanent images is
-  pub line_ahead : (stations : List StationView) (records : List RecordView) → AreSound net inputs stations → Fit stations records
+  -- and the line of some records isn't behind that of what these stations keep, where none of the permanent images is
+  pub line_ahead : (stations : List StationView) (records : List RecordView) → AreSound net inputs stations → NoneDecided records
       → AllZip (λ (old kept : RecordView). IsBehind old.permanent kept.permanent) (records_of stations) records → NotBehind (records_seen (records_of stations)) (records_seen records)
-  line_ahead stations records sound fit ahead k =
+  line_ahead stations records sound none ahead k =
       subst (λ (i : Image). AtMost i (effective (records_seen records) k)) (sym (effective_is (records_of stations) (kept_undecided stations sound) k))
-      (subst (AtMost (records_seen (records_of stations) k).permanent) (sym (effective_is records (fit_undecided stations records fit) k)) (permanent_ahead (records_of stations) records ahead k))
+      (subst (AtMost (records_seen (records_of stations) k).permanent) (sym (effective_is records none k)) (permanent_ahead (records_of stations) records ahead k))
+
+-- counts that don't fall from a first line to a second, nor from that to a third, don't fall from the first to the third
+pub lines_follow : LinesFollow
+lines_follow first second third one other k c =
+    let a = one k c in
+    let b = other k c in
+    (omega (arith, a.0, b.0), omega (arith, a.1, b.1), omega (arith, a.2, b.2))

@@ -106,11 +106,17 @@ AreLeftSince {cell = cell} (old ∷ olds) (new ∷ news) (left ∷ lefts) = cell
 abbrev pub MayBeLeft : {C O : Type 0} {cell : CellWords C} → Station C O cell → Option (List ℕ) → Type 0
 MayBeLeft {cell = cell} station left = cell.may_leave (cell_in station.node.store) left
 
--- Whatever a crash of all nodes leaves at moments of an event: it spells a record of each node, and these are in line.
+-- Whatever a crash of all nodes leaves at moments of an event: it spells a record of each node, and these are in line. And the line after the
+-- event isn't behind the one before it.
 pub record KeepsLine {C O : Type 0} {cell : CellWords C} (taken : O → List ℤ) (failures : O → ℕ) (net : Network) (old new : List (Station C O cell)) : Type 0 where
   pub spelled : (lefts : List (Option (List ℕ))) → AreLeftSince old new lefts → ∥ ((records : List RecordView) × AllZip Spells records lefts) ∥₁
   pub in_line : (lefts : List (Option (List ℕ))) (records : List RecordView) → AreLeftSince old new lefts → AllZip Spells records lefts
       → AreInLine net (map (station_view taken failures) old) (map (station_view taken failures) new) records
+  pub goes_on : NotBehind (records_seen (records_of (map (station_view taken failures) old))) (records_seen (records_of (map (station_view taken failures) new)))
+
+-- Lines that follow one another: one that isn't behind a second isn't behind what the second isn't behind.
+abbrev pub LinesFollow : Type 0
+LinesFollow = (first second third : ℕ → Record) → NotBehind first second → NotBehind second third → NotBehind first third
 
 -- One line alone is possible now: whatever a crash of all nodes leaves spells the records that the nodes keep.
 abbrev pub HasOneLine : {C O : Type 0} {cell : CellWords C} → (O → List ℤ) → (O → ℕ) → List (Station C O cell) → Type 0
@@ -134,7 +140,8 @@ pub record LeavesInLine (old new : StationView) (left : Option (List ℕ)) : Typ
   pub at_last : (kept : RecordView) → Spells kept left → FitsOutputs (outputs_of new.outlets) kept
   pub not_behind : (kept : RecordView) → Spells kept left → IsBehind old.node.kept.permanent kept.permanent
 
--- whatever a crash at a moment of the event leaves
-abbrev pub StaysInLine : {C O : Type 0} {cell : CellWords C} → (O → List ℤ) → (O → ℕ) → Station C O cell → Station C O cell → Type 0
-StaysInLine {cell = cell} taken failures old new = (left : Option (List ℕ)) → cell.left_since (cell_in new.node.store) (cell.moment (cell_in old.node.store)) left
-    → LeavesInLine (station_view taken failures old) (station_view taken failures new) left
+-- whatever a crash at a moment of the event leaves is in line, and so is the record that is kept in the end
+pub record StaysInLine {C O : Type 0} {cell : CellWords C} (taken : O → List ℤ) (failures : O → ℕ) (old new : Station C O cell) : Type 0 where
+  pub leaves : (left : Option (List ℕ)) → cell.left_since (cell_in new.node.store) (cell.moment (cell_in old.node.store)) left
+      → LeavesInLine (station_view taken failures old) (station_view taken failures new) left
+  pub goes_on : IsBehind (station_view taken failures old).node.kept.permanent (station_view taken failures new).node.kept.permanent
