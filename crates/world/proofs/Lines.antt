@@ -1,19 +1,16 @@
 -- The line of a world with an event: from what a crash leaves of each station to the line of all.
-use Rattle.std.proofs.Common.{◌≡◌, ◌∙◌, ℕ, zero, suc, ◌<◌, List, ℤ, [], ◌∷◌, map, length, Option, Some, refl, sym, ap, subst}
+use Rattle.std.proofs.Common.{◌∙◌, ℕ, List, ℤ, [], ◌∷◌, map, Option, refl, ap}
 use Rattle.std.specs.List.{AllZip}
-use Rattle.std.specs.Prelude.{slice_get}
 use Rattle.std.proofs.Math.Logic.{∥∥₁_map₂}
-use Rattle.kahn_net.specs.Nodes.{IsOnOneNode}
 use Rattle.kahn_net.specs.Syntax.{Network}
 use Rattle.gate_cell.specs.declared.cell.StableCell.{Ghosts as CellWords}
 use Rattle.record.specs.RecordView.{RecordView}
 use Rattle.ckpt_store.specs.Spelling.{Spells}
-use Rattle.ckpt_store.specs.StoreView.{cell_in, record_in}
-use Rattle.node.specs.LikeLaws.{HasOuterChannels}
+use Rattle.ckpt_store.specs.StoreView.{record_in}
 use Rattle.node.specs.Starting.{IsBehind}
-use Rattle.world.specs.Invariant.{outputs_of, AreSound, WorldInvariant}
+use Rattle.world.specs.Invariant.{outputs_of, WorldInvariant}
 use Rattle.world.specs.LineLaws.{line_ahead, line_of, fit_undecided, kept_undecided}
-use Rattle.world.specs.RecoveryLine.{records_of, AreInLine, AreLeftSince, MayBeLeft, KeepsLine, HasOneLine, FitsOutputs, StaysInLine}
+use Rattle.world.specs.RecoveryLine.{records_of, AreLeftSince, KeepsLine, HasOneLine, FitsOutputs, StaysInLine}
 use Rattle.world.specs.StationView.{StationView}
 use Rattle.world.specs.WorldView.{station_view}
 use Rattle.world.specs.declared.station.Station.{Station}

@@ -1,5 +1,5 @@
 -- What a node's events ask for, of a station that is sound.
-use Rattle.std.proofs.Common.{◌≡◌, ℕ, ◌^◌, ◌<◌, Bool, true, List, ℤ, Option, Some, None, refl, sym, ap, subst, ◌∙◌}
+use Rattle.std.proofs.Common.{◌≡◌, ◌^◌, ◌<◌, List, ℤ, Option, Some, None, refl, sym, ap, ◌∙◌}
 use Rattle.std.specs.Prelude.{IsTrue}
 use Rattle.std.specs.List.{AllByRecursion, AllByRecursion-prop}
 use Rattle.std.proofs.Math.Logic.{∥∥₁_elim}
@@ -10,14 +10,12 @@ use Rattle.kahn_net.specs.Fits.{Fits}
 use Rattle.kahn_net.specs.Syntax.{Network}
 use Rattle.kahn_net.specs.Valid.{IsValid}
 use Rattle.kahn_net.specs.Approximations.{approximation}
-use Rattle.record.specs.ImageView.{ImageView}
-use Rattle.record.specs.RecordView.{RecordView}
 use Rattle.ckpt_codec.specs.Fields.{Field, IsAllowed}
 use Rattle.ckpt_codec.specs.RecordText.{image_fields}
 use Rattle.ckpt_store.specs.Spelling.{IsLike}
 use Rattle.node.specs.Installing.{IsOut, TakesTurn}
 use Rattle.node.specs.LikeLaws.{HasOuterChannels, counts_small, outer_in_logs, image_like}
-use Rattle.node.specs.NodeView.{ModeView, Down, InDoubt, Runs, RunningView, RunningNode, running_node, running_in, running_of}
+use Rattle.node.specs.NodeView.{ModeView, Down, InDoubt, Runs, RunningNode, running_node, running_in, running_of}
 use Rattle.node.specs.Starting.{IsLikeAt, IsLikeNow}
 use Rattle.world.specs.DoneView.{DoneView, IsTurnOfJob}
 use Rattle.world.specs.Invariant.{outputs_of, RunsSoundly, StationInvariant}

@@ -1,5 +1,5 @@
 -- Laws of the recovery line: of what an event may leave of one station, and of the line of all.
-use Rattle.std.proofs.Common.{◌≡◌, ◌≢◌, ◌⊎◌, inl, inr, ⊎_elim, ℕ, zero, suc, ◌+◌, ◌<◌, ◌≤◌, Bool, true, false, eqb, cond, ℤ, List, [], ◌∷◌, map, length, Option, Some, None, option_map, refl, sym, ap, subst, ◌∙◌, arith}
+use Rattle.std.proofs.Common.{◌≡◌, ◌≢◌, ◌⊎◌, inl, inr, ℕ, zero, suc, ◌+◌, ◌<◌, ◌≤◌, Bool, true, false, eqb, cond, ℤ, List, [], ◌∷◌, map, length, Option, Some, None, option_map, refl, sym, ap, subst, ◌∙◌, arith}
 use Rattle.std.specs.Prelude.{slice_get, find, not}
 use Rattle.std.specs.List.{AllZip}
 use Rattle.std.proofs.lemmas.Bool.Decides.{eqb_tells}
@@ -12,7 +12,6 @@ use Rattle.record.specs.DecisionView.{DecisionView}
 use Rattle.record.specs.Ends.{base_of, sent_of}
 use Rattle.record.specs.Moves.{with_epoch}
 use Rattle.record.specs.RecordView.{RecordView}
-use Rattle.ckpt_store.specs.Spelling.{Spells}
 use Rattle.node.specs.ImageLaws.{map_got}
 use Rattle.node.specs.LikeLaws.{HasOuterChannels}
 use Rattle.node.specs.Installing.{IsInstall}

@@ -1,5 +1,5 @@
 -- What is true of a record stays so: as images are taken and become permanent, as items leave, and over a crash.
-use Rattle.std.proofs.Common.{◌≡◌, ◌⊎◌, ℕ, ◌+◌, ◌≤◌, Bool, true, false, cond, eqb, ℤ, List, [], ◌∷◌, length, take, Option, Some, None, refl, sym, ap, subst, ◌∙◌, arith}
+use Rattle.std.proofs.Common.{◌≡◌, ℕ, ◌≤◌, Bool, true, false, cond, eqb, ℤ, List, length, take, Option, Some, None, refl, sym, ap, subst, ◌∙◌, arith}
 use Rattle.std.specs.Prelude.{slice_get}
 use Rattle.std.proofs.Math.Logic.{∥∥₁_map}
 use Rattle.std.proofs.lemmas.List.{take-take}
@@ -8,15 +8,13 @@ use Rattle.kahn_net.specs.Syntax.{Network}
 use Rattle.kahn_net.specs.Processes.{sent_on}
 use Rattle.kahn_net.specs.Approximations.{approximation}
 use Rattle.kahn_net.specs.Laws.Prefixes.{prefix_trans}
-use Rattle.kahn_net.specs.declared.program.Channel.{Channel}
-use Rattle.kahn_net.specs.declared.program.Port.TheVariants.{Process}
-use Rattle.record.specs.Ends.{base_of, sent_of}
+use Rattle.record.specs.Ends.{sent_of}
 use Rattle.record.specs.ImageView.{ImageView}
 use Rattle.record.specs.RecordView.{RecordView}
 use Rattle.record.specs.Moves.{last_image, with_epoch, without_own}
 use Rattle.record.specs.declared.record.Tentative.{Tentative}
 use Rattle.node.specs.NodeView.{RunningNode}
-use Rattle.node.specs.Reached.{ImageStands, IsAsFar, HasReached, acts_of}
+use Rattle.node.specs.Reached.{ImageStands, acts_of}
 use Rattle.node.specs.ReleaseLaws.{acts_grow}
 use Rattle.node.specs.SentLaws.{sent_stands}
 use Rattle.node.specs.Starting.{AreInOrder, IsBehind, with_own, decided}

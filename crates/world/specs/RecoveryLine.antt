@@ -29,8 +29,8 @@ use Rattle.world.specs.declared.station.Station.{Station}
 
 -- ---- the record that an event puts
 
--- The record that this event puts at this station, where it puts one: a start adds a tentative image, a decision makes it permanent, and a
--- recovery begins an epoch. No other event puts a record.
+-- The record that an event puts at a station, where it puts one: a start adds a tentative image, a decision makes it permanent, and a recovery
+-- begins an epoch. No other event puts a record; with those it is the one that is kept.
 abbrev pub next_kept : EventView → StationView → RecordView
 next_kept (event.Grant k) station = station.node.kept
 next_kept (event.Install done) station = station.node.kept
@@ -86,14 +86,15 @@ pub record IsLineOf (net : Network) (stations : List StationView) (records : Lis
   pub sound : Sound (net_seen net) (effective (records_seen records)) (outlets_seen stations)
   pub covers : Covers (net_seen net) (records_seen records) (outlets_seen stations)
 
--- These records stand at a moment of an event: of what has left before it and of what has left by its end they give a line, which isn't behind
--- the line before the event.
+-- What a crash in an event left is in line: the line of these records is sound and covers what had left before the event, and what has left by
+-- its end; and it isn't behind the line before the event.
 pub record AreInLine (net : Network) (before after : List StationView) (records : List RecordView) : Type 0 where
   pub at_first : IsLineOf net before records
   pub at_last : IsLineOf net after records
   pub not_behind : NotBehind (records_seen (records_of before)) (records_seen records)
 
--- One choice for each station of what a crash leaves of its cell, each at a moment of its own since `old`.
+-- One choice for each station of what a crash leaves of its cell. Each is at a moment of its own since `old`: no clock orders the moments of two
+-- cells.
 abbrev pub AreLeftSince : {C O : Type 0} {cell : CellWords C} → List (Station C O cell) → List (Station C O cell) → List (Option (List ℕ)) → Type 0
 AreLeftSince [] [] [] = Unit {0}
 AreLeftSince [] [] (left ∷ lefts) = ⊥
@@ -106,7 +107,7 @@ AreLeftSince {cell = cell} (old ∷ olds) (new ∷ news) (left ∷ lefts) = cell
 abbrev pub MayBeLeft : {C O : Type 0} {cell : CellWords C} → Station C O cell → Option (List ℕ) → Type 0
 MayBeLeft {cell = cell} station left = cell.may_leave (cell_in station.node.store) left
 
--- Whatever a crash of all nodes leaves at moments of an event: it spells a record of each node, and these are in line. And the line after the
+-- Whatever a crash of all nodes leaves at moments of an event spells a record of each node, and these are in line. And the line at the end of the
 -- event isn't behind the one before it.
 pub record KeepsLine {C O : Type 0} {cell : CellWords C} (taken : O → List ℤ) (failures : O → ℕ) (net : Network) (old new : List (Station C O cell)) : Type 0 where
   pub spelled : (lefts : List (Option (List ℕ))) → AreLeftSince old new lefts → ∥ ((records : List RecordView) × AllZip Spells records lefts) ∥₁

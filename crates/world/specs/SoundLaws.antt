@@ -1,5 +1,5 @@
 -- What is true of a station stays so as jobs are granted, and through its checkpoints.
-use Rattle.std.proofs.Common.{◌≡◌, ℕ, ◌≤◌, List, ℤ, Option, Some, None, refl, sym, subst, arith}
+use Rattle.std.proofs.Common.{◌≡◌, ℕ, ◌≤◌, List, ℤ, Option, Some, None, subst, arith}
 use Rattle.std.proofs.Math.Logic.{∥∥₁_map}
 use Rattle.kahn_net.specs.Syntax.{Network}
 use Rattle.record.specs.Ends.{sent_of}

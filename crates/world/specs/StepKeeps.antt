@@ -19,11 +19,11 @@ use Rattle.node.specs.JobView.{JobView}
 use Rattle.node.specs.NodeView.{NodeView, ModeView, Down, InDoubt, Runs, RunningView, RunningNode, running_node, running_in, running_of, on_mode, on_running}
 use Rattle.node.specs.LikeLaws.{HasOuterChannels}
 use Rattle.node.specs.Choosing.{next_job, after_grant, job_at, node_job, granted, with_grant}
-use Rattle.node.specs.Installing.{with_turn, turned, IsOut, IsInstall}
+use Rattle.node.specs.Installing.{turned, IsOut, IsInstall}
 use Rattle.node.specs.FitLaws.{behind_installed}
 use Rattle.node.specs.TrimLaws.{behind_trimmed}
 use Rattle.node.specs.Recovering.{IsCrash, IsRecovery, restored, restored_with, put_off}
-use Rattle.node.specs.Starting.{AreInOrder, HasFailedAt, IsStart, IsDecision, is_down, is_running, may_start, next_number, crashed, with_own, own_at, with_own_now, decided, keeping, with_kept}
+use Rattle.node.specs.Starting.{AreInOrder, HasFailedAt, IsStart, IsDecision, is_down, is_running, next_number, crashed, with_own, own_at, with_own_now, decided, keeping, with_kept}
 use Rattle.node.specs.Trimming.{with_current, current_log, cut_at, trimmed_node, HasNext, TookNext}
 use Rattle.node.specs.declared.putting.Putting.{Putting}
 use Rattle.node.specs.declared.putting.Putting.TheVariants.{NotDue, Stored, Refused, Failed}
