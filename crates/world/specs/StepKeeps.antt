@@ -171,7 +171,7 @@ module _ (net : Network) (inputs : List (List ℤ)) where
       runs : (run : RunningNode) → running_in (with_own_now old.number old.node) old.node.version old.node.mode ≡ Some run → RunsSoundly net inputs run (outputs_of old.outlets)
       runs run is =
           let whole : running_in (with_own old.number now.0.current old.node.kept) old.node.version (Runs now.0) ≡ Some run =
-          sym (ap (λ (kept : RecordView). running_in kept old.node.version (Runs now.0)) (own_now old now.0 now.1) ) ∙ (sym (ap (running_in (with_own_now old.number old.node) old.node.version) now.1) ∙ is) in
+          sym (ap (λ (kept : RecordView). running_in kept old.node.version (Runs now.0)) (own_now old now.0 now.1)) ∙ (sym (ap (running_in (with_own_now old.number old.node) old.node.version) now.1) ∙ is) in
           let same : keeping (with_own old.number now.0.current old.node.kept) (running_node old.node.kept old.node.version now.0) ≡ run = cc in
           subst (λ (n : RunningNode). RunsSoundly net inputs n (outputs_of old.outlets)) same (own_sound old now.0 inv now.1)
   start_keeps round old (Refused refusal) node failures turns inv step = subst (λ (n : NodeView). StationInvariant net inputs (moved_to n failures turns old)) (sym step.2) (moved_keeps old.node failures turns old inv.kept inv.runs)
