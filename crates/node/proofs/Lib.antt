@@ -7,6 +7,5 @@ mod Starts
 mod Handing
 mod Slices
 mod Installs
-mod Sending
 mod Choices
 mod Marking

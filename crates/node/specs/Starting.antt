@@ -2,7 +2,7 @@
 use Rattle.std.specs.Prelude.{◌≡◌, ◌⊎◌, ℕ, ◌+◌, ◌<◌, ◌≤◌, ◌==◌, nat_lt, if◌then◌else◌, Bool, true, false, ◌&&◌, IsTrue, List, [], Option, Some, None, Result, Ok, Err}
 use Rattle.std.specs.declared.alloc.AllocError.{AllocError}
 use Rattle.record.specs.ImageView.{ImageView}
-use Rattle.record.specs.Ends.{sent_of}
+use Rattle.record.specs.Ends.{received_of, base_of, sent_of}
 use Rattle.record.specs.RecordView.{RecordView}
 use Rattle.record.specs.Moves.{highest_seen, with_tentative, with_decision}
 use Rattle.record.specs.declared.record.Tentative.{Tentative}
@@ -99,15 +99,18 @@ IsDecision number round old Stored new = IsTrue (may_decide number old) × (new 
 IsDecision number round old (Refused refusal) new = IsTrue (may_decide number old) × (refusal ≡ 22) × (new ≡ old)
 IsDecision number round old Failed new = IsTrue (may_decide number old) × HasFailedAt round (decided old.kept) old new
 
--- one image has put at least as many items on each channel as another
-abbrev pub HasPutMore : ImageView → ImageView → Type 0
-HasPutMore image later = (channel : ℕ) → sent_of image channel ≤ sent_of later channel
+-- No count of one image is above that of a later one: how many items were received from a channel, how many were put there before its log
+-- begins, and how many by now.
+pub record IsBehind (image later : ImageView) : Type 0 where
+  pub received : (channel : ℕ) → received_of image channel ≤ received_of later channel
+  pub base : (channel : ℕ) → base_of image channel ≤ base_of later channel
+  pub sent : (channel : ℕ) → sent_of image channel ≤ sent_of later channel
 
 -- the images of a node are one after another: the permanent one, the tentative one if there is one, and what it has now
 pub record AreInOrder (kept : RecordView) (current : ImageView) : Type 0 where
-  pub current_ahead : HasPutMore kept.permanent current
-  pub held_ahead : (held : Tentative) → kept.tentative ≡ Some held → HasPutMore kept.permanent held.image
-  pub held_behind : (held : Tentative) → kept.tentative ≡ Some held → HasPutMore held.image current
+  pub current_ahead : IsBehind kept.permanent current
+  pub held_ahead : (held : Tentative) → kept.tentative ≡ Some held → IsBehind kept.permanent held.image
+  pub held_behind : (held : Tentative) → kept.tentative ≡ Some held → IsBehind held.image current
 
 -- What the cell has to do with how a put of a node came out, where its device failed so often before and after: the record fits, unless it
 -- was refused because it doesn't; and the device failed exactly where the node went down.

@@ -1,5 +1,5 @@
 mod Cells
-mod Records
+mod Lines
 mod Openings
 mod OpeningStores
 mod Views

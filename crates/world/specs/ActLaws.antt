@@ -1,5 +1,5 @@
 -- What a node's events ask for, of a station that is sound.
-use Rattle.std.proofs.Common.{◌≡◌, ℕ, ◌^◌, ◌<◌, Bool, true, List, ℤ, Option, Some, None, refl, sym, ap, subst, ◌∙◌}
+use Rattle.std.proofs.Common.{◌≡◌, ◌^◌, ◌<◌, List, ℤ, Option, Some, None, refl, sym, ap, ◌∙◌}
 use Rattle.std.specs.Prelude.{IsTrue}
 use Rattle.std.specs.List.{AllByRecursion, AllByRecursion-prop}
 use Rattle.std.proofs.Math.Logic.{∥∥₁_elim}
@@ -10,18 +10,15 @@ use Rattle.kahn_net.specs.Fits.{Fits}
 use Rattle.kahn_net.specs.Syntax.{Network}
 use Rattle.kahn_net.specs.Valid.{IsValid}
 use Rattle.kahn_net.specs.Approximations.{approximation}
-use Rattle.record.specs.ImageView.{ImageView}
-use Rattle.record.specs.RecordView.{RecordView}
 use Rattle.ckpt_codec.specs.Fields.{Field, IsAllowed}
 use Rattle.ckpt_codec.specs.RecordText.{image_fields}
 use Rattle.ckpt_store.specs.Spelling.{IsLike}
 use Rattle.node.specs.Installing.{IsOut, TakesTurn}
 use Rattle.node.specs.LikeLaws.{HasOuterChannels, counts_small, outer_in_logs, image_like}
-use Rattle.node.specs.NodeView.{ModeView, Down, InDoubt, Runs, RunningView, RunningNode, running_node, running_in, running_of}
-use Rattle.node.specs.Starting.{HasPutMore, IsLikeAt, IsLikeNow, decided}
+use Rattle.node.specs.NodeView.{ModeView, Down, InDoubt, Runs, RunningNode, running_node, running_in, running_of}
+use Rattle.node.specs.Starting.{IsLikeAt, IsLikeNow}
 use Rattle.world.specs.DoneView.{DoneView, IsTurnOfJob}
 use Rattle.world.specs.Invariant.{outputs_of, RunsSoundly, StationInvariant}
-use Rattle.world.specs.RecordLaws.{last_more}
 use Rattle.world.specs.StationView.{StationView}
 use Rattle.world.specs.TurnLaws.{takes_done}
 
@@ -41,10 +38,6 @@ module _ (net : Network) (inputs : List (List ℤ)) (valid : IsValid net) (fits 
       at (Runs running) is out =
           let node = running_node station.node.kept station.node.version running in
           takes_done net inputs node (outputs_of station.outlets) done.job done.after done.taken done.sent fits (inv.runs node (ap (running_in station.node.kept station.node.version) is)).sound out turn
-
-  -- the tentative image is no less than the permanent one
-  pub decides_more : HasPutMore station.node.kept.permanent (decided station.node.kept).permanent
-  decides_more = last_more net inputs (outputs_of station.outlets) station.node.kept inv.kept station.node.kept.tentative refl
 
   -- what the node has now may be written beside its permanent image
   like_node : HasOuterChannels net → (node : RunningNode) → node.kept ≡ station.node.kept → RunsSoundly net inputs node (outputs_of station.outlets) → IsLike station.node.kept.permanent node.current

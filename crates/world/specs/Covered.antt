@@ -1,5 +1,5 @@
 -- What a crash may leave covers what has left the system.
-use Rattle.std.specs.Prelude.{◌≡◌, ℕ, ◌≤◌, List, length, Option, Some, slice_get}
+use Rattle.std.specs.Prelude.{◌≡◌, ◌⊎◌, ℕ, ◌≤◌, List, length, Option, Some, slice_get}
 use Rattle.record.specs.ImageView.{ImageView}
 use Rattle.record.specs.RecordView.{RecordView}
 use Rattle.record.specs.Ends.{sent_of}
@@ -22,3 +22,8 @@ AreCoveredSince moment left_since old new outputs = (left : Option (List ℕ)) �
 pub record LeavesAsMuch (image : ImageView) (left : Option (List ℕ)) : Type 0 where
   pub something : SpellsSome left
   pub as_much : (kept : RecordView) → Spells kept left → (channel : ℕ) → sent_of image channel ≤ sent_of kept.permanent channel
+
+-- a crash leaves a record, and it is one of these two
+pub record LeavesEither (kept next : RecordView) (left : Option (List ℕ)) : Type 0 where
+  pub something : SpellsSome left
+  pub one_of : (spelled : RecordView) → Spells spelled left → (spelled ≡ kept) ⊎ (spelled ≡ next)

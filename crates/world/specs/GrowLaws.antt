@@ -7,15 +7,16 @@ use Rattle.kahn_net.specs.Laws.Prefixes.{prefix_refl}
 use Rattle.kahn_net.specs.Syntax.{Network}
 use Rattle.record.specs.Ends.{sent_of}
 use Rattle.record.specs.ImageView.{ImageView}
-use Rattle.node.specs.Starting.{is_down}
+use Rattle.node.specs.Starting.{is_down, IsBehind}
 use Rattle.node.specs.Trimming.{current_log}
 use Rattle.record.specs.RecordView.{RecordView}
-use Rattle.world.specs.Covered.{AreCovered, AreCoveredSince, LeavesAsMuch}
+use Rattle.world.specs.Covered.{AreCovered, AreCoveredSince, LeavesAsMuch, LeavesEither}
 use Rattle.world.specs.EventView.{EventView}
 use Rattle.world.specs.EventView as event
 use Rattle.world.specs.Growing.{EachBegins}
 use Rattle.world.specs.HandedLaws.{took_or_not, took_begins}
 use Rattle.world.specs.Invariant.{output_of, outputs_of}
+use Rattle.world.specs.OrderLaws.{behind_itself}
 use Rattle.world.specs.OutputLaws.{map_at, set_cases}
 use Rattle.world.specs.OutputView.{OutputView}
 use Rattle.world.specs.Pairs.{HasMoved, HasGrown}
@@ -96,6 +97,14 @@ step_begins net inputs room round (event.Idle k) old answer new step = begins_st
 
 -- What a crash leaves covers what has left
 
+-- one of two records has put at least as much, where the next one isn't behind
+either_as_much : (kept next : RecordView) (left : Option (List ℕ)) → IsBehind kept.permanent next.permanent → LeavesEither kept next left → LeavesAsMuch kept.permanent left
+either_as_much kept next left ahead leaves = record { something = leaves.something; as_much = λ spelled is channel. at spelled channel (leaves.one_of spelled is) }
+  where
+    at : (spelled : RecordView) (channel : ℕ) → (spelled ≡ kept) ⊎ (spelled ≡ next) → sent_of kept.permanent channel ≤ sent_of spelled.permanent channel
+    at spelled channel (inl same) = omega (arith, ap (λ (r : RecordView). sent_of r.permanent channel) same)
+    at spelled channel (inr same) = let more = ahead.sent channel in omega (arith, more, ap (λ (r : RecordView). sent_of r.permanent channel) same)
+
 module _ {C : Type 0} (moment : C → ℕ) (left_since : C → ℕ → Option (List ℕ) → Type 0) (may_leave : C → Option (List ℕ) → Type 0)
     (only_now : (cell : C) (left : Option (List ℕ)) → left_since cell (moment cell) left → may_leave cell left) where
   covered_by : (permanent : ImageView) (outputs : List OutputView) (left : Option (List ℕ)) → CoversAll permanent outputs → LeavesAsMuch permanent left → AreCovered left outputs
@@ -106,14 +115,15 @@ module _ {C : Type 0} (moment : C → ℕ) (left_since : C → ℕ → Option (L
         covers = λ kept is. let more : sent_of permanent output.channel ≤ sent_of kept.permanent output.channel = leaves.as_much kept is output.channel in omega (arith, few, more);
       }
 
-  module _ (old new : ImageView) (before after : List OutletView) (cell cell' : C) (was : CoversAll old (outputs_of before)) (is : CoversAll new (outputs_of after))
-      (durable : (left : Option (List ℕ)) → may_leave cell' left → LeavesAsMuch new left) (moved : HasMoved moment left_since cell cell' old before after) where
+  module _ (kept next : RecordView) (new : ImageView) (before after : List OutletView) (cell cell' : C) (was : CoversAll kept.permanent (outputs_of before)) (is : CoversAll new (outputs_of after))
+      (durable : (left : Option (List ℕ)) → may_leave cell' left → LeavesAsMuch new left) (ahead : IsBehind kept.permanent next.permanent) (moved : HasMoved moment left_since cell cell' kept next before after) where
     covered_then : AreCoveredSince moment left_since cell cell' (outputs_of after)
     covered_then left since = at moved.apart
       where
-        at : (cell ≡ cell') ⊎ ((before ≡ after) × ((other : Option (List ℕ)) → left_since cell' (moment cell) other → LeavesAsMuch old other)) → AreCovered left (outputs_of after)
+        at : (cell ≡ cell') ⊎ ((before ≡ after) × ((other : Option (List ℕ)) → left_since cell' (moment cell) other → LeavesEither kept next other)) → AreCovered left (outputs_of after)
         at (inl same) = covered_by new (outputs_of after) left is (durable left (only_now cell' left (subst (λ (c : C). left_since cell' (moment c) left) same since)))
-        at (inr through) = covered_by old (outputs_of after) left (subst (λ (outlets : List OutletView). CoversAll old (outputs_of outlets)) through.0 was) (through.1 left since)
+        at (inr through) =
+            covered_by kept.permanent (outputs_of after) left (subst (λ (outlets : List OutletView). CoversAll kept.permanent (outputs_of outlets)) through.0 was) (either_as_much kept next left ahead (through.1 left since))
 
     -- where an event left a station sound, and its outputs begin with what they had
     pub has_grown : EachBegins (outputs_of before) (outputs_of after) → HasGrown moment left_since cell cell' (outputs_of before) (outputs_of after)
@@ -124,6 +134,7 @@ module _ {C : Type 0} (moment : C → ℕ) (left_since : C → ℕ → Option (L
         at (inr through) = inl (ap outputs_of through.0)
 
   -- a station that nobody touched
-  pub still_grown : (permanent : ImageView) (outlets : List OutletView) (cell : C) → CoversAll permanent (outputs_of outlets) → ((left : Option (List ℕ)) → may_leave cell left → LeavesAsMuch permanent left)
+  pub still_grown : (kept : RecordView) (outlets : List OutletView) (cell : C) → CoversAll kept.permanent (outputs_of outlets) → ((left : Option (List ℕ)) → may_leave cell left → LeavesAsMuch kept.permanent left)
       → HasGrown moment left_since cell cell (outputs_of outlets) (outputs_of outlets)
-  still_grown permanent outlets cell sound durable = has_grown permanent permanent outlets outlets cell cell sound sound durable (record { later = omega arith; apart = inl refl }) (begins_same (outputs_of outlets))
+  still_grown kept outlets cell sound durable =
+      has_grown kept kept kept.permanent outlets outlets cell cell sound sound durable (behind_itself kept.permanent) (record { later = omega arith; apart = inl refl }) (begins_same (outputs_of outlets))

@@ -101,7 +101,7 @@ module _ (net : Network) (inputs : List (List ℤ)) (node : RunningNode) (output
   has_next j output sound order is more = at (log_of node.current output.channel) (sound.covered j output is).no_gap ahead
     where
       ahead : length output.taken < sent_of node.current output.channel
-      ahead = let later = order.current_ahead output.channel in omega (arith, more, later)
+      ahead = let later = order.current_ahead.sent output.channel in omega (arith, more, later)
 
       at : (o : Option LogState) → base_in o ≤ length output.taken → length output.taken < sent_in o → HasNext o (length output.taken)
       at None gap few = omega (arith, few)

@@ -30,6 +30,8 @@ pub mod Quiet
 pub mod QuietLaws
 pub mod WorldView
 pub mod WholeView
+pub mod RecoveryLine
+pub mod LineLaws
 pub mod Released
 pub mod OpeningWorld
 pub mod Runnable

@@ -2,6 +2,7 @@
 use Rattle.std.proofs.Common.{◌≡◌, ℕ, zero, suc, Bool, true, false, eqb, cond, ℤ, List, [], ◌∷◌, length, take, map, Some, option_map, refl, sym, ap, subst, ◌∙◌, arith}
 use Rattle.std.specs.Prelude.{slice_get, find}
 use Rattle.kahn_net.specs.Fits.{Fits}
+use Rattle.kahn_net.specs.Nodes.{IsOnOneNode}
 use Rattle.kahn_net.specs.Valid.{IsValid}
 use Rattle.kahn_net.specs.Syntax.{Network}
 use Rattle.kahn_net.specs.declared.program.Channel.{Channel}
@@ -14,6 +15,7 @@ use Rattle.record.specs.declared.image.SavedEnd.{SavedEnd}
 use Rattle.node.specs.LikeLaws.{HasOuterChannels}
 use Rattle.node.specs.Starting.{AreInOrder}
 use Rattle.world.specs.Invariant.{outputs_of, RunsSoundly, StationInvariant, WorldInvariant}
+use Rattle.world.specs.OrderLaws.{behind_itself}
 use Rattle.world.specs.RecordSound.{ImageIsSound}
 use Rattle.world.specs.RecordLaws.{record_of}
 use Rattle.node.specs.NodeView.{RunningNode}
@@ -70,7 +72,7 @@ module _ (net : Network) (inputs : List (List ℤ)) (nodes number : ℕ) (output
 
 -- the images of an opening node are one after another, being the same
 order_opened : (net : Network) (nodes number : ℕ) → AreInOrder (opening_running net nodes number).kept (opening_running net nodes number).current
-order_opened net nodes number = record { current_ahead = λ c. omega arith; held_ahead = λ held is. absurd (cc); held_behind = λ held is. absurd (cc) }
+order_opened net nodes number = record { current_ahead = behind_itself (opening_image net); held_ahead = λ held is. absurd (cc); held_behind = λ held is. absurd (cc) }
 
 -- its image may be started from again
 image_opened : (net : Network) (inputs : List (List ℤ)) (outputs : List OutputView) → ImageIsSound net inputs (opening_image net) outputs
@@ -88,7 +90,7 @@ opens_soundly net inputs outputs valid listed none = record { order = order_open
 station_opened : (net : Network) (inputs : List (List ℤ)) (failures : ℕ) (outlets : List OutletView) → IsValid net
     → map (λ (output : OutputView). output.channel) (outputs_of outlets) ≡ output_channels 0 net.channels → NothingLeft (outputs_of outlets) → StationInvariant net inputs (opening_station net failures outlets)
 station_opened net inputs failures outlets valid listed none = record {
-  kept = record_of net inputs (outputs_of outlets) (opening_running net 1 0) (image_opened net inputs (outputs_of outlets)) (λ tentative is. absurd (cc)) runs.order runs.sound;
+  kept = record_of net inputs (outputs_of outlets) (opening_running net 1 0) refl (image_opened net inputs (outputs_of outlets)) (λ tentative is. absurd (cc)) runs.order runs.sound;
   runs = λ node is. (let same : opening_running net 1 0 ≡ node = cc in subst (λ (n : RunningNode). RunsSoundly net inputs n (outputs_of outlets)) same runs);
 }
   where
@@ -96,10 +98,10 @@ station_opened net inputs failures outlets valid listed none = record {
     runs = opens_soundly net inputs (outputs_of outlets) valid listed none
 
 -- what is true of a world is true of an opening one, of which nothing has left
-pub world_opened : (net : Network) (inputs : List (List ℤ)) (failures : ℕ) (outlets : List OutletView) → IsValid net → Fits net inputs → HasOuterChannels net
+pub world_opened : (net : Network) (inputs : List (List ℤ)) (failures : ℕ) (outlets : List OutletView) → IsValid net → Fits net inputs → HasOuterChannels net → IsOnOneNode net
     → map (λ (output : OutputView). output.channel) (outputs_of (map opening_outlet outlets)) ≡ output_channels 0 net.channels → NothingLeft (outputs_of (map opening_outlet outlets))
     → WorldInvariant (opening_world net inputs failures outlets)
-world_opened net inputs failures outlets valid fits outer listed none = record { valid = valid; fits = fits; outer = outer; inhabited = omega arith; stations = λ i station is. at i station is }
+world_opened net inputs failures outlets valid fits outer alone listed none = record { valid = valid; fits = fits; outer = outer; alone = alone; inhabited = omega arith; stations = λ i station is. at i station is }
   where
     at : (i : ℕ) (station : StationView) → slice_get (opening_station net failures (map opening_outlet outlets) ∷ []) i ≡ Some station → StationInvariant net inputs station
     at zero station is =

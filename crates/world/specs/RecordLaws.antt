@@ -1,5 +1,5 @@
 -- What is true of a record stays so: as images are taken and become permanent, as items leave, and over a crash.
-use Rattle.std.proofs.Common.{◌≡◌, ◌⊎◌, ℕ, ◌+◌, ◌≤◌, Bool, true, false, cond, eqb, ℤ, List, [], ◌∷◌, length, take, Option, Some, None, refl, sym, ap, subst, ◌∙◌, arith}
+use Rattle.std.proofs.Common.{◌≡◌, ℕ, ◌≤◌, Bool, true, false, cond, eqb, ℤ, List, length, take, Option, Some, None, refl, sym, ap, subst, ◌∙◌, arith}
 use Rattle.std.specs.Prelude.{slice_get}
 use Rattle.std.proofs.Math.Logic.{∥∥₁_map}
 use Rattle.std.proofs.lemmas.List.{take-take}
@@ -8,18 +8,17 @@ use Rattle.kahn_net.specs.Syntax.{Network}
 use Rattle.kahn_net.specs.Processes.{sent_on}
 use Rattle.kahn_net.specs.Approximations.{approximation}
 use Rattle.kahn_net.specs.Laws.Prefixes.{prefix_trans}
-use Rattle.kahn_net.specs.declared.program.Channel.{Channel}
-use Rattle.kahn_net.specs.declared.program.Port.TheVariants.{Process}
-use Rattle.record.specs.Ends.{base_of, sent_of}
+use Rattle.record.specs.Ends.{sent_of}
 use Rattle.record.specs.ImageView.{ImageView}
 use Rattle.record.specs.RecordView.{RecordView}
 use Rattle.record.specs.Moves.{last_image, with_epoch, without_own}
 use Rattle.record.specs.declared.record.Tentative.{Tentative}
 use Rattle.node.specs.NodeView.{RunningNode}
-use Rattle.node.specs.Reached.{ImageStands, IsAsFar, HasReached, acts_of}
+use Rattle.node.specs.Reached.{ImageStands, acts_of}
 use Rattle.node.specs.ReleaseLaws.{acts_grow}
 use Rattle.node.specs.SentLaws.{sent_stands}
-use Rattle.node.specs.Starting.{AreInOrder, HasPutMore, with_own, decided}
+use Rattle.node.specs.Starting.{AreInOrder, IsBehind, with_own, decided}
+use Rattle.world.specs.OrderLaws.{behind_itself}
 use Rattle.world.specs.OutputView.{OutputView}
 use Rattle.world.specs.RecordSound.{ImageIsSound, RecordHasCome, RecordIsSound}
 use Rattle.world.specs.Sound.{HasCome, IsSound}
@@ -59,14 +58,15 @@ module _ (net : Network) (inputs : List (List ℤ)) (outputs : List OutputView) 
   }
 
   -- so the record of a node that runs is sound where its images are
-  pub record_of : (node : RunningNode) → ImageIsSound net inputs node.kept.permanent outputs → ((tentative : Tentative) → node.kept.tentative ≡ Some tentative → ImageIsSound net inputs tentative.image outputs)
+  pub record_of : (node : RunningNode) → node.kept.decision ≡ None → ImageIsSound net inputs node.kept.permanent outputs → ((tentative : Tentative) → node.kept.tentative ≡ Some tentative → ImageIsSound net inputs tentative.image outputs)
       → AreInOrder node.kept node.current → IsSound net inputs node outputs → RecordIsSound net inputs node.kept outputs
-  record_of node permanent held order sound = record {
+  record_of node undecided permanent held order sound = record {
     listed = sound.listed;
     permanent = permanent;
     held = held;
     ahead = order.held_ahead;
     covered = λ j output is. (sound.covered j output is).covered;
+    undecided = undecided;
     come = ∥∥₁_map sound.come (come_of node permanent (λ j output is. (sound.covered j output is).covered));
   }
 
@@ -80,8 +80,8 @@ module _ (net : Network) (inputs : List (List ℤ)) (outputs : List OutputView) 
   last_sound kept sound None is = sound.permanent
   last_sound kept sound (Some held) is = sound.held held is
 
-  pub last_more : (kept : RecordView) → RecordIsSound net inputs kept outputs → (o : Option Tentative) → kept.tentative ≡ o → HasPutMore kept.permanent (last_image kept.permanent o)
-  last_more kept sound None is = λ channel. omega arith
+  pub last_more : (kept : RecordView) → RecordIsSound net inputs kept outputs → (o : Option Tentative) → kept.tentative ≡ o → IsBehind kept.permanent (last_image kept.permanent o)
+  last_more kept sound None is = behind_itself kept.permanent
   last_more kept sound (Some held) is = sound.ahead held is
 
   come_decided : (kept : RecordView) → (o : Option Tentative) → kept.tentative ≡ o → RecordHasCome net inputs kept outputs → RecordHasCome net inputs (decided kept) outputs
@@ -113,7 +113,8 @@ module _ (net : Network) (inputs : List (List ℤ)) (outputs : List OutputView) 
     permanent = last_sound kept sound kept.tentative refl;
     held = λ tentative e. absurd (cc);
     ahead = λ tentative e. absurd (cc);
-    covered = λ j output is. (let few = sound.covered j output is in let more = last_more kept sound kept.tentative refl output.channel in omega (arith, few, more));
+    covered = λ j output is. (let few = sound.covered j output is in let more = (last_more kept sound kept.tentative refl).sent output.channel in omega (arith, few, more));
+    undecided = sound.undecided;
     come = ∥∥₁_map sound.come (come_decided kept kept.tentative refl);
   }
 
@@ -144,6 +145,7 @@ module _ (net : Network) (inputs : List (List ℤ)) (outputs : List OutputView) 
     held = λ tentative is. sound.held tentative (still_held kept.node kept.tentative tentative is);
     ahead = λ tentative is. sound.ahead tentative (still_held kept.node kept.tentative tentative is);
     covered = sound.covered;
+    undecided = sound.undecided;
     come = ∥∥₁_map sound.come (come_epoch kept);
   }
 
@@ -183,7 +185,7 @@ module _ (net : Network) (inputs : List (List ℤ)) (outputs : List OutputView) 
 
   pub restarted_order : (kept : RecordView) → kept.tentative ≡ None → AreInOrder kept kept.permanent
   restarted_order kept free = record {
-    current_ahead = λ c. omega arith;
+    current_ahead = behind_itself kept.permanent;
     held_ahead = λ held is. absurd (not_some kept.tentative held free is);
     held_behind = λ held is. absurd (not_some kept.tentative held free is);
   }

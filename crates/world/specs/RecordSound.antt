@@ -1,5 +1,5 @@
 -- What is true of a node's record with its outputs, in whatever mode the node is: it can start again from it.
-use Rattle.std.specs.Prelude.{◌≡◌, ℕ, ◌≤◌, ℤ, List, map, length, Some, slice_get}
+use Rattle.std.specs.Prelude.{◌≡◌, ℕ, ◌≤◌, ℤ, List, map, length, Some, None, slice_get}
 use Rattle.kahn_net.specs.Streams.{IsPrefix}
 use Rattle.kahn_net.specs.Syntax.{Network}
 use Rattle.kahn_net.specs.Processes.{sent_on}
@@ -11,7 +11,7 @@ use Rattle.record.specs.ImageView.{ImageView}
 use Rattle.record.specs.RecordView.{RecordView}
 use Rattle.record.specs.declared.record.Tentative.{Tentative}
 use Rattle.node.specs.Reached.{ImageStands, IsAsFar, IsLaidOut, CountsAreWithin, LogsAreWithin, acts_of}
-use Rattle.node.specs.Starting.{HasPutMore}
+use Rattle.node.specs.Starting.{IsBehind}
 use Rattle.world.specs.OutputView.{OutputView}
 use Rattle.world.specs.Sound.{output_channels}
 
@@ -39,11 +39,13 @@ pub record RecordHasCome (net : Network) (inputs : List (List ℤ)) (kept : Reco
   pub released : (j p : ℕ) (output : OutputView) (channel : Channel) → slice_get outputs j ≡ Some output → slice_get net.channels output.channel ≡ Some channel → channel.producer ≡ Process p
       → IsPrefix output.taken (sent_on output.channel (acts_of net (approximation net inputs n) permanent_acts p))
 
--- All of it: there is an outlet for each output of the network, the permanent image covers what has left, and what is said above.
+-- All of it: there is an outlet for each output of the network, the permanent image covers what has left, the tentative one isn't behind it, no
+-- decision waits to be confirmed, since a node alone asks nobody, and what is said above.
 pub record RecordIsSound (net : Network) (inputs : List (List ℤ)) (kept : RecordView) (outputs : List OutputView) : Type 0 where
   pub listed : map (λ (output : OutputView). output.channel) outputs ≡ output_channels 0 net.channels
   pub permanent : ImageIsSound net inputs kept.permanent outputs
   pub held : (tentative : Tentative) → kept.tentative ≡ Some tentative → ImageIsSound net inputs tentative.image outputs
-  pub ahead : (tentative : Tentative) → kept.tentative ≡ Some tentative → HasPutMore kept.permanent tentative.image
+  pub ahead : (tentative : Tentative) → kept.tentative ≡ Some tentative → IsBehind kept.permanent tentative.image
   pub covered : CoversAll kept.permanent outputs
+  pub undecided : kept.decision ≡ None
   pub come : ∥ RecordHasCome net inputs kept outputs ∥₁

@@ -1,12 +1,12 @@
 -- What is true of a station stays so as jobs are granted, and through its checkpoints.
-use Rattle.std.proofs.Common.{◌≡◌, ℕ, ◌≤◌, List, ℤ, Option, Some, None, refl, sym, subst, arith}
+use Rattle.std.proofs.Common.{◌≡◌, ℕ, ◌≤◌, List, ℤ, Option, Some, None, subst, arith}
 use Rattle.std.proofs.Math.Logic.{∥∥₁_map}
 use Rattle.kahn_net.specs.Syntax.{Network}
 use Rattle.record.specs.Ends.{sent_of}
 use Rattle.node.specs.JobView.{JobView}
 use Rattle.node.specs.NodeView.{RunningNode}
 use Rattle.node.specs.Reached.{IsJobOf}
-use Rattle.node.specs.Starting.{with_own, keeping, decided, HasPutMore}
+use Rattle.node.specs.Starting.{with_own, keeping, decided, IsBehind}
 use Rattle.node.specs.StepLaws.{reached_start, reached_decide, reached_grant, on_start, on_decide, on_grant}
 use Rattle.node.specs.Choosing.{next_job, after_grant}
 use Rattle.node.specs.GrantLaws.{job_granted}
@@ -50,13 +50,13 @@ module _ (net : Network) (inputs : List (List ℤ)) (outputs : List OutputView) 
   }
 
   -- a decision
-  pub decided_sound : (old : RunningNode) → HasPutMore old.kept.permanent (decided old.kept).permanent → IsSound net inputs old outputs → IsSound net inputs (keeping (decided old.kept) old) outputs
+  pub decided_sound : (old : RunningNode) → IsBehind old.kept.permanent (decided old.kept).permanent → IsSound net inputs old outputs → IsSound net inputs (keeping (decided old.kept) old) outputs
   decided_sound old ahead sound = record {
     listed = sound.listed;
     kept = record { laid_out = sound.kept.laid_out; counts = sound.kept.counts; logs = sound.kept.logs };
     covered = λ j output h.
         let at = sound.covered j output h in
-        let more : sent_of old.kept.permanent output.channel ≤ sent_of (decided old.kept).permanent output.channel = ahead output.channel in
+        let more : sent_of old.kept.permanent output.channel ≤ sent_of (decided old.kept).permanent output.channel = ahead.sent output.channel in
         record { no_gap = at.no_gap; covered = omega (arith, at.covered, more) };
     come = ∥∥₁_map sound.come (come_decide old);
   }

@@ -5,6 +5,7 @@ use Rattle.std.proofs.lemmas.List.{map-set}
 use Rattle.kahn_net.specs.Streams.{IsPrefix}
 use Rattle.kahn_net.specs.Laws.Prefixes.{prefix_length}
 use Rattle.kahn_net.specs.Fits.{Fits}
+use Rattle.kahn_net.specs.Nodes.{IsOnOneNode}
 use Rattle.kahn_net.specs.Syntax.{Network}
 use Rattle.kahn_net.specs.Valid.{IsValid}
 use Rattle.retained.specs.LogState.{LogState}
@@ -18,11 +19,11 @@ use Rattle.node.specs.JobView.{JobView}
 use Rattle.node.specs.NodeView.{NodeView, ModeView, Down, InDoubt, Runs, RunningView, RunningNode, running_node, running_in, running_of, on_mode, on_running}
 use Rattle.node.specs.LikeLaws.{HasOuterChannels}
 use Rattle.node.specs.Choosing.{next_job, after_grant, job_at, node_job, granted, with_grant}
-use Rattle.node.specs.Installing.{with_turn, turned, IsOut, IsInstall}
-use Rattle.node.specs.FitLaws.{put_more_installed}
-use Rattle.node.specs.TrimLaws.{put_more_trimmed}
+use Rattle.node.specs.Installing.{turned, IsOut, IsInstall}
+use Rattle.node.specs.FitLaws.{behind_installed}
+use Rattle.node.specs.TrimLaws.{behind_trimmed}
 use Rattle.node.specs.Recovering.{IsCrash, IsRecovery, restored, restored_with, put_off}
-use Rattle.node.specs.Starting.{AreInOrder, HasFailedAt, IsStart, IsDecision, is_down, is_running, may_start, next_number, crashed, with_own, own_at, with_own_now, decided, keeping, with_kept}
+use Rattle.node.specs.Starting.{AreInOrder, HasFailedAt, IsStart, IsDecision, is_down, is_running, next_number, crashed, with_own, own_at, with_own_now, decided, keeping, with_kept}
 use Rattle.node.specs.Trimming.{with_current, current_log, cut_at, trimmed_node, HasNext, TookNext}
 use Rattle.node.specs.declared.putting.Putting.{Putting}
 use Rattle.node.specs.declared.putting.Putting.TheVariants.{NotDue, Stored, Refused, Failed}
@@ -119,7 +120,7 @@ module _ (net : Network) (inputs : List (List ℤ)) where
           let out : now.out ≡ Some done.job = subst (λ (m : ModeView). IsOut done.job m) before.1 step.0 in
           subst (λ (n : RunningNode). RunsSoundly net inputs n (outputs_of old.outlets)) before.2
           (record {
-            order = order_ahead now.kept now.current _ (put_more_installed net.channels done.job.process done.after done.taken done.sent now.current) sound.order;
+            order = order_ahead now.kept now.current _ (behind_installed net.channels done.job.process done.after done.taken done.sent now.current) sound.order;
             sound = sound_done net inputs now (outputs_of old.outlets) done.job done.after done.taken done.sent fits sound.sound out turn;
           })
 
@@ -137,16 +138,20 @@ module _ (net : Network) (inputs : List (List ℤ)) where
   own_kept old running inv is =
       let now = running_node old.node.kept old.node.version running in
       let next = own_sound old running inv is in
-      record_of net inputs (outputs_of old.outlets) (keeping (with_own old.number running.current old.node.kept) now) inv.kept.permanent
+      record_of net inputs (outputs_of old.outlets) (keeping (with_own old.number running.current old.node.kept) now) inv.kept.undecided inv.kept.permanent
       (record_own net inputs (outputs_of old.outlets) old.number old.node.kept running.current (current_sound net inputs (outputs_of old.outlets) now (runs_at old inv running is).sound) inv.kept) next.order next.sound
 
   own_now : (old : StationView) (running : RunningView) → old.node.mode ≡ Runs running → with_own_now old.number old.node ≡ with_own old.number running.current old.node.kept
   own_now old running is = ap (λ (m : ModeView). own_at old.number old.node.kept (running_in old.node.kept old.node.version m)) is
 
-  own_now_kept : (old : StationView) → StationInvariant net inputs old → may_start old.node ≡ true → RecordIsSound net inputs (with_own_now old.number old.node) (outputs_of old.outlets)
-  own_now_kept old inv due =
-      let runs = runs_now old.node.mode (first_true (is_running old.node.mode) _ due) in
-      subst (λ (kept : RecordView). RecordIsSound net inputs kept (outputs_of old.outlets)) (sym (own_now old runs.0 runs.1)) (own_kept old runs.0 inv runs.1)
+  -- of a node that doesn't run, the record stays
+  pub own_now_kept : (old : StationView) → StationInvariant net inputs old → RecordIsSound net inputs (with_own_now old.number old.node) (outputs_of old.outlets)
+  own_now_kept old inv = at old.node.mode refl
+    where
+      at : (m : ModeView) → old.node.mode ≡ m → RecordIsSound net inputs (own_at old.number old.node.kept (running_in old.node.kept old.node.version m)) (outputs_of old.outlets)
+      at Down is = inv.kept
+      at InDoubt is = inv.kept
+      at (Runs running) is = own_kept old running inv is
 
   failed_keeps : (round : ℕ) (next : RecordView) (old : StationView) (node : NodeView) (failures : ℕ) (turns : RoundTurns) → StationInvariant net inputs old → RecordIsSound net inputs next (outputs_of old.outlets)
       → HasFailedAt round next old.node node → StationInvariant net inputs (moved_to node failures turns old)
@@ -158,7 +163,7 @@ module _ (net : Network) (inputs : List (List ℤ)) where
       → StationInvariant net inputs (moved_to node failures turns old)
   start_keeps round old NotDue node failures turns inv step = subst (λ (n : NodeView). StationInvariant net inputs (moved_to n failures turns old)) (sym step.1) (moved_keeps old.node failures turns old inv.kept inv.runs)
   start_keeps round old Stored node failures turns inv step =
-      subst (λ (n : NodeView). StationInvariant net inputs (moved_to n failures turns old)) (sym step.2) (moved_keeps (with_kept (with_own_now old.number old.node) old.node) failures turns old (own_now_kept old inv step.0) runs)
+      subst (λ (n : NodeView). StationInvariant net inputs (moved_to n failures turns old)) (sym step.2) (moved_keeps (with_kept (with_own_now old.number old.node) old.node) failures turns old (own_now_kept old inv) runs)
     where
       now : (running : RunningView) × (old.node.mode ≡ Runs running)
       now = runs_now old.node.mode (first_true (is_running old.node.mode) _ step.0)
@@ -170,7 +175,7 @@ module _ (net : Network) (inputs : List (List ℤ)) where
           let same : keeping (with_own old.number now.0.current old.node.kept) (running_node old.node.kept old.node.version now.0) ≡ run = cc in
           subst (λ (n : RunningNode). RunsSoundly net inputs n (outputs_of old.outlets)) same (own_sound old now.0 inv now.1)
   start_keeps round old (Refused refusal) node failures turns inv step = subst (λ (n : NodeView). StationInvariant net inputs (moved_to n failures turns old)) (sym step.2) (moved_keeps old.node failures turns old inv.kept inv.runs)
-  start_keeps round old Failed node failures turns inv step = failed_keeps round (with_own_now old.number old.node) old node failures turns inv (own_now_kept old inv step.0) step.2
+  start_keeps round old Failed node failures turns inv step = failed_keeps round (with_own_now old.number old.node) old node failures turns inv (own_now_kept old inv) step.2
 
   decision_keeps : (round : ℕ) (old : StationView) (outcome : Putting) (node : NodeView) (failures : ℕ) (turns : RoundTurns) → StationInvariant net inputs old → IsDecision old.number round old.node outcome node
       → StationInvariant net inputs (moved_to node failures turns old)
@@ -290,7 +295,7 @@ module _ (net : Network) (inputs : List (List ℤ)) where
 
       order : AreInOrder old.node.kept (trimmed_image step.outlet.channel (length step.later.taken) running.current)
       order = order_ahead old.node.kept running.current (trimmed_image step.outlet.channel (length step.later.taken) running.current)
-          (λ c. (let same = put_more_trimmed step.outlet.channel (length step.later.taken) running.current c in omega (arith, same))) was.order
+          (behind_trimmed step.outlet.channel (length step.later.taken) running.current) was.order
 
       there : slice_get (outputs_of old.outlets) place ≡ Some (output_of step.outlet)
       there = map_at output_of old.outlets place step.outlet step.there
@@ -319,7 +324,7 @@ module _ (net : Network) (inputs : List (List ℤ)) where
           (λ log history. took_goes_on (log_of running.current step.outlet.channel) step.outlet.taken step.later.taken history log has took) logged
 
       kept : RecordIsSound net inputs old.node.kept (slice_set (outputs_of old.outlets) place (record { channel = step.outlet.channel; taken = step.later.taken }))
-      kept = record_of net inputs _ (with_current (trimmed_image step.outlet.channel (length step.later.taken) running.current) (running_node old.node.kept old.node.version running))
+      kept = record_of net inputs _ (with_current (trimmed_image step.outlet.channel (length step.later.taken) running.current) (running_node old.node.kept old.node.version running)) inv.kept.undecided
           (image_set old.node.kept.permanent (outputs_of old.outlets) place (output_of step.outlet) (record { channel = step.outlet.channel; taken = step.later.taken }) there refl more_items inv.kept.permanent)
           (λ tentative is. image_set tentative.image (outputs_of old.outlets) place (output_of step.outlet) (record { channel = step.outlet.channel; taken = step.later.taken }) there refl more_items (inv.kept.held tentative is)) order sound
 
@@ -401,6 +406,7 @@ step_keeps rooms e old answer new inv step =
       valid = subst IsValid (sym step.net) inv.valid;
       fits = subst (λ (n : Network). Fits n new.inputs) (sym step.net) (subst (Fits old.net) (sym step.inputs) inv.fits);
       outer = subst HasOuterChannels (sym step.net) inv.outer;
+      alone = subst IsOnOneNode (sym step.net) inv.alone;
       inhabited = omega (arith, count, inv.inhabited);
       stations = subst (λ (n : Network). AreSound n new.inputs new.stations) (sym step.net) (subst (λ (i : List (List ℤ)). AreSound old.net i new.stations) (sym step.inputs) stations);
     }

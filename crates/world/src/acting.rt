@@ -10,6 +10,7 @@ ghost use Rattle.node.specs.LikeLaws.{HasOuterChannels};
 ghost use Rattle.world.specs.EventView.{event_view};
 ghost use Rattle.world.specs.Invariant.{StationInvariant};
 ghost use Rattle.world.specs.Pairs.{HasMoved};
+ghost use Rattle.world.specs.RecoveryLine.{next_kept};
 ghost use Rattle.world.specs.Replies.{LeavesCells, TakesMemory};
 ghost use Rattle.world.specs.ReplyView.{answer_view, reply_view};
 ghost use Rattle.world.specs.StationView.{outlet_views};
@@ -95,7 +96,8 @@ impl<C: StableCell, O: Outlet> Station<C, O> {
         requires sound { StationInvariant (network_of net.now.value.program) inputs.now
             (station_view O.taken O.failures self.old) }
         ensures moved { HasMoved C.moment C.left_since (cell_in self.old.node.store)
-            (cell_in self.new.node.store) (view_of self.old.node).kept.permanent
+            (cell_in self.new.node.store) (view_of self.old.node).kept
+            (next_kept (event_view event.now) (station_view O.taken O.failures self.old))
             (outlet_views O.taken O.failures self.old.outputs.items)
             (outlet_views O.taken O.failures self.new.outputs.items) }
         ensures refused { OnErr result

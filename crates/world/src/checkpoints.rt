@@ -3,8 +3,8 @@ ghost use Rattle.std.specs.Prelude.{◌≡◌, ◌≤◌, IfOk, OnErr};
 ghost use Rattle.ckpt_store.specs.Spelling.{fits_in};
 ghost use Rattle.ckpt_store.specs.StoreView.{cell_in};
 ghost use Rattle.node.specs.NodeOf.{view_of};
-ghost use Rattle.node.specs.Starting.{HasPutMore, IsLikeNow, decided};
-ghost use Rattle.world.specs.Pairs.{LeaveAsMuchSince};
+ghost use Rattle.node.specs.Starting.{IsLikeNow, decided, with_own_now};
+ghost use Rattle.world.specs.Pairs.{LeaveEitherSince};
 ghost use Rattle.world.specs.Replies.{AnswerLeaves, start_reply, decision_reply};
 ghost use Rattle.world.specs.ReplyView.{answer_view, reply_view};
 ghost use Rattle.world.specs.StationView.{outlet_views};
@@ -68,8 +68,9 @@ impl<C: StableCell, O: Outlet> Station<C, O> {
         requires { IsLikeNow (view_of self.old.node) }
         ensures outputs { outlet_views O.taken O.failures self.new.outputs.items
             ≡ outlet_views O.taken O.failures self.old.outputs.items }
-        ensures leaves { LeaveAsMuchSince C.moment C.left_since (cell_in self.old.node.store)
-            (cell_in self.new.node.store) (view_of self.old.node).kept.permanent }
+        ensures leaves { LeaveEitherSince C.moment C.left_since (cell_in self.old.node.store)
+            (cell_in self.new.node.store) (view_of self.old.node).kept
+            (with_own_now self.old.node.number (view_of self.old.node)) }
         ensures later { C.moment (cell_in self.old.node.store) ≤ C.moment (cell_in self.new.node.store) }
         ensures refused { OnErr result
             (station_view O.taken O.failures self.new ≡ station_view O.taken O.failures self.old) }
@@ -86,12 +87,11 @@ impl<C: StableCell, O: Outlet> Station<C, O> {
 
     /// Makes the station's own tentative image permanent.
     pub(crate) fn decide(&mut self, alloc: Global, round: u64) -> Result<Reply, AllocError>
-        requires { HasPutMore (view_of self.old.node).kept.permanent
-            (decided (view_of self.old.node).kept).permanent }
         ensures outputs { outlet_views O.taken O.failures self.new.outputs.items
             ≡ outlet_views O.taken O.failures self.old.outputs.items }
-        ensures leaves { LeaveAsMuchSince C.moment C.left_since (cell_in self.old.node.store)
-            (cell_in self.new.node.store) (view_of self.old.node).kept.permanent }
+        ensures leaves { LeaveEitherSince C.moment C.left_since (cell_in self.old.node.store)
+            (cell_in self.new.node.store) (view_of self.old.node).kept
+            (decided (view_of self.old.node).kept) }
         ensures later { C.moment (cell_in self.old.node.store) ≤ C.moment (cell_in self.new.node.store) }
         ensures refused { OnErr result
             (station_view O.taken O.failures self.new ≡ station_view O.taken O.failures self.old) }

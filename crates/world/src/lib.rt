@@ -8,6 +8,7 @@
 mod acting;
 mod checkpoints;
 mod event;
+mod laws;
 mod one_node;
 mod opening;
 mod output;
@@ -22,6 +23,7 @@ mod turning;
 mod world;
 
 pub use event::{Event, Freed, Refused, Reply};
+pub use laws::line_law;
 pub use one_node::can_run;
 pub use opening::list_outputs;
 pub use output::Output;

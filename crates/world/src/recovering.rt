@@ -2,8 +2,9 @@
 ghost use Rattle.std.specs.Prelude.{◌≡◌, ◌≤◌, IfOk, OnErr};
 ghost use Rattle.ckpt_store.specs.Spelling.{fits_in};
 ghost use Rattle.ckpt_store.specs.StoreView.{cell_in};
+ghost use Rattle.record.specs.Moves.{with_epoch};
 ghost use Rattle.node.specs.NodeOf.{view_of};
-ghost use Rattle.world.specs.Pairs.{LeaveAsMuchSince};
+ghost use Rattle.world.specs.Pairs.{LeaveEitherSince};
 ghost use Rattle.world.specs.Replies.{crash_reply, recovery_reply};
 ghost use Rattle.world.specs.ReplyView.{Acted, NotDue, reply_view};
 ghost use Rattle.world.specs.StationView.{outlet_views};
@@ -55,8 +56,9 @@ impl<C: StableCell, O: Outlet> Station<C, O> {
     pub(crate) fn crash(&mut self, round: u64, fill: u8, rounds: u64) -> Reply
         ensures outputs { outlet_views O.taken O.failures self.new.outputs.items
             ≡ outlet_views O.taken O.failures self.old.outputs.items }
-        ensures leaves { LeaveAsMuchSince C.moment C.left_since (cell_in self.old.node.store)
-            (cell_in self.new.node.store) (view_of self.old.node).kept.permanent }
+        ensures leaves { LeaveEitherSince C.moment C.left_since (cell_in self.old.node.store)
+            (cell_in self.new.node.store) (view_of self.old.node).kept
+            (view_of self.old.node).kept }
         ensures later { C.moment (cell_in self.old.node.store)
             ≤ C.moment (cell_in self.new.node.store) }
         ensures step { IsFallen rounds round (station_view O.taken O.failures self.old)
@@ -71,8 +73,9 @@ impl<C: StableCell, O: Outlet> Station<C, O> {
     pub(crate) fn recover(&mut self, alloc: Global, round: u64) -> Result<Reply, AllocError>
         ensures outputs { outlet_views O.taken O.failures self.new.outputs.items
             ≡ outlet_views O.taken O.failures self.old.outputs.items }
-        ensures leaves { LeaveAsMuchSince C.moment C.left_since (cell_in self.old.node.store)
-            (cell_in self.new.node.store) (view_of self.old.node).kept.permanent }
+        ensures leaves { LeaveEitherSince C.moment C.left_since (cell_in self.old.node.store)
+            (cell_in self.new.node.store) (view_of self.old.node).kept
+            (with_epoch (view_of self.old.node).kept) }
         ensures later { C.moment (cell_in self.old.node.store)
             ≤ C.moment (cell_in self.new.node.store) }
         ensures refused { OnErr result
@@ -94,8 +97,9 @@ impl<C: StableCell, O: Outlet> Station<C, O> {
     pub(crate) fn arm(&mut self, fault: ArmedFault) -> Result<Reply, AllocError>
         ensures outputs { outlet_views O.taken O.failures self.new.outputs.items
             ≡ outlet_views O.taken O.failures self.old.outputs.items }
-        ensures leaves { LeaveAsMuchSince C.moment C.left_since (cell_in self.old.node.store)
-            (cell_in self.new.node.store) (view_of self.old.node).kept.permanent }
+        ensures leaves { LeaveEitherSince C.moment C.left_since (cell_in self.old.node.store)
+            (cell_in self.new.node.store) (view_of self.old.node).kept
+            (view_of self.old.node).kept }
         ensures later { C.moment (cell_in self.old.node.store)
             ≤ C.moment (cell_in self.new.node.store) }
         ensures same { station_view O.taken O.failures self.new

@@ -7,6 +7,7 @@ ghost use Rattle.node.specs.LikeLaws.{HasOuterChannels};
 ghost use Rattle.world.specs.EventView.{event_node, event_view};
 ghost use Rattle.world.specs.Headline.{AreApproximated};
 ghost use Rattle.world.specs.Invariant.{AreSound, WorldInvariant};
+ghost use Rattle.world.specs.RecoveryLine.{StaysInLine, KeepsLine, HasOneLine};
 ghost use Rattle.world.specs.Replies.{LeavesCells, TakesMemory};
 ghost use Rattle.world.specs.ReplyView.{answer_view, reply_view};
 ghost use Rattle.world.specs.Steps.{is_done_with, are_done_with, round_after, IsAct, IsStep};
@@ -70,6 +71,7 @@ fn act_at<C: StableCell, O: Outlet>(
     requires sound { AreSound (network_of net.now.value.program) inputs.now
         (map (station_view O.taken O.failures) stations.old.items) }
     ensures grown { AllZip (IsGrown O.taken) stations.old.items stations.new.items }
+    ensures line { AllZip (StaysInLine O.taken O.failures) stations.old.items stations.new.items }
     ensures refused { OnErr result
         ((map (station_view O.taken O.failures) stations.new.items
         ≡ map (station_view O.taken O.failures) stations.old.items)
@@ -140,6 +142,12 @@ impl<C: StableCell, O: Outlet> World<C, O> {
         // Each stream that has left begins with what had left before; whatever a crash of a node at any moment of the
         // event leaves covers all that has left; and no event both lets an item leave and writes a record.
         ensures grown { HaveGrown self.old self.new }
+        // Whatever a crash of all nodes leaves at moments of the event spells a record of each, and the line from which
+        // they would then restart is sound, covers all that has left, and isn't behind the line before the event.
+        ensures line { KeepsLine O.taken O.failures (network_of self.old.net.value.program)
+            self.old.stations.items self.new.stations.items }
+        // By the end of the event one line alone is possible: that of the records which the nodes keep.
+        ensures settled { HasOneLine O.taken O.failures self.new.stations.items }
         // Each stream that has left is a prefix of its channel's history in one approximation on the inputs, the same
         // for all streams of the world.
         ensures prefix { AreApproximated (world_of self.new) }

@@ -6,7 +6,7 @@ use Rattle.world.specs.EventView.{event_view}
 use Rattle.world.specs.PairLaws.{on_err_map, pairs_refl, pairs_set}
 use Rattle.world.specs.WorldView.{station_view}
 use Rattle.world.specs.declared.station.Station.{Station}
-use Rattle.world.proofs.Stations.{all_still, all_grown}
+use Rattle.world.proofs.Stations.{all_still, all_grown, all_still_in_line, all_in_line}
 use Rattle.world.proofs.Views.{acted, cell_stays, refused_at, seen_at}
 use Rattle.world.proofs.world.act_at.Goals as goal
 
@@ -21,6 +21,10 @@ pub returns-then-number-len-clause-grown : goal.returns-then-number-len-clause-g
 returns-then-number-len-clause-grown g c =
     all_still {cell = g.C.StableCell} g.O.Outlet.taken g.O.Outlet.failures g.met.C.StableCell.only_now (network_of c.args.net.now.value.program) c.args.inputs.now c.args.stations.now.items c.requires.sound
 
+pub returns-then-number-len-clause-line : goal.returns-then-number-len-clause-line
+returns-then-number-len-clause-line g c =
+    all_still_in_line {cell = g.C.StableCell} g.O.Outlet.taken g.O.Outlet.failures g.met.C.StableCell.only_now (network_of c.args.net.now.value.program) c.args.inputs.now c.args.stations.now.items c.requires.sound
+
 pub returns-then-number-len-clause-unchanged : goal.returns-then-number-len-clause-unchanged
 returns-then-number-len-clause-unchanged g c = λ h. pairs_refl _ _ (λ i station is. cell_stays station)
 
@@ -29,6 +33,13 @@ returns-clause-grown g c =
     let net = c.args.net.now.value in
     let x = c.index_mut.result.now in
     all_grown {cell = g.C.StableCell} g.O.Outlet.taken g.O.Outlet.failures g.met.C.StableCell.only_now (network_of net.program) c.args.inputs.now net.valid c.requires.fits (fits_in (g.C.StableCell.capacity (cell_in x.node.store))) c.args.round (event_view c.args.event.now) c.args.stations.now.items c.args.number x _ c.act.result
+    c.requires.sound (search rules) c.index_mut.ensures.value c.act.ensures.moved c.act.ensures.step (on_err_map c.act.result c.act.ensures.refused (λ same. same.0))
+
+pub returns-clause-line : goal.returns-clause-line
+returns-clause-line g c =
+    let net = c.args.net.now.value in
+    let x = c.index_mut.result.now in
+    all_in_line {cell = g.C.StableCell} g.O.Outlet.taken g.O.Outlet.failures g.met.C.StableCell.only_now (network_of net.program) c.args.inputs.now net.valid c.requires.fits (fits_in (g.C.StableCell.capacity (cell_in x.node.store))) c.args.round (event_view c.args.event.now) c.args.stations.now.items c.args.number x _ c.act.result
     c.requires.sound (search rules) c.index_mut.ensures.value c.act.ensures.moved c.act.ensures.step (on_err_map c.act.result c.act.ensures.refused (λ same. same.0))
 
 pub returns-clause-refused : goal.returns-clause-refused

@@ -2,7 +2,7 @@ use Rattle.std.proofs.Common.{sym, subst}
 use Rattle.kahn_net.specs.Syntax.{network_of}
 use Rattle.net_check.specs.declared.net.Net.{Net}
 use Rattle.node.specs.Installing.{TakesTurn}
-use Rattle.world.specs.ActLaws.{takes_turn, decides_more, like_now}
+use Rattle.world.specs.ActLaws.{takes_turn, like_now}
 use Rattle.world.specs.DoneView.{done_view}
 use Rattle.world.specs.HandedLaws.{next_there}
 use Rattle.world.specs.WorldView.{station_view}
@@ -19,10 +19,6 @@ install-requires g c = λ out.
 pub start-requires : goal.start-requires
 start-requires g c =
     like_now (network_of c.args.net.now.value.program) c.args.inputs.now c.args.net.now.value.valid c.requires.fits (station_view g.O.Outlet.taken g.O.Outlet.failures c.args.self.now) c.requires.sound c.requires.outer
-
-pub decide-requires : goal.decide-requires
-decide-requires g c =
-    decides_more (network_of c.args.net.now.value.program) c.args.inputs.now c.args.net.now.value.valid c.requires.fits (station_view g.O.Outlet.taken g.O.Outlet.failures c.args.self.now) c.requires.sound
 
 pub release-requires : goal.release-requires
 release-requires g c = λ place outlet next there.

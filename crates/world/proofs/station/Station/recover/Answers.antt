@@ -1,5 +1,3 @@
-use Rattle.node.specs.NodeOf.{view_of}
-use Rattle.world.proofs.Records.{epoch_more}
 use Rattle.std.proofs.Common.{◌≡◌, refl, sym, ap, ◌∙◌}
 use Rattle.ckpt_store.specs.StoreView.{cell_in}
 use Rattle.node.specs.declared.putting.Recovery.{Recovery}
@@ -13,13 +11,13 @@ pub returns-in-Err-clause-leaves : goal.returns-in-Err-clause-leaves
 returns-in-Err-clause-leaves g c =
     let was = c.args.self.now in
     let C = g.C.StableCell in
-    through C was.node.store c.recover.new.self.store was.node.kept.settled _ c.recover.ensures.any_moment (epoch_more (view_of was.node))
+    through C was.node.store c.recover.new.self.store was.node.kept.settled _ c.recover.ensures.any_moment
 
 pub returns-in-Ok-clause-leaves : goal.returns-in-Ok-clause-leaves
 returns-in-Ok-clause-leaves g c =
     let was = c.args.self.now in
     let C = g.C.StableCell in
-    through C was.node.store c.recover.new.self.store was.node.kept.settled _ c.recover.ensures.any_moment (epoch_more (view_of was.node))
+    through C was.node.store c.recover.new.self.store was.node.kept.settled _ c.recover.ensures.any_moment
 
 was_up : (outcome : Recovery) → recovery_reply outcome ≡ NotDue → outcome ≡ recovery.NotDue
 was_up recovery.NotDue is = refl
