@@ -15,10 +15,13 @@ use Rattle.record.specs.ImageView.{ImageView}
 use Rattle.record.specs.RecordView.{RecordView}
 use Rattle.record.specs.Moves.{last_image, with_epoch, without_own}
 use Rattle.record.specs.declared.record.Tentative.{Tentative}
+use Rattle.ckpt_codec.specs.SizeLaws.{IsRecordWithin, within_epoch}
+use Rattle.ckpt_codec.specs.declared.lengths.TheConstants.{MAX_RETAINED_ITEMS}
 use Rattle.node.specs.NodeView.{RunningNode}
 use Rattle.node.specs.Reached.{ImageStands, IsAsFar, HasReached, acts_of}
 use Rattle.node.specs.ReleaseLaws.{acts_grow}
 use Rattle.node.specs.SentLaws.{sent_stands}
+use Rattle.node.specs.SizeLaws.{decided_within}
 use Rattle.node.specs.Starting.{AreInOrder, HasPutMore, with_own, decided}
 use Rattle.world.specs.OutputView.{OutputView}
 use Rattle.world.specs.RecordSound.{ImageIsSound, RecordHasCome, RecordIsSound}
@@ -58,15 +61,16 @@ module _ (net : Network) (inputs : List (List ℤ)) (outputs : List OutputView) 
         prefix_within output.taken before now (come.released j p output channel is on from) (acts_grow net histories come.reached.permanent_acts come.reached.current_acts output.channel p far) (omega (arith, few, count)));
   }
 
-  -- so the record of a node that runs is sound where its images are
-  pub record_of : (node : RunningNode) → ImageIsSound net inputs node.kept.permanent outputs → ((tentative : Tentative) → node.kept.tentative ≡ Some tentative → ImageIsSound net inputs tentative.image outputs)
+  -- so the record of a node that runs is sound where its images are, and it is within bounds
+  pub record_of : (node : RunningNode) → IsRecordWithin MAX_RETAINED_ITEMS node.kept → ImageIsSound net inputs node.kept.permanent outputs → ((tentative : Tentative) → node.kept.tentative ≡ Some tentative → ImageIsSound net inputs tentative.image outputs)
       → AreInOrder node.kept node.current → IsSound net inputs node outputs → RecordIsSound net inputs node.kept outputs
-  record_of node permanent held order sound = record {
+  record_of node bounded permanent held order sound = record {
     listed = sound.listed;
     permanent = permanent;
     held = held;
     ahead = order.held_ahead;
     covered = λ j output is. (sound.covered j output is).covered;
+    bounded = bounded;
     come = ∥∥₁_map sound.come (come_of node permanent (λ j output is. (sound.covered j output is).covered));
   }
 
@@ -114,6 +118,7 @@ module _ (net : Network) (inputs : List (List ℤ)) (outputs : List OutputView) 
     held = λ tentative e. absurd (cc);
     ahead = λ tentative e. absurd (cc);
     covered = λ j output is. (let few = sound.covered j output is in let more = last_more kept sound kept.tentative refl output.channel in omega (arith, few, more));
+    bounded = decided_within kept sound.bounded;
     come = ∥∥₁_map sound.come (come_decided kept kept.tentative refl);
   }
 
@@ -144,6 +149,7 @@ module _ (net : Network) (inputs : List (List ℤ)) (outputs : List OutputView) 
     held = λ tentative is. sound.held tentative (still_held kept.node kept.tentative tentative is);
     ahead = λ tentative is. sound.ahead tentative (still_held kept.node kept.tentative tentative is);
     covered = sound.covered;
+    bounded = within_epoch MAX_RETAINED_ITEMS kept sound.bounded;
     come = ∥∥₁_map sound.come (come_epoch kept);
   }
 
