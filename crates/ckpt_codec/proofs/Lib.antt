@@ -9,5 +9,5 @@ mod Items
 pub mod Exactness
 mod Spelled
 mod Walking
-mod Sizes
+pub mod Sizes
 mod Fitting

@@ -65,11 +65,11 @@ fn step(alloc: Global, world: &mut DiskWorld) -> Result<(), Fail> {
 }
 
 /// The disk of a world, as it stands.
-fn disk_of(world: DiskWorld) -> Result<MemDisk, Fail> {
-    let mut stations = world.close();
-    match stations.pop() {
-        Some(station) => Ok(station.node.store.close().close()),
-        None => Err(Fail::new("a world has a station")),
+fn disk_of(alloc: Global, world: DiskWorld) -> Result<MemDisk, Fail> {
+    let (mut disks, _) = world.close(alloc)?;
+    match disks.pop() {
+        Some(disk) => Ok(disk),
+        None => Err(Fail::new("a world has a disk")),
     }
 }
 
@@ -85,7 +85,7 @@ fn calls_and_gate(alloc: Global, is_run: bool) -> Result<(u64, u8), Fail> {
     if is_run != world.complete() {
         return Err(Fail::new("the run comes to its end"));
     }
-    let mut disk = disk_of(world)?;
+    let mut disk = disk_of(alloc, world)?;
     let calls = disk.calls();
     let mut gate = [0; 512];
     match disk.read(0, &mut gate) {

@@ -86,17 +86,17 @@ module _ {C O : Type 0} {cell : CellWords C} (taken : O → List ℤ) (failures 
       pairs_refl (StaysInLine taken failures) stations (λ i station is. still_in_line station (sound i (station_view taken failures station) (map_at (station_view taken failures) stations i station is)))
 
   -- and of one with an event
-  event_in_line : (event : EventView) (old new : Station C O cell) → StationInvariant net inputs (station_view taken failures old) → StationInvariant net inputs (station_view taken failures new)
+  event_in_line : (event : EventView) (old new : Station C O cell) → IsValid net → StationInvariant net inputs (station_view taken failures old) → StationInvariant net inputs (station_view taken failures new)
       → HasMoved cell.moment cell.left_since (cell_in old.node.store) (cell_in new.node.store) (record_in old.node.store) (next_kept event (station_view taken failures old)) (outlet_views taken failures old.outputs.items) (outlet_views taken failures new.outputs.items)
       → (left : Option (List ℕ)) → cell.left_since (cell_in new.node.store) (cell.moment (cell_in old.node.store)) left → LeavesInLine (station_view taken failures old) (station_view taken failures new) left
-  event_in_line event old new inv later moved left since = at moved.apart
+  event_in_line event old new valid inv later moved left since = at moved.apart
     where
       at : (cell_in old.node.store ≡ cell_in new.node.store)
           ⊎ ((outlet_views taken failures old.outputs.items ≡ outlet_views taken failures new.outputs.items)
           × ((other : Option (List ℕ)) → cell.left_since (cell_in new.node.store) (cell.moment (cell_in old.node.store)) other → LeavesEither (record_in old.node.store) (next_kept event (station_view taken failures old)) other))
           → LeavesInLine (station_view taken failures old) (station_view taken failures new) left
       at (inl same) = untouched_in_line old new inv later same left since
-      at (inr through) = either_in_line net inputs event (station_view taken failures old) (station_view taken failures new) left inv (ap outputs_of through.0) (through.1 left since)
+      at (inr through) = either_in_line net inputs event (station_view taken failures old) (station_view taken failures new) left valid inv (ap outputs_of through.0) (through.1 left since)
 
   module _ (valid : IsValid net) (fits : Fits net inputs) (room : RecordView → Bool) (round : ℕ) (event : EventView) where
     -- the stations of a list of which one had an event
@@ -123,4 +123,4 @@ module _ {C O : Type 0} {cell : CellWords C} (taken : O → List ℤ) (failures 
         let inv = sound place (station_view taken failures x) (seen_at (station_view taken failures) stations place x within is) in
         let later = sound_then net inputs valid fits room round event (station_view taken failures x) (station_view taken failures y) result inv step same in
         pairs_set (StaysInLine taken failures) stations place x y (λ i station at. still_in_line station (sound i (station_view taken failures station) (map_at (station_view taken failures) stations i station at))) within is
-        (record { leaves = event_in_line event x y inv later moved; goes_on = ahead_then net inputs room round event (station_view taken failures x) (station_view taken failures y) result inv step same })
+        (record { leaves = event_in_line event x y valid inv later moved; goes_on = ahead_then net inputs room round event (station_view taken failures x) (station_view taken failures y) result inv step same })

@@ -15,7 +15,10 @@ pub mod Invariant
 pub mod SoundLaws
 pub mod OrderLaws
 pub mod HandedLaws
+pub mod BoundLaws
 pub mod StepKeeps
+pub mod Roomy
+pub mod RoomLaws
 pub mod ActLaws
 pub mod GrowLaws
 pub mod Headline
@@ -36,3 +39,4 @@ pub mod Released
 pub mod OpeningWorld
 pub mod Runnable
 pub mod OuterLaws
+pub mod Closing

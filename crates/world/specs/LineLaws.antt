@@ -4,6 +4,7 @@ use Rattle.std.specs.Prelude.{slice_get, find, not}
 use Rattle.std.specs.List.{AllZip}
 use Rattle.std.proofs.lemmas.Bool.Decides.{eqb_tells}
 use Rattle.kahn_net.specs.Nodes.{IsOnOneNode}
+use Rattle.kahn_net.specs.Valid.{IsValid}
 use Rattle.kahn_net.specs.Syntax.{Code, Network}
 use Rattle.kahn_net.specs.declared.program.Channel.{Channel}
 use Rattle.kahn_net.specs.declared.program.Port.{Port}
@@ -49,17 +50,17 @@ use Rattle.world.specs.ReplyView.{ReplyView}
 
 module _ (net : Network) (inputs : List (List ℤ)) where
   -- the record that an event puts is as sound as the one before
-  pub next_sound : (e : EventView) (old : StationView) → StationInvariant net inputs old → RecordIsSound net inputs (next_kept e old) (outputs_of old.outlets)
-  next_sound (event.Grant k) old inv = inv.kept
-  next_sound (event.Install done) old inv = inv.kept
-  next_sound (event.Send k) old inv = inv.kept
-  next_sound (event.Start k) old inv = own_now_kept net inputs old inv
-  next_sound (event.Decide k) old inv = record_decided net inputs (outputs_of old.outlets) old.node.kept inv.kept
-  next_sound (event.Release k) old inv = inv.kept
-  next_sound (event.Crash k fill rounds) old inv = inv.kept
-  next_sound (event.Recover k) old inv = record_epoch net inputs (outputs_of old.outlets) old.node.kept inv.kept
-  next_sound (event.Arm k fault) old inv = inv.kept
-  next_sound (event.Idle k) old inv = inv.kept
+  pub next_sound : (e : EventView) (old : StationView) → IsValid net → StationInvariant net inputs old → RecordIsSound net inputs (next_kept e old) (outputs_of old.outlets)
+  next_sound (event.Grant k) old valid inv = inv.kept
+  next_sound (event.Install done) old valid inv = inv.kept
+  next_sound (event.Send k) old valid inv = inv.kept
+  next_sound (event.Start k) old valid inv = own_now_kept net inputs old valid inv
+  next_sound (event.Decide k) old valid inv = record_decided net inputs (outputs_of old.outlets) old.node.kept inv.kept
+  next_sound (event.Release k) old valid inv = inv.kept
+  next_sound (event.Crash k fill rounds) old valid inv = inv.kept
+  next_sound (event.Recover k) old valid inv = record_epoch net inputs (outputs_of old.outlets) old.node.kept inv.kept
+  next_sound (event.Arm k fault) old valid inv = inv.kept
+  next_sound (event.Idle k) old valid inv = inv.kept
 
   -- a start leaves the permanent image alone
   own_ahead : (old : StationView) (m : ModeView) → IsBehind old.node.kept.permanent (own_at old.number old.node.kept (running_in old.node.kept old.node.version m)).permanent
@@ -84,8 +85,8 @@ module _ (net : Network) (inputs : List (List ℤ)) where
   fits_outputs kept outputs sound = record { undecided = sound.undecided; no_gap = sound.permanent.no_gap; covered = sound.covered }
 
   -- where nothing left, and a record is left that is the one of before or the next one
-  pub either_in_line : (e : EventView) (old new : StationView) (left : Option (List ℕ)) → StationInvariant net inputs old → outputs_of old.outlets ≡ outputs_of new.outlets → LeavesEither old.node.kept (next_kept e old) left → LeavesInLine old new left
-  either_in_line e old new left inv same leaves = record {
+  pub either_in_line : (e : EventView) (old new : StationView) (left : Option (List ℕ)) → IsValid net → StationInvariant net inputs old → outputs_of old.outlets ≡ outputs_of new.outlets → LeavesEither old.node.kept (next_kept e old) left → LeavesInLine old new left
+  either_in_line e old new left valid inv same leaves = record {
     something = leaves.something;
     at_first = λ kept is. fits kept (leaves.one_of kept is);
     at_last = λ kept is. subst (λ (outputs : List OutputView). FitsOutputs outputs kept) same (fits kept (leaves.one_of kept is));
@@ -94,7 +95,7 @@ module _ (net : Network) (inputs : List (List ℤ)) where
     where
       fits : (kept : RecordView) → (kept ≡ old.node.kept) ⊎ (kept ≡ next_kept e old) → FitsOutputs (outputs_of old.outlets) kept
       fits kept (inl it) = subst (FitsOutputs (outputs_of old.outlets)) (sym it) (fits_outputs old.node.kept (outputs_of old.outlets) inv.kept)
-      fits kept (inr it) = subst (FitsOutputs (outputs_of old.outlets)) (sym it) (fits_outputs (next_kept e old) (outputs_of old.outlets) (next_sound e old inv))
+      fits kept (inr it) = subst (FitsOutputs (outputs_of old.outlets)) (sym it) (fits_outputs (next_kept e old) (outputs_of old.outlets) (next_sound e old valid inv))
 
       ahead : (kept : RecordView) → (kept ≡ old.node.kept) ⊎ (kept ≡ next_kept e old) → IsBehind old.node.kept.permanent kept.permanent
       ahead kept (inl it) = subst (λ (r : RecordView). IsBehind old.node.kept.permanent r.permanent) (sym it) (behind_itself old.node.kept.permanent)

@@ -10,6 +10,7 @@ use Rattle.kahn_net.specs.declared.program.Port.{Port}
 use Rattle.kahn_net.specs.declared.program.Port.TheVariants.{Outside, Process}
 use Rattle.record.specs.Ends.{log_at, base_in, base_of}
 use Rattle.node.specs.Opening.{opening_end, opening_ends, opening_image, opening_running}
+use Rattle.node.specs.SizeLaws.{opening_within}
 use Rattle.node.specs.OpeningLaws.{reached_opening, laid_out_opening, counts_opening, logs_opening}
 use Rattle.record.specs.declared.image.SavedEnd.{SavedEnd}
 use Rattle.node.specs.LikeLaws.{HasOuterChannels}
@@ -90,7 +91,7 @@ opens_soundly net inputs outputs valid listed none = record { order = order_open
 station_opened : (net : Network) (inputs : List (List ℤ)) (failures : ℕ) (outlets : List OutletView) → IsValid net
     → map (λ (output : OutputView). output.channel) (outputs_of outlets) ≡ output_channels 0 net.channels → NothingLeft (outputs_of outlets) → StationInvariant net inputs (opening_station net failures outlets)
 station_opened net inputs failures outlets valid listed none = record {
-  kept = record_of net inputs (outputs_of outlets) (opening_running net 1 0) refl (image_opened net inputs (outputs_of outlets)) (λ tentative is. absurd (cc)) runs.order runs.sound;
+  kept = record_of net inputs (outputs_of outlets) (opening_running net 1 0) refl (opening_within net 1 0 valid (omega arith)) (image_opened net inputs (outputs_of outlets)) (λ tentative is. absurd (cc)) runs.order runs.sound;
   runs = λ node is. (let same : opening_running net 1 0 ≡ node = cc in subst (λ (n : RunningNode). RunsSoundly net inputs n (outputs_of outlets)) same runs);
 }
   where

@@ -13,10 +13,13 @@ use Rattle.record.specs.ImageView.{ImageView}
 use Rattle.record.specs.RecordView.{RecordView}
 use Rattle.record.specs.Moves.{last_image, with_epoch, without_own}
 use Rattle.record.specs.declared.record.Tentative.{Tentative}
+use Rattle.ckpt_codec.specs.SizeLaws.{IsRecordWithin, within_epoch}
+use Rattle.ckpt_codec.specs.declared.lengths.TheConstants.{MAX_RETAINED_ITEMS}
 use Rattle.node.specs.NodeView.{RunningNode}
 use Rattle.node.specs.Reached.{ImageStands, acts_of}
 use Rattle.node.specs.ReleaseLaws.{acts_grow}
 use Rattle.node.specs.SentLaws.{sent_stands}
+use Rattle.node.specs.SizeLaws.{decided_within}
 use Rattle.node.specs.Starting.{AreInOrder, IsBehind, with_own, decided}
 use Rattle.world.specs.OrderLaws.{behind_itself}
 use Rattle.world.specs.OutputView.{OutputView}
@@ -57,16 +60,17 @@ module _ (net : Network) (inputs : List (List ℤ)) (outputs : List OutputView) 
         prefix_within output.taken before now (come.released j p output channel is on from) (acts_grow net histories come.reached.permanent_acts come.reached.current_acts output.channel p far) (omega (arith, few, count)));
   }
 
-  -- so the record of a node that runs is sound where its images are
-  pub record_of : (node : RunningNode) → node.kept.decision ≡ None → ImageIsSound net inputs node.kept.permanent outputs → ((tentative : Tentative) → node.kept.tentative ≡ Some tentative → ImageIsSound net inputs tentative.image outputs)
-      → AreInOrder node.kept node.current → IsSound net inputs node outputs → RecordIsSound net inputs node.kept outputs
-  record_of node undecided permanent held order sound = record {
+  -- so the record of a node that runs is sound where its images are, no decision stands in it, and it is within bounds
+  pub record_of : (node : RunningNode) → node.kept.decision ≡ None → IsRecordWithin MAX_RETAINED_ITEMS node.kept → ImageIsSound net inputs node.kept.permanent outputs
+      → ((tentative : Tentative) → node.kept.tentative ≡ Some tentative → ImageIsSound net inputs tentative.image outputs) → AreInOrder node.kept node.current → IsSound net inputs node outputs → RecordIsSound net inputs node.kept outputs
+  record_of node undecided bounded permanent held order sound = record {
     listed = sound.listed;
     permanent = permanent;
     held = held;
     ahead = order.held_ahead;
     covered = λ j output is. (sound.covered j output is).covered;
     undecided = undecided;
+    bounded = bounded;
     come = ∥∥₁_map sound.come (come_of node permanent (λ j output is. (sound.covered j output is).covered));
   }
 
@@ -115,6 +119,7 @@ module _ (net : Network) (inputs : List (List ℤ)) (outputs : List OutputView) 
     ahead = λ tentative e. absurd (cc);
     covered = λ j output is. (let few = sound.covered j output is in let more = (last_more kept sound kept.tentative refl).sent output.channel in omega (arith, few, more));
     undecided = sound.undecided;
+    bounded = decided_within kept sound.bounded;
     come = ∥∥₁_map sound.come (come_decided kept kept.tentative refl);
   }
 
@@ -146,6 +151,7 @@ module _ (net : Network) (inputs : List (List ℤ)) (outputs : List OutputView) 
     ahead = λ tentative is. sound.ahead tentative (still_held kept.node kept.tentative tentative is);
     covered = sound.covered;
     undecided = sound.undecided;
+    bounded = within_epoch MAX_RETAINED_ITEMS kept sound.bounded;
     come = ∥∥₁_map sound.come (come_epoch kept);
   }
 

@@ -10,6 +10,8 @@ use Rattle.record.specs.Ends.{base_of, sent_of}
 use Rattle.record.specs.ImageView.{ImageView}
 use Rattle.record.specs.RecordView.{RecordView}
 use Rattle.record.specs.declared.record.Tentative.{Tentative}
+use Rattle.ckpt_codec.specs.SizeLaws.{IsRecordWithin}
+use Rattle.ckpt_codec.specs.declared.lengths.TheConstants.{MAX_RETAINED_ITEMS}
 use Rattle.node.specs.Reached.{ImageStands, IsAsFar, IsLaidOut, CountsAreWithin, LogsAreWithin, acts_of}
 use Rattle.node.specs.Starting.{IsBehind}
 use Rattle.world.specs.OutputView.{OutputView}
@@ -40,7 +42,8 @@ pub record RecordHasCome (net : Network) (inputs : List (List ℤ)) (kept : Reco
       → IsPrefix output.taken (sent_on output.channel (acts_of net (approximation net inputs n) permanent_acts p))
 
 -- All of it: there is an outlet for each output of the network, the permanent image covers what has left, the tentative one isn't behind it, no
--- decision waits to be confirmed, since a node alone asks nobody, and what is said above.
+-- decision waits to be confirmed, since a node alone asks nobody, the record is within the bounds in which it fits `MAX_RECORD_BYTES`, and what
+-- is said above.
 pub record RecordIsSound (net : Network) (inputs : List (List ℤ)) (kept : RecordView) (outputs : List OutputView) : Type 0 where
   pub listed : map (λ (output : OutputView). output.channel) outputs ≡ output_channels 0 net.channels
   pub permanent : ImageIsSound net inputs kept.permanent outputs
@@ -48,4 +51,5 @@ pub record RecordIsSound (net : Network) (inputs : List (List ℤ)) (kept : Reco
   pub ahead : (tentative : Tentative) → kept.tentative ≡ Some tentative → IsBehind kept.permanent tentative.image
   pub covered : CoversAll kept.permanent outputs
   pub undecided : kept.decision ≡ None
+  pub bounded : IsRecordWithin MAX_RETAINED_ITEMS kept
   pub come : ∥ RecordHasCome net inputs kept outputs ∥₁

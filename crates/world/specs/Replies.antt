@@ -42,6 +42,10 @@ recovery_reply recovery.Waiting = InDoubt
 recovery_reply (recovery.Refused refusal) = Refused refusal
 recovery_reply recovery.Failed = Down
 
+-- a record that was to be put is longer than its cell has room for
+abbrev pub IsTooLarge : ReplyView → Type 0
+IsTooLarge answer = answer ≡ Refused 22
+
 -- no cell was touched by an event but a recovery, as this answer tells
 abbrev pub AnswerLeaves : Option ReplyView → Type 0
 AnswerLeaves None = Unit {0}

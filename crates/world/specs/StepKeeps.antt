@@ -38,6 +38,7 @@ use Rattle.world.specs.LeaveLaws.{sound_released}
 use Rattle.world.specs.OrderLaws.{order_granted, order_ahead, order_own, order_decided}
 use Rattle.world.specs.OutputLaws.{map_at, set_cases}
 use Rattle.world.specs.OutputView.{OutputView}
+use Rattle.world.specs.BoundLaws.{own_bounded}
 use Rattle.world.specs.RecordLaws.{current_sound, record_of, record_own, record_decided, record_epoch, last_more, restarted, restarted_sound, restarted_order}
 use Rattle.world.specs.RecordSound.{ImageIsSound, RecordIsSound}
 use Rattle.world.specs.ReplyView.{ReplyView}
@@ -134,24 +135,25 @@ module _ (net : Network) (inputs : List (List ℤ)) where
       let sound = runs_at old inv running is in
       record { order = order_own old.number now.kept now.current sound.order; sound = stored_sound net inputs (outputs_of old.outlets) old.number now sound.sound }
 
-  own_kept : (old : StationView) (running : RunningView) → StationInvariant net inputs old → old.node.mode ≡ Runs running → RecordIsSound net inputs (with_own old.number running.current old.node.kept) (outputs_of old.outlets)
-  own_kept old running inv is =
+  own_kept : (old : StationView) (running : RunningView) → IsValid net → StationInvariant net inputs old → old.node.mode ≡ Runs running → RecordIsSound net inputs (with_own old.number running.current old.node.kept) (outputs_of old.outlets)
+  own_kept old running valid inv is =
       let now = running_node old.node.kept old.node.version running in
       let next = own_sound old running inv is in
-      record_of net inputs (outputs_of old.outlets) (keeping (with_own old.number running.current old.node.kept) now) inv.kept.undecided inv.kept.permanent
+      let bounded = own_bounded net inputs valid (outputs_of old.outlets) old.number now (runs_at old inv running is).sound inv.kept.bounded in
+      record_of net inputs (outputs_of old.outlets) (keeping (with_own old.number running.current old.node.kept) now) inv.kept.undecided bounded inv.kept.permanent
       (record_own net inputs (outputs_of old.outlets) old.number old.node.kept running.current (current_sound net inputs (outputs_of old.outlets) now (runs_at old inv running is).sound) inv.kept) next.order next.sound
 
   own_now : (old : StationView) (running : RunningView) → old.node.mode ≡ Runs running → with_own_now old.number old.node ≡ with_own old.number running.current old.node.kept
   own_now old running is = ap (λ (m : ModeView). own_at old.number old.node.kept (running_in old.node.kept old.node.version m)) is
 
   -- of a node that doesn't run, the record stays
-  pub own_now_kept : (old : StationView) → StationInvariant net inputs old → RecordIsSound net inputs (with_own_now old.number old.node) (outputs_of old.outlets)
-  own_now_kept old inv = at old.node.mode refl
+  pub own_now_kept : (old : StationView) → IsValid net → StationInvariant net inputs old → RecordIsSound net inputs (with_own_now old.number old.node) (outputs_of old.outlets)
+  own_now_kept old valid inv = at old.node.mode refl
     where
       at : (m : ModeView) → old.node.mode ≡ m → RecordIsSound net inputs (own_at old.number old.node.kept (running_in old.node.kept old.node.version m)) (outputs_of old.outlets)
       at Down is = inv.kept
       at InDoubt is = inv.kept
-      at (Runs running) is = own_kept old running inv is
+      at (Runs running) is = own_kept old running valid inv is
 
   failed_keeps : (round : ℕ) (next : RecordView) (old : StationView) (node : NodeView) (failures : ℕ) (turns : RoundTurns) → StationInvariant net inputs old → RecordIsSound net inputs next (outputs_of old.outlets)
       → HasFailedAt round next old.node node → StationInvariant net inputs (moved_to node failures turns old)
@@ -159,11 +161,11 @@ module _ (net : Network) (inputs : List (List ℤ)) where
       ⊎_elim (λ same. subst (λ (n : NodeView). StationInvariant net inputs (moved_to n failures turns old)) (sym same) (down_keeps (next_number round) old.node failures turns old inv.kept))
       (λ same. subst (λ (n : NodeView). StationInvariant net inputs (moved_to n failures turns old)) (sym same) (down_keeps (next_number round) (with_kept next old.node) failures turns old sound)) step
 
-  start_keeps : (round : ℕ) (old : StationView) (outcome : Putting) (node : NodeView) (failures : ℕ) (turns : RoundTurns) → StationInvariant net inputs old → IsStart old.number round old.node outcome node
+  start_keeps : (round : ℕ) (old : StationView) (outcome : Putting) (node : NodeView) (failures : ℕ) (turns : RoundTurns) → IsValid net → StationInvariant net inputs old → IsStart old.number round old.node outcome node
       → StationInvariant net inputs (moved_to node failures turns old)
-  start_keeps round old NotDue node failures turns inv step = subst (λ (n : NodeView). StationInvariant net inputs (moved_to n failures turns old)) (sym step.1) (moved_keeps old.node failures turns old inv.kept inv.runs)
-  start_keeps round old Stored node failures turns inv step =
-      subst (λ (n : NodeView). StationInvariant net inputs (moved_to n failures turns old)) (sym step.2) (moved_keeps (with_kept (with_own_now old.number old.node) old.node) failures turns old (own_now_kept old inv) runs)
+  start_keeps round old NotDue node failures turns valid inv step = subst (λ (n : NodeView). StationInvariant net inputs (moved_to n failures turns old)) (sym step.1) (moved_keeps old.node failures turns old inv.kept inv.runs)
+  start_keeps round old Stored node failures turns valid inv step =
+      subst (λ (n : NodeView). StationInvariant net inputs (moved_to n failures turns old)) (sym step.2) (moved_keeps (with_kept (with_own_now old.number old.node) old.node) failures turns old (own_now_kept old valid inv) runs)
     where
       now : (running : RunningView) × (old.node.mode ≡ Runs running)
       now = runs_now old.node.mode (first_true (is_running old.node.mode) _ step.0)
@@ -174,8 +176,8 @@ module _ (net : Network) (inputs : List (List ℤ)) where
           sym (ap (λ (kept : RecordView). running_in kept old.node.version (Runs now.0)) (own_now old now.0 now.1)) ∙ (sym (ap (running_in (with_own_now old.number old.node) old.node.version) now.1) ∙ is) in
           let same : keeping (with_own old.number now.0.current old.node.kept) (running_node old.node.kept old.node.version now.0) ≡ run = cc in
           subst (λ (n : RunningNode). RunsSoundly net inputs n (outputs_of old.outlets)) same (own_sound old now.0 inv now.1)
-  start_keeps round old (Refused refusal) node failures turns inv step = subst (λ (n : NodeView). StationInvariant net inputs (moved_to n failures turns old)) (sym step.2) (moved_keeps old.node failures turns old inv.kept inv.runs)
-  start_keeps round old Failed node failures turns inv step = failed_keeps round (with_own_now old.number old.node) old node failures turns inv (own_now_kept old inv) step.2
+  start_keeps round old (Refused refusal) node failures turns valid inv step = subst (λ (n : NodeView). StationInvariant net inputs (moved_to n failures turns old)) (sym step.2) (moved_keeps old.node failures turns old inv.kept inv.runs)
+  start_keeps round old Failed node failures turns valid inv step = failed_keeps round (with_own_now old.number old.node) old node failures turns inv (own_now_kept old valid inv) step.2
 
   decision_keeps : (round : ℕ) (old : StationView) (outcome : Putting) (node : NodeView) (failures : ℕ) (turns : RoundTurns) → StationInvariant net inputs old → IsDecision old.number round old.node outcome node
       → StationInvariant net inputs (moved_to node failures turns old)
@@ -324,7 +326,7 @@ module _ (net : Network) (inputs : List (List ℤ)) where
           (λ log history. took_goes_on (log_of running.current step.outlet.channel) step.outlet.taken step.later.taken history log has took) logged
 
       kept : RecordIsSound net inputs old.node.kept (slice_set (outputs_of old.outlets) place (record { channel = step.outlet.channel; taken = step.later.taken }))
-      kept = record_of net inputs _ (with_current (trimmed_image step.outlet.channel (length step.later.taken) running.current) (running_node old.node.kept old.node.version running)) inv.kept.undecided
+      kept = record_of net inputs _ (with_current (trimmed_image step.outlet.channel (length step.later.taken) running.current) (running_node old.node.kept old.node.version running)) inv.kept.undecided inv.kept.bounded
           (image_set old.node.kept.permanent (outputs_of old.outlets) place (output_of step.outlet) (record { channel = step.outlet.channel; taken = step.later.taken }) there refl more_items inv.kept.permanent)
           (λ tentative is. image_set tentative.image (outputs_of old.outlets) place (output_of step.outlet) (record { channel = step.outlet.channel; taken = step.later.taken }) there refl more_items (inv.kept.held tentative is)) order sound
 
@@ -359,7 +361,7 @@ module _ (net : Network) (inputs : List (List ℤ)) where
     station_keeps room round (event.Grant k) old answer new inv step = same_keeps _ new step.1 (grant_keeps old _ inv)
     station_keeps room round (event.Install done) old answer new inv step = same_keeps _ new step.same (turn_keeps done old step.applied new.node valid fits inv step.turn step.step)
     station_keeps room round (event.Send k) old answer new inv step = send_keeps (not (is_down old.node.mode)) round old answer new inv step
-    station_keeps room round (event.Start k) old answer new inv step = same_keeps _ new step.same (start_keeps round old step.outcome new.node new.failures _ inv step.step)
+    station_keeps room round (event.Start k) old answer new inv step = same_keeps _ new step.same (start_keeps round old step.outcome new.node new.failures _ valid inv step.step)
     station_keeps room round (event.Decide k) old answer new inv step = same_keeps _ new step.same (decision_keeps round old step.outcome new.node new.failures _ inv step.step)
     station_keeps room round (event.Release k) old answer new inv step = release_or_not round (next_release round old) old answer new refl inv step
     station_keeps room round (event.Crash k fill rounds) old answer new inv step = same_keeps _ new step.same (crash_keeps (round_later round rounds) old step.was_up new.node _ inv step.step)

@@ -35,6 +35,10 @@ world_view taken failures net inputs stations round = record { net = network_of 
 abbrev pub rooms : {C O : Type 0} {cell : CellWords C} → List (Station C O cell) → List (RecordView → Bool)
 rooms {C} {O} {cell} stations = map (λ (station : Station C O cell). fits_in (cell.capacity (cell_in station.node.store))) stations
 
+-- the most bytes that each station's cell has room for
+abbrev pub capacities : {C O : Type 0} {cell : CellWords C} → List (Station C O cell) → List ℕ
+capacities {C} {O} {cell} stations = map (λ (station : Station C O cell). cell.capacity (cell_in station.node.store)) stations
+
 -- a station's cell wasn't touched
 abbrev pub IsCellUnchanged : {C O : Type 0} {cell : CellWords C} → Station C O cell → Station C O cell → Type 0
 IsCellUnchanged old new = cell_in new.node.store ≡ cell_in old.node.store

@@ -108,6 +108,8 @@ impl<C: StableCell, O: Outlet> Station<C, O> {
             (fits_in (C.capacity (cell_in self.old.node.store))) round (event_view event.now)
             (station_view O.taken O.failures self.old) (reply_view reply)
             (station_view O.taken O.failures self.new)) }
+        ensures same_room { C.capacity (cell_in self.new.node.store)
+            ≡ C.capacity (cell_in self.old.node.store) }
         ensures unchanged { LeavesCells (event_view event.now) (answer_view result)
             → IsCellUnchanged self.old self.new }
     {

@@ -72,6 +72,8 @@ impl<C: StableCell, O: Outlet> Station<C, O> {
             (cell_in self.new.node.store) (view_of self.old.node).kept
             (with_own_now self.old.node.number (view_of self.old.node)) }
         ensures later { C.moment (cell_in self.old.node.store) ≤ C.moment (cell_in self.new.node.store) }
+        ensures same_room { C.capacity (cell_in self.new.node.store)
+            ≡ C.capacity (cell_in self.old.node.store) }
         ensures refused { OnErr result
             (station_view O.taken O.failures self.new ≡ station_view O.taken O.failures self.old) }
         ensures step { IfOk result
@@ -93,6 +95,8 @@ impl<C: StableCell, O: Outlet> Station<C, O> {
             (cell_in self.new.node.store) (view_of self.old.node).kept
             (decided (view_of self.old.node).kept) }
         ensures later { C.moment (cell_in self.old.node.store) ≤ C.moment (cell_in self.new.node.store) }
+        ensures same_room { C.capacity (cell_in self.new.node.store)
+            ≡ C.capacity (cell_in self.old.node.store) }
         ensures refused { OnErr result
             (station_view O.taken O.failures self.new ≡ station_view O.taken O.failures self.old) }
         ensures step { IfOk result

@@ -7,6 +7,7 @@
 
 mod acting;
 mod checkpoints;
+mod closing;
 mod event;
 mod laws;
 mod one_node;

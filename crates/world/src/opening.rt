@@ -1,17 +1,22 @@
 // A world before its first event.
-ghost use Rattle.std.specs.Prelude.{◌≡◌, ◌++◌, ◌≤◌, [], ◌∷◌, if◌then◌else◌, length, map, IfOk, IsSome, OnOk};
+ghost use Rattle.std.specs.Prelude.{◌≡◌, ◌++◌, ◌≤◌, [], ◌∷◌, if◌then◌else◌, length, map, IfErr, IfOk, IsSome, OnOk};
 ghost use Rattle.kahn_net.specs.Fits.{Fits};
 ghost use Rattle.kahn_net.specs.Syntax.{network_of};
-ghost use Rattle.gate_cell.specs.GateCell.{failures_of};
+ghost use Rattle.gate_cell.specs.GateCell.{capacity_of, failures_of};
+ghost use Rattle.gate_cell.specs.Layout.{room_on};
+ghost use Rattle.ckpt_codec.specs.Lengths.{spelled_length};
 ghost use Rattle.ckpt_codec.specs.RecordText.{IsRecord};
-ghost use Rattle.ckpt_store.specs.StoreView.{cell_in, known_in, record_in};
+ghost use Rattle.ckpt_codec.specs.SizeLaws.{IsRecordWithin};
+ghost use Rattle.ckpt_codec.specs.declared.lengths.TheConstants.{MAX_RETAINED_ITEMS};
+ghost use Rattle.ckpt_store.specs.StoreView.{cell_in, known_in, record_in, Holds};
+ghost use Rattle.node.specs.Opening.{opening_record};
 ghost use Rattle.world.specs.Runnable.{CanRun};
 ghost use Rattle.world.specs.Sound.{goes_outside, output_channels};
 ghost use Rattle.std.specs.List.{AllByRecursion};
-ghost use Rattle.world.specs.OpeningWorld.{fresh, opening_station, opening_world, IsUnused};
+ghost use Rattle.world.specs.OpeningWorld.{fresh, opening_length, opening_station, opening_world, HasRoom, IsOpeningRefusal, IsUnused, LeavesOnlyRecord};
 ghost use Rattle.world.specs.StationView.{outlet_views};
 ghost use Rattle.world.specs.WholeView.{world_of};
-ghost use Rattle.world.specs.WorldView.{station_view, HasOutlets};
+ghost use Rattle.world.specs.WorldView.{capacities, station_view, HasOutlets};
 ghost use Rattle.kahn_net.specs.declared.limits.TheConstants.{MAX_CHANNELS};
 
 use crate::output::Output;
@@ -103,11 +108,18 @@ fn open_store<D: Disk>(
     disk: D,
     kept: &Record,
 ) -> Result<Store<GateCell<D>>, StoreFault>
-    requires { IsRecord kept.now }
+    requires written { IsRecord kept.now }
+    requires bounded { IsRecordWithin MAX_RETAINED_ITEMS kept.now }
     ensures record { IfOk result (λ store. record_in store ≡ kept.now) }
     ensures known { IfOk result (λ store. IsSome (known_in store)) }
     ensures failures { IfOk result
         (λ store. failures_of (cell_in store) ≡ D.failure_count disk) }
+    ensures holds { IfOk result (λ store. Holds store kept.now) }
+    ensures room { IfOk result
+        (λ store. capacity_of (cell_in store) ≡ room_on (D.sector_count disk)) }
+    ensures fits { OnOk result (HasRoom (D.sector_count disk) (spelled_length kept.now)) }
+    ensures refused { IfErr result
+        (IsOpeningRefusal (D.sector_count disk) (spelled_length kept.now)) }
 {
     let bytes = write_record(alloc, kept)?;
     let cell = match GateCell::format(alloc, disk, bytes.as_slice()) {
@@ -135,6 +147,14 @@ impl<D: Disk, O: Outlet> Station<GateCell<D>, O> {
             ≡ opening_station (network_of net.now.program) (D.failure_count disk)
             (outlet_views O.taken O.failures outputs.items)) }
         ensures same { IfOk result (λ station. station.outputs ≡ outputs) }
+        ensures left { IfOk result
+            (LeavesOnlyRecord (opening_record (network_of net.now.program) 1 0)) }
+        ensures room { IfOk result (λ station. capacity_of (cell_in station.node.store)
+            ≡ room_on (D.sector_count disk)) }
+        ensures fits { OnOk result
+            (HasRoom (D.sector_count disk) (opening_length (network_of net.now.program))) }
+        ensures refused { IfErr result (IsOpeningRefusal (D.sector_count disk)
+            (opening_length (network_of net.now.program))) }
     {
         let first = opening_record(alloc, net, 0, 1)?;
         let store = open_store(alloc, disk, &first)?;
@@ -150,8 +170,8 @@ impl<D: Disk, O: Outlet> Station<GateCell<D>, O> {
 impl<D: Disk, O: Outlet> World<GateCell<D>, O> {
     /// The world of a network on one node, before its first event: no process has begun, no item was received or put,
     /// and the disk is formatted with the opening record. The outputs are those of the network, in order, and nothing has
-    /// left by them. Refuses for want of memory (1), with 20 where the device failed, and with 22 where the disk has no
-    /// room for the record.
+    /// left by them. Refuses for want of memory (1), with 22 where the disk has no room for the record, and with 20 where it
+    /// has and the device failed. The disk and the outlets are gone then.
     pub fn new(
         alloc: Global,
         net: Arc<Net>,
@@ -174,6 +194,18 @@ impl<D: Disk, O: Outlet> World<GateCell<D>, O> {
         ensures outlets { IfOk result
             (λ world. AllByRecursion (HasOutlets outputs.items) world.stations.items) }
         ensures one { IfOk result (λ world. length world.stations.items ≡ 1) }
+        // A crash leaves the opening record, and the cell has the room that the disk gives.
+        ensures left { IfOk result
+            (λ world. AllByRecursion
+            (LeavesOnlyRecord (opening_record (network_of net.value.program) 1 0))
+            world.stations.items) }
+        ensures room { IfOk result
+            (λ world. capacities world.stations.items ≡ room_on (D.sector_count disk) ∷ []) }
+        // It is made only on a disk with room for that record, and refused for no other reasons than those above.
+        ensures fits { OnOk result
+            (HasRoom (D.sector_count disk) (opening_length (network_of net.value.program))) }
+        ensures refused { IfErr result (IsOpeningRefusal (D.sector_count disk)
+            (opening_length (network_of net.value.program))) }
     {
         let mut outputs = outputs;
         forget_failures(&mut outputs);

@@ -61,6 +61,8 @@ impl<C: StableCell, O: Outlet> Station<C, O> {
             (view_of self.old.node).kept }
         ensures later { C.moment (cell_in self.old.node.store)
             ≤ C.moment (cell_in self.new.node.store) }
+        ensures same_room { C.capacity (cell_in self.new.node.store)
+            ≡ C.capacity (cell_in self.old.node.store) }
         ensures step { IsFallen rounds round (station_view O.taken O.failures self.old)
             (reply_view result) (station_view O.taken O.failures self.new) }
         ensures unchanged { reply_view result ≡ NotDue → IsCellUnchanged self.old self.new }
@@ -78,6 +80,8 @@ impl<C: StableCell, O: Outlet> Station<C, O> {
             (with_epoch (view_of self.old.node).kept) }
         ensures later { C.moment (cell_in self.old.node.store)
             ≤ C.moment (cell_in self.new.node.store) }
+        ensures same_room { C.capacity (cell_in self.new.node.store)
+            ≡ C.capacity (cell_in self.old.node.store) }
         ensures refused { OnErr result
             (station_view O.taken O.failures self.new ≡ station_view O.taken O.failures self.old) }
         ensures step { IfOk result
@@ -102,6 +106,8 @@ impl<C: StableCell, O: Outlet> Station<C, O> {
             (view_of self.old.node).kept }
         ensures later { C.moment (cell_in self.old.node.store)
             ≤ C.moment (cell_in self.new.node.store) }
+        ensures same_room { C.capacity (cell_in self.new.node.store)
+            ≡ C.capacity (cell_in self.old.node.store) }
         ensures same { station_view O.taken O.failures self.new
             ≡ station_view O.taken O.failures self.old }
         ensures answer { IfOk result (λ reply. reply_view reply ≡ Acted) }

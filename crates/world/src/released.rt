@@ -5,7 +5,6 @@ ghost use Rattle.world.specs.Released.{released_of};
 ghost use Rattle.world.specs.WholeView.{world_of};
 
 use crate::output::Output;
-use crate::station::Station;
 use crate::world::World;
 use gate_cell::StableCell;
 use outlet::Outlet;
@@ -36,12 +35,5 @@ impl<C: StableCell, O: Outlet> World<C, O> {
             }
         }
         &[]
-    }
-
-    /// Ends the world: its stations as they stand, with their cells and outlets.
-    pub fn close(self) -> Vec<Station<C, O>>
-        ensures { result ≡ self.stations }
-    {
-        self.stations
     }
 }

@@ -8,10 +8,11 @@ ghost use Rattle.world.specs.EventView.{event_node, event_view};
 ghost use Rattle.world.specs.Headline.{AreApproximated};
 ghost use Rattle.world.specs.Invariant.{AreSound, WorldInvariant};
 ghost use Rattle.world.specs.RecoveryLine.{StaysInLine, KeepsLine, HasOneLine};
-ghost use Rattle.world.specs.Replies.{LeavesCells, TakesMemory};
+ghost use Rattle.world.specs.Replies.{IsTooLarge, LeavesCells, TakesMemory};
 ghost use Rattle.world.specs.ReplyView.{answer_view, reply_view};
+ghost use Rattle.world.specs.Roomy.{HasFullRoom};
 ghost use Rattle.world.specs.Steps.{is_done_with, are_done_with, round_after, IsAct, IsStep};
-ghost use Rattle.world.specs.WorldView.{station_view, world_view, rooms, IsCellUnchanged, IsGrown};
+ghost use Rattle.world.specs.WorldView.{capacities, rooms, station_view, world_view, IsCellUnchanged, IsGrown};
 
 use crate::event::{Event, Refused, Reply};
 use crate::station::Station;
@@ -81,6 +82,7 @@ fn act_at<C: StableCell, O: Outlet>(
         (rooms stations.old.items) round (event_view event.now)
         (map (station_view O.taken O.failures) stations.old.items) (reply_view reply)
         (map (station_view O.taken O.failures) stations.new.items)) }
+    ensures same_rooms { capacities stations.new.items ≡ capacities stations.old.items }
     ensures unchanged { LeavesCells (event_view event.now) (answer_view result)
         → AllZip IsCellUnchanged stations.old.items stations.new.items }
 {
@@ -157,6 +159,14 @@ impl<C: StableCell, O: Outlet> World<C, O> {
         ensures step { IfOk result
             (λ reply. IsStep (rooms self.old.stations.items) (event_view event)
             (world_of self.old) (reply_view reply) (world_of self.new)) }
+        // Each cell has the room that it had; and where that of the event's node has room for the longest record, no event
+        // is refused because a record is too large.
+        ensures same_capacities { capacities self.new.stations.items
+            ≡ capacities self.old.stations.items }
+        ensures same_rooms { rooms self.new.stations.items ≡ rooms self.old.stations.items }
+        ensures roomy { HasFullRoom (event_node (event_view event))
+            (capacities self.old.stations.items)
+            → IfOk result (λ reply. ¬ (IsTooLarge (reply_view reply))) }
         // What it doesn't touch stays as it was: the cells where no record was put, and all of it at a refusal.
         ensures unchanged { LeavesCells (event_view event) (answer_view result)
             → AllZip IsCellUnchanged self.old.stations.items self.new.stations.items }

@@ -4,7 +4,7 @@ use crate::asserting::{same, same_at};
 use crate::sums::{
     Answer, Happens, OUTPUT, Run, TestCell, answer_to, shown, standing, sum_run, sums,
 };
-use outlet::ListOutlet;
+use outlet::{ListOutlet, Outlet};
 use sector_disk::{Disk, MemDisk, SECTOR_BYTES};
 use std::alloc::Global;
 use std::process::Abort;
@@ -83,18 +83,24 @@ fn a_disk_stopped_twice(rt: HostRuntime) -> Result<(), Fail> {
     Ok(())
 }
 
-// The disk of a world, as it stands.
-fn disk_of(world: World<TestCell, ListOutlet>) -> Result<MemDisk, Fail> {
-    let mut stations = world.close();
-    match stations.pop() {
-        Some(station) => Ok(station.node.store.close().close()),
-        None => Err("no station".into()),
+// The one disk and the one outlet of a world that is closed.
+fn parts_of(
+    alloc: Global,
+    world: World<TestCell, ListOutlet>,
+) -> Result<(MemDisk, ListOutlet), Fail> {
+    let (mut disks, mut outlets) = world.close(alloc)?;
+    if disks.len() != 1 || outlets.len() != 1 {
+        return Err("not one disk and one outlet".into());
+    }
+    match (disks.pop(), outlets.pop()) {
+        (Some(disk), Some(outlet)) => Ok((disk, outlet)),
+        _ => Err("no disk or no outlet".into()),
     }
 }
 
-// The device calls of a world whose run is over, and the first byte of its gate.
-fn calls_and_gate(world: World<TestCell, ListOutlet>) -> Result<(u64, u8), Fail> {
-    let mut disk = disk_of(world)?;
+// The device calls that a disk has counted, and the first byte of its gate.
+fn calls_and_gate(disk: MemDisk) -> Result<(u64, u8), Fail> {
+    let mut disk = disk;
     let calls = disk.calls();
     let mut gate = [7; SECTOR_BYTES];
     match disk.read(0, &mut gate) {
@@ -104,11 +110,13 @@ fn calls_and_gate(world: World<TestCell, ListOutlet>) -> Result<(u64, u8), Fail>
 }
 
 #[test]
-fn a_run_makes_eight_device_calls(rt: HostRuntime) -> Result<(), Fail> {
+fn a_closed_world_gives_its_disk_and_outlet(rt: HostRuntime) -> Result<(), Fail> {
     let mut run = sum_run(rt.alloc())?;
     run_out(&rt, rt.alloc(), &mut run, (0, 0, 0))?;
+    let (disk, outlet) = parts_of(rt.alloc(), run.world)?;
     // A start and a decision, of four calls each: the first turns the gate to area 1, the second turns it back.
-    same(&rt, &calls_and_gate(run.world)?, &(8, 0), "calls and gate");
+    same(&rt, &calls_and_gate(disk)?, &(8, 0), "calls and gate");
+    same(&rt, &outlet.items(), &sums(3), "items");
     Ok(())
 }
 

@@ -1,8 +1,10 @@
-use Rattle.std.proofs.Common.{rules}
+use Rattle.std.proofs.Common.{rules, refl}
+use Rattle.std.proofs.lemmas.Option.{slice_get_read}
 use Rattle.kahn_net.specs.Syntax.{network_of}
 use Rattle.ckpt_store.specs.Spelling.{fits_in}
 use Rattle.ckpt_store.specs.StoreView.{cell_in}
 use Rattle.world.specs.EventView.{event_view}
+use Rattle.world.specs.OutputLaws.{set_keeps}
 use Rattle.world.specs.PairLaws.{on_err_map, pairs_refl, pairs_set}
 use Rattle.world.specs.WorldView.{station_view}
 use Rattle.world.specs.declared.station.Station.{Station}
@@ -50,6 +52,11 @@ pub returns-clause-step : goal.returns-clause-step
 returns-clause-step g c =
     acted (network_of c.args.net.now.value.program) c.args.inputs.now (station_view g.O.Outlet.taken g.O.Outlet.failures) (λ (station : Station g.row.C.Denot g.row.O.Denot g.C.StableCell). fits_in (g.C.StableCell.capacity (cell_in station.node.store)))
     c.args.round (event_view c.args.event.now) c.args.stations.now.items c.args.number c.index_mut.result.now _ c.act.result (search rules) c.index_mut.ensures.value c.act.ensures.step
+
+pub returns-clause-same_rooms : goal.returns-clause-same_rooms
+returns-clause-same_rooms g c =
+    set_keeps (λ (station : Station g.row.C.Denot g.row.O.Denot g.C.StableCell). g.C.StableCell.capacity (cell_in station.node.store)) c.args.stations.now.items c.args.number c.index_mut.result.now _
+    (slice_get_read c.args.stations.now.items _ c.args.number c.index_mut.result.now refl (search rules) c.index_mut.ensures.value) c.act.ensures.same_room
 
 pub returns-clause-unchanged : goal.returns-clause-unchanged
 returns-clause-unchanged g c = λ leaves. pairs_set _ _ _ c.index_mut.result.now _ (λ i station is. cell_stays station) (search rules) c.index_mut.ensures.value (c.act.ensures.unchanged leaves)

@@ -2,6 +2,9 @@ use Rattle.std.proofs.Common.{◌≡◌, ◌∙◌, ◌++◌, [], ◌∷◌, ap,
 use Rattle.std.specs.List.{AllByRecursion}
 use Rattle.kahn_net.specs.Syntax.{network_of}
 use Rattle.world.specs.Invariant.{WorldInvariant}
+use Rattle.net_check.specs.declared.net.Net.{Net}
+use Rattle.node.specs.Opening.{opening_record}
+use Rattle.world.specs.OpeningWorld.{LeavesOnlyRecord}
 use Rattle.world.specs.OuterLaws.{outer_of}
 use Rattle.world.specs.OpenLaws.{world_opened}
 use Rattle.world.specs.StationView.{outlet_views}
@@ -38,3 +41,9 @@ returns-clause-outlets g c =
     let outlets : map (λ (output : Output g.row.O.Denot). output.outlet) c.in_ok-station.station.outputs.items ≡ map (λ (output : Output g.row.O.Denot). output.outlet) c.args.outputs.items =
     ap (λ v. map (λ (output : Output g.row.O.Denot). output.outlet) v.items) c.in_ok-station.ensures.same ∙ (ap (map (λ (output : Output g.row.O.Denot). output.outlet)) c.forget_failures.ensures ∙ fresh_outlets c.args.outputs.items) in
     subst (AllByRecursion (HasOutlets c.args.outputs.items)) (sym pushed) (outlets, tt)
+
+pub returns-clause-left : goal.returns-clause-left
+returns-clause-left g c =
+    let pushed : c.push.new.self.items ≡ c.in_ok-station.station ∷ [] = c.in_ok-push.ensures.items ∙ ap (λ (l : List (Station _ g.row.O.Denot _)). l ++ c.in_ok-station.station ∷ []) c.in_ok-stations.ensures.items in
+    subst (AllByRecursion (LeavesOnlyRecord (opening_record (network_of c.args.net.value.program) 1 0))) (sym pushed)
+    (subst (λ (n : Net). LeavesOnlyRecord (opening_record (network_of n.program) 1 0) c.in_ok-station.station) c.deref.ensures c.in_ok-station.ensures.left, tt)
