@@ -13,7 +13,7 @@ use Rattle.ckpt_store.specs.declared.fault.StoreFault.{StoreFault}
 use Rattle.ckpt_store.specs.declared.fault.StoreFault.TheVariants as fault
 use Rattle.kahn_net.specs.declared.limits.TheConstants.{MAX_COUNT}
 use Rattle.node.specs.NodeView.{NodeView, ModeView, node_view, mode_view}
-use Rattle.node.specs.Starting.{is_down, crashed, next_number, with_kept, may_start, may_decide, with_own_now, decided, IsStart, IsDecision, HasFailedAt}
+use Rattle.node.specs.Starting.{is_down, crashed, with_kept, may_start, may_decide, with_own_now, decided, IsStart, IsDecision, HasFailedAt}
 use Rattle.record.specs.Moves.{highest_seen}
 use Rattle.node.specs.StoredView.{HasRecord, LeavesNext, IsCrashed, has_failed, put_outcome, IsAnswer}
 use Rattle.node.specs.declared.state.NodeState.{NodeState}
@@ -22,13 +22,13 @@ use Rattle.node.specs.declared.putting.Putting.TheVariants.{Stored, Refused, Fai
 use Rattle.node.proofs.Records.{settled_ready, one_of_both, then_crashed, change_refusals, change_moments, change_done, change_refused}
 
 -- What an event that puts this record comes to.
-pub record Ends {C : Type 0} {words : CellWords C} (next : RecordView) (round : ℕ) (old new : Store C words) (before after : NodeState) (put : Result (Unit {0}) StoreFault) : Type 0 where
+pub record Ends {C : Type 0} {words : CellWords C} (next : RecordView) (restart : ℕ) (old new : Store C words) (before after : NodeState) (put : Result (Unit {0}) StoreFault) : Type 0 where
   pub moments : LeavesNext next old new
   pub refusals : IfErr put IsOfPut
   pub settled : Only (Some (words.value (cell_in new))) (words.may_leave (cell_in new))
   pub stored : OnOk put ((record_in new ≡ next) × IsSome (known_in new) × (after ≡ before))
   pub refused : OnErr put (has_failed put ≡ false → (record_in new ≡ record_in old) × IsSome (known_in new) × (after ≡ before))
-  pub failed : IsTrue (has_failed put) → ((record_in new ≡ record_in old) ⊎ (record_in new ≡ next)) × ((kept : RecordView) → node_view kept after ≡ crashed (next_number round) (node_view kept before))
+  pub failed : IsTrue (has_failed put) → ((record_in new ≡ record_in old) ⊎ (record_in new ≡ next)) × ((kept : RecordView) → node_view kept after ≡ crashed restart (node_view kept before))
 
 by_test : (b : Bool) {P : Type 0} → (b ≡ false → P) → (b ≡ true → P) → P
 by_test true f t = t refl
@@ -42,10 +42,10 @@ module _ {C : Type 0} (words : CellWords C)
     (may_stay : (cell : C) → words.may_leave cell (Some (words.value cell)))
     (ready_settled : (cell : C) → IsTrue (words.is_ready cell) → Only (Some (words.value cell)) (words.may_leave cell))
     (cause : RecordView → Option StoreFault) (change : RecordView → RecordView) (old mid new : Store C words) (put : Result (Unit {0}) StoreFault) (some : IsSome (known_in old)) (fine : cause (record_in old) ≡ None)
-    (changes : Changes cause change old mid put) (only : Only (Some (words.value (cell_in old))) (words.may_leave (cell_in old))) (round : ℕ) (before after : NodeState) where
+    (changes : Changes cause change old mid put) (only : Only (Some (words.value (cell_in old))) (words.may_leave (cell_in old))) (restart : ℕ) (before after : NodeState) where
   pub ended : (has_failed put ≡ false → (new ≡ mid) × (after ≡ before))
-      → (IsTrue (has_failed put) → IsCrashed mid new × ((kept : RecordView) → node_view kept after ≡ crashed (next_number round) (node_view kept before)))
-      → Ends (change (record_in old)) round old new before after put
+      → (IsTrue (has_failed put) → IsCrashed mid new × ((kept : RecordView) → node_view kept after ≡ crashed restart (node_view kept before)))
+      → Ends (change (record_in old)) restart old new before after put
   ended stays crash = record {
     moments = moments;
     refusals = change_refusals words includes_now may_stay ready_settled cause change old mid put some fine changes;
@@ -65,7 +65,7 @@ module _ {C : Type 0} (words : CellWords C)
       stored : (p : Result (Unit {0}) StoreFault) → put ≡ p → OnOk p ((record_in new ≡ change (record_in old)) × IsSome (known_in new) × (after ≡ before))
       stored (Ok x) is =
           let done = subst (λ (p : Result (Unit {0}) StoreFault). OnOk p ((record_in mid ≡ change (record_in old)) × IsSome (known_in mid))) is
-              (change_done words includes_now may_stay ready_settled cause change old mid put some fine changes) in
+          (change_done words includes_now may_stay ready_settled cause change old mid put some fine changes) in
           let same = stays (ap has_failed is) in
           (subst (λ (s : Store C words). record_in s ≡ change (record_in old)) (sym same.0) done.0, subst (λ (s : Store C words). IsSome (known_in s)) (sym same.0) done.1, same.1)
       stored (Err e) is = tt
@@ -75,7 +75,7 @@ module _ {C : Type 0} (words : CellWords C)
       refused (Err e) is = λ test. (
           let same = stays (ap has_failed is ∙ test) in
           let kept = subst (λ (p : Result (Unit {0}) StoreFault). OnErr p (¬ (IsErrOf p fault.Device) → (record_in mid ≡ record_in old) × IsSome (known_in mid) × (cell_in mid ≡ cell_in old))) is
-              (change_refused words includes_now may_stay ready_settled cause change old mid put some fine changes) (not_device (Err e) test) in
+          (change_refused words includes_now may_stay ready_settled cause change old mid put some fine changes) (not_device (Err e) test) in
           (subst (λ (s : Store C words). record_in s ≡ record_in old) (sym same.0) kept.0, subst (λ (s : Store C words). IsSome (known_in s)) (sym same.0) kept.1, same.1))
 
       ready : has_failed put ≡ false → IsSome (known_in new)
@@ -115,7 +115,7 @@ by_kind P done memory large device (Err fault.NotHeld) is = absurd is
 by_kind P done memory large device (Err fault.Unsettled) is = absurd is
 by_kind P done memory large device (Err fault.Spent) is = absurd is
 
-module _ {C : Type 0} {words : CellWords C} (next : RecordView) (round : ℕ) (old new : Store C words) (before after : NodeState) (put : Result (Unit {0}) StoreFault) (ends : Ends next round old new before after put) where
+module _ {C : Type 0} {words : CellWords C} (next : RecordView) (restart : ℕ) (old new : Store C words) (before after : NodeState) (put : Result (Unit {0}) StoreFault) (ends : Ends next restart old new before after put) where
   abbrev was : NodeView
   was = node_view (record_in old) before
 
@@ -126,23 +126,23 @@ module _ {C : Type 0} {words : CellWords C} (next : RecordView) (round : ℕ) (o
   same_view kept state = ap (λ (r : RecordView). node_view r after) kept ∙ ap (node_view (record_in old)) state
 
   -- the relation of an event that puts a record, from its cases
-  pub ends_step : (P : Putting → NodeView → Type 0) → P Stored (with_kept next was) → P (Refused 22) was → ((w : NodeView) → HasFailedAt round next was w → P Failed w)
+  pub ends_step : (P : Putting → NodeView → Type 0) → P Stored (with_kept next was) → P (Refused 22) was → ((w : NodeView) → HasFailedAt restart next was w → P Failed w)
       → (x : Putting) → put_outcome put ≡ Some x → P x now
   ends_step P done large device =
       by_kind (λ p. OnOk p ((record_in new ≡ next) × IsSome (known_in new) × (after ≡ before)) → OnErr p (has_failed p ≡ false → (record_in new ≡ record_in old) × IsSome (known_in new) × (after ≡ before))
-          → (IsTrue (has_failed p) → ((record_in new ≡ record_in old) ⊎ (record_in new ≡ next)) × ((kept : RecordView) → node_view kept after ≡ crashed (next_number round) (node_view kept before)))
-          → (x : Putting) → put_outcome p ≡ Some x → P x now)
+      → (IsTrue (has_failed p) → ((record_in new ≡ record_in old) ⊎ (record_in new ≡ next)) × ((kept : RecordView) → node_view kept after ≡ crashed restart (node_view kept before)))
+      → (x : Putting) → put_outcome p ≡ Some x → P x now)
       (λ stored refused failed x is.
-          subst (λ (y : Putting). P y now) (is_some_of is)
-          (subst (P Stored) (sym (ap (λ (r : RecordView). node_view r after) stored.0 ∙ ap (node_view next) stored.2)) done))
+      subst (λ (y : Putting). P y now) (is_some_of is)
+      (subst (P Stored) (sym (ap (λ (r : RecordView). node_view r after) stored.0 ∙ ap (node_view next) stored.2)) done))
       (λ stored refused failed x is. absurd (cc))
       (λ stored refused failed x is.
-          let same = refused refl in
-          subst (λ (y : Putting). P y now) (is_some_of is) (subst (P (Refused 22)) (sym (same_view same.0 same.2)) large))
+      let same = refused refl in
+      subst (λ (y : Putting). P y now) (is_some_of is) (subst (P (Refused 22)) (sym (same_view same.0 same.2)) large))
       (λ stored refused failed x is.
-          let down = failed refl in
-          subst (λ (y : Putting). P y now) (is_some_of is)
-          (device now (⊎_elim (λ kept. inl (ap (λ (r : RecordView). node_view r after) kept ∙ down.1 (record_in old))) (λ kept. inr (ap (λ (r : RecordView). node_view r after) kept ∙ down.1 next)) down.0)))
+      let down = failed refl in
+      subst (λ (y : Putting). P y now) (is_some_of is)
+      (device now (⊎_elim (λ kept. inl (ap (λ (r : RecordView). node_view r after) kept ∙ down.1 (record_in old))) (λ kept. inr (ap (λ (r : RecordView). node_view r after) kept ∙ down.1 next)) down.0)))
       put ends.refusals ends.stored ends.refused ends.failed
     where
       is_some_of : {x y : Putting} → Some x ≡ Some y → x ≡ y
