@@ -54,6 +54,7 @@ module _ {C : Type 0} (words : CellWords C) where
   module _ (includes_now : (cell : C) (t : ℕ) (left : Option (List ℕ)) → t ≤ words.moment cell → words.may_leave cell left → words.left_since cell t left)
       (may_stay : (cell : C) → words.may_leave cell (Some (words.value cell)))
       (ready_settled : (cell : C) → IsTrue (words.is_ready cell) → Only (Some (words.value cell)) (words.may_leave cell)) where
+
     -- a ready store leaves its record alone
     pub settled_ready : (store : Store C words) → IsSome (known_in store) → Only (Some (words.value (cell_in store))) (words.may_leave (cell_in store))
     settled_ready store some = ready_settled (cell_in store) (store.kept.ready some)
@@ -122,7 +123,4 @@ module _ {C : Type 0} (words : CellWords C) where
               → OnErr put (¬ (IsErrOf put fault.Device) → (record_in mid ≡ record_in old) × IsSome (known_in mid) × (cell_in mid ≡ cell_in old))
           at (Ok x) same_known same = tt
           at (Err e) same_known same = λ other. (
-            ap (λ (c : C). record_spelled (words.value c)) (same other),
-            subst (λ (o : Option RecordView). IsSome o) (sym (same_known other)) some,
-            same other,
-          )
+              ap (λ (c : C). record_spelled (words.value c)) (same other), subst (λ (o : Option RecordView). IsSome o) (sym (same_known other)) some, same other)
