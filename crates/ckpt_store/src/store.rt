@@ -74,6 +74,13 @@ impl<C: StableCell> Store<C> {
         }
     }
 
+    /// The last device call that failed, counted since the last recount, or 0 where none has failed since.
+    pub fn failed_call(&self) -> u64
+        ensures { result ≡ C.failed_call (cell_in self.now) }
+    {
+        self.cell.failed_call()
+    }
+
     /// Takes a tentative image of an instance, whose number becomes the highest seen of its initiator.
     ///
     /// Refuses with `HoldsOther` (40), `PastNumber` (41), `Unsettled` (43) and `Spent` (44), in this order; and then as
@@ -178,6 +185,7 @@ impl<C: StableCell> Store<C> {
         ensures same_room { C.capacity (cell_in self.new) ≡ C.capacity (cell_in self.old) }
         ensures failures { C.failure_count (cell_in self.new)
             ≡ C.failure_count (cell_in self.old) }
+        ensures same_failed { C.failed_call (cell_in self.new) ≡ C.failed_call (cell_in self.old) }
     {
         self.known = None;
         self.cell.crash(fill);

@@ -13,7 +13,7 @@ use Rattle.ckpt_store.specs.declared.fault.StoreFault.{StoreFault}
 use Rattle.ckpt_store.specs.declared.fault.StoreFault.TheVariants as fault
 use Rattle.kahn_net.specs.declared.limits.TheConstants.{MAX_COUNT}
 use Rattle.node.specs.NodeView.{NodeView, ModeView, node_view, mode_view}
-use Rattle.node.specs.Starting.{is_down, crashed, next_number, with_kept, may_start, may_decide, with_own_now, decided, IsStart, IsDecision, HasFailedAt}
+use Rattle.node.specs.Starting.{is_down, crashed, with_kept, may_start, may_decide, with_own_now, decided, IsStart, IsDecision, HasFailedAt}
 use Rattle.record.specs.Moves.{highest_seen}
 use Rattle.node.specs.StoredView.{HasRecord, LeavesNext, IsCrashed, has_failed, put_outcome, IsAnswer}
 use Rattle.node.specs.declared.state.NodeState.{NodeState}
@@ -22,13 +22,13 @@ use Rattle.node.specs.declared.putting.Putting.TheVariants.{Stored, Refused, Fai
 use Rattle.node.proofs.Records.{settled_ready, one_of_both, then_crashed, change_refusals, change_moments, change_done, change_refused}
 
 -- What an event that puts this record comes to.
-pub record Ends {C : Type 0} {words : CellWords C} (next : RecordView) (round : ℕ) (old new : Store C words) (before after : NodeState) (put : Result (Unit {0}) StoreFault) : Type 0 where
+pub record Ends {C : Type 0} {words : CellWords C} (next : RecordView) (restart : ℕ) (old new : Store C words) (before after : NodeState) (put : Result (Unit {0}) StoreFault) : Type 0 where
   pub moments : LeavesNext next old new
   pub refusals : IfErr put IsOfPut
   pub settled : Only (Some (words.value (cell_in new))) (words.may_leave (cell_in new))
   pub stored : OnOk put ((record_in new ≡ next) × IsSome (known_in new) × (after ≡ before))
   pub refused : OnErr put (has_failed put ≡ false → (record_in new ≡ record_in old) × IsSome (known_in new) × (after ≡ before))
-  pub failed : IsTrue (has_failed put) → ((record_in new ≡ record_in old) ⊎ (record_in new ≡ next)) × ((kept : RecordView) → node_view kept after ≡ crashed (next_number round) (node_view kept before))
+  pub failed : IsTrue (has_failed put) → ((record_in new ≡ record_in old) ⊎ (record_in new ≡ next)) × ((kept : RecordView) → node_view kept after ≡ crashed restart (node_view kept before))
 
 by_test : (b : Bool) {P : Type 0} → (b ≡ false → P) → (b ≡ true → P) → P
 by_test true f t = t refl
@@ -42,10 +42,10 @@ module _ {C : Type 0} (words : CellWords C)
     (may_stay : (cell : C) → words.may_leave cell (Some (words.value cell)))
     (ready_settled : (cell : C) → IsTrue (words.is_ready cell) → Only (Some (words.value cell)) (words.may_leave cell))
     (cause : RecordView → Option StoreFault) (change : RecordView → RecordView) (old mid new : Store C words) (put : Result (Unit {0}) StoreFault) (some : IsSome (known_in old)) (fine : cause (record_in old) ≡ None)
-    (changes : Changes cause change old mid put) (only : Only (Some (words.value (cell_in old))) (words.may_leave (cell_in old))) (round : ℕ) (before after : NodeState) where
+    (changes : Changes cause change old mid put) (only : Only (Some (words.value (cell_in old))) (words.may_leave (cell_in old))) (restart : ℕ) (before after : NodeState) where
   pub ended : (has_failed put ≡ false → (new ≡ mid) × (after ≡ before))
-      → (IsTrue (has_failed put) → IsCrashed mid new × ((kept : RecordView) → node_view kept after ≡ crashed (next_number round) (node_view kept before)))
-      → Ends (change (record_in old)) round old new before after put
+      → (IsTrue (has_failed put) → IsCrashed mid new × ((kept : RecordView) → node_view kept after ≡ crashed restart (node_view kept before)))
+      → Ends (change (record_in old)) restart old new before after put
   ended stays crash = record {
     moments = moments;
     refusals = change_refusals words includes_now may_stay ready_settled cause change old mid put some fine changes;
@@ -115,7 +115,7 @@ by_kind P done memory large device (Err fault.NotHeld) is = absurd is
 by_kind P done memory large device (Err fault.Unsettled) is = absurd is
 by_kind P done memory large device (Err fault.Spent) is = absurd is
 
-module _ {C : Type 0} {words : CellWords C} (next : RecordView) (round : ℕ) (old new : Store C words) (before after : NodeState) (put : Result (Unit {0}) StoreFault) (ends : Ends next round old new before after put) where
+module _ {C : Type 0} {words : CellWords C} (next : RecordView) (restart : ℕ) (old new : Store C words) (before after : NodeState) (put : Result (Unit {0}) StoreFault) (ends : Ends next restart old new before after put) where
   abbrev was : NodeView
   was = node_view (record_in old) before
 
@@ -126,11 +126,11 @@ module _ {C : Type 0} {words : CellWords C} (next : RecordView) (round : ℕ) (o
   same_view kept state = ap (λ (r : RecordView). node_view r after) kept ∙ ap (node_view (record_in old)) state
 
   -- the relation of an event that puts a record, from its cases
-  pub ends_step : (P : Putting → NodeView → Type 0) → P Stored (with_kept next was) → P (Refused 22) was → ((w : NodeView) → HasFailedAt round next was w → P Failed w)
+  pub ends_step : (P : Putting → NodeView → Type 0) → P Stored (with_kept next was) → P (Refused 22) was → ((w : NodeView) → HasFailedAt restart next was w → P Failed w)
       → (x : Putting) → put_outcome put ≡ Some x → P x now
   ends_step P done large device =
       by_kind (λ p. OnOk p ((record_in new ≡ next) × IsSome (known_in new) × (after ≡ before)) → OnErr p (has_failed p ≡ false → (record_in new ≡ record_in old) × IsSome (known_in new) × (after ≡ before))
-      → (IsTrue (has_failed p) → ((record_in new ≡ record_in old) ⊎ (record_in new ≡ next)) × ((kept : RecordView) → node_view kept after ≡ crashed (next_number round) (node_view kept before)))
+      → (IsTrue (has_failed p) → ((record_in new ≡ record_in old) ⊎ (record_in new ≡ next)) × ((kept : RecordView) → node_view kept after ≡ crashed restart (node_view kept before)))
       → (x : Putting) → put_outcome p ≡ Some x → P x now)
       (λ stored refused failed x is.
       subst (λ (y : Putting). P y now) (is_some_of is)

@@ -2,7 +2,6 @@ pub mod Records
 mod Raising
 mod Checkpoints
 mod Recoveries
-mod Arming
 mod Starts
 mod Handing
 mod Slices

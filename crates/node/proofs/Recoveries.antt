@@ -9,8 +9,9 @@ use Rattle.record.specs.Moves.{with_epoch}
 use Rattle.kahn_net.specs.declared.limits.TheConstants.{MAX_COUNT}
 use Rattle.ckpt_store.specs.StoreView.{cell_in, known_in, record_in, Holds}
 use Rattle.ckpt_store.specs.declared.store.Store.{Store}
+use Rattle.node.specs.ArmedRestarts.{restart_after}
 use Rattle.node.specs.NodeView.{NodeView, ModeView, Down, InDoubt, Runs, node_view, mode_view, with_mode}
-use Rattle.node.specs.Starting.{is_down, crashed, next_number, with_kept}
+use Rattle.node.specs.Starting.{is_down, crashed, with_kept}
 use Rattle.node.specs.Recovering.{IsRecovery, back_answer, restored, restored_mode, put_off}
 use Rattle.node.specs.StoredView.{HasRecord, LeavesNext, LeavesAsBefore}
 use Rattle.node.specs.declared.state.NodeState.{NodeState}
@@ -36,10 +37,10 @@ module _ {C : Type 0} (words : CellWords C) (number restart : ℕ) (old new : St
   crash_step = stop (record_in new) ∙ ap (λ (r : RecordView). crashed restart (node_view r before)) kept
 
 -- a node that comes back, by its record of the next epoch
-pub came_back : (round : ℕ) (old : NodeView) (next : RecordView) (answer : Recovery) (now : NodeView) → IsTrue (is_down old.mode) → old.kept.epoch < MAX_COUNT → next ≡ with_epoch old.kept
-    → now ≡ with_mode (restored_mode next) (with_kept next old) → answer ≡ back_answer (restored_mode next) → IsRecovery round old answer now
-came_back round old next answer now down less is became answers =
-    subst (λ (a : Recovery). IsRecovery round old a now) (sym answers) (by_mode (restored_mode next) refl)
+pub came_back : (round call : ℕ) (old : NodeView) (next : RecordView) (answer : Recovery) (now : NodeView) → IsTrue (is_down old.mode) → old.kept.epoch < MAX_COUNT → next ≡ with_epoch old.kept
+    → now ≡ with_mode (restored_mode next) (with_kept next old) → answer ≡ back_answer (restored_mode next) → IsRecovery round call old answer now
+came_back round call old next answer now down less is became answers =
+    subst (λ (a : Recovery). IsRecovery round call old a now) (sym answers) (by_mode (restored_mode next) refl)
   where
     same : now ≡ restored old
     same = became ∙ ap (λ (r : RecordView). with_mode (restored_mode r) (with_kept r old)) is
@@ -47,7 +48,7 @@ came_back round old next answer now down less is became answers =
     so : back_answer (restored_mode (with_epoch old.kept)) ≡ back_answer (restored_mode next)
     so = ap (λ (r : RecordView). back_answer (restored_mode r)) (sym is)
 
-    by_mode : (m : ModeView) → restored_mode next ≡ m → IsRecovery round old (back_answer m) now
+    by_mode : (m : ModeView) → restored_mode next ≡ m → IsRecovery round call old (back_answer m) now
     by_mode Down e = (down, less, so ∙ ap back_answer e, same)
     by_mode InDoubt e = (down, less, so ∙ ap back_answer e, same)
     by_mode (Runs running) e = (down, less, so ∙ ap back_answer e, same)
@@ -56,7 +57,7 @@ module _ {C : Type 0} (words : CellWords C)
     (includes_now : (cell : C) (t : ℕ) (left : Option (List ℕ)) → t ≤ words.moment cell → words.may_leave cell left → words.left_since cell t left)
     (may_stay : (cell : C) → words.may_leave cell (Some (words.value cell)))
     (ready_settled : (cell : C) → IsTrue (words.is_ready cell) → Only (Some (words.value cell)) (words.may_leave cell))
-    (number round : ℕ) (old mid new : Store C words) (before : NodeState) (has : HasRecord number (mode_view before.mode) old) (down : IsTrue (is_down (mode_view before.mode)))
+    (number round call : ℕ) (old mid new : Store C words) (before : NodeState) (has : HasRecord number (mode_view before.mode) old) (down : IsTrue (is_down (mode_view before.mode)))
     (run : LeavesNext (with_epoch (record_in old)) old mid) (crash : LeavesAsBefore mid new) (settled : Only (Some (words.value (cell_in new))) (words.may_leave (cell_in new))) where
   either : (record_in new ≡ record_in old) ⊎ (record_in new ≡ with_epoch (record_in old))
   either = one_of_both words includes_now may_stay ready_settled (with_epoch (record_in old)) old new has.settled
@@ -71,10 +72,10 @@ module _ {C : Type 0} (words : CellWords C)
     settled = settled;
   }
 
-  pub failed_step : (restart : ℕ) → restart ≡ next_number round → (after : NodeState) → after ≡ record { mode = before.mode; version = before.version; restart = restart }
-      → IsRecovery round (node_view (record_in old) before) Failed (node_view (record_in new) after)
+  pub failed_step : (restart : ℕ) → restart ≡ restart_after before.armed.items call round → (after : NodeState) → after ≡ record { mode = before.mode; version = before.version; restart = restart; armed = before.armed }
+      → IsRecovery round call (node_view (record_in old) before) Failed (node_view (record_in new) after)
   failed_step restart later after is =
-      (down, ⊎_elim (λ same. inl (state ∙ ap (λ (r : RecordView). put_off round (node_view r before)) same)) (λ same. inr (state ∙ ap (λ (r : RecordView). put_off round (node_view r before)) same)) either)
+      (down, ⊎_elim (λ same. inl (state ∙ ap (λ (r : RecordView). put_off (restart_after before.armed.items call round) (node_view r before)) same)) (λ same. inr (state ∙ ap (λ (r : RecordView). put_off (restart_after before.armed.items call round) (node_view r before)) same)) either)
     where
-      state : node_view (record_in new) after ≡ put_off round (node_view (record_in new) before)
-      state = ap (node_view (record_in new)) is ∙ ap (λ (n : ℕ). node_view (record_in new) (record { mode = before.mode; version = before.version; restart = n })) later
+      state : node_view (record_in new) after ≡ put_off (restart_after before.armed.items call round) (node_view (record_in new) before)
+      state = ap (node_view (record_in new)) is ∙ ap (λ (n : ℕ). node_view (record_in new) (record { mode = before.mode; version = before.version; restart = n; armed = before.armed })) later

@@ -16,8 +16,10 @@ use Rattle.ckpt_store.specs.StoreView.{cell_in, known_in, record_in, Changes}
 use Rattle.ckpt_store.specs.declared.store.Store.{Store}
 use Rattle.ckpt_store.specs.declared.fault.StoreFault.{StoreFault}
 use Rattle.ckpt_store.specs.declared.fault.StoreFault.TheVariants as fault
+use Rattle.node.specs.ArmedRestarts.{restart_after}
+use Rattle.node.specs.declared.restart.ArmedRestart.{ArmedRestart}
 use Rattle.node.specs.NodeView.{NodeView, ModeView, Down, InDoubt, Runs, RunningView, node_view, mode_view, running_in}
-use Rattle.node.specs.Starting.{is_none, is_running, is_down, is_own, own_number, held_number, crashed, next_number, may_start, may_decide, own_at, with_own_now, decided, IsStart, IsDecision}
+use Rattle.node.specs.Starting.{is_none, is_running, is_down, is_own, own_number, held_number, crashed, may_start, may_decide, own_at, with_own_now, decided, IsStart, IsDecision}
 use Rattle.node.specs.StoredView.{HasRecord, IsCrashed, has_failed, put_outcome, IsAnswer}
 use Rattle.node.specs.declared.state.NodeState.{NodeState}
 use Rattle.node.specs.declared.putting.Putting.{Putting}
@@ -67,9 +69,9 @@ own_is number (Some t) held is = at (eqb t.initiator number) refl is
 
 -- ---- a start
 
-module _ (number highest : ℕ) (image : ImageView) (kept : RecordView) (version restart : ℕ) (mode : ModeView) (running : RunningView) (runs : mode ≡ Runs running) (same : image ≡ running.current) (seen : highest ≡ highest_seen number kept) where
+module _ (number highest : ℕ) (image : ImageView) (kept : RecordView) (version restart : ℕ) (armed : List ArmedRestart) (mode : ModeView) (running : RunningView) (runs : mode ≡ Runs running) (same : image ≡ running.current) (seen : highest ≡ highest_seen number kept) where
   abbrev view : NodeView
-  view = record { kept = kept; version = version; restart = restart; mode = mode }
+  view = record { kept = kept; version = version; restart = restart; armed = armed; mode = mode }
 
   pub next_own : with_tentative number (highest + 1) image kept ≡ with_own_now number view
   next_own =
@@ -89,9 +91,13 @@ module _ {C : Type 0} (words : CellWords C)
     (includes_now : (cell : C) (t : ℕ) (left : Option (List ℕ)) → t ≤ words.moment cell → words.may_leave cell left → words.left_since cell t left)
     (may_stay : (cell : C) → words.may_leave cell (Some (words.value cell)))
     (ready_settled : (cell : C) → IsTrue (words.is_ready cell) → Only (Some (words.value cell)) (words.may_leave cell))
-    (number round : ℕ) (old mid new : Store C words) (before after : NodeState) (put : Result (Unit {0}) StoreFault) (has : HasRecord number (mode_view before.mode) old)
+    (number round call : ℕ) (old mid new : Store C words) (before after : NodeState) (put : Result (Unit {0}) StoreFault) (has : HasRecord number (mode_view before.mode) old)
     (stays : has_failed put ≡ false → (new ≡ mid) × (after ≡ before))
-    (crash : IsTrue (has_failed put) → IsCrashed mid new × ((kept : RecordView) → node_view kept after ≡ crashed (next_number round) (node_view kept before))) where
+    (crash : IsTrue (has_failed put) → IsCrashed mid new × ((kept : RecordView) → node_view kept after ≡ crashed (restart_after before.armed.items call round) (node_view kept before))) where
+  -- from there on it may be recovered, where the device failed
+  abbrev restart : ℕ
+  restart = restart_after before.armed.items call round
+
   abbrev was : NodeView
   was = node_view (record_in old) before
 
@@ -105,20 +111,20 @@ module _ {C : Type 0} (words : CellWords C)
 
   module _ (highest : ℕ) (image : ImageView) (running : RunningView) (runs : mode_view before.mode ≡ Runs running) (same : image ≡ running.current) (seen : highest ≡ highest_seen number (record_in old)) (due : may_start was ≡ true)
       (less : highest < MAX_COUNT) (changes : Changes (refusal_to_take number (highest + 1)) (with_tentative number (highest + 1) image) old mid put) where
-    pub start_ends : Ends (with_own_now number was) round old new before after put
+    pub start_ends : Ends (with_own_now number was) restart old new before after put
     start_ends =
-        subst (λ (next : RecordView). Ends next round old new before after put) (next_own number highest image (record_in old) before.version before.restart (mode_view before.mode) running runs same seen)
+        subst (λ (next : RecordView). Ends next restart old new before after put) (next_own number highest image (record_in old) before.version before.restart before.armed.items (mode_view before.mode) running runs same seen)
         (ended words includes_now may_stay ready_settled (refusal_to_take number (highest + 1)) (with_tentative number (highest + 1) image) old mid new put
-        (has.ready (ap is_down runs)) (own_fine number highest image (record_in old) before.version before.restart (mode_view before.mode) running runs same seen due less) changes has.settled round before after stays crash)
+        (has.ready (ap is_down runs)) (own_fine number highest image (record_in old) before.version before.restart before.armed.items (mode_view before.mode) running runs same seen due less) changes has.settled restart before after stays crash)
 
     pub start_kept : HasRecord number (mode_view after.mode) new
-    start_kept = ends_kept (with_own_now number was) round old new before after put start_ends number has long node
+    start_kept = ends_kept (with_own_now number was) restart old new before after put start_ends number has long node
       where
         next : RecordView
         next = with_own_now number was
 
         is : next ≡ with_tentative number (highest + 1) image (record_in old)
-        is = sym (next_own number highest image (record_in old) before.version before.restart (mode_view before.mode) running runs same seen)
+        is = sym (next_own number highest image (record_in old) before.version before.restart before.armed.items (mode_view before.mode) running runs same seen)
 
         long : length next.highest ≡ length ((record_in old).highest)
         long = ap (λ (r : RecordView). length r.highest) is ∙ length-set ((record_in old).highest) number (highest + 1)
@@ -126,10 +132,10 @@ module _ {C : Type 0} (words : CellWords C)
         node : next.node ≡ (record_in old).node
         node = ap (λ (r : RecordView). r.node) is
 
-    pub start_step : {E : Type 0} (answer : Result Putting E) → IsAnswer (put_outcome put) answer → IfOk answer (λ outcome. IsStart number round was outcome (node_view (record_in new) after))
+    pub start_step : {E : Type 0} (answer : Result Putting E) → IsAnswer (put_outcome put) answer → IfOk answer (λ outcome. IsStart number round call was outcome (node_view (record_in new) after))
     start_step answer is =
-        is_answered (put_outcome put) answer is (λ outcome. IsStart number round was outcome (node_view (record_in new) after))
-        (ends_step (with_own_now number was) round old new before after put start_ends (λ outcome now. IsStart number round was outcome now)
+        is_answered (put_outcome put) answer is (λ outcome. IsStart number round call was outcome (node_view (record_in new) after))
+        (ends_step (with_own_now number was) restart old new before after put start_ends (λ outcome now. IsStart number round call was outcome now)
         (due, seen_less, refl) (due, inr (refl, seen_less), refl) (λ w failed. (due, seen_less, failed)))
       where
         seen_less : highest_seen number (record_in old) < MAX_COUNT
@@ -139,10 +145,10 @@ module _ {C : Type 0} (words : CellWords C)
 
   module _ (held : ℕ) (participants : List ℕ) (nobody : participants ≡ []) (runs : is_running (mode_view before.mode) ≡ true) (is : own_number number (record_in old).tentative ≡ Some held)
       (changes : Changes (refusal_to_decide held) (with_decision held participants) old mid put) where
-    pub decide_ends : Ends (decided (record_in old)) round old new before after put
+    pub decide_ends : Ends (decided (record_in old)) restart old new before after put
     decide_ends =
-        subst (λ (next : RecordView). Ends next round old new before after put) next
-        (ended words includes_now may_stay ready_settled (refusal_to_decide held) (with_decision held participants) old mid new put (has.ready (up runs)) fine changes has.settled round before after stays crash)
+        subst (λ (next : RecordView). Ends next restart old new before after put) next
+        (ended words includes_now may_stay ready_settled (refusal_to_decide held) (with_decision held participants) old mid new put (has.ready (up runs)) fine changes has.settled restart before after stays crash)
       where
         next : with_decision held participants (record_in old) ≡ decided (record_in old)
         next =
@@ -154,12 +160,12 @@ module _ {C : Type 0} (words : CellWords C)
             (ap (λ (node : ℕ). is_held node held (record_in old).tentative) has.named ∙ (own_is number (record_in old).tentative held is).1)
 
     pub decide_kept : HasRecord number (mode_view after.mode) new
-    decide_kept = ends_kept (decided (record_in old)) round old new before after put decide_ends number has refl refl
+    decide_kept = ends_kept (decided (record_in old)) restart old new before after put decide_ends number has refl refl
 
-    pub decide_step : {E : Type 0} (answer : Result Putting E) → IsAnswer (put_outcome put) answer → IfOk answer (λ outcome. IsDecision number round was outcome (node_view (record_in new) after))
+    pub decide_step : {E : Type 0} (answer : Result Putting E) → IsAnswer (put_outcome put) answer → IfOk answer (λ outcome. IsDecision number round call was outcome (node_view (record_in new) after))
     decide_step answer is_answer =
-        is_answered (put_outcome put) answer is_answer (λ outcome. IsDecision number round was outcome (node_view (record_in new) after))
-        (ends_step (decided (record_in old)) round old new before after put decide_ends (λ outcome now. IsDecision number round was outcome now)
+        is_answered (put_outcome put) answer is_answer (λ outcome. IsDecision number round call was outcome (node_view (record_in new) after))
+        (ends_step (decided (record_in old)) restart old new before after put decide_ends (λ outcome now. IsDecision number round call was outcome now)
         (due, refl) (due, refl, refl) (λ w failed. (due, failed)))
       where
         due : may_decide number was ≡ true

@@ -1,5 +1,6 @@
 pub mod JobView
 pub mod NodeView
+pub mod ArmedRestarts
 pub mod Sharing
 pub mod Granting
 pub mod Installing

@@ -1,10 +1,11 @@
 -- A node without pointers, its store aside.
-use Rattle.std.specs.Prelude.{ℕ, Option, Some, None, option_map}
+use Rattle.std.specs.Prelude.{ℕ, List, Option, Some, None, option_map}
 use Rattle.record.specs.ImageView.{ImageView}
 use Rattle.record.specs.RecordView.{RecordView}
 use Rattle.node.specs.JobView.{JobView, job_view}
 use Rattle.node.specs.declared.mode.Mode.{Mode}
 use Rattle.node.specs.declared.mode.Mode.TheVariants as mode
+use Rattle.node.specs.declared.restart.ArmedRestart.{ArmedRestart}
 use Rattle.node.specs.declared.running.Running.{Running}
 use Rattle.node.specs.declared.state.NodeState.{NodeState}
 
@@ -20,11 +21,13 @@ pub data ModeView : Type 0 where
   InDoubt : ModeView
   Runs : (running : RunningView) → ModeView
 
--- What a node keeps over a crash is its record, its version, and the round from which it may be recovered.
+-- What a node keeps over a crash is its record, its version, the round from which it may be recovered, and how long each fault that is
+-- armed on its disk keeps it down, in the order of arming.
 pub record NodeView : Type 0 where
   pub kept : RecordView
   pub version : ℕ
   pub restart : ℕ
+  pub armed : List ArmedRestart
   pub mode : ModeView
 
 -- a node that runs, all in one
@@ -47,7 +50,7 @@ mode_view (mode.Running running) = Runs (running_view running)
 
 -- a node with this record
 abbrev pub node_view : RecordView → NodeState → NodeView
-node_view kept state = record { kept = kept; version = state.version; restart = state.restart; mode = mode_view state.mode }
+node_view kept state = record { kept = kept; version = state.version; restart = state.restart; armed = state.armed.items; mode = mode_view state.mode }
 
 -- ---- nodes that run
 

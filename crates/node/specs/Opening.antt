@@ -38,7 +38,7 @@ opening_record net nodes number = record { node = number; epoch = 0; highest = r
 
 -- a node that runs from its record's permanent image, and never went down
 abbrev pub running_from : RecordView → NodeView
-running_from kept = record { kept = kept; version = 0; restart = 0; mode = Runs (record { current = kept.permanent; out = None; last = None }) }
+running_from kept = record { kept = kept; version = 0; restart = 0; armed = []; mode = Runs (record { current = kept.permanent; out = None; last = None }) }
 
 -- the node of this number, of so many; and as one that runs
 abbrev pub opening_node : Network → ℕ → ℕ → NodeView

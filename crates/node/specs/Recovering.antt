@@ -4,8 +4,9 @@ use Rattle.record.specs.ImageView.{ImageView}
 use Rattle.record.specs.RecordView.{RecordView}
 use Rattle.record.specs.Moves.{with_epoch}
 use Rattle.record.specs.declared.record.Tentative.{Tentative}
+use Rattle.node.specs.ArmedRestarts.{restart_after}
 use Rattle.node.specs.NodeView.{NodeView, ModeView, Down, InDoubt, Runs, with_mode}
-use Rattle.node.specs.Starting.{is_down, crashed, next_number, with_kept}
+use Rattle.node.specs.Starting.{is_down, crashed, with_kept}
 use Rattle.node.specs.declared.putting.Recovery.{Recovery}
 use Rattle.node.specs.declared.putting.Recovery.TheVariants.{NotDue, Recovered, Waiting, Refused, Failed}
 use Rattle.kahn_net.specs.declared.limits.TheConstants.{MAX_COUNT}
@@ -38,18 +39,19 @@ abbrev pub restored_from : ImageView → Bool → ModeView
 restored_from image true = InDoubt
 restored_from image false = Runs (record { current = image; out = None; last = None })
 
--- it stays down for this round
+-- it stays down, and may be recovered from the round `restart` on
 abbrev pub put_off : ℕ → NodeView → NodeView
-put_off round node = record node { restart = next_number round }
+put_off restart node = record node { restart = restart }
 
--- how a node that is down is recovered
-abbrev pub IsRecovery : ℕ → NodeView → Recovery → NodeView → Type 0
-IsRecovery round old NotDue new = (is_down old.mode ≡ false) × (new ≡ old)
-IsRecovery round old Recovered new = IsTrue (is_down old.mode) × (old.kept.epoch < MAX_COUNT) × (back_answer (restored_mode (with_epoch old.kept)) ≡ Recovered) × (new ≡ restored old)
-IsRecovery round old Waiting new = IsTrue (is_down old.mode) × (old.kept.epoch < MAX_COUNT) × (back_answer (restored_mode (with_epoch old.kept)) ≡ Waiting) × (new ≡ restored old)
-IsRecovery round old (Refused refusal) new =
+-- how a node that is down is recovered; `call` is the device call that failed, where the device did
+abbrev pub IsRecovery : ℕ → ℕ → NodeView → Recovery → NodeView → Type 0
+IsRecovery round call old NotDue new = (is_down old.mode ≡ false) × (new ≡ old)
+IsRecovery round call old Recovered new = IsTrue (is_down old.mode) × (old.kept.epoch < MAX_COUNT) × (back_answer (restored_mode (with_epoch old.kept)) ≡ Recovered) × (new ≡ restored old)
+IsRecovery round call old Waiting new = IsTrue (is_down old.mode) × (old.kept.epoch < MAX_COUNT) × (back_answer (restored_mode (with_epoch old.kept)) ≡ Waiting) × (new ≡ restored old)
+IsRecovery round call old (Refused refusal) new =
     IsTrue (is_down old.mode) × (((refusal ≡ 44) × (MAX_COUNT ≤ old.kept.epoch)) ⊎ ((refusal ≡ 22) × (old.kept.epoch < MAX_COUNT))) × (new ≡ old)
-IsRecovery round old Failed new = IsTrue (is_down old.mode) × ((new ≡ put_off round old) ⊎ (new ≡ put_off round (with_kept (with_epoch old.kept) old)))
+IsRecovery round call old Failed new =
+    IsTrue (is_down old.mode) × ((new ≡ put_off (restart_after old.armed call round) old) ⊎ (new ≡ put_off (restart_after old.armed call round) (with_kept (with_epoch old.kept) old)))
 
 -- What the cell has to do with that, where its device failed so often before and after: `fits` tells whether the record of the next epoch does.
 abbrev pub IsRecoveryPut : Bool → ℕ → ℕ → Recovery → Type 0

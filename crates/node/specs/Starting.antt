@@ -7,6 +7,7 @@ use Rattle.record.specs.RecordView.{RecordView}
 use Rattle.record.specs.Moves.{highest_seen, with_tentative, with_decision}
 use Rattle.record.specs.declared.record.Tentative.{Tentative}
 use Rattle.ckpt_store.specs.Spelling.{IsLike}
+use Rattle.node.specs.ArmedRestarts.{restart_after}
 use Rattle.node.specs.NodeView.{NodeView, ModeView, Down, InDoubt, Runs, RunningView, RunningNode, running_of}
 use Rattle.node.specs.declared.putting.Putting.{Putting}
 use Rattle.node.specs.declared.putting.Putting.TheVariants.{NotDue, Stored, Refused, Failed}
@@ -78,26 +79,28 @@ keeping kept node = record node { kept = kept }
 
 -- a node that went down, and may be recovered from this round on: what it had in memory is gone
 abbrev pub crashed : ℕ → NodeView → NodeView
-crashed restart node = record { kept = node.kept; version = next_number node.version; restart = restart; mode = Down }
+crashed restart node = record { kept = node.kept; version = next_number node.version; restart = restart; armed = node.armed; mode = Down }
 
--- a node whose device failed in this round while this record was put: the record is the old one or that
+-- a node whose device failed while this record was put, and which may be recovered from the round `restart` on: the record is the old one or that
 abbrev pub HasFailedAt : ℕ → RecordView → NodeView → NodeView → Type 0
-HasFailedAt round next old new = (new ≡ crashed (next_number round) old) ⊎ (new ≡ crashed (next_number round) (with_kept next old))
+HasFailedAt restart next old new = (new ≡ crashed restart old) ⊎ (new ≡ crashed restart (with_kept next old))
 
--- how a tentative image is taken: of which the record is stored, or is too large (22), or would pass the greatest number (44)
-abbrev pub IsStart : ℕ → ℕ → NodeView → Putting → NodeView → Type 0
-IsStart number round old NotDue new = (may_start old ≡ false) × (new ≡ old)
-IsStart number round old Stored new = IsTrue (may_start old) × (highest_seen number old.kept < MAX_COUNT) × (new ≡ with_kept (with_own_now number old) old)
-IsStart number round old (Refused refusal) new =
+-- how a tentative image is taken: of which the record is stored, or is too large (22), or would pass the greatest number (44); `call` is the
+-- device call that failed, where the device did
+abbrev pub IsStart : ℕ → ℕ → ℕ → NodeView → Putting → NodeView → Type 0
+IsStart number round call old NotDue new = (may_start old ≡ false) × (new ≡ old)
+IsStart number round call old Stored new = IsTrue (may_start old) × (highest_seen number old.kept < MAX_COUNT) × (new ≡ with_kept (with_own_now number old) old)
+IsStart number round call old (Refused refusal) new =
     IsTrue (may_start old) × (((refusal ≡ 44) × (MAX_COUNT ≤ highest_seen number old.kept)) ⊎ ((refusal ≡ 22) × (highest_seen number old.kept < MAX_COUNT))) × (new ≡ old)
-IsStart number round old Failed new = IsTrue (may_start old) × (highest_seen number old.kept < MAX_COUNT) × HasFailedAt round (with_own_now number old) old new
+IsStart number round call old Failed new =
+    IsTrue (may_start old) × (highest_seen number old.kept < MAX_COUNT) × HasFailedAt (restart_after old.armed call round) (with_own_now number old) old new
 
 -- how it is made permanent
-abbrev pub IsDecision : ℕ → ℕ → NodeView → Putting → NodeView → Type 0
-IsDecision number round old NotDue new = (may_decide number old ≡ false) × (new ≡ old)
-IsDecision number round old Stored new = IsTrue (may_decide number old) × (new ≡ with_kept (decided old.kept) old)
-IsDecision number round old (Refused refusal) new = IsTrue (may_decide number old) × (refusal ≡ 22) × (new ≡ old)
-IsDecision number round old Failed new = IsTrue (may_decide number old) × HasFailedAt round (decided old.kept) old new
+abbrev pub IsDecision : ℕ → ℕ → ℕ → NodeView → Putting → NodeView → Type 0
+IsDecision number round call old NotDue new = (may_decide number old ≡ false) × (new ≡ old)
+IsDecision number round call old Stored new = IsTrue (may_decide number old) × (new ≡ with_kept (decided old.kept) old)
+IsDecision number round call old (Refused refusal) new = IsTrue (may_decide number old) × (refusal ≡ 22) × (new ≡ old)
+IsDecision number round call old Failed new = IsTrue (may_decide number old) × HasFailedAt (restart_after old.armed call round) (decided old.kept) old new
 
 -- No count of one image is above that of a later one: how many items were received from a channel, how many were put there before its log
 -- begins, and how many by now.

@@ -41,6 +41,7 @@ pub record IsCrashed {C : Type 0} {words : CellWords C} (old new : Store C words
   pub any_moment : LeavesAsBefore old new
   pub same_room : words.capacity (cell_in new) ≡ words.capacity (cell_in old)
   pub failures : words.failure_count (cell_in new) ≡ words.failure_count (cell_in old)
+  pub same_failed : words.failed_call (cell_in new) ≡ words.failed_call (cell_in old)
 
 -- why a record isn't raised to its next epoch: there is none (44), the record doesn't fit (22), or memory or the device fails
 abbrev pub IsRaiseRefusal : Bool → RecordView → StoreFault → Type 0

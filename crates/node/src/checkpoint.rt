@@ -2,15 +2,16 @@
 ghost use Rattle.std.specs.Prelude.{◌≡◌, ◌⊎◌, ◌<◌, false, IfOk, IsTrue, OnErr, Some, length};
 ghost use Rattle.ckpt_store.specs.Spelling.{fits_in};
 ghost use Rattle.ckpt_store.specs.StoreView.{cell_in, record_in};
+ghost use Rattle.node.specs.ArmedRestarts.{restart_after};
 ghost use Rattle.node.specs.NodeView.{mode_view, node_view};
 ghost use Rattle.record.specs.Moves.{highest_seen};
 ghost use Rattle.record.specs.RecordView.{RecordView};
-ghost use Rattle.node.specs.Starting.{crashed, decided, next_number, own_number, with_own_now, IsDecision, IsLikeNow, IsPut, IsStart, LeavesCell};
+ghost use Rattle.node.specs.Starting.{crashed, decided, own_number, with_own_now, IsDecision, IsLikeNow, IsPut, IsStart, LeavesCell};
 ghost use Rattle.node.specs.StoredView.{HasRecord, IsCrashed, IsAnswer, LeavesNext, has_failed, put_outcome};
 
 use crate::mode::Mode;
 use crate::putting::Putting;
-use crate::state::{NodeState, next_after};
+use crate::state::NodeState;
 use ckpt_store::{Store, StoreFault};
 use gate_cell::StableCell;
 use kahn_net::MAX_COUNT;
@@ -50,13 +51,15 @@ fn end_put<C: StableCell>(
     ensures stays { has_failed put ≡ false → (store.new ≡ store.old) × (state.new ≡ state.old) }
     ensures failed { IsTrue (has_failed put) → IsCrashed store.old store.new
         × ((kept : RecordView) → node_view kept state.new
-        ≡ crashed (next_number round) (node_view kept state.old)) }
+        ≡ crashed (restart_after state.old.armed.items (C.failed_call (cell_in store.new)) round)
+        (node_view kept state.old)) }
 {
     if !has_failed(&put) {
         return answer_of(&put);
     }
     store.crash(None);
-    state.stop(next_after(round));
+    let restart = state.restart_after(store.failed_call(), round);
+    state.stop(restart);
     Ok(Putting::Failed)
 }
 
@@ -80,7 +83,7 @@ pub(crate) fn start<C: StableCell>(
     requires like { IsLikeNow (node_view (record_in store.old) state.old) }
     ensures kept { HasRecord number (mode_view state.new.mode) store.new }
     ensures step { IfOk result (λ outcome. IsStart number round
-        (node_view (record_in store.old) state.old) outcome
+        (C.failed_call (cell_in store.new)) (node_view (record_in store.old) state.old) outcome
         (node_view (record_in store.new) state.new)) }
     ensures refused { OnErr result (node_view (record_in store.new) state.new
         ≡ node_view (record_in store.old) state.old) }
@@ -134,7 +137,7 @@ pub(crate) fn decide<C: StableCell>(
     requires kept { HasRecord number (mode_view state.old.mode) store.old }
     ensures kept { HasRecord number (mode_view state.new.mode) store.new }
     ensures step { IfOk result (λ outcome. IsDecision number round
-        (node_view (record_in store.old) state.old) outcome
+        (C.failed_call (cell_in store.new)) (node_view (record_in store.old) state.old) outcome
         (node_view (record_in store.new) state.new)) }
     ensures refused { OnErr result (node_view (record_in store.new) state.new
         ≡ node_view (record_in store.old) state.old) }

@@ -8,6 +8,7 @@ ghost use Rattle.outlet.specs.Faults.{failures_after};
 ghost use Rattle.record.specs.Moves.{with_epoch};
 ghost use Rattle.ckpt_store.specs.Spelling.{fits_in};
 ghost use Rattle.ckpt_store.specs.StoreView.{cell_in, known_in, record_in};
+ghost use Rattle.node.specs.ArmedRestarts.{with_armed};
 ghost use Rattle.node.specs.Choosing.{node_job, with_grant};
 ghost use Rattle.node.specs.Installing.{IsInstall, IsOut, TakesTurn};
 ghost use Rattle.node.specs.JobView.{job_view};
@@ -20,6 +21,7 @@ ghost use Rattle.node.specs.Trimming.{HasNext, TookNext, current_log, trimmed_no
 
 use crate::checkpoint::{decide, start};
 use crate::mode::Mode;
+use crate::preparing::arm;
 use crate::putting::{Putting, Recovery};
 use crate::recover::{crash, recover};
 use crate::running::Running;
@@ -71,6 +73,7 @@ impl<C: StableCell> Node<C> {
                 }),
                 version: 0,
                 restart: 0,
+                armed: Vec::new(alloc),
             },
             store,
         })
@@ -131,12 +134,13 @@ impl<C: StableCell> Node<C> {
     }
 
     /// Takes a tentative image of where the node stands now, under its next number: the first half of a checkpoint.
-    /// Where the device fails the node goes down, and may be recovered from the next round on. Refuses for want of memory
-    /// alone, and then nothing is changed.
+    /// Where the device fails the node goes down, and may be recovered after the rounds that were armed with that call, or
+    /// from the next round on. Refuses for want of memory alone, and then nothing is changed.
     pub fn start(&mut self, alloc: Global, round: u64) -> Result<Putting, AllocError>
         requires { IsLikeNow (view_of self.old) }
-        ensures step { IfOk result (λ outcome. IsStart self.old.number round (view_of self.old)
-            outcome (view_of self.new)) }
+        ensures step { IfOk result (λ outcome. IsStart self.old.number round
+            (C.failed_call (cell_in self.new.store)) (view_of self.old) outcome
+            (view_of self.new)) }
         ensures refused { OnErr result (view_of self.new ≡ view_of self.old) }
         ensures put { IfOk result (IsPut
             (fits_in (C.capacity (cell_in self.old.store))
@@ -155,10 +159,11 @@ impl<C: StableCell> Node<C> {
     }
 
     /// Makes the node's own tentative image permanent: the second half of a checkpoint. Where the device fails the node
-    /// goes down. Refuses for want of memory alone, and then nothing is changed.
+    /// goes down, as of a start. Refuses for want of memory alone, and then nothing is changed.
     pub fn decide(&mut self, alloc: Global, round: u64) -> Result<Putting, AllocError>
         ensures step { IfOk result (λ outcome. IsDecision self.old.number round
-            (view_of self.old) outcome (view_of self.new)) }
+            (C.failed_call (cell_in self.new.store)) (view_of self.old) outcome
+            (view_of self.new)) }
         ensures refused { OnErr result (view_of self.new ≡ view_of self.old) }
         ensures put { IfOk result (IsPut
             (fits_in (C.capacity (cell_in self.old.store)) (decided (view_of self.old).kept))
@@ -193,10 +198,11 @@ impl<C: StableCell> Node<C> {
 
     /// Comes back, if it is down: in its next epoch, without a tentative image of its own, which is one put. It then runs
     /// from its permanent image, or is in doubt where it holds another's tentative one. Where the device fails it stays
-    /// down for this round. Refuses for want of memory alone; device calls may have been made then, and nothing else is
-    /// changed.
+    /// down, for as many rounds as of a start. Refuses for want of memory alone; device calls may have been made then, and
+    /// nothing else is changed.
     pub fn recover(&mut self, alloc: Global, round: u64) -> Result<Recovery, AllocError>
-        ensures step { IfOk result (λ outcome. IsRecovery round (view_of self.old) outcome
+        ensures step { IfOk result (λ outcome. IsRecovery round
+            (C.failed_call (cell_in self.new.store)) (view_of self.old) outcome
             (view_of self.new)) }
         ensures refused { OnErr result (view_of self.new ≡ view_of self.old) }
         ensures put { IfOk result (IsRecoveryPut
@@ -216,9 +222,12 @@ impl<C: StableCell> Node<C> {
         recover(alloc, self.number, &mut self.state, &mut self.store, round)
     }
 
-    /// Prepares a failure of the node's disk, where there is one. Without memory (1) it prepares nothing.
-    pub fn arm(&mut self, fault: ArmedFault) -> Result<(), AllocError>
-        ensures same { view_of self.new ≡ view_of self.old }
+    /// Prepares a failure of the node's disk, where there is one, and for how many rounds it is to keep the node down.
+    /// Without memory (1) it prepares nothing.
+    pub fn arm(&mut self, fault: ArmedFault, rounds: u64) -> Result<(), AllocError>
+        ensures armed { OnOk result
+            (view_of self.new ≡ with_armed fault.call rounds (view_of self.old)) }
+        ensures refused { OnErr result (view_of self.new ≡ view_of self.old) }
         ensures any_moment { LeavesAsBefore self.old.store self.new.store }
         ensures same_room { C.capacity (cell_in self.new.store)
             ≡ C.capacity (cell_in self.old.store) }
@@ -226,7 +235,7 @@ impl<C: StableCell> Node<C> {
             ≡ C.failure_count (cell_in self.old.store) }
         ensures same_number { self.new.number ≡ self.old.number }
     {
-        self.store.arm(fault)
+        arm(self.number, &mut self.state, &mut self.store, fault, rounds)
     }
 
     /// Hands an outlet the item of this channel that comes next for it, and lets the log go of what the outlet has.

@@ -13,7 +13,7 @@ use crate::checkpoint::has_failed;
 use crate::mode::Mode;
 use crate::putting::Recovery;
 use crate::running::Running;
-use crate::state::{NodeState, next_after};
+use crate::state::NodeState;
 use ckpt_store::{Store, StoreFault};
 use gate_cell::StableCell;
 use record::Image;
@@ -127,7 +127,7 @@ pub(crate) fn recover<C: StableCell>(
     requires { HasRecord number (mode_view state.old.mode) store.old }
     ensures kept { HasRecord number (mode_view state.new.mode) store.new }
     ensures step { IfOk result (λ outcome. IsRecovery round
-        (node_view (record_in store.old) state.old) outcome
+        (C.failed_call (cell_in store.new)) (node_view (record_in store.old) state.old) outcome
         (node_view (record_in store.new) state.new)) }
     ensures refused { OnErr result (node_view (record_in store.new) state.new
         ≡ node_view (record_in store.old) state.old) }
@@ -148,7 +148,7 @@ pub(crate) fn recover<C: StableCell>(
         Err(StoreFault::NoMemory) => Err(AllocError),
         Err(StoreFault::Device) => {
             store.crash(None);
-            state.restart = next_after(round);
+            state.restart = state.restart_after(store.failed_call(), round);
             Ok(Recovery::Failed)
         }
         Err(fault) => Ok(Recovery::Refused(fault.number())),

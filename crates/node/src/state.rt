@@ -6,6 +6,7 @@ ghost use Rattle.kahn_net.specs.States.{standing_of};
 ghost use Rattle.retained.specs.LogState.{LogState, IsLogOf};
 ghost use Rattle.outlet.specs.Faults.{failures_after};
 ghost use Rattle.record.specs.RecordView.{RecordView};
+ghost use Rattle.node.specs.ArmedRestarts.{restart_after};
 ghost use Rattle.node.specs.Choosing.{node_job, with_grant};
 ghost use Rattle.node.specs.Installing.{IsOut, IsTakenIn, TakesTurn};
 ghost use Rattle.node.specs.JobView.{job_view};
@@ -14,6 +15,7 @@ ghost use Rattle.node.specs.Trimming.{HasNext, TookNext, current_log, cut_at};
 
 use crate::mode::Mode;
 use crate::releasing::release_next;
+use crate::restart::{ArmedRestart, round_later, rounds_at};
 use kahn_net::{Channel, MAX_COUNT};
 use net_check::{Inputs, Net};
 use outlet::{Outlet, OutletFault};
@@ -42,6 +44,9 @@ pub struct NodeState {
     pub version: u64,
     /// The round from which a node that is down may be recovered.
     pub restart: u64,
+    /// How long each fault that is armed on the node's disk keeps it down, in the order of arming. None is taken out: a call
+    /// of the same count comes again only after a recount, and then the disk fails again.
+    pub armed: Vec<ArmedRestart>,
 }
 
 impl NodeState {
@@ -118,12 +123,20 @@ impl NodeState {
         ensures err { OnErr result (mode_view self.new.mode ≡ mode_view self.old.mode) }
         ensures full { ¬ (IsErrOf result LogFault.Full) }
         ensures same { (self.new.version ≡ self.old.version)
-            × (self.new.restart ≡ self.old.restart) }
+            × (self.new.restart ≡ self.old.restart)
+            × (self.new.armed ≡ self.old.armed) }
     {
         match &mut self.mode {
             Mode::Running(running) => running.install(alloc, channels, done),
             Mode::Down | Mode::InDoubt => Ok(false),
         }
+    }
+
+    // The round from which the node may be recovered, whose device failed at this call, in this round.
+    pub(crate) fn restart_after(&self, call: u64, round: u64) -> u64
+        ensures { result ≡ restart_after self.now.armed.items call round }
+    {
+        round_later(round, rounds_at(&self.armed, call))
     }
 
     // Down, to be recovered from this round on.
@@ -167,7 +180,8 @@ impl NodeState {
             → IsPrefix (O.taken outlet.new) history }
         ensures count { O.failures outlet.new ≡ failures_after result (O.failures outlet.old) }
         ensures same { (self.new.version ≡ self.old.version)
-            × (self.new.restart ≡ self.old.restart) }
+            × (self.new.restart ≡ self.old.restart)
+            × (self.new.armed ≡ self.old.armed) }
     {
         match &mut self.mode {
             Mode::Running(running) => release_next(&mut running.current, channel, outlet),

@@ -15,7 +15,7 @@ pub data EventView : Type 0 where
   Release : (node : ℕ) → EventView
   Crash : (node : ℕ) → (fill : ℕ) → (rounds : ℕ) → EventView
   Recover : (node : ℕ) → EventView
-  Arm : (node : ℕ) → (fault : ArmedFault) → EventView
+  Arm : (node : ℕ) → (fault : ArmedFault) → (rounds : ℕ) → EventView
   Idle : (node : ℕ) → EventView
 
 abbrev pub event_view : Event → EventView
@@ -27,7 +27,7 @@ event_view (event.Decide k) = Decide k
 event_view (event.Release k) = Release k
 event_view (event.Crash k fill rounds) = Crash k fill rounds
 event_view (event.Recover k) = Recover k
-event_view (event.Arm k fault) = Arm k fault
+event_view (event.Arm k fault rounds) = Arm k fault rounds
 event_view (event.Idle k) = Idle k
 
 -- the node of a process
@@ -45,5 +45,5 @@ event_node (Decide k) = k
 event_node (Release k) = k
 event_node (Crash k fill rounds) = k
 event_node (Recover k) = k
-event_node (Arm k fault) = k
+event_node (Arm k fault rounds) = k
 event_node (Idle k) = k

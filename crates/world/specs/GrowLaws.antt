@@ -92,7 +92,7 @@ step_begins net inputs room round (event.Decide k) old answer new step = begins_
 step_begins net inputs room round (event.Release k) old answer new step = release_or_not round (next_release round old) old answer new step
 step_begins net inputs room round (event.Crash k fill rounds) old answer new step = begins_still old new (ap (λ (s : StationView). s.outlets) step.same)
 step_begins net inputs room round (event.Recover k) old answer new step = begins_still old new (ap (λ (s : StationView). s.outlets) step.same)
-step_begins net inputs room round (event.Arm k fault) old answer new step = begins_still old new (ap (λ (s : StationView). s.outlets) step.1)
+step_begins net inputs room round (event.Arm k fault rounds) old answer new step = begins_still old new (ap (λ (s : StationView). s.outlets) step.1)
 step_begins net inputs room round (event.Idle k) old answer new step = begins_still old new (ap (λ (s : StationView). s.outlets) step.1)
 
 -- What a crash leaves covers what has left

@@ -43,7 +43,8 @@ use Rattle.world.specs.Released.{taken_or, released_of}
 use Rattle.world.specs.Sound.{goes_outside, output_channels}
 use Rattle.world.specs.StationView.{OutletView, StationView}
 use Rattle.world.specs.StepKeeps.{own_now_kept}
-use Rattle.world.specs.Steps.{round_later, next_release, IsSendOf, IsRelease, IsStationStep}
+use Rattle.node.specs.ArmedRestarts.{restart_after, round_later}
+use Rattle.world.specs.Steps.{next_release, IsSendOf, IsRelease, IsStationStep}
 use Rattle.world.specs.ReplyView.{ReplyView}
 
 -- ---- what an event may leave of one station
@@ -59,7 +60,7 @@ module _ (net : Network) (inputs : List (List ℤ)) where
   next_sound (event.Release k) old valid inv = inv.kept
   next_sound (event.Crash k fill rounds) old valid inv = inv.kept
   next_sound (event.Recover k) old valid inv = record_epoch net inputs (outputs_of old.outlets) old.node.kept inv.kept
-  next_sound (event.Arm k fault) old valid inv = inv.kept
+  next_sound (event.Arm k fault rounds) old valid inv = inv.kept
   next_sound (event.Idle k) old valid inv = inv.kept
 
   -- a start leaves the permanent image alone
@@ -78,7 +79,7 @@ module _ (net : Network) (inputs : List (List ℤ)) where
   next_ahead (event.Release k) old inv = behind_itself old.node.kept.permanent
   next_ahead (event.Crash k fill rounds) old inv = behind_itself old.node.kept.permanent
   next_ahead (event.Recover k) old inv = behind_itself old.node.kept.permanent
-  next_ahead (event.Arm k fault) old inv = behind_itself old.node.kept.permanent
+  next_ahead (event.Arm k fault rounds) old inv = behind_itself old.node.kept.permanent
   next_ahead (event.Idle k) old inv = behind_itself old.node.kept.permanent
 
   fits_outputs : (kept : RecordView) (outputs : List OutputView) → RecordIsSound net inputs kept outputs → FitsOutputs outputs kept
@@ -124,21 +125,21 @@ module _ (net : Network) (inputs : List (List ℤ)) where
   install_kept channels done old true new step = ap (λ (n : NodeView). n.kept) step.1
   install_kept channels done old false new step = ap (λ (n : NodeView). n.kept) step.1
 
-  failed_kept : (round : ℕ) (next : RecordView) (old new : NodeView) → HasFailedAt round next old new → (new.kept ≡ old.kept) ⊎ (new.kept ≡ next)
-  failed_kept round next old new (inl same) = inl (ap (λ (n : NodeView). n.kept) same)
-  failed_kept round next old new (inr same) = inr (ap (λ (n : NodeView). n.kept) same)
+  failed_kept : (restart : ℕ) (next : RecordView) (old new : NodeView) → HasFailedAt restart next old new → (new.kept ≡ old.kept) ⊎ (new.kept ≡ next)
+  failed_kept restart next old new (inl same) = inl (ap (λ (n : NodeView). n.kept) same)
+  failed_kept restart next old new (inr same) = inr (ap (λ (n : NodeView). n.kept) same)
 
-  start_kept : (number round : ℕ) (old : NodeView) (outcome : Putting) (new : NodeView) → IsStart number round old outcome new → (new.kept ≡ old.kept) ⊎ (new.kept ≡ with_own_now number old)
-  start_kept number round old NotDue new step = inl (ap (λ (n : NodeView). n.kept) step.1)
-  start_kept number round old Stored new step = inr (ap (λ (n : NodeView). n.kept) step.2)
-  start_kept number round old (Refused refusal) new step = inl (ap (λ (n : NodeView). n.kept) step.2)
-  start_kept number round old Failed new step = failed_kept round (with_own_now number old) old new step.2
+  start_kept : (number round call : ℕ) (old : NodeView) (outcome : Putting) (new : NodeView) → IsStart number round call old outcome new → (new.kept ≡ old.kept) ⊎ (new.kept ≡ with_own_now number old)
+  start_kept number round call old NotDue new step = inl (ap (λ (n : NodeView). n.kept) step.1)
+  start_kept number round call old Stored new step = inr (ap (λ (n : NodeView). n.kept) step.2)
+  start_kept number round call old (Refused refusal) new step = inl (ap (λ (n : NodeView). n.kept) step.2)
+  start_kept number round call old Failed new step = failed_kept (restart_after old.armed call round) (with_own_now number old) old new step.2
 
-  decision_kept : (number round : ℕ) (old : NodeView) (outcome : Putting) (new : NodeView) → IsDecision number round old outcome new → (new.kept ≡ old.kept) ⊎ (new.kept ≡ decided old.kept)
-  decision_kept number round old NotDue new step = inl (ap (λ (n : NodeView). n.kept) step.1)
-  decision_kept number round old Stored new step = inr (ap (λ (n : NodeView). n.kept) step.1)
-  decision_kept number round old (Refused refusal) new step = inl (ap (λ (n : NodeView). n.kept) step.2)
-  decision_kept number round old Failed new step = failed_kept round (decided old.kept) old new step.1
+  decision_kept : (number round call : ℕ) (old : NodeView) (outcome : Putting) (new : NodeView) → IsDecision number round call old outcome new → (new.kept ≡ old.kept) ⊎ (new.kept ≡ decided old.kept)
+  decision_kept number round call old NotDue new step = inl (ap (λ (n : NodeView). n.kept) step.1)
+  decision_kept number round call old Stored new step = inr (ap (λ (n : NodeView). n.kept) step.1)
+  decision_kept number round call old (Refused refusal) new step = inl (ap (λ (n : NodeView). n.kept) step.2)
+  decision_kept number round call old Failed new step = failed_kept (restart_after old.armed call round) (decided old.kept) old new step.1
 
   release_kept : (round : ℕ) (o : Option ℕ) (old : StationView) (answer : ReplyView) (new : StationView) → IsRelease round o old answer new → new.node.kept ≡ old.node.kept
   release_kept round None old answer new step = ap (λ (s : StationView). s.node.kept) step.1
@@ -148,14 +149,14 @@ module _ (net : Network) (inputs : List (List ℤ)) where
   crash_kept restart old false new step = ap (λ (n : NodeView). n.kept) step.1
   crash_kept restart old true new step = ap (λ (n : NodeView). n.kept) step.1
 
-  recovery_kept : (round : ℕ) (old : NodeView) (outcome : Recovery) (new : NodeView) → IsRecovery round old outcome new → (new.kept ≡ old.kept) ⊎ (new.kept ≡ with_epoch old.kept)
-  recovery_kept round old recovery.NotDue new step = inl (ap (λ (n : NodeView). n.kept) step.1)
-  recovery_kept round old recovery.Recovered new step = inr (ap (λ (n : NodeView). n.kept) step.3)
-  recovery_kept round old recovery.Waiting new step = inr (ap (λ (n : NodeView). n.kept) step.3)
-  recovery_kept round old (recovery.Refused refusal) new step = inl (ap (λ (n : NodeView). n.kept) step.2)
-  recovery_kept round old recovery.Failed new step = at step.1
+  recovery_kept : (round call : ℕ) (old : NodeView) (outcome : Recovery) (new : NodeView) → IsRecovery round call old outcome new → (new.kept ≡ old.kept) ⊎ (new.kept ≡ with_epoch old.kept)
+  recovery_kept round call old recovery.NotDue new step = inl (ap (λ (n : NodeView). n.kept) step.1)
+  recovery_kept round call old recovery.Recovered new step = inr (ap (λ (n : NodeView). n.kept) step.3)
+  recovery_kept round call old recovery.Waiting new step = inr (ap (λ (n : NodeView). n.kept) step.3)
+  recovery_kept round call old (recovery.Refused refusal) new step = inl (ap (λ (n : NodeView). n.kept) step.2)
+  recovery_kept round call old recovery.Failed new step = at step.1
     where
-      at : (new ≡ put_off round old) ⊎ (new ≡ put_off round (with_kept (with_epoch old.kept) old)) → (new.kept ≡ old.kept) ⊎ (new.kept ≡ with_epoch old.kept)
+      at : (new ≡ put_off (restart_after old.armed call round) old) ⊎ (new ≡ put_off (restart_after old.armed call round) (with_kept (with_epoch old.kept) old)) → (new.kept ≡ old.kept) ⊎ (new.kept ≡ with_epoch old.kept)
       at (inl same) = inl (ap (λ (n : NodeView). n.kept) same)
       at (inr same) = inr (ap (λ (n : NodeView). n.kept) same)
 
@@ -165,12 +166,12 @@ module _ (net : Network) (inputs : List (List ℤ)) where
   step_kept room round (event.Grant k) old answer new step = inl (ap (λ (s : StationView). s.node.kept) step.1)
   step_kept room round (event.Install done) old answer new step = inl (install_kept net.channels done old.node step.applied new.node step.step)
   step_kept room round (event.Send k) old answer new step = inl (send_kept (not (is_down old.node.mode)) round old answer new step)
-  step_kept room round (event.Start k) old answer new step = start_kept old.number round old.node step.outcome new.node step.step
-  step_kept room round (event.Decide k) old answer new step = decision_kept old.number round old.node step.outcome new.node step.step
+  step_kept room round (event.Start k) old answer new step = start_kept old.number round step.call old.node step.outcome new.node step.step
+  step_kept room round (event.Decide k) old answer new step = decision_kept old.number round step.call old.node step.outcome new.node step.step
   step_kept room round (event.Release k) old answer new step = inl (release_kept round (next_release round old) old answer new step)
   step_kept room round (event.Crash k fill rounds) old answer new step = inl (crash_kept (round_later round rounds) old.node step.was_up new.node step.step)
-  step_kept room round (event.Recover k) old answer new step = recovery_kept round old.node step.outcome new.node step.step
-  step_kept room round (event.Arm k fault) old answer new step = inl (ap (λ (s : StationView). s.node.kept) step.1)
+  step_kept room round (event.Recover k) old answer new step = recovery_kept round step.call old.node step.outcome new.node step.step
+  step_kept room round (event.Arm k fault rounds) old answer new step = inl (ap (λ (s : StationView). s.node.kept) step.1)
   step_kept room round (event.Idle k) old answer new step = inl (ap (λ (s : StationView). s.node.kept) step.1)
 
   -- so its permanent image isn't behind

@@ -40,7 +40,7 @@ next_kept (event.Decide k) station = decided station.node.kept
 next_kept (event.Release k) station = station.node.kept
 next_kept (event.Crash k fill rounds) station = station.node.kept
 next_kept (event.Recover k) station = with_epoch station.node.kept
-next_kept (event.Arm k fault) station = station.node.kept
+next_kept (event.Arm k fault rounds) station = station.node.kept
 next_kept (event.Idle k) station = station.node.kept
 
 -- ---- a world as the abstract machine sees it

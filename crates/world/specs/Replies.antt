@@ -77,7 +77,7 @@ LeavesCells (event.Decide k) answer = AnswerLeaves answer
 LeavesCells (event.Release k) answer = AnswerLeaves answer
 LeavesCells (event.Crash k fill rounds) answer = AnswerLeaves answer
 LeavesCells (event.Recover k) answer = answer ≡ Some NotDue
-LeavesCells (event.Arm k fault) answer = answer ≡ Some NotDue
+LeavesCells (event.Arm k fault rounds) answer = answer ≡ Some NotDue
 LeavesCells (event.Idle k) answer = AnswerLeaves answer
 
 -- an event that takes memory: any but a send, a crash and an idle turn
@@ -90,5 +90,5 @@ TakesMemory (event.Decide k) = Unit {0}
 TakesMemory (event.Release k) = Unit {0}
 TakesMemory (event.Crash k fill rounds) = ⊥
 TakesMemory (event.Recover k) = Unit {0}
-TakesMemory (event.Arm k fault) = Unit {0}
+TakesMemory (event.Arm k fault rounds) = Unit {0}
 TakesMemory (event.Idle k) = ⊥

@@ -113,7 +113,7 @@ module _ (net : Network) (inputs : List (List ℤ)) (valid : IsValid net) (capac
   station_fits round (event.Crash k fill rounds) old answer new inv step = is_not (crash_reply step.was_up) answer step.answers (crash_fits step.was_up)
   station_fits round (event.Recover k) old answer new inv step =
       is_not (recovery_reply step.outcome) answer step.answers (recovery_fits _ old.failures new.failures step.outcome (bounded_fits capacity _ room (within_epoch MAX_RETAINED_ITEMS old.node.kept inv.kept.bounded)) step.put)
-  station_fits round (event.Arm k fault) old answer new inv step = is_not reply.Acted answer step.0 (λ large. cc)
+  station_fits round (event.Arm k fault rounds) old answer new inv step = is_not reply.Acted answer step.0 (λ large. cc)
   station_fits round (event.Idle k) old answer new inv step = is_not reply.Idled answer step.0 (λ large. cc)
 
 module _ (net : Network) (inputs : List (List ℤ)) (valid : IsValid net) where

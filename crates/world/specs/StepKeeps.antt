@@ -17,13 +17,14 @@ use Rattle.record.specs.RecordView.{RecordView}
 use Rattle.record.specs.declared.record.Tentative.{Tentative}
 use Rattle.node.specs.JobView.{JobView}
 use Rattle.node.specs.NodeView.{NodeView, ModeView, Down, InDoubt, Runs, RunningView, RunningNode, running_node, running_in, running_of, on_mode, on_running}
+use Rattle.node.specs.ArmedRestarts.{restart_after, round_later, with_armed}
 use Rattle.node.specs.LikeLaws.{HasOuterChannels}
 use Rattle.node.specs.Choosing.{next_job, after_grant, job_at, node_job, granted, with_grant}
 use Rattle.node.specs.Installing.{turned, IsOut, IsInstall}
 use Rattle.node.specs.FitLaws.{behind_installed}
 use Rattle.node.specs.TrimLaws.{behind_trimmed}
 use Rattle.node.specs.Recovering.{IsCrash, IsRecovery, restored, restored_with, put_off}
-use Rattle.node.specs.Starting.{AreInOrder, HasFailedAt, IsStart, IsDecision, is_down, is_running, next_number, crashed, with_own, own_at, with_own_now, decided, keeping, with_kept}
+use Rattle.node.specs.Starting.{AreInOrder, HasFailedAt, IsStart, IsDecision, is_down, is_running, crashed, with_own, own_at, with_own_now, decided, keeping, with_kept}
 use Rattle.node.specs.Trimming.{with_current, current_log, cut_at, trimmed_node, HasNext, TookNext}
 use Rattle.node.specs.declared.putting.Putting.{Putting}
 use Rattle.node.specs.declared.putting.Putting.TheVariants.{NotDue, Stored, Refused, Failed}
@@ -45,7 +46,7 @@ use Rattle.world.specs.ReplyView.{ReplyView}
 use Rattle.world.specs.Sound.{IsSound}
 use Rattle.world.specs.SoundLaws.{granted_sound, stored_sound, decided_sound}
 use Rattle.world.specs.StationView.{StationView}
-use Rattle.world.specs.Steps.{moved_to, round_later, first_waiting, next_release, IsSendOf, IsReleaseAt, IsRelease, IsStationStep, IsActOf, IsAct, IsStep, WorldView, round_after}
+use Rattle.world.specs.Steps.{moved_to, first_waiting, next_release, IsSendOf, IsReleaseAt, IsRelease, IsStationStep, IsActOf, IsAct, IsStep, WorldView, round_after}
 use Rattle.world.specs.TurnLaws.{sound_done}
 use Rattle.world.specs.declared.round_turns.RoundTurns.{RoundTurns}
 
@@ -155,16 +156,16 @@ module _ (net : Network) (inputs : List (List ℤ)) where
       at InDoubt is = inv.kept
       at (Runs running) is = own_kept old running valid inv is
 
-  failed_keeps : (round : ℕ) (next : RecordView) (old : StationView) (node : NodeView) (failures : ℕ) (turns : RoundTurns) → StationInvariant net inputs old → RecordIsSound net inputs next (outputs_of old.outlets)
-      → HasFailedAt round next old.node node → StationInvariant net inputs (moved_to node failures turns old)
-  failed_keeps round next old node failures turns inv sound step =
-      ⊎_elim (λ same. subst (λ (n : NodeView). StationInvariant net inputs (moved_to n failures turns old)) (sym same) (down_keeps (next_number round) old.node failures turns old inv.kept))
-      (λ same. subst (λ (n : NodeView). StationInvariant net inputs (moved_to n failures turns old)) (sym same) (down_keeps (next_number round) (with_kept next old.node) failures turns old sound)) step
+  failed_keeps : (restart : ℕ) (next : RecordView) (old : StationView) (node : NodeView) (failures : ℕ) (turns : RoundTurns) → StationInvariant net inputs old → RecordIsSound net inputs next (outputs_of old.outlets)
+      → HasFailedAt restart next old.node node → StationInvariant net inputs (moved_to node failures turns old)
+  failed_keeps restart next old node failures turns inv sound step =
+      ⊎_elim (λ same. subst (λ (n : NodeView). StationInvariant net inputs (moved_to n failures turns old)) (sym same) (down_keeps restart old.node failures turns old inv.kept))
+      (λ same. subst (λ (n : NodeView). StationInvariant net inputs (moved_to n failures turns old)) (sym same) (down_keeps restart (with_kept next old.node) failures turns old sound)) step
 
-  start_keeps : (round : ℕ) (old : StationView) (outcome : Putting) (node : NodeView) (failures : ℕ) (turns : RoundTurns) → IsValid net → StationInvariant net inputs old → IsStart old.number round old.node outcome node
+  start_keeps : (round call : ℕ) (old : StationView) (outcome : Putting) (node : NodeView) (failures : ℕ) (turns : RoundTurns) → IsValid net → StationInvariant net inputs old → IsStart old.number round call old.node outcome node
       → StationInvariant net inputs (moved_to node failures turns old)
-  start_keeps round old NotDue node failures turns valid inv step = subst (λ (n : NodeView). StationInvariant net inputs (moved_to n failures turns old)) (sym step.1) (moved_keeps old.node failures turns old inv.kept inv.runs)
-  start_keeps round old Stored node failures turns valid inv step =
+  start_keeps round call old NotDue node failures turns valid inv step = subst (λ (n : NodeView). StationInvariant net inputs (moved_to n failures turns old)) (sym step.1) (moved_keeps old.node failures turns old inv.kept inv.runs)
+  start_keeps round call old Stored node failures turns valid inv step =
       subst (λ (n : NodeView). StationInvariant net inputs (moved_to n failures turns old)) (sym step.2) (moved_keeps (with_kept (with_own_now old.number old.node) old.node) failures turns old (own_now_kept old valid inv) runs)
     where
       now : (running : RunningView) × (old.node.mode ≡ Runs running)
@@ -176,13 +177,13 @@ module _ (net : Network) (inputs : List (List ℤ)) where
           sym (ap (λ (kept : RecordView). running_in kept old.node.version (Runs now.0)) (own_now old now.0 now.1)) ∙ (sym (ap (running_in (with_own_now old.number old.node) old.node.version) now.1) ∙ is) in
           let same : keeping (with_own old.number now.0.current old.node.kept) (running_node old.node.kept old.node.version now.0) ≡ run = cc in
           subst (λ (n : RunningNode). RunsSoundly net inputs n (outputs_of old.outlets)) same (own_sound old now.0 inv now.1)
-  start_keeps round old (Refused refusal) node failures turns valid inv step = subst (λ (n : NodeView). StationInvariant net inputs (moved_to n failures turns old)) (sym step.2) (moved_keeps old.node failures turns old inv.kept inv.runs)
-  start_keeps round old Failed node failures turns valid inv step = failed_keeps round (with_own_now old.number old.node) old node failures turns inv (own_now_kept old valid inv) step.2
+  start_keeps round call old (Refused refusal) node failures turns valid inv step = subst (λ (n : NodeView). StationInvariant net inputs (moved_to n failures turns old)) (sym step.2) (moved_keeps old.node failures turns old inv.kept inv.runs)
+  start_keeps round call old Failed node failures turns valid inv step = failed_keeps (restart_after old.node.armed call round) (with_own_now old.number old.node) old node failures turns inv (own_now_kept old valid inv) step.2
 
-  decision_keeps : (round : ℕ) (old : StationView) (outcome : Putting) (node : NodeView) (failures : ℕ) (turns : RoundTurns) → StationInvariant net inputs old → IsDecision old.number round old.node outcome node
+  decision_keeps : (round call : ℕ) (old : StationView) (outcome : Putting) (node : NodeView) (failures : ℕ) (turns : RoundTurns) → StationInvariant net inputs old → IsDecision old.number round call old.node outcome node
       → StationInvariant net inputs (moved_to node failures turns old)
-  decision_keeps round old NotDue node failures turns inv step = subst (λ (n : NodeView). StationInvariant net inputs (moved_to n failures turns old)) (sym step.1) (moved_keeps old.node failures turns old inv.kept inv.runs)
-  decision_keeps round old Stored node failures turns inv step =
+  decision_keeps round call old NotDue node failures turns inv step = subst (λ (n : NodeView). StationInvariant net inputs (moved_to n failures turns old)) (sym step.1) (moved_keeps old.node failures turns old inv.kept inv.runs)
+  decision_keeps round call old Stored node failures turns inv step =
       subst (λ (n : NodeView). StationInvariant net inputs (moved_to n failures turns old)) (sym step.1)
       (moved_keeps (with_kept (decided old.node.kept) old.node) failures turns old (record_decided net inputs (outputs_of old.outlets) old.node.kept inv.kept) runs)
     where
@@ -201,9 +202,9 @@ module _ (net : Network) (inputs : List (List ℤ)) where
                 order = order_decided old.node.kept running.current sound.order;
                 sound = decided_sound net inputs (outputs_of old.outlets) before (last_more net inputs (outputs_of old.outlets) old.node.kept inv.kept old.node.kept.tentative refl) sound.sound;
               })
-  decision_keeps round old (Refused refusal) node failures turns inv step = subst (λ (n : NodeView). StationInvariant net inputs (moved_to n failures turns old)) (sym step.2) (moved_keeps old.node failures turns old inv.kept inv.runs)
-  decision_keeps round old Failed node failures turns inv step =
-      failed_keeps round (decided old.node.kept) old node failures turns inv (record_decided net inputs (outputs_of old.outlets) old.node.kept inv.kept) step.1
+  decision_keeps round call old (Refused refusal) node failures turns inv step = subst (λ (n : NodeView). StationInvariant net inputs (moved_to n failures turns old)) (sym step.2) (moved_keeps old.node failures turns old inv.kept inv.runs)
+  decision_keeps round call old Failed node failures turns inv step =
+      failed_keeps (restart_after old.node.armed call round) (decided old.node.kept) old node failures turns inv (record_decided net inputs (outputs_of old.outlets) old.node.kept inv.kept) step.1
 
   -- A crash, and a recovery
 
@@ -238,16 +239,16 @@ module _ (net : Network) (inputs : List (List ℤ)) where
       at InDoubt d e = cc
       at (Runs running) d e = cc
 
-  recovery_keeps : (round : ℕ) (old : StationView) (outcome : Recovery) (node : NodeView) (failures : ℕ) (turns : RoundTurns) → StationInvariant net inputs old → IsRecovery round old.node outcome node
+  recovery_keeps : (round call : ℕ) (old : StationView) (outcome : Recovery) (node : NodeView) (failures : ℕ) (turns : RoundTurns) → StationInvariant net inputs old → IsRecovery round call old.node outcome node
       → StationInvariant net inputs (moved_to node failures turns old)
-  recovery_keeps round old recovery.NotDue node failures turns inv step = subst (λ (n : NodeView). StationInvariant net inputs (moved_to n failures turns old)) (sym step.1) (moved_keeps old.node failures turns old inv.kept inv.runs)
-  recovery_keeps round old recovery.Recovered node failures turns inv step = subst (λ (n : NodeView). StationInvariant net inputs (moved_to n failures turns old)) (sym step.3) (restored_keeps old failures turns inv)
-  recovery_keeps round old recovery.Waiting node failures turns inv step = subst (λ (n : NodeView). StationInvariant net inputs (moved_to n failures turns old)) (sym step.3) (restored_keeps old failures turns inv)
-  recovery_keeps round old (recovery.Refused refusal) node failures turns inv step = subst (λ (n : NodeView). StationInvariant net inputs (moved_to n failures turns old)) (sym step.2) (moved_keeps old.node failures turns old inv.kept inv.runs)
-  recovery_keeps round old recovery.Failed node failures turns inv step =
-      ⊎_elim (λ same. subst (λ (n : NodeView). StationInvariant net inputs (moved_to n failures turns old)) (sym same) (moved_keeps (put_off round old.node) failures turns old inv.kept inv.runs))
+  recovery_keeps round call old recovery.NotDue node failures turns inv step = subst (λ (n : NodeView). StationInvariant net inputs (moved_to n failures turns old)) (sym step.1) (moved_keeps old.node failures turns old inv.kept inv.runs)
+  recovery_keeps round call old recovery.Recovered node failures turns inv step = subst (λ (n : NodeView). StationInvariant net inputs (moved_to n failures turns old)) (sym step.3) (restored_keeps old failures turns inv)
+  recovery_keeps round call old recovery.Waiting node failures turns inv step = subst (λ (n : NodeView). StationInvariant net inputs (moved_to n failures turns old)) (sym step.3) (restored_keeps old failures turns inv)
+  recovery_keeps round call old (recovery.Refused refusal) node failures turns inv step = subst (λ (n : NodeView). StationInvariant net inputs (moved_to n failures turns old)) (sym step.2) (moved_keeps old.node failures turns old inv.kept inv.runs)
+  recovery_keeps round call old recovery.Failed node failures turns inv step =
+      ⊎_elim (λ same. subst (λ (n : NodeView). StationInvariant net inputs (moved_to n failures turns old)) (sym same) (moved_keeps (put_off (restart_after old.node.armed call round) old.node) failures turns old inv.kept inv.runs))
       (λ same. subst (λ (n : NodeView). StationInvariant net inputs (moved_to n failures turns old)) (sym same)
-      (moved_keeps (put_off round (with_kept (with_epoch old.node.kept) old.node)) failures turns old (epoch_kept old inv) (λ run is. absurd (still_down (with_kept (with_epoch old.node.kept) old.node) step.0 run is)))) step.1
+      (moved_keeps (put_off (restart_after old.node.armed call round) (with_kept (with_epoch old.node.kept) old.node)) failures turns old (epoch_kept old inv) (λ run is. absurd (still_down (with_kept (with_epoch old.node.kept) old.node) step.0 run is)))) step.1
 
   -- An item that leaves
 
@@ -361,12 +362,12 @@ module _ (net : Network) (inputs : List (List ℤ)) where
     station_keeps room round (event.Grant k) old answer new inv step = same_keeps _ new step.1 (grant_keeps old _ inv)
     station_keeps room round (event.Install done) old answer new inv step = same_keeps _ new step.same (turn_keeps done old step.applied new.node valid fits inv step.turn step.step)
     station_keeps room round (event.Send k) old answer new inv step = send_keeps (not (is_down old.node.mode)) round old answer new inv step
-    station_keeps room round (event.Start k) old answer new inv step = same_keeps _ new step.same (start_keeps round old step.outcome new.node new.failures _ valid inv step.step)
-    station_keeps room round (event.Decide k) old answer new inv step = same_keeps _ new step.same (decision_keeps round old step.outcome new.node new.failures _ inv step.step)
+    station_keeps room round (event.Start k) old answer new inv step = same_keeps _ new step.same (start_keeps round step.call old step.outcome new.node new.failures _ valid inv step.step)
+    station_keeps room round (event.Decide k) old answer new inv step = same_keeps _ new step.same (decision_keeps round step.call old step.outcome new.node new.failures _ inv step.step)
     station_keeps room round (event.Release k) old answer new inv step = release_or_not round (next_release round old) old answer new refl inv step
     station_keeps room round (event.Crash k fill rounds) old answer new inv step = same_keeps _ new step.same (crash_keeps (round_later round rounds) old step.was_up new.node _ inv step.step)
-    station_keeps room round (event.Recover k) old answer new inv step = same_keeps _ new step.same (recovery_keeps round old step.outcome new.node new.failures _ inv step.step)
-    station_keeps room round (event.Arm k fault) old answer new inv step = same_keeps old new step.1 inv
+    station_keeps room round (event.Recover k) old answer new inv step = same_keeps _ new step.same (recovery_keeps round step.call old step.outcome new.node new.failures _ inv step.step)
+    station_keeps room round (event.Arm k fault rounds) old answer new inv step = same_keeps _ new step.1 (moved_keeps (with_armed fault.call rounds old.node) old.failures old.turns old inv.kept inv.runs)
     station_keeps room round (event.Idle k) old answer new inv step = same_keeps _ new step.1 (moved_keeps old.node old.failures _ old inv.kept inv.runs)
 
     -- Stations of a list

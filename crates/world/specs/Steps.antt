@@ -2,8 +2,9 @@
 --
 -- A relation goes by cases of the event; a reply that an event never has is nowhere in its case. An event that can't happen is answered by
 -- `NotDue` and changes nothing, and only such an event is. Free in it are the failures
--- of devices and outlets alone: of a device's, whether the record was put all the same, and of an outlet's, whether it took the item.
-use Rattle.std.specs.Prelude.{◌≡◌, ◌⊎◌, ◌==◌, ℕ, ◌+◌, min, nat_lt, Bool, true, false, ◌&&◌, ◌||◌, not, if◌then◌else◌, ℤ, List, [], ◌∷◌, length, Option, Some, None, slice_get, slice_set}
+-- of devices and outlets alone: of a device's, which of its calls failed and whether the record was put all the same, and of an outlet's,
+-- whether it took the item.
+use Rattle.std.specs.Prelude.{◌≡◌, ◌⊎◌, ◌==◌, ℕ, ◌+◌, nat_lt, Bool, true, false, ◌&&◌, ◌||◌, not, if◌then◌else◌, ℤ, List, [], ◌∷◌, length, Option, Some, None, slice_get, slice_set}
 use Rattle.kahn_net.specs.Syntax.{Network}
 use Rattle.kahn_net.specs.declared.program.Channel.{Channel}
 use Rattle.retained.specs.LogState.{LogState}
@@ -11,6 +12,7 @@ use Rattle.record.specs.Ends.{sent_of}
 use Rattle.record.specs.Moves.{with_epoch}
 use Rattle.node.specs.JobView.{JobView}
 use Rattle.record.specs.RecordView.{RecordView}
+use Rattle.node.specs.ArmedRestarts.{round_later, with_armed}
 use Rattle.node.specs.NodeView.{NodeView}
 use Rattle.node.specs.Choosing.{node_job, with_grant}
 use Rattle.node.specs.Installing.{IsInstall}
@@ -27,7 +29,6 @@ use Rattle.world.specs.ReplyView as reply
 use Rattle.world.specs.Replies.{grant_reply, install_reply, start_reply, decision_reply, crash_reply, recovery_reply}
 use Rattle.world.specs.Turns.{turns_of, turns_granted, turns_started, count_send, count_idle}
 use Rattle.world.specs.StationView.{OutletView, StationView}
-use Rattle.kahn_net.specs.declared.limits.TheConstants.{MAX_COUNT}
 use Rattle.world.specs.declared.round_turns.RoundTurns.{RoundTurns}
 
 -- One station
@@ -53,10 +54,11 @@ abbrev pub IsSendOf : Bool → ℕ → StationView → ReplyView → StationView
 IsSendOf false round old answer new = (answer ≡ reply.NotDue) × (new ≡ old)
 IsSendOf true round old answer new = (answer ≡ reply.Sent) × (new ≡ moved_to old.node old.failures (count_send (not (is_none old.node.kept.tentative)) (turns_of round old.turns)) old)
 
--- a checkpoint is begun; `fits` is what the node's cell has room for
+-- a checkpoint is begun; `fits` is what the node's cell has room for, and `call` the device call that failed, where the device did
 pub record IsBegun (fits : RecordView → Bool) (round : ℕ) (old : StationView) (answer : ReplyView) (new : StationView) : Type 0 where
   pub outcome : Putting
-  pub step : IsStart old.number round old.node outcome new.node
+  pub call : ℕ
+  pub step : IsStart old.number round call old.node outcome new.node
   pub put : IsPut (fits (with_own_now old.number old.node)) old.failures new.failures outcome
   pub answers : answer ≡ start_reply outcome
   pub same : new ≡ moved_to new.node new.failures (turns_started outcome round old.turns) old
@@ -64,14 +66,11 @@ pub record IsBegun (fits : RecordView → Bool) (round : ℕ) (old : StationView
 -- and decided
 pub record IsDecided (fits : RecordView → Bool) (round : ℕ) (old : StationView) (answer : ReplyView) (new : StationView) : Type 0 where
   pub outcome : Putting
-  pub step : IsDecision old.number round old.node outcome new.node
+  pub call : ℕ
+  pub step : IsDecision old.number round call old.node outcome new.node
   pub put : IsPut (fits (decided old.node.kept)) old.failures new.failures outcome
   pub answers : answer ≡ decision_reply outcome
   pub same : new ≡ moved_to new.node new.failures old.turns old
-
--- the round that comes so many later; the last one is the greatest number
-abbrev pub round_later : ℕ → ℕ → ℕ
-round_later round rounds = min (round + rounds) MAX_COUNT
 
 -- a node that is up crashes, and may be recovered so many rounds later
 pub record IsFallen (rounds round : ℕ) (old : StationView) (answer : ReplyView) (new : StationView) : Type 0 where
@@ -83,10 +82,15 @@ pub record IsFallen (rounds round : ℕ) (old : StationView) (answer : ReplyView
 -- and one that is down comes back
 pub record IsBack (fits : RecordView → Bool) (round : ℕ) (old : StationView) (answer : ReplyView) (new : StationView) : Type 0 where
   pub outcome : Recovery
-  pub step : IsRecovery round old.node outcome new.node
+  pub call : ℕ
+  pub step : IsRecovery round call old.node outcome new.node
   pub put : IsRecoveryPut (fits (with_epoch old.node.kept)) old.failures new.failures outcome
   pub answers : answer ≡ recovery_reply outcome
   pub same : new ≡ moved_to new.node new.failures old.turns old
+
+-- a fault is armed for this device call, behind those armed before, and for how many rounds it is to keep the node down
+abbrev pub IsArmed : ℕ → ℕ → StationView → ReplyView → StationView → Type 0
+IsArmed call rounds old answer new = (answer ≡ reply.Acted) × (new ≡ moved_to (with_armed call rounds old.node) old.failures old.turns old)
 
 -- an outlet failed in this round
 abbrev pub has_failed_in : ℕ → Option ℕ → Bool
@@ -149,7 +153,7 @@ IsStationStep net inputs fits round (event.Decide k) old answer new = IsDecided 
 IsStationStep net inputs fits round (event.Release k) old answer new = IsRelease round (next_release round old) old answer new
 IsStationStep net inputs fits round (event.Crash k fill rounds) old answer new = IsFallen rounds round old answer new
 IsStationStep net inputs fits round (event.Recover k) old answer new = IsBack fits round old answer new
-IsStationStep net inputs fits round (event.Arm k fault) old answer new = (answer ≡ reply.Acted) × (new ≡ old)
+IsStationStep net inputs fits round (event.Arm k fault rounds) old answer new = IsArmed fault.call rounds old answer new
 IsStationStep net inputs fits round (event.Idle k) old answer new = IsIdle round old answer new
 
 -- A world

@@ -122,7 +122,7 @@ impl<C: StableCell, O: Outlet> Station<C, O> {
             Event::Release(_) => self.release(round),
             Event::Crash { fill, rounds, .. } => Ok(self.crash(round, *fill, *rounds)),
             Event::Recover(_) => self.recover(alloc, round),
-            Event::Arm { fault, .. } => self.arm(*fault),
+            Event::Arm { fault, rounds, .. } => self.arm(*fault, *rounds),
             Event::Idle(_) => Ok(self.idle(round)),
         }
     }

@@ -20,11 +20,20 @@ pub enum Event {
     Release(u8),
     /// The node crashes: what it had in memory is gone, and its disk is settled by this byte. It may be recovered so many
     /// rounds later.
-    Crash { node: u8, fill: u8, rounds: u64 },
+    Crash {
+        node: u8,
+        fill: u8,
+        rounds: u64,
+    },
     /// The node, which is down, comes back in its next epoch.
     Recover(u8),
-    /// A failure of the node's disk is prepared.
-    Arm { node: u8, fault: ArmedFault },
+    /// A failure of the node's disk is prepared. Where it takes the node down, that may be recovered so many rounds later: 1 for
+    /// a mere failure.
+    Arm {
+        node: u8,
+        fault: ArmedFault,
+        rounds: u64,
+    },
     /// The node lets its turn pass.
     Idle(u8),
 }

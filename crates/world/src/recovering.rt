@@ -6,26 +6,18 @@ ghost use Rattle.record.specs.Moves.{with_epoch};
 ghost use Rattle.node.specs.NodeOf.{view_of};
 ghost use Rattle.world.specs.Pairs.{LeaveEitherSince};
 ghost use Rattle.world.specs.Replies.{crash_reply, recovery_reply};
-ghost use Rattle.world.specs.ReplyView.{Acted, NotDue, reply_view};
+ghost use Rattle.world.specs.ReplyView.{NotDue, reply_view};
 ghost use Rattle.world.specs.StationView.{outlet_views};
-ghost use Rattle.world.specs.Steps.{IsBack, IsFallen, round_later};
+ghost use Rattle.world.specs.Steps.{IsArmed, IsBack, IsFallen};
 ghost use Rattle.world.specs.WorldView.{station_view, IsCellUnchanged};
 
 use crate::event::Reply;
 use crate::station::Station;
 use gate_cell::StableCell;
-use kahn_net::MAX_COUNT;
-use node::Recovery;
+use node::{Recovery, round_later};
 use outlet::Outlet;
 use sector_disk::ArmedFault;
 use std::alloc::{AllocError, Global};
-
-// The round that comes so many later. The last one is the greatest number.
-fn round_later(round: u64, rounds: u64) -> u64
-    ensures { result ≡ round_later round rounds }
-{
-    round.saturating_add(rounds).min(MAX_COUNT)
-}
 
 // What is answered to a crash of a node that was up, or wasn't.
 fn crash_reply(was_up: bool) -> Reply
@@ -97,8 +89,8 @@ impl<C: StableCell, O: Outlet> Station<C, O> {
         }
     }
 
-    /// A failure of its node's disk is prepared.
-    pub(crate) fn arm(&mut self, fault: ArmedFault) -> Result<Reply, AllocError>
+    /// A failure of its node's disk is prepared, and for how many rounds it is to keep the node down.
+    pub(crate) fn arm(&mut self, fault: ArmedFault, rounds: u64) -> Result<Reply, AllocError>
         ensures outputs { outlet_views O.taken O.failures self.new.outputs.items
             ≡ outlet_views O.taken O.failures self.old.outputs.items }
         ensures leaves { LeaveEitherSince C.moment C.left_since (cell_in self.old.node.store)
@@ -108,11 +100,13 @@ impl<C: StableCell, O: Outlet> Station<C, O> {
             ≤ C.moment (cell_in self.new.node.store) }
         ensures same_room { C.capacity (cell_in self.new.node.store)
             ≡ C.capacity (cell_in self.old.node.store) }
-        ensures same { station_view O.taken O.failures self.new
-            ≡ station_view O.taken O.failures self.old }
-        ensures answer { IfOk result (λ reply. reply_view reply ≡ Acted) }
+        ensures refused { OnErr result
+            (station_view O.taken O.failures self.new ≡ station_view O.taken O.failures self.old) }
+        ensures step { IfOk result
+            (λ reply. IsArmed fault.call rounds (station_view O.taken O.failures self.old)
+            (reply_view reply) (station_view O.taken O.failures self.new)) }
     {
-        match self.node.arm(fault) {
+        match self.node.arm(fault, rounds) {
             Ok(()) => Ok(Reply::Acted),
             Err(_) => Err(AllocError),
         }

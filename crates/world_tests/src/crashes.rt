@@ -137,7 +137,7 @@ fn what_can_happen_at_a_node_that_is_down(rt: HostRuntime) -> Result<(), Fail> {
             (Happens::Start, Answer::NotDue, 1),
             (Happens::Decide, Answer::NotDue, 1),
             (Happens::Release, Answer::NotDue, 1),
-            (Happens::Arm(1000, 0), Answer::Acted, 1),
+            (Happens::Arm(1000, 0, 1), Answer::Acted, 1),
             (Happens::Idle, Answer::Idled, 1),
         ],
     )?;

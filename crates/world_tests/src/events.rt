@@ -115,6 +115,7 @@ fn strangers_are_not_due<O: Outlet>(
         Event::Arm {
             node: 1,
             fault: ArmedFault { call: 1, fill: 0 },
+            rounds: 1,
         },
         Event::Idle(1),
     ] {
@@ -192,7 +193,7 @@ fn what_came_back_is_taken_in_once(rt: HostRuntime) -> Result<(), Fail> {
 fn a_device_that_fails_at_a_start(rt: HostRuntime) -> Result<(), Fail> {
     let mut run = sum_run(rt.alloc())?;
     // The first checkpoint takes calls 1 to 8.
-    run.goes(&rt, rt.alloc(), &[Happens::Arm(9, 0)])?;
+    run.goes(&rt, rt.alloc(), &[Happens::Arm(9, 0, 1)])?;
     run.goes(&rt, rt.alloc(), &TURN_AND_CHECKPOINT)?;
     run.follow(
         &rt,
@@ -243,7 +244,7 @@ fn a_device_that_fails_while_a_job_is_out(rt: HostRuntime) -> Result<(), Fail> {
         &rt,
         rt.alloc(),
         &[
-            (Happens::Arm(1, 0), Answer::Acted, 0),
+            (Happens::Arm(1, 0, 1), Answer::Acted, 0),
             (Happens::Grant, Answer::Granted, 0),
             (Happens::Start, Answer::Down, 0),
             (Happens::Install, Answer::Discarded, 0),
@@ -260,7 +261,7 @@ fn a_device_that_fails_at_a_decision(rt: HostRuntime) -> Result<(), Fail> {
         &rt,
         rt.alloc(),
         &[
-            (Happens::Arm(5, 0), Answer::Acted, 0),
+            (Happens::Arm(5, 0, 1), Answer::Acted, 0),
             (Happens::Grant, Answer::Granted, 0),
             (Happens::Install, Answer::Installed, 0),
             (Happens::Start, Answer::Started, 0),

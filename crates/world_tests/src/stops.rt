@@ -2,10 +2,11 @@
 
 use crate::asserting::{same, same_at};
 use crate::sums::{
-    Answer, Happens, OUTPUT, Run, TestCell, answer_to, shown, standing, sum_run, sums,
+    Answer, Happens, ITEMS, OUTPUT, Run, TestCell, answer_to, choice, disk_of as new_disk, shown,
+    standing, sum_run, sum_world, sums,
 };
 use outlet::{ListOutlet, Outlet};
-use sector_disk::{Disk, MemDisk, SECTOR_BYTES};
+use sector_disk::{ArmedFault, Disk, MemDisk, SECTOR_BYTES};
 use std::alloc::Global;
 use std::process::Abort;
 use std::test::Fail;
@@ -55,7 +56,10 @@ fn stopped_run(rt: &impl Abort, alloc: Global, row: (u64, u64, u8)) -> Result<()
     run.goes(
         rt,
         alloc,
-        &[Happens::Arm(first, fill), Happens::Arm(second, fill)],
+        &[
+            Happens::Arm(first, fill, 1),
+            Happens::Arm(second, fill, 1),
+        ],
     )?;
     run_out(rt, alloc, &mut run, row)
 }
@@ -130,7 +134,7 @@ fn recovered_after(
     fill: u8,
 ) -> Result<(u64, u64, u64, u64, u64), Fail> {
     let mut run = sum_run(alloc)?;
-    run.goes(rt, alloc, &[Happens::Arm(call, fill)])?;
+    run.goes(rt, alloc, &[Happens::Arm(call, fill, 1)])?;
     run.goes(rt, alloc, before)?;
     let found = run.apply(alloc, stopped)?;
     same_at(rt, &found, &Answer::Down, &(call, fill));
@@ -166,4 +170,112 @@ fn a_decision_stopped_at_each_call(rt: HostRuntime) -> Result<(), Fail> {
         }
     }
     Ok(())
+}
+
+// Asserts that a node which is down is due in this round, and not before.
+fn is_due_in(
+    rt: &impl Abort,
+    alloc: Global,
+    run: &mut Run<ListOutlet>,
+    due: u64,
+) -> Result<(), Fail> {
+    let first = run.world.round();
+    for round in first..due {
+        same_at(rt, &choice(&run.world, 0), &(Happens::Idle, 0), &round);
+        run.goes(rt, alloc, &[Happens::Idle])?;
+    }
+    same_at(rt, &run.world.round(), &due, &first);
+    same_at(rt, &choice(&run.world, 0), &(Happens::Recover, 0), &due);
+    run.goes(rt, alloc, &[Happens::Recover])
+}
+
+// The round from which a node may be recovered whose start is stopped in round 0 by what was armed; it is picked for that then.
+fn due_after(rt: &impl Abort, alloc: Global, armed: &[Happens], due: u64) -> Result<(), Fail> {
+    let mut run = sum_run(alloc)?;
+    run.goes(rt, alloc, armed)?;
+    run.goes(rt, alloc, &[Happens::Grant, Happens::Install])?;
+    let found = run.apply(alloc, Happens::Start)?;
+    same_at(rt, &found, &Answer::Down, &due);
+    same_at(rt, &standing(&run.world)?, &(true, 1, due), &due);
+    is_due_in(rt, alloc, &mut run, due)
+}
+
+#[test]
+fn a_stop_keeps_the_node_down_for_its_own_rounds(rt: HostRuntime) -> Result<(), Fail> {
+    // A start makes calls 1 to 4.
+    due_after(&rt, rt.alloc(), &[Happens::Arm(2, 255, 3)], 3)?;
+    due_after(&rt, rt.alloc(), &[Happens::Arm(2, 0, 1)], 1)?;
+    // What is armed at another call, or at one that comes later, doesn't count.
+    due_after(
+        &rt,
+        rt.alloc(),
+        &[Happens::Arm(1000, 0, 9), Happens::Arm(4, 0, 2)],
+        2,
+    )?;
+    due_after(
+        &rt,
+        rt.alloc(),
+        &[Happens::Arm(3, 0, 9), Happens::Arm(2, 0, 4)],
+        4,
+    )
+}
+
+#[test]
+fn the_first_of_two_faults_at_one_call_counts(rt: HostRuntime) -> Result<(), Fail> {
+    due_after(
+        &rt,
+        rt.alloc(),
+        &[Happens::Arm(2, 0, 3), Happens::Arm(2, 0, 5)],
+        3,
+    )?;
+    due_after(
+        &rt,
+        rt.alloc(),
+        &[Happens::Arm(2, 0, 1), Happens::Arm(2, 0, 3)],
+        1,
+    )
+}
+
+#[test]
+fn a_stop_in_a_recovery_has_its_own_rounds(rt: HostRuntime) -> Result<(), Fail> {
+    // A recovery makes more than five calls.
+    for call in 1..6u64 {
+        let mut run = sum_run(rt.alloc())?;
+        run.goes(
+            &rt,
+            rt.alloc(),
+            &[
+                Happens::Arm(call, 0, 4),
+                Happens::Crash(0, 1),
+                Happens::Idle,
+            ],
+        )?;
+        let found = run.apply(rt.alloc(), Happens::Recover)?;
+        same_at(&rt, &found, &Answer::Down, &call);
+        // It was recovered in round 1, and its version is that of the crash.
+        same_at(&rt, &standing(&run.world)?, &(true, 1, 5), &call);
+        is_due_in(&rt, rt.alloc(), &mut run, 5)?;
+    }
+    Ok(())
+}
+
+#[test]
+fn a_failure_that_no_event_armed_takes_one_round(rt: HostRuntime) -> Result<(), Fail> {
+    // It was armed before the world was made. A start makes calls 1 to 4, and a decision calls 5 to 8.
+    let mut disk = new_disk(rt.alloc(), 5)?;
+    disk.arm(ArmedFault { call: 7, fill: 0 })?;
+    let mut run = Run {
+        world: sum_world(rt.alloc(), ITEMS, disk)??,
+        done: None,
+        earlier: None,
+    };
+    run.goes(
+        &rt,
+        rt.alloc(),
+        &[Happens::Grant, Happens::Install, Happens::Start],
+    )?;
+    let found = run.apply(rt.alloc(), Happens::Decide)?;
+    same(&rt, &found, &Answer::Down, "stopped");
+    same(&rt, &standing(&run.world)?, &(true, 1, 1), "down");
+    is_due_in(&rt, rt.alloc(), &mut run, 1)
 }

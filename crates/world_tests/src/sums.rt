@@ -112,7 +112,7 @@ pub(crate) enum Happens {
     Release,
     Crash(u8, u64),
     Recover,
-    Arm(u64, u8),
+    Arm(u64, u8, u64),
     Idle,
 }
 
@@ -178,7 +178,7 @@ fn usual(happens: Happens, number: u64) -> Answer {
         Happens::Release => leaves(number),
         Happens::Crash(_, _) => Answer::Crashed,
         Happens::Recover => Answer::Recovered,
-        Happens::Arm(_, _) => Answer::Acted,
+        Happens::Arm(_, _, _) => Answer::Acted,
         Happens::Idle => Answer::Idled,
     }
 }
@@ -216,7 +216,11 @@ pub(crate) fn choice<O: Outlet>(world: &World<TestCell, O>, node: u8) -> (Happen
         Event::Release(node) => (Happens::Release, node),
         Event::Crash { node, fill, rounds } => (Happens::Crash(fill, rounds), node),
         Event::Recover(node) => (Happens::Recover, node),
-        Event::Arm { node, fault } => (Happens::Arm(fault.call, fault.fill), node),
+        Event::Arm {
+            node,
+            fault,
+            rounds,
+        } => (Happens::Arm(fault.call, fault.fill, rounds), node),
         Event::Idle(node) => (Happens::Idle, node),
     }
 }
@@ -287,9 +291,10 @@ impl<O: Outlet> Run<O> {
                 rounds,
             }),
             Happens::Recover => Ok(Event::Recover(0)),
-            Happens::Arm(call, fill) => Ok(Event::Arm {
+            Happens::Arm(call, fill, rounds) => Ok(Event::Arm {
                 node: 0,
                 fault: ArmedFault { call, fill },
+                rounds,
             }),
             Happens::Idle => Ok(Event::Idle(0)),
         }

@@ -1,4 +1,5 @@
 use Rattle.std.proofs.Common.{ℕ, ap, ◌∙◌}
+use Rattle.node.specs.ArmedRestarts.{restart_after}
 use Rattle.node.specs.NodeView.{node_view}
 use Rattle.node.specs.Starting.{crashed}
 use Rattle.node.proofs.checkpoint.end_put.Goals as goal
@@ -12,6 +13,7 @@ returns-clause-failed g c = λ test. (
     any_moment = c.crash.ensures.any_moment;
     same_room = c.crash.ensures.same_room;
     failures = c.crash.ensures.failures;
+    same_failed = c.crash.ensures.same_failed;
   },
-  λ kept. c.stop.ensures kept ∙ ap (λ (n : ℕ). crashed n (node_view kept c.args.state.now)) c.next_after.ensures,
+  λ kept. c.stop.ensures kept ∙ ap (λ (n : ℕ). crashed n (node_view kept c.args.state.now)) (c.restart_after-restart.ensures ∙ ap (λ (call : ℕ). restart_after c.args.state.now.armed.items call c.args.round) c.failed_call.ensures),
 )
