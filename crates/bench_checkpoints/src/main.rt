@@ -125,11 +125,11 @@ fn nanos_of(
 }
 
 // The bytes of the record that a world's disk keeps: an area begins with the length of its value.
-fn record_bytes(world: SumWorld) -> anyhow::Result<u64> {
-    let Some(station) = world.close().pop() else {
-        return Err(anyhow::anyhow!("no station"));
+fn record_bytes(alloc: Global, world: SumWorld) -> anyhow::Result<u64> {
+    let (mut disks, _outlets) = world.close(alloc)?;
+    let Some(mut disk) = disks.pop() else {
+        return Err(anyhow::anyhow!("no disk"));
     };
-    let mut disk = station.node.store.close().close();
     let mut sector = [0; SECTOR_BYTES];
     disk.read(0, &mut sector)?;
     let first = if sector[0] % 2 == 0 {
@@ -147,12 +147,12 @@ fn measure(rt: &(impl Print + CpuClock), alloc: Global, items: usize) -> anyhow:
     start(alloc, &mut world)?;
     decide(alloc, &mut world)?;
     let (starting, deciding) = nanos_of(rt, alloc, &mut world, times)?;
-    let decided = record_bytes(world)?;
+    let decided = record_bytes(alloc, world)?;
     let mut world = world_of(alloc, items)?;
     start(alloc, &mut world)?;
     decide(alloc, &mut world)?;
     start(alloc, &mut world)?;
-    let started = record_bytes(world)?;
+    let started = record_bytes(alloc, world)?;
     println!(rt; "{items} {starting} {started} {deciding} {decided}")?;
     Ok(())
 }

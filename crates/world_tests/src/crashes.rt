@@ -2,8 +2,10 @@
 //! what has left stays, and the rest leaves once.
 
 use crate::asserting::{same, same_at};
+use crate::stops::parts_of;
 use crate::sums::{Answer, Happens, Run, choice, leaves, shown, standing, sum_run};
 use outlet::ListOutlet;
+use sector_disk::{Disk, SECTOR_BYTES};
 use std::alloc::Global;
 use std::process::Abort;
 use std::test::Fail;
@@ -71,6 +73,46 @@ fn a_crash_at_each_place(rt: HostRuntime) -> Result<(), Fail> {
         let found = crashed_before(&rt, rt.alloc(), place, next)?;
         same_at(&rt, &found, &(1, entry, 0, 3, 3), &place);
     }
+    Ok(())
+}
+
+// The first area after a crash behind a start, and all seven events after it: the record's length, and the record.
+const FIRST_AREA: &[u8] = &[
+    0, 0, 0, 0, 0, 0, 0, 98, // its length
+    1, 0, 0, 0, 0, 0, 0, 0, 0, 1, // version, node, epoch 1
+    1, 0, 0, 0, 0, 0, 0, 0, 2, 0, // one node, which used the numbers 1 and 2; no decision
+    1, 0, 1, 0, 0, 0, 0, 0, 2, // process 0 stands at site 0, and has two variables
+    0, 0, 0, 0, 0, 0, 0, 6, 0, 0, 0, 0, 0, 0, 0, 3, // the sum and the last item
+    0, 2, 0, 0, 0, 0, 0, 0, 0, 0, 0, 0, 3, // of channel 0 it received 3
+    0, 1, 1, 0, 0, 0, 0, 0, 0, 0, 0, 0, 0, 0, 3, // of what it put on channel 1 it retains 3
+    0, 0, 0, 0, 0, 0, 0, 1, 0, 0, 0, 0, 0, 0, 0, 3, 0, 0, 0, 0, 0, 0, 0, 6, //
+    0, // no tentative image
+];
+
+#[test]
+fn the_record_behind_a_crash(rt: HostRuntime) -> Result<(), Fail> {
+    let mut run = sum_run(rt.alloc())?;
+    goes_on(&rt, rt.alloc(), &mut run, 0, 3)?;
+    run.goes(
+        &rt,
+        rt.alloc(),
+        &[Happens::Crash(0, 1), Happens::Idle, Happens::Recover],
+    )?;
+    goes_on(&rt, rt.alloc(), &mut run, 0, 7)?;
+    run.has_left(&rt, 3, 7);
+    // Four puts since the disk was formatted, so that the record lies in the first area again.
+    let (mut disk, _outlet) = parts_of(rt.alloc(), run.world)?;
+    let mut sector = [7; SECTOR_BYTES];
+    match disk.read(1, &mut sector) {
+        Ok(()) => (),
+        Err(_) => return Err("not read".into()),
+    }
+    same(
+        &rt,
+        &sector.iter().take(106).eq(FIRST_AREA.iter()),
+        &true,
+        "the record",
+    );
     Ok(())
 }
 

@@ -87,8 +87,8 @@ fn a_disk_stopped_twice(rt: HostRuntime) -> Result<(), Fail> {
     Ok(())
 }
 
-// The one disk and the one outlet of a world that is closed.
-fn parts_of(
+/// The one disk and the one outlet of a world that is closed.
+pub(crate) fn parts_of(
     alloc: Global,
     world: World<TestCell, ListOutlet>,
 ) -> Result<(MemDisk, ListOutlet), Fail> {
