@@ -1,5 +1,6 @@
 -- What a crash may leave of a station's cell.
 use Rattle.std.proofs.Common.{◌≡◌, inl, inr, ⊎_elim, ℕ, List, Option, Some, None, sym, subst, ap, ◌∙◌, arith}
+use Rattle.std.proofs.Math.Logic.{∥∥₁_map}
 use Rattle.sector_disk.specs.Clock.{Only}
 use Rattle.gate_cell.specs.declared.cell.StableCell.{Ghosts as CellWords}
 use Rattle.record.specs.Ends.{sent_of}
@@ -22,6 +23,10 @@ module _ {C : Type 0} (words : CellWords C) where
   pub own_alone : (store : Store C words) → Only (Some (words.value (cell_in store))) (words.may_leave (cell_in store)) → (left : Option (List ℕ)) → words.may_leave (cell_in store) left
       → (spelled : RecordView) → Spells spelled left → spelled ≡ record_in store
   own_alone store settled left might spelled is = sym (spelled_is spelled (words.value (cell_in store)) (subst (λ (l : Option (List ℕ)). Spells spelled l) (settled left might) is))
+
+  pub own_spelled : (store : Store C words) → Only (Some (words.value (cell_in store))) (words.may_leave (cell_in store)) → (left : Option (List ℕ)) → words.may_leave (cell_in store) left
+      → ∥ Spells (record_in store) left ∥₁
+  own_spelled store settled left might = ∥∥₁_map (store.kept.leaves left might) (λ some. subst (λ (kept : RecordView). Spells kept left) (own_alone store settled left might some.0 some.1) some.1)
 
   pub own_left : (store : Store C words) (next : RecordView) → Only (Some (words.value (cell_in store))) (words.may_leave (cell_in store)) → (left : Option (List ℕ)) → words.may_leave (cell_in store) left
       → LeavesEither (record_in store) next left

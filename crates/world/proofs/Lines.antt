@@ -1,5 +1,5 @@
 -- The line of a world with an event: from what a crash leaves of each station to the line of all.
-use Rattle.std.proofs.Common.{◌∙◌, ℕ, List, ℤ, [], ◌∷◌, map, Option, refl, ap}
+use Rattle.std.proofs.Common.{◌≡◌, ◌∙◌, ℕ, List, ℤ, [], ◌∷◌, map, Option, refl, ap}
 use Rattle.std.specs.List.{AllZip}
 use Rattle.std.proofs.Math.Logic.{∥∥₁_map₂}
 use Rattle.kahn_net.specs.Syntax.{Network}
@@ -10,11 +10,11 @@ use Rattle.ckpt_store.specs.StoreView.{record_in}
 use Rattle.node.specs.Starting.{IsBehind}
 use Rattle.world.specs.Invariant.{outputs_of, WorldInvariant}
 use Rattle.world.specs.LineLaws.{line_ahead, line_of, fit_undecided, kept_undecided}
-use Rattle.world.specs.RecoveryLine.{records_of, AreLeftSince, KeepsLine, HasOneLine, FitsOutputs, StaysInLine}
+use Rattle.world.specs.RecoveryLine.{records_of, MayBeLeft, AreLeftSince, KeepsLine, HasOneLine, FitsOutputs, StaysInLine}
 use Rattle.world.specs.StationView.{StationView}
 use Rattle.world.specs.WorldView.{station_view}
 use Rattle.world.specs.declared.station.Station.{Station}
-use Rattle.world.proofs.Cells.{own_alone}
+use Rattle.world.proofs.Cells.{own_alone, own_spelled}
 
 module _ {C O : Type 0} {cell : CellWords C} (taken : O → List ℤ) (failures : O → ℕ) where
   -- each choice spells a record of each node
@@ -75,12 +75,23 @@ module _ {C O : Type 0} {cell : CellWords C} (taken : O → List ℤ) (failures 
   }
 
   -- what a crash leaves now is what the nodes keep
-  pub one_line : (stations : List (Station C O cell)) → HasOneLine taken failures stations
-  one_line [] [] [] may spelled = refl
-  one_line [] [] (kept ∷ records) may spelled = absurd spelled
-  one_line [] (left ∷ lefts) records may spelled = absurd may
-  one_line (station ∷ stations) [] records may spelled = absurd may
-  one_line (station ∷ stations) (left ∷ lefts) [] may spelled = absurd spelled
-  one_line (station ∷ stations) (left ∷ lefts) (kept ∷ records) may spelled =
+  kept_spelled : (stations : List (Station C O cell)) (lefts : List (Option (List ℕ))) → AllZip MayBeLeft stations lefts → ∥ AllZip Spells (records_of (map (station_view taken failures) stations)) lefts ∥₁
+  kept_spelled [] [] may = ∣ tt ∣₁
+  kept_spelled [] (left ∷ lefts) may = absurd may
+  kept_spelled (station ∷ stations) [] may = absurd may
+  kept_spelled (station ∷ stations) (left ∷ lefts) may =
+      ∥∥₁_map₂ (own_spelled cell station.node.store station.node.kept.settled left may.0) (kept_spelled stations lefts may.1) (λ one others. (one, others))
+
+  kept_alone : (stations : List (Station C O cell)) (lefts : List (Option (List ℕ))) (records : List RecordView) → AllZip MayBeLeft stations lefts → AllZip Spells records lefts
+      → records ≡ records_of (map (station_view taken failures) stations)
+  kept_alone [] [] [] may spelled = refl
+  kept_alone [] [] (kept ∷ records) may spelled = absurd spelled
+  kept_alone [] (left ∷ lefts) records may spelled = absurd may
+  kept_alone (station ∷ stations) [] records may spelled = absurd may
+  kept_alone (station ∷ stations) (left ∷ lefts) [] may spelled = absurd spelled
+  kept_alone (station ∷ stations) (left ∷ lefts) (kept ∷ records) may spelled =
       ap (λ (one : RecordView). one ∷ records) (own_alone cell station.node.store station.node.kept.settled left may.0 kept spelled.0)
-      ∙ ap (λ (others : List RecordView). record_in station.node.store ∷ others) (one_line stations lefts records may.1 spelled.1)
+      ∙ ap (λ (others : List RecordView). record_in station.node.store ∷ others) (kept_alone stations lefts records may.1 spelled.1)
+
+  pub one_line : (stations : List (Station C O cell)) → HasOneLine taken failures stations
+  one_line stations = record { spelled = kept_spelled stations; alone = kept_alone stations }

@@ -119,10 +119,11 @@ pub record KeepsLine {C O : Type 0} {cell : CellWords C} (taken : O → List ℤ
 abbrev pub LinesFollow : Type 0
 LinesFollow = (first second third : ℕ → Record) → NotBehind first second → NotBehind second third → NotBehind first third
 
--- One line alone is possible now: whatever a crash of all nodes leaves spells the records that the nodes keep.
-abbrev pub HasOneLine : {C O : Type 0} {cell : CellWords C} → (O → List ℤ) → (O → ℕ) → List (Station C O cell) → Type 0
-HasOneLine taken failures stations = (lefts : List (Option (List ℕ))) (records : List RecordView) → AllZip MayBeLeft stations lefts → AllZip Spells records lefts
-    → records ≡ records_of (map (station_view taken failures) stations)
+-- One line alone is possible now: whatever a crash of all nodes leaves spells the records that the nodes keep, and no others.
+pub record HasOneLine {C O : Type 0} {cell : CellWords C} (taken : O → List ℤ) (failures : O → ℕ) (stations : List (Station C O cell)) : Type 0 where
+  pub spelled : (lefts : List (Option (List ℕ))) → AllZip MayBeLeft stations lefts → ∥ AllZip Spells (records_of (map (station_view taken failures) stations)) lefts ∥₁
+  pub alone : (lefts : List (Option (List ℕ))) (records : List RecordView) → AllZip MayBeLeft stations lefts → AllZip Spells records lefts
+      → records ≡ records_of (map (station_view taken failures) stations)
 
 -- ---- the same of one station
 
