@@ -1,20 +1,16 @@
 -- From a put that a store did, or refused, to what came of the event.
 use Rattle.std.proofs.Common.{◌≡◌, ◌⊎◌, inl, inr, ⊎_elim, ℕ, ◌<◌, ◌≤◌, Bool, true, false, List, length, Option, Some, None, Result, Ok, Err, refl, sym, ◌∙◌, ap, subst}
-use Rattle.std.specs.Prelude.{IsTrue, IsErrOf, OnOk, OnErr, IfOk, IfErr, IsSome, slice_set, cond}
-use Rattle.std.proofs.lemmas.List.{length-set}
+use Rattle.std.specs.Prelude.{IsTrue, IsErrOf, OnOk, OnErr, IfOk, IfErr, IsSome}
 use Rattle.sector_disk.specs.Clock.{Only}
 use Rattle.gate_cell.specs.declared.cell.StableCell.{Ghosts as CellWords}
 use Rattle.record.specs.RecordView.{RecordView}
-use Rattle.record.specs.declared.record.Tentative.{Tentative}
 use Rattle.ckpt_store.specs.StoreFault.{IsOfPut}
 use Rattle.ckpt_store.specs.StoreView.{cell_in, known_in, record_in, Changes}
 use Rattle.ckpt_store.specs.declared.store.Store.{Store}
 use Rattle.ckpt_store.specs.declared.fault.StoreFault.{StoreFault}
 use Rattle.ckpt_store.specs.declared.fault.StoreFault.TheVariants as fault
-use Rattle.kahn_net.specs.declared.limits.TheConstants.{MAX_COUNT}
-use Rattle.node.specs.NodeView.{NodeView, ModeView, node_view, mode_view}
-use Rattle.node.specs.Starting.{is_down, crashed, with_kept, may_start, may_decide, with_own_now, decided, IsStart, IsDecision, HasFailedAt}
-use Rattle.record.specs.Moves.{highest_seen}
+use Rattle.node.specs.NodeView.{NodeView, node_view, mode_view}
+use Rattle.node.specs.Starting.{is_down, crashed, with_kept, HasFailedAt}
 use Rattle.node.specs.StoredView.{HasRecord, LeavesNext, IsCrashed, has_failed, put_outcome, IsAnswer}
 use Rattle.node.specs.declared.state.NodeState.{NodeState}
 use Rattle.node.specs.declared.putting.Putting.{Putting}

@@ -1,7 +1,7 @@
 -- A store that is reopened and put into its next epoch.
-use Rattle.std.proofs.Common.{◌≡◌, ◌⊎◌, inl, inr, ⊎_elim, ℕ, ◌<◌, ◌≤◌, Bool, true, false, List, Option, Some, None, Result, Ok, Err, refl, sym, ◌∙◌, ap, subst}
+use Rattle.std.proofs.Common.{◌≡◌, ℕ, ◌<◌, ◌≤◌, Bool, true, false, List, Option, Some, None, Result, Ok, Err, refl, ◌∙◌, ap, subst}
 use Rattle.std.specs.Prelude.{IsTrue, IsErrOf, OnOk, OnErr, IfOk, IfErr, IsSome, nat_lt, cond}
-use Rattle.std.proofs.lemmas.Bool.{ltb-true, ltb-false}
+use Rattle.std.proofs.lemmas.Bool.{ltb-true}
 use Rattle.sector_disk.specs.Clock.{Only}
 use Rattle.gate_cell.specs.declared.cell.StableCell.{Ghosts as CellWords}
 use Rattle.record.specs.ImageView.{ImageView}
@@ -17,7 +17,7 @@ use Rattle.ckpt_store.specs.declared.store.Store.{Store}
 use Rattle.ckpt_store.specs.declared.fault.StoreFault.{StoreFault}
 use Rattle.ckpt_store.specs.declared.fault.StoreFault.TheVariants as fault
 use Rattle.node.specs.StoredView.{LeavesNext, IsRaised, IsRaiseRefusal}
-use Rattle.node.proofs.Records.{some_known, still_settled, looked, looked_then, settled_ready, change_refusals, change_moments, change_fits, change_done, change_refused}
+use Rattle.node.proofs.Records.{some_known, still_settled, looked, looked_then, settled_ready, change_moments, change_fits, change_done}
 
 of_reopening : (fits : Bool) (kept : RecordView) (e : StoreFault) → IsOfReopening e → IsRaiseRefusal fits kept e
 of_reopening fits kept fault.NoMemory is = tt

@@ -1,21 +1,20 @@
 -- From what a store's calls say to the record that a node has.
-use Rattle.std.proofs.Common.{◌≡◌, ◌⊎◌, inl, inr, ⊎_elim, ℕ, ◌<◌, ◌≤◌, Bool, true, false, List, length, Option, Some, None, Result, Ok, Err, refl, sym, ◌∙◌, ap, subst, arith}
-use Rattle.std.specs.Prelude.{IsTrue, IsErrOf, OnOk, OnErr, IfErr, IsSome, is_some, option_map}
+use Rattle.std.proofs.Common.{◌≡◌, ◌⊎◌, inl, inr, ⊎_elim, ℕ, ◌≤◌, List, Option, Some, None, Result, Ok, Err, refl, sym, ◌∙◌, ap, subst, arith}
+use Rattle.std.specs.Prelude.{IsTrue, IsErrOf, OnOk, OnErr, IfErr, IsSome, option_map}
 use Rattle.std.specs.Option.{ForSome}
-use Rattle.sector_disk.specs.Clock.{Only, LeavesOnly}
+use Rattle.sector_disk.specs.Clock.{Only}
 use Rattle.sector_disk.proofs.Moments.{joined, weakened}
 use Rattle.gate_cell.specs.declared.cell.StableCell.{Ghosts as CellWords}
 use Rattle.record.specs.RecordView.{RecordView}
-use Rattle.ckpt_codec.specs.RecordText.{IsRecordText}
 use Rattle.ckpt_store.specs.Spelling.{Spells, SpellsAny, fits_in, fits_next, IsLengthTold}
 use Rattle.ckpt_store.specs.Refusals.{first_refusal, ComesFirst}
-use Rattle.ckpt_store.specs.StoreFault.{IsOfPut, HasFailures}
+use Rattle.ckpt_store.specs.StoreFault.{IsOfPut}
 use Rattle.ckpt_store.specs.StoreView.{cell_in, known_in, record_in, record_spelled, blank, Holds, Changes}
 use Rattle.ckpt_store.specs.declared.store.Store.{Store}
 use Rattle.ckpt_store.specs.declared.fault.StoreFault.{StoreFault}
 use Rattle.ckpt_store.specs.declared.fault.StoreFault.TheVariants as fault
 use Rattle.ckpt_store.proofs.Seen.{spelled_is, known_is}
-use Rattle.node.specs.StoredView.{LeavesNext, LeavesAsBefore, IsCrashed, has_failed}
+use Rattle.node.specs.StoredView.{LeavesNext, LeavesAsBefore}
 
 -- the record that was left
 abbrev record_left : Option (List ℕ) → RecordView

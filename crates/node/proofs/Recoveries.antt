@@ -1,6 +1,6 @@
 -- What a crash and a recovery leave of a node.
-use Rattle.std.proofs.Common.{◌≡◌, ◌⊎◌, inl, inr, ⊎_elim, ℕ, ◌<◌, ◌≤◌, Bool, true, false, List, length, Option, Some, None, Result, Ok, Err, refl, sym, ◌∙◌, ap, subst}
-use Rattle.std.specs.Prelude.{IsTrue, IsErrOf, OnOk, OnErr, IfOk, IfErr, IsSome}
+use Rattle.std.proofs.Common.{◌≡◌, ◌⊎◌, inl, inr, ⊎_elim, ℕ, ◌<◌, ◌≤◌, true, false, List, length, Option, Some, refl, sym, ◌∙◌, ap, subst}
+use Rattle.std.specs.Prelude.{IsTrue}
 use Rattle.std.specs.Option.{ForSome}
 use Rattle.sector_disk.specs.Clock.{Only}
 use Rattle.gate_cell.specs.declared.cell.StableCell.{Ghosts as CellWords}
@@ -16,7 +16,7 @@ use Rattle.node.specs.Recovering.{IsRecovery, back_answer, restored, restored_mo
 use Rattle.node.specs.StoredView.{HasRecord, LeavesNext, LeavesAsBefore}
 use Rattle.node.specs.declared.state.NodeState.{NodeState}
 use Rattle.node.specs.declared.putting.Recovery.{Recovery}
-use Rattle.node.specs.declared.putting.Recovery.TheVariants.{NotDue, Recovered, Waiting, Refused, Failed}
+use Rattle.node.specs.declared.putting.Recovery.TheVariants.{Failed}
 use Rattle.node.proofs.Records.{crash_keeps, one_of_both, then_crashed}
 
 module _ {C : Type 0} (words : CellWords C) (number restart : ℕ) (old new : Store C words) (before after : NodeState) (has : HasRecord number (mode_view before.mode) old) (up : is_down (mode_view before.mode) ≡ false)

@@ -1,5 +1,5 @@
 // Checkpoints: a node takes a tentative image, and makes it permanent.
-ghost use Rattle.std.specs.Prelude.{◌≡◌, ◌⊎◌, ◌<◌, false, IfOk, IsTrue, OnErr, Some, length};
+ghost use Rattle.std.specs.Prelude.{◌≡◌, ◌<◌, false, IfOk, IsTrue, OnErr, Some, length};
 ghost use Rattle.ckpt_store.specs.Spelling.{fits_in};
 ghost use Rattle.ckpt_store.specs.StoreView.{cell_in, record_in};
 ghost use Rattle.node.specs.ArmedRestarts.{restart_after};

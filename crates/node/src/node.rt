@@ -12,7 +12,7 @@ ghost use Rattle.node.specs.ArmedRestarts.{with_armed};
 ghost use Rattle.node.specs.Choosing.{node_job, with_grant};
 ghost use Rattle.node.specs.Installing.{IsInstall, IsOut, TakesTurn};
 ghost use Rattle.node.specs.JobView.{job_view};
-ghost use Rattle.node.specs.NodeView.{mode_view, node_view};
+ghost use Rattle.node.specs.NodeView.{mode_view};
 ghost use Rattle.node.specs.Opening.{running_from};
 ghost use Rattle.node.specs.Recovering.{IsCrash, IsRecovery, IsRecoveryPut};
 ghost use Rattle.node.specs.Starting.{decided, with_own_now, IsDecision, IsLikeNow, IsPut, IsStart, LeavesCell};

@@ -1,6 +1,6 @@
 //! How the tests grant a job and take in what came of it.
 
-ghost use Rattle.std.specs.Prelude.{◌≡◌, IfOk, IsTrue, Some};
+ghost use Rattle.std.specs.Prelude.{◌≡◌, IsTrue, Some};
 ghost use Rattle.retained.specs.LogState.{Overfills};
 ghost use Rattle.record.specs.Ends.{received_at, log_at};
 ghost use Rattle.node.specs.Granting.{is_process};

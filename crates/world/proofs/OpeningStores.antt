@@ -1,5 +1,5 @@
 -- A store that was opened on a cell with a record's bytes, and why none is.
-use Rattle.std.proofs.Common.{◌≡◌, ◌⊎◌, inl, inr, ℕ, ◌+◌, ◌*◌, ◌<◌, ◌≤◌, List, length, get_or, take, drop, Option, Some, None, refl, sym, ap, subst, ◌∙◌, length-take, arith}
+use Rattle.std.proofs.Common.{◌≡◌, inl, inr, ℕ, ◌+◌, ◌*◌, ◌<◌, ◌≤◌, List, length, get_or, take, drop, Option, Some, None, refl, sym, ap, subst, ◌∙◌, length-take, arith}
 use Rattle.std.specs.Prelude.{◌%◌, false, Err, IsSome, IsTrue, IsErrOf}
 use Rattle.sector_disk.specs.Clock.{Only}
 use Rattle.sector_disk.specs.declared.TheConstants.{SECTOR_BYTES}

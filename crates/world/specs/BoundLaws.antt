@@ -5,7 +5,7 @@ use Rattle.kahn_net.specs.Syntax.{Network}
 use Rattle.kahn_net.specs.Valid.{IsValid}
 use Rattle.ckpt_codec.specs.SizeLaws.{IsRecordWithin}
 use Rattle.ckpt_codec.specs.declared.lengths.TheConstants.{MAX_RETAINED_ITEMS}
-use Rattle.node.specs.NodeView.{NodeView, ModeView, Down, InDoubt, Runs, RunningNode, running_node, running_in, running_of}
+use Rattle.node.specs.NodeView.{ModeView, Down, InDoubt, Runs, RunningNode, running_node, running_in}
 use Rattle.node.specs.SizeLaws.{current_within, own_within}
 use Rattle.node.specs.Starting.{with_own, own_at, with_own_now}
 use Rattle.world.specs.Invariant.{outputs_of, StationInvariant}

@@ -1,6 +1,5 @@
 -- No channel of a network that can be run goes from process to process.
 use Rattle.std.specs.Prelude.{◌≡◌, ◌||◌, IsTrue}
-use Rattle.std.proofs.Common.{refl}
 use Rattle.kahn_net.specs.Syntax.{Network}
 use Rattle.kahn_net.specs.declared.program.Port.{Port}
 use Rattle.kahn_net.specs.declared.program.Port.TheVariants.{Outside, Process}

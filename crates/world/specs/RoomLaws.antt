@@ -6,7 +6,6 @@ use Rattle.kahn_net.specs.Syntax.{Network}
 use Rattle.kahn_net.specs.Valid.{IsValid}
 use Rattle.record.specs.RecordView.{RecordView}
 use Rattle.ckpt_codec.specs.Lengths.{record_length, spelled_length}
-use Rattle.ckpt_codec.specs.RecordText.{record_text}
 use Rattle.ckpt_codec.specs.SizeLaws.{IsRecordWithin, record_fits, within_epoch}
 use Rattle.ckpt_codec.specs.declared.lengths.TheConstants.{MAX_RECORD_BYTES, MAX_RETAINED_ITEMS}
 use Rattle.ckpt_codec.proofs.Sizes.{length-record}
@@ -23,7 +22,7 @@ use Rattle.node.specs.declared.putting.Recovery.TheVariants as recovery
 use Rattle.world.specs.BoundLaws.{start_bounded}
 use Rattle.world.specs.EventView.{EventView}
 use Rattle.world.specs.EventView as event
-use Rattle.world.specs.Invariant.{AreSound, StationInvariant, WorldInvariant}
+use Rattle.world.specs.Invariant.{AreSound, StationInvariant}
 use Rattle.world.specs.Replies.{grant_reply, install_reply, start_reply, decision_reply, crash_reply, recovery_reply, IsTooLarge}
 use Rattle.world.specs.ReplyView.{ReplyView}
 use Rattle.world.specs.ReplyView as reply

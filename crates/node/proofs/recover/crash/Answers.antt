@@ -1,7 +1,4 @@
-use Rattle.std.proofs.Common.{ap, sym, subst, ◌∙◌}
-use Rattle.record.specs.RecordView.{RecordView}
-use Rattle.node.specs.NodeView.{NodeView, node_view}
-use Rattle.node.proofs.Records.{crash_keeps}
+use Rattle.std.proofs.Common.{sym, ◌∙◌}
 use Rattle.node.proofs.Recoveries.{crash_has, crash_step}
 use Rattle.node.proofs.recover.crash.Goals as goal
 

@@ -1,4 +1,4 @@
-use Rattle.std.proofs.Common.{ℕ, length, refl, sym, ap, subst, ◌∙◌}
+use Rattle.std.proofs.Common.{ℕ, length, sym, ap, subst, ◌∙◌}
 use Rattle.ckpt_codec.specs.Lengths.{spelled_length}
 use Rattle.ckpt_codec.specs.RecordText.{IsRecordText}
 use Rattle.gate_cell.specs.GateCell.{content_of, disk_in}

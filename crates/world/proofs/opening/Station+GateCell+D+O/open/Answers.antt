@@ -1,4 +1,4 @@
-use Rattle.std.proofs.Common.{◌≡◌, ◌<◌, ℕ, length, refl, sym, ap, subst, ◌∙◌, arith}
+use Rattle.std.proofs.Common.{length, sym, ap, subst, ◌∙◌, arith}
 use Rattle.kahn_net.specs.Syntax.{network_of}
 use Rattle.gate_cell.specs.GateCell.{failures_of}
 use Rattle.ckpt_store.specs.StoreView.{cell_in, record_in}

@@ -1,4 +1,4 @@
-use Rattle.std.proofs.Common.{ℕ, ℤ, List, map, ap, sym, subst, ◌∙◌}
+use Rattle.std.proofs.Common.{ℤ, List, map, ap, sym, subst, ◌∙◌}
 use Rattle.kahn_net.specs.Syntax.{network_of}
 use Rattle.ckpt_store.specs.Spelling.{fits_in}
 use Rattle.ckpt_store.specs.StoreView.{cell_in}
@@ -11,7 +11,7 @@ use Rattle.world.specs.StationView.{StationView}
 use Rattle.world.specs.Steps.{round_after}
 use Rattle.world.specs.StepKeeps.{act_keeps_world}
 use Rattle.world.specs.WholeView.{world_of}
-use Rattle.world.specs.WorldView.{capacities, rooms, station_view, world_view}
+use Rattle.world.specs.WorldView.{rooms, station_view, world_view}
 use Rattle.world.specs.declared.station.Station.{Station}
 use Rattle.world.proofs.Lines.{keeps_line, one_line}
 use Rattle.world.proofs.world.World.apply.Goals as goal
