@@ -2,7 +2,7 @@
 
 ghost use Rattle.std.specs.Prelude.{◌≡◌, [], IsTrue};
 ghost use Rattle.node.specs.NodeOf.{view_of};
-ghost use Rattle.node.specs.Starting.{IsLikeNow};
+ghost use Rattle.protocol.specs.Node.Starting.{IsLikeNow};
 
 use crate::asserting::{same, same_at};
 use crate::nodes::{

@@ -3,10 +3,10 @@
 ghost use Rattle.std.specs.Prelude.{◌≡◌, IsTrue, Some};
 ghost use Rattle.retained.specs.LogState.{Overfills};
 ghost use Rattle.record.specs.Ends.{received_at, log_at};
-ghost use Rattle.node.specs.Granting.{is_process};
+ghost use Rattle.protocol.specs.Node.Granting.{is_process};
 ghost use Rattle.node.specs.NodeView.{mode_view};
 ghost use Rattle.record.specs.Changes.{LogTakes};
-ghost use Rattle.node.specs.Installing.{taken_from, put_on, EndTakes, ImageTakes, TakesTurn};
+ghost use Rattle.protocol.specs.Node.Installing.{taken_from, put_on, EndTakes, ImageTakes, TakesTurn};
 
 use crate::nodes::TestNode;
 use kahn_net::{Channel, History, MAX_COUNT, Port};
