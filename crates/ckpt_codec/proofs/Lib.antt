@@ -6,8 +6,8 @@ mod Parts
 mod Text
 mod Records
 mod Items
-pub mod Exactness
+mod Exactness
 mod Spelled
 mod Walking
-pub mod Sizes
+mod Sizes
 mod Fitting

@@ -6,4 +6,3 @@ pub mod Alike
 pub mod Loads
 pub mod Undone
 pub mod Changes
-pub mod Seen

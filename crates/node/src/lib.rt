@@ -1,30 +1,28 @@
-//! A node: what it has, the store that keeps its record over a crash, and its events.
+//! A node: what it has, the cell that keeps its record over a crash, and its events.
 //!
-//! A node that is down has no more than what its store's cell holds; recovered, it runs from its permanent image.
+//! `StableCell` is the model of that cell: a crash at any moment of a `put` leaves the old record or the new one.
 #![tactic(auto)]
 
-mod checkpoint;
+mod cell;
 mod choosing;
+mod events;
 mod granting;
 mod installing;
-mod mode;
+mod memory;
 mod node;
 mod opening;
-mod preparing;
 mod putting;
-mod recover;
 mod releasing;
-mod restart;
-mod running;
 mod sharing;
+mod starting;
 mod state;
 
+pub use cell::StableCell;
+pub use gate_cell::CellFault;
 pub use granting::MAX_JOB_ITEMS;
-pub use mode::Mode;
+pub use memory::MemCell;
 pub use node::Node;
-pub use opening::opening_record;
-pub use putting::{Putting, Recovery};
-pub use restart::{ArmedRestart, round_later};
-pub use running::Running;
+pub use putting::Putting;
 pub use sharing::share_law;
-pub use state::{NodeState, next_after};
+pub use starting::{can_start, next_after};
+pub use state::NodeState;

@@ -3,16 +3,4 @@
 #![tactic(auto)]
 
 #[cfg(test)]
-mod asserting;
-#[cfg(test)]
-mod checkpoints;
-#[cfg(test)]
-mod crashes;
-#[cfg(test)]
-mod images;
-#[cfg(test)]
-mod jobs;
-#[cfg(test)]
-mod nodes;
-#[cfg(test)]
-mod taking;
+mod events;

@@ -3,8 +3,6 @@
 #![tactic(auto)]
 
 #[cfg(test)]
-mod device;
-#[cfg(test)]
 mod printing;
 #[cfg(test)]
 mod reading;

@@ -1,7 +1,5 @@
 mod Cells
-mod Lines
 mod Openings
-mod OpeningStores
 mod Views
 mod Stations
 mod Showing

@@ -2,8 +2,7 @@
 
 use crate::output::Output;
 use crate::round_turns::RoundTurns;
-use gate_cell::StableCell;
-use node::Node;
+use node::{Node, StableCell};
 use outlet::Outlet;
 
 /// A node and the outputs on which its processes put.

@@ -3,14 +3,8 @@
 #![tactic(auto)]
 
 #[cfg(test)]
-mod asserting;
-#[cfg(test)]
-mod crashes;
-#[cfg(test)]
 mod events;
 #[cfg(test)]
-mod stops;
-#[cfg(test)]
-mod sums;
+mod weak_cell;
 #[cfg(test)]
 mod weak_outlet;
