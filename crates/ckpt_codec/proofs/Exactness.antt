@@ -112,7 +112,7 @@ spelled_goes kept front rest text =
     (ap (λ (t : List ℕ). scan (record_fields kept) (t ++ rest)) text.spelled
     ∙ all_again (record_fields kept) rest (recursion_from_All IsAllowed (record_fields kept) text.allowed))
 
-whole_again : (kept : RecordView) (bytes : List ℕ) → IsRecordText kept bytes → whole_at bytes ≡ Ok kept
+pub whole_again : (kept : RecordView) (bytes : List ℕ) → IsRecordText kept bytes → whole_at bytes ≡ Ok kept
 whole_again kept bytes text =
     let g = spelled_goes kept bytes [] text in
     ap whole_at (sym (append-nil bytes) ∙ g.begins) ∙ (whole_own g.rest ∙ ap if_all g.reads)

@@ -6,8 +6,8 @@ mod Parts
 mod Text
 mod Records
 mod Items
-mod Exactness
+pub mod Exactness
 mod Spelled
 mod Walking
-mod Sizes
+pub mod Sizes
 mod Fitting

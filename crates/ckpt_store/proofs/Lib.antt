@@ -6,3 +6,4 @@ pub mod Alike
 pub mod Loads
 pub mod Undone
 pub mod Changes
+pub mod Seen

@@ -1,9 +1,11 @@
 -- What a store shows, and how its calls change that.
-use Rattle.std.specs.Prelude.{◌≡◌, Option, Some, None, Result, Ok, Err}
+use Rattle.std.specs.Prelude.{◌≡◌, ℕ, List, [], Option, Some, None, Result, Ok, Err}
 use Rattle.sector_disk.specs.Clock.{LeavesOnly}
 use Rattle.gate_cell.specs.declared.cell.StableCell.{Ghosts as CellWords}
 use Rattle.record.specs.RecordView.{RecordView}
 use Rattle.ckpt_codec.specs.RecordText.{IsRecordText}
+use Rattle.ckpt_codec.specs.Reading.{whole_at}
+use Rattle.ckpt_codec.specs.declared.fault.CodecFault.{CodecFault}
 use Rattle.ckpt_store.specs.Putting.{IsChange, IsIdle}
 use Rattle.ckpt_store.specs.declared.fault.StoreFault.{StoreFault}
 use Rattle.ckpt_store.specs.declared.fault.StoreFault.TheVariants.{Reopen}
@@ -22,6 +24,22 @@ known_in store = store.known
 -- the record that the cell's value spells, in every state of the store
 abbrev pub Holds : {C : Type 0} {words : CellWords C} → Store C words → RecordView → Type 0
 Holds {words = words} store kept = IsRecordText kept (words.value store.cell)
+
+-- a record of nothing
+abbrev pub blank : RecordView
+blank = record { node = 0; epoch = 0; highest = []; decision = None; permanent = record { processes = []; ends = [] }; tentative = None }
+
+abbrev pub record_or_blank : Result RecordView CodecFault → RecordView
+record_or_blank (Ok kept) = kept
+record_or_blank (Err fault) = blank
+
+-- the record that these bytes spell; a blank one where they spell none
+abbrev pub record_spelled : List ℕ → RecordView
+record_spelled bytes = record_or_blank (whole_at bytes)
+
+-- the record that the cell's value spells: of a ready store, the one that is known
+abbrev pub record_in : {C : Type 0} {words : CellWords C} → Store C words → RecordView
+record_in {words = words} store = record_spelled (words.value store.cell)
 
 -- the record was changed to the next one by one put, or that was refused
 abbrev pub Changes : {C : Type 0} {words : CellWords C} → (RecordView → Option StoreFault) → (RecordView → RecordView) → Store C words → Store C words → {T : Type 0} → Result T StoreFault → Type 0

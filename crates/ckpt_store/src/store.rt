@@ -33,7 +33,7 @@ pub struct Refused<C: StableCell> {
 }
 
 impl<C: StableCell> Store<C> {
-    ghost use Rattle.ckpt_store.specs.StoreView.{cell_in, known_in, Holds, Changes, Stays, Opens, Reopens, IsUntouched};
+    ghost use Rattle.ckpt_store.specs.StoreView.{cell_in, known_in, record_in, Holds, Changes, Stays, Opens, Reopens, IsUntouched};
 
     /// Opens the record that the cell's value spells. It never writes.
     ///
@@ -64,13 +64,21 @@ impl<C: StableCell> Store<C> {
 
     /// The record. Refuses with `Reopen` (23) alone, exactly where the store isn't ready.
     pub fn record(&self) -> Result<&Record, StoreFault>
-        ensures { MatchResult result (λ kept. known_in self.now ≡ Some kept.now)
+        ensures { MatchResult result
+            (λ kept. (known_in self.now ≡ Some kept.now) × (record_in self.now ≡ kept.now))
             (λ fault. (fault ≡ StoreFault.Reopen) × (known_in self.now ≡ None)) }
     {
         match &self.known {
             Some(kept) => Ok(kept),
             None => Err(StoreFault::Reopen),
         }
+    }
+
+    /// The last device call that failed, counted since the last recount, or 0 where none has failed since.
+    pub fn failed_call(&self) -> u64
+        ensures { result ≡ C.failed_call (cell_in self.now) }
+    {
+        self.cell.failed_call()
     }
 
     /// Takes a tentative image of an instance, whose number becomes the highest seen of its initiator.
@@ -177,6 +185,7 @@ impl<C: StableCell> Store<C> {
         ensures same_room { C.capacity (cell_in self.new) ≡ C.capacity (cell_in self.old) }
         ensures failures { C.failure_count (cell_in self.new)
             ≡ C.failure_count (cell_in self.old) }
+        ensures same_failed { C.failed_call (cell_in self.new) ≡ C.failed_call (cell_in self.old) }
     {
         self.known = None;
         self.cell.crash(fill);

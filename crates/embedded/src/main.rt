@@ -1,41 +1,47 @@
-//! A world in a program of one's own: the running sum of 1 2 3, event by event.
+//! A world in a program of one's own: the running sum of 1 2 3, event by event, with a crash in the middle.
 #![tactic(auto)]
 
+ghost use Rattle.std.specs.Prelude.{◌*◌, ◌^◌, ◌<◌};
+ghost use Rattle.sector_disk.specs.declared.TheConstants.{SECTOR_BYTES};
+
+use gate_cell::GateCell;
 use net_check::{bind, check};
 use net_text::{parse, parse_inputs};
-use node::MemCell;
 use outlet::ListOutlet;
-use record::{Image, Record};
-use std::alloc::Global;
+use sector_disk::MemDisk;
+use std::alloc::{AllocError, Global};
 use std::sync::Arc;
 use world::{Event, Reply, World, can_run, list_outputs};
 
 const NET: &str = "kahn 1; input i; output o;
 process sum on 0 { var a; var v; loop { v = get i; a = a + v; put a to o; } }";
 
-/// A cell in memory. What it holds first is replaced by the opening record of the world.
-fn cell(alloc: Global) -> MemCell {
-    let permanent = Image {
-        processes: Vec::new(alloc),
-        ends: Vec::new(alloc),
-    };
-    MemCell::new(
-        alloc,
-        Record {
-            node: 0,
-            epoch: 0,
-            highest: Vec::new(alloc),
-            decision: None,
-            permanent,
-            tentative: None,
-        },
-    )
+/// The sectors of the disk: room behind the gate for a record of 1,048,576 bytes in each of its two areas.
+const SECTORS: usize = 4_101;
+
+/// The turn before which the node crashes: it has taken a tentative image then, and not made it permanent.
+const CRASHES_AT: u32 = 2;
+
+/// A disk in memory of so many sectors.
+fn empty_disk(alloc: Global, sectors: usize) -> Result<MemDisk, AllocError>
+    requires { SECTOR_BYTES * sectors < 2 ^ 64 }
+{
+    MemDisk::new(alloc, sectors)
+}
+
+/// The node crashes: what it had in memory is gone. It may be recovered a round later.
+fn crash() -> Event {
+    Event::Crash {
+        node: 0,
+        fill: 0,
+        rounds: 1,
+    }
 }
 
 /// One event. `World::apply` refuses for want of memory alone.
 fn apply(
     alloc: Global,
-    world: &mut World<MemCell, ListOutlet>,
+    world: &mut World<GateCell<MemDisk>, ListOutlet>,
     event: Event,
 ) -> anyhow::Result<Reply> {
     match world.apply(alloc, event) {
@@ -45,7 +51,7 @@ fn apply(
 }
 
 /// The event that is next for node 0. A job that it grants is run, and what came of it is brought back.
-fn step(alloc: Global, world: &mut World<MemCell, ListOutlet>) -> anyhow::Result<()> {
+fn step(alloc: Global, world: &mut World<GateCell<MemDisk>, ListOutlet>) -> anyhow::Result<()> {
     let event = world.pick(0);
     if let Reply::Granted(job) = apply(alloc, world, event)? {
         let Ok(done) = job.run(alloc) else {
@@ -67,10 +73,14 @@ fn main(rt: HostRuntime) -> anyhow::Result<()> {
     let outputs = list_outputs(alloc, &net)?;
     let net = Arc::new(alloc, net)?;
     let inputs = Arc::new(alloc, inputs)?;
-    let mut world = World::new(alloc, net, inputs, cell(alloc), outputs)?;
-    for _ in 0..100 {
+    let disk = empty_disk(alloc, SECTORS)?;
+    let mut world = World::new(alloc, net, inputs, disk, outputs)?;
+    for turn in 0..100 {
         if world.complete() {
             break;
+        }
+        if turn == CRASHES_AT {
+            apply(alloc, &mut world, crash())?;
         }
         step(alloc, &mut world)?;
     }

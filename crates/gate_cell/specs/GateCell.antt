@@ -23,6 +23,10 @@ capacity_of {D} {disk} cell = room_on (disk.sector_count cell.disk)
 abbrev pub failures_of : {D : Type 0} {disk : DiskWords D} → GateCell D disk → ℕ
 failures_of {D} {disk} cell = disk.failure_count cell.disk
 
+-- the last device call that failed since the last recount, or 0
+abbrev pub failed_call_of : {D : Type 0} {disk : DiskWords D} → GateCell D disk → ℕ
+failed_call_of {D} {disk} cell = disk.failed_call cell.disk
+
 abbrev pub moment_of : {D : Type 0} {disk : DiskWords D} → GateCell D disk → ℕ
 moment_of {D} {disk} cell = disk.moment cell.disk
 

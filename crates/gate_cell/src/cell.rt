@@ -29,6 +29,9 @@ pub trait StableCell: Drop {
     /// How often the device has failed.
     ghost failure_count: { Self → ℕ };
 
+    /// The last device call that failed, counted since the last recount, or 0 where none has failed since.
+    ghost failed_call: { Self → ℕ };
+
     /// The clock. It never goes back.
     ghost moment: { Self → ℕ };
 
@@ -42,6 +45,10 @@ pub trait StableCell: Drop {
     /// The most bytes of a value that fits.
     fn room(&self) -> usize
         ensures { result ≡ capacity self.now };
+
+    /// The last device call that failed, counted since the last recount, or 0 where none has failed since.
+    fn failed_call(&self) -> u64
+        ensures { result ≡ failed_call self.now };
 
     /// The value. Refuses with `NoMemory` (1), `Device` (20) and `Reopen` (23).
     fn get(&mut self) -> Result<Vec<u8>, CellFault>
@@ -84,7 +91,8 @@ pub trait StableCell: Drop {
         ensures any_moment { LeavesOnly moment left_since self.old self.new (may_leave self.old) }
         ensures same_room { capacity self.new ≡ capacity self.old }
         ensures down { is_ready self.new ≡ false }
-        ensures failures { failure_count self.new ≡ failure_count self.old };
+        ensures failures { failure_count self.new ≡ failure_count self.old }
+        ensures same_failed { failed_call self.new ≡ failed_call self.old };
 
     /// Makes the cell ready, whatever state it is in. Refuses with `Device` (20) alone, and may then be called again.
     fn reopen(&mut self) -> Result<(), CellFault>
@@ -101,7 +109,8 @@ pub trait StableCell: Drop {
         ensures any_moment { LeavesOnly moment left_since self.old self.new (may_leave self.old) }
         ensures same_room { capacity self.new ≡ capacity self.old }
         ensures same_readiness { is_ready self.new ≡ is_ready self.old }
-        ensures failures { failure_count self.new ≡ failure_count self.old };
+        ensures failures { failure_count self.new ≡ failure_count self.old }
+        ensures same_failed { failed_call self.new ≡ failed_call self.old };
 
     /// Begins the device's count of calls anew, where there is a device.
     fn recount(&mut self)
@@ -109,7 +118,8 @@ pub trait StableCell: Drop {
         ensures any_moment { LeavesOnly moment left_since self.old self.new (may_leave self.old) }
         ensures same_room { capacity self.new ≡ capacity self.old }
         ensures same_readiness { is_ready self.new ≡ is_ready self.old }
-        ensures failures { failure_count self.new ≡ failure_count self.old };
+        ensures failures { failure_count self.new ≡ failure_count self.old }
+        ensures none_failed { failed_call self.new ≡ 0 };
 
     /// While the cell is ready, a crash leaves the value and nothing else.
     ghost settled: { (cell : Self)

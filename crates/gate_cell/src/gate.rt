@@ -159,7 +159,7 @@ impl<D: Disk> GateCell<D> {
 }
 
 impl<D: Disk> StableCell for GateCell<D> {
-    ghost use Rattle.gate_cell.specs.GateCell.{disk_in, value_of, is_ready_of, capacity_of, failures_of, moment_of, may_leave_of, left_since_of, content_of, calls_of, IsDurable, HoldsFrame};
+    ghost use Rattle.gate_cell.specs.GateCell.{disk_in, value_of, is_ready_of, capacity_of, failures_of, failed_call_of, moment_of, may_leave_of, left_since_of, content_of, calls_of, IsDurable, HoldsFrame};
 
     ghost value = { value_of };
 
@@ -168,6 +168,8 @@ impl<D: Disk> StableCell for GateCell<D> {
     ghost capacity = { capacity_of };
 
     ghost failure_count = { failures_of };
+
+    ghost failed_call = { failed_call_of };
 
     ghost moment = { moment_of };
 
@@ -189,6 +191,10 @@ impl<D: Disk> StableCell for GateCell<D> {
 
     fn room(&self) -> usize {
         room_of(self.disk.sectors())
+    }
+
+    fn failed_call(&self) -> u64 {
+        self.disk.failed_call()
     }
 
     fn get(&mut self) -> Result<Vec<u8>, CellFault>
@@ -269,6 +275,7 @@ impl<D: Disk> StableCell for GateCell<D> {
         ensures same_room { capacity_of self.new ≡ capacity_of self.old }
         ensures down { is_ready_of self.new ≡ false }
         ensures failures { failures_of self.new ≡ failures_of self.old }
+        ensures same_failed { failed_call_of self.new ≡ failed_call_of self.old }
 
         // The disk crashes: no device call. What it then holds is one of the contents that it might leave.
         ensures disk { D.may_leave (disk_in self.old) (content_of self.new) }
@@ -315,6 +322,7 @@ impl<D: Disk> StableCell for GateCell<D> {
         ensures same_room { capacity_of self.new ≡ capacity_of self.old }
         ensures same_readiness { is_ready_of self.new ≡ is_ready_of self.old }
         ensures failures { failures_of self.new ≡ failures_of self.old }
+        ensures same_failed { failed_call_of self.new ≡ failed_call_of self.old }
         ensures calls { calls_of self.new ≡ calls_of self.old }
 
         // It is handed on to the disk.
@@ -332,6 +340,7 @@ impl<D: Disk> StableCell for GateCell<D> {
         ensures same_room { capacity_of self.new ≡ capacity_of self.old }
         ensures same_readiness { is_ready_of self.new ≡ is_ready_of self.old }
         ensures failures { failures_of self.new ≡ failures_of self.old }
+        ensures none_failed { failed_call_of self.new ≡ 0 }
 
         // The disk's count begins anew.
         ensures calls { calls_of self.new ≡ 0 }

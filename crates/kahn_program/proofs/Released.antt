@@ -110,8 +110,8 @@ world_run net inputs [] round complete inv whole = absurd (let some = inv.inhabi
 world_run net inputs (s ∷ stations) round complete inv whole = record {
   count = length_map (λ (channel : ℕ). released_of channel (s ∷ stations)) (output_channels 0 net.channels);
   prefix = ∥∥₁_map (released_prefix (record { net = net; inputs = inputs; stations = s ∷ stations; round = round }) inv)
-      (λ a. (a.0, streams_are net s stations (inv.stations 0 s refl).sound.listed (λ items c. IsPrefix items (history_of (approximation net inputs a.0) c)) (a.1 0 s refl)));
-  whole = λ done. ∥∥₁_map (whole done) (λ a. (a.0, a.1, streams_are net s stations (inv.stations 0 s refl).sound.listed (λ items c. items ≡ history_of (approximation net inputs a.0) c) (a.2 0 s refl)));
+      (λ a. (a.0, streams_are net s stations (inv.stations 0 s refl).kept.listed (λ items c. IsPrefix items (history_of (approximation net inputs a.0) c)) (a.1 0 s refl)));
+  whole = λ done. ∥∥₁_map (whole done) (λ a. (a.0, a.1, streams_are net s stations (inv.stations 0 s refl).kept.listed (λ items c. items ≡ history_of (approximation net inputs a.0) c) (a.2 0 s refl)));
 }
 
 -- Streams in order of the channels

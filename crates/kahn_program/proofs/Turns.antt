@@ -1,22 +1,25 @@
 -- Turns of a run.
-use Rattle.std.proofs.Common.{◌≡◌, ◌⊎◌, ◌∙◌, ◌∷◌, [], ◌+◌, ◌≤◌, ℕ, suc, ℤ, Bool, true, false, List, map, Option, refl, ap, subst, arith}
+use Rattle.std.proofs.Common.{◌≡◌, ◌⊎◌, ◌∙◌, ◌∷◌, [], ◌+◌, ◌≤◌, ℕ, suc, ℤ, Bool, true, false, List, length, map, Option, refl, sym, ap, subst, arith}
 use Rattle.std.specs.List.{AllByRecursion}
 use Rattle.kahn_net.specs.Syntax.{Network}
 use Rattle.kahn_net.specs.declared.program.Channel.{Channel}
 use Rattle.record.specs.RecordView.{RecordView}
-use Rattle.node.specs.declared.cell.StableCell.{Ghosts as CellWords}
+use Rattle.gate_cell.specs.declared.cell.StableCell.{Ghosts as CellWords}
+use Rattle.ckpt_store.specs.Spelling.{fits_in}
+use Rattle.ckpt_store.specs.StoreView.{cell_in}
 use Rattle.proc_step.specs.declared.job.Job.{Job}
 use Rattle.world.specs.OpeningWorld.{IsUnused, opening_outlet, opening_station, opening_world}
 use Rattle.world.specs.Sound.{output_channels}
-use Rattle.world.specs.StationView.{OutletView, outlet_view, outlet_views}
-use Rattle.world.specs.Steps.{WorldView}
-use Rattle.world.specs.ReplyView.{reply_view}
+use Rattle.world.specs.StationView.{OutletView, StationView, outlet_view, outlet_views}
+use Rattle.world.specs.Steps.{WorldView, IsStep}
+use Rattle.world.specs.EventView.{EventView}
+use Rattle.world.specs.ReplyView.{ReplyView, reply_view}
 use Rattle.world.specs.WorldView.{rooms, station_view}
 use Rattle.world.specs.declared.event.Reply.{Reply}
-use Rattle.world.specs.declared.event.Reply.TheVariants.{Granted, Installed, Discarded, Sent, Started, Decided, Refused, Released, OutletFailed, Down, Idled, NotDue}
+use Rattle.world.specs.declared.event.Reply.TheVariants.{Granted, Installed, Discarded, Sent, Started, Decided, Refused, Released, OutletFailed, Crashed, Recovered, InDoubt, Down, Acted, Idled, NotDue}
 use Rattle.world.specs.declared.output.Output.{Output}
 use Rattle.world.specs.declared.station.Station.{Station}
-use Rattle.kahn_program.specs.Turning.{all_fit, CameTo, first_world, Follows, IsWorldTurn, unused_outlet}
+use Rattle.kahn_program.specs.Turning.{CameTo, first_world, Follows, IsStepInRoom, IsWorldTurn, unused_outlet}
 use Rattle.kahn_program.specs.Runs.{is_over, IsLast}
 use Rattle.kahn_program.specs.declared.network_run.TheConstants.{MAX_TURNS}
 
@@ -31,16 +34,37 @@ nothing_follows Decided now other = refl
 nothing_follows (Refused refusal) now other = refl
 nothing_follows (Released freed) now other = refl
 nothing_follows OutletFailed now other = refl
+nothing_follows Crashed now other = refl
+nothing_follows Recovered now other = refl
+nothing_follows InDoubt now other = refl
 nothing_follows Down now other = refl
+nothing_follows Acted now other = refl
 nothing_follows Idled now other = refl
 nothing_follows NotDue now other = refl
 
--- where each record fits a cell
-pub rooms_fit : {C O : Type 0} {cell : CellWords C} (taken : O → List ℤ) (failures : O → ℕ) → ((c : C) → cell.fits c ≡ (λ (next : RecordView). true)) → (stations : List (Station C O cell)) → rooms stations ≡ all_fit (map (station_view taken failures) stations)
-rooms_fit taken failures all [] = refl
-rooms_fit taken failures all (s ∷ stations) =
-    ap (λ (f : RecordView → Bool). f ∷ rooms stations) (all s.node.cell)
-    ∙ ap (λ (rest : List (RecordView → Bool)). (λ (next : RecordView). true) ∷ rest) (rooms_fit taken failures all stations)
+-- the room of each station's cell
+
+module _ {C O : Type 0} {cell : CellWords C} where
+  capacities : List (Station C O cell) → List ℕ
+  capacities stations = map (λ (station : Station C O cell). cell.capacity (cell_in station.node.store)) stations
+
+  rooms_are : (stations : List (Station C O cell)) → rooms stations ≡ map fits_in (capacities stations)
+  unfolding capacities
+  rooms_are [] = refl
+  rooms_are (s ∷ stations) = ap (λ (rest : List (RecordView → Bool)). fits_in (cell.capacity (cell_in s.node.store)) ∷ rest) (rooms_are stations)
+
+  as_many : (taken : O → List ℤ) (failures : O → ℕ) (stations : List (Station C O cell)) → length (capacities stations) ≡ length (map (station_view taken failures) stations)
+  unfolding capacities
+  as_many taken failures [] = refl
+  as_many taken failures (s ∷ stations) = ap suc (as_many taken failures stations)
+
+  pub in_room : (taken : O → List ℤ) (failures : O → ℕ) (stations : List (Station C O cell)) (event : EventView) (old new : WorldView) (answer : ReplyView) → old.stations ≡ map (station_view taken failures) stations
+      → IsStep (rooms stations) event old answer new → IsStepInRoom event old answer new
+  in_room taken failures stations event old new answer same step = record {
+    room = capacities stations;
+    each = as_many taken failures stations ∙ sym (ap (length {A = StationView}) same);
+    step = subst (λ (fits : List (RecordView → Bool)). IsStep fits event old answer new) (rooms_are stations) step;
+  }
 
 -- one turn more
 pub more_turns : (over : WorldView → Bool) (turns : ℕ) (first before now : WorldView) → CameTo over turns first before → over before ≡ false → IsWorldTurn before now → CameTo over (turns + 1) first now
@@ -62,15 +86,16 @@ module _ {O : Type 0} (taken : O → List ℤ) (failures : O → ℕ) (none : (o
       ∙ ap (λ (rest : List OutletView). opening_outlet (unused_outlet output.channel) ∷ rest) (unused_outlets outputs unused.1)
 
   pub opens_first : (net other : Network) (inputs others : List (List ℤ)) (outputs : List (Output O)) (first : WorldView) → other ≡ net → others ≡ inputs
-      → first ≡ opening_world other others 0 (outlet_views taken failures outputs)
+      → (failed : ℕ) → failed ≡ 0 → first ≡ opening_world other others failed (outlet_views taken failures outputs)
       → map (λ (output : Output O). output.channel) outputs ≡ output_channels 0 net.channels → AllByRecursion (IsUnused taken) outputs → first ≡ first_world net inputs
-  opens_first net other inputs others outputs first same_net same_inputs opening listed unused =
+  opens_first net other inputs others outputs first same_net same_inputs failed never opening listed unused =
       let views = outlet_views taken failures outputs in
       opening
+      ∙ (ap (λ (n : ℕ). opening_world other others n views) never
       ∙ (ap (λ (n : Network). opening_world n others 0 views) same_net
       ∙ (ap (λ (i : List (List ℤ)). opening_world net i 0 views) same_inputs
       ∙ ap (λ (outlets : List OutletView). record { net = net; inputs = inputs; stations = opening_station net 0 outlets ∷ []; round = 0 })
-      (unused_outlets outputs unused ∙ ap (λ (channels : List ℕ). map opening_outlet (map unused_outlet channels)) listed)))
+      (unused_outlets outputs unused ∙ ap (λ (channels : List ℕ). map opening_outlet (map unused_outlet channels)) listed))))
 
 -- The last one
 

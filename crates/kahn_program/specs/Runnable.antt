@@ -3,14 +3,44 @@ use Rattle.std.specs.Prelude.{◌≡◌, ◌⊎◌, ℕ, ℤ, List, Option, Some
 use Rattle.kahn_net.specs.Syntax.{Network}
 use Rattle.world.specs.Runnable.{CanRun}
 use Rattle.stream_eq.specs.Limits.{HasLongHistory}
+use Rattle.ckpt_store.specs.StoreFault.{refusal_number}
+use Rattle.ckpt_store.specs.declared.fault.StoreFault.{StoreFault}
+use Rattle.ckpt_store.specs.declared.fault.StoreFault.TheVariants as fault
 use Rattle.kahn_program.specs.declared.failure.Failure.{Failure}
-use Rattle.kahn_program.specs.declared.failure.Failure.TheVariants.{Approximation, Unsupported, NoMemory}
+use Rattle.kahn_program.specs.declared.failure.Failure.TheVariants.{Line, Whole, NotText, Unreadable, Approximation, Unsupported, NoMemory, Other}
 
 -- an approximation up to the n-th has too long a history, or memory is missing
 abbrev pub IsApproximationFailure : Network → List (List ℤ) → ℕ → Failure → Type 0
 IsApproximationFailure net inputs n failure = ((failure ≡ Approximation 19) × HasLongHistory net inputs n) ⊎ (failure ≡ NoMemory)
 
--- why there is no report of this approximation, or of a run: that of a network that can't be run, and for want of memory
+-- a refusal of a store, by its number
+abbrev pub store_failure : StoreFault → Failure
+store_failure fault.NoMemory = NoMemory
+store_failure fault.Device = Other (refusal_number fault.Device)
+store_failure fault.TooLarge = Other (refusal_number fault.TooLarge)
+store_failure fault.Reopen = Other (refusal_number fault.Reopen)
+store_failure fault.Truncated = Other (refusal_number fault.Truncated)
+store_failure fault.Version = Other (refusal_number fault.Version)
+store_failure fault.Malformed = Other (refusal_number fault.Malformed)
+store_failure fault.HoldsOther = Other (refusal_number fault.HoldsOther)
+store_failure fault.PastNumber = Other (refusal_number fault.PastNumber)
+store_failure fault.NotHeld = Other (refusal_number fault.NotHeld)
+store_failure fault.Unsettled = Other (refusal_number fault.Unsettled)
+store_failure fault.Spent = Other (refusal_number fault.Spent)
+
+-- the store that was to keep the record refused, or memory is missing
+abbrev pub IsStoreFailure : Failure → Type 0
+IsStoreFailure (Line source line number) = ⊥
+IsStoreFailure (Whole source number) = ⊥
+IsStoreFailure (NotText source) = ⊥
+IsStoreFailure (Unreadable source) = ⊥
+IsStoreFailure (Approximation number) = ⊥
+IsStoreFailure Unsupported = ⊥
+IsStoreFailure NoMemory = Unit {0}
+IsStoreFailure (Other number) = (fault : StoreFault) × (number ≡ refusal_number fault)
+
+-- why there is no report of this approximation, or of a run: that of a network that can't be run, and by a refusal of the store, as for want of
+-- memory
 abbrev pub IsReportFailure : Option ℕ → Network → List (List ℤ) → Failure → Type 0
 IsReportFailure (Some n) net inputs failure = IsApproximationFailure net inputs n failure
-IsReportFailure None net inputs failure = ((failure ≡ Unsupported) × ¬ (CanRun net)) ⊎ (failure ≡ NoMemory)
+IsReportFailure None net inputs failure = ((failure ≡ Unsupported) × ¬ (CanRun net)) ⊎ IsStoreFailure failure

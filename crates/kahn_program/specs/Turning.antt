@@ -1,23 +1,25 @@
 -- A run of a network, turn by turn.
-use Rattle.std.specs.Prelude.{◌≡◌, ℕ, zero, suc, Bool, true, false, ℤ, List, [], map, None}
+use Rattle.std.specs.Prelude.{◌≡◌, ℕ, zero, suc, Bool, false, ℤ, List, [], map, length, None}
 use Rattle.kahn_net.specs.Syntax.{Network}
-use Rattle.record.specs.RecordView.{RecordView}
+use Rattle.ckpt_store.specs.Spelling.{fits_in}
 use Rattle.world.specs.Choice.{choice}
 use Rattle.world.specs.DoneView.{DoneView}
-use Rattle.world.specs.EventView.{Install}
+use Rattle.world.specs.EventView.{EventView, Install}
 use Rattle.world.specs.OpeningWorld.{opening_world}
-use Rattle.world.specs.ReplyView.{ReplyView, Granted, Installed, Discarded, Sent, Started, Decided, Refused, Released, OutletFailed, Down, Idled, NotDue}
+use Rattle.world.specs.ReplyView.{ReplyView, Granted, Installed, Discarded, Sent, Started, Decided, Refused, Released, OutletFailed, Crashed, Recovered, InDoubt, Down, Acted, Idled, NotDue}
 use Rattle.world.specs.Sound.{output_channels}
-use Rattle.world.specs.StationView.{OutletView, StationView}
+use Rattle.world.specs.StationView.{OutletView}
 use Rattle.world.specs.Steps.{WorldView, IsStep}
 
--- each record fits a cell in memory
-abbrev pub all_fit : List StationView → List (RecordView → Bool)
-all_fit stations = map (λ (station : StationView) (next : RecordView). true) stations
+-- a step of a world, of which each station's cell has room for values of so many bytes
+pub record IsStepInRoom (event : EventView) (old : WorldView) (answer : ReplyView) (new : WorldView) : Type 0 where
+  pub room : List ℕ
+  pub each : length room ≡ length old.stations
+  pub step : IsStep (map fits_in room) event old answer new
 
 -- behind an answer: the turn on a job that was granted is taken in, and nothing else happens
 abbrev pub Follows : ReplyView → WorldView → WorldView → Type 0
-Follows (Granted job) old new = (done : DoneView) × (done.job ≡ job) × (answer : ReplyView) × IsStep (all_fit old.stations) (Install done) old answer new
+Follows (Granted job) old new = (done : DoneView) × (done.job ≡ job) × (answer : ReplyView) × IsStepInRoom (Install done) old answer new
 Follows Installed old new = new ≡ old
 Follows Discarded old new = new ≡ old
 Follows Sent old new = new ≡ old
@@ -26,7 +28,11 @@ Follows Decided old new = new ≡ old
 Follows (Refused refusal) old new = new ≡ old
 Follows (Released output number) old new = new ≡ old
 Follows OutletFailed old new = new ≡ old
+Follows Crashed old new = new ≡ old
+Follows Recovered old new = new ≡ old
+Follows InDoubt old new = new ≡ old
 Follows Down old new = new ≡ old
+Follows Acted old new = new ≡ old
 Follows Idled old new = new ≡ old
 Follows NotDue old new = new ≡ old
 
@@ -34,7 +40,7 @@ Follows NotDue old new = new ≡ old
 pub record IsWorldTurn (old new : WorldView) : Type 0 where
   pub answer : ReplyView
   pub between : WorldView
-  pub step : IsStep (all_fit old.stations) (choice old 0) old answer between
+  pub step : IsStepInRoom (choice old 0) old answer between
   pub follows : Follows answer between new
 
 -- so many turns lead from one world to another; none is taken where a run is over

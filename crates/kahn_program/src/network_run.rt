@@ -1,25 +1,29 @@
 //! A network's run, and its report.
 
-ghost use Rattle.std.specs.Prelude.{◌≡◌, ◌⊎◌, ◌≤◌, ◌++◌, ℕ, ◌∷◌, [], if◌then◌else◌, true, nat_le, length, map, IfErr, IfOk, OnOk};
+ghost use Rattle.std.specs.Prelude.{◌≡◌, ◌⊎◌, ◌*◌, ◌^◌, ◌<◌, ◌≤◌, ◌++◌, ℕ, ◌∷◌, [], if◌then◌else◌, true, nat_le, length, map, IfErr, IfOk, OnOk};
 ghost use Rattle.kahn_net.specs.Fits.{Fits};
-ghost use Rattle.kahn_net.specs.Nodes.{IsOnOneNode};
 ghost use Rattle.kahn_net.specs.Syntax.{network_of};
 ghost use Rattle.std.specs.List.{list_all};
+ghost use Rattle.sector_disk.specs.MemDisk.{failures_of};
+ghost use Rattle.sector_disk.specs.declared.TheConstants.{SECTOR_BYTES};
 ghost use Rattle.world.specs.Released.{released_of};
+ghost use Rattle.world.specs.Runnable.{CanRun};
 ghost use Rattle.world.specs.Sound.{goes_outside, output_channels};
 ghost use Rattle.world.specs.ReplyView.{reply_view};
-ghost use Rattle.world.specs.WholeView.{view_of};
+ghost use Rattle.world.specs.WholeView.{world_of};
 ghost use Rattle.kahn_program.specs.Turning.{CameTo, Follows, IsWorldTurn};
+ghost use Rattle.kahn_program.specs.Runnable.{IsStoreFailure, store_failure};
 ghost use Rattle.kahn_program.specs.Runs.{IsReport, cut_at, first_items, is_over, is_whole};
 ghost use Rattle.kahn_net.specs.declared.limits.TheConstants.{MAX_CHANNELS};
 
 use crate::failure::Failure;
 use crate::reporting::{Stream, report};
+use ckpt_store::StoreFault;
+use gate_cell::GateCell;
 use kahn_net::{Channel, Port};
 use net_check::{Inputs, Net};
-use node::{CellFault, MemCell};
 use outlet::ListOutlet;
-use record::{Image, Record};
+use sector_disk::MemDisk;
 use std::alloc::{AllocError, Global};
 use std::sync::Arc;
 use world::{Event, Reply, World, list_outputs};
@@ -30,45 +34,38 @@ const NODE: u8 = 0;
 /// The most turns of a run, so many that nobody waits for them.
 pub(crate) const MAX_TURNS: u64 = u64::MAX;
 
-/// A cell in memory, before a world puts its first record there.
-fn empty_cell(alloc: Global) -> MemCell {
-    MemCell::new(
-        alloc,
-        Record {
-            node: NODE,
-            epoch: 0,
-            highest: Vec::new(alloc),
-            decision: None,
-            permanent: Image {
-                processes: Vec::new(alloc),
-                ends: Vec::new(alloc),
-            },
-            tentative: None,
-        },
-    )
+/// The sectors of the disk: room behind the gate for a record of 1,048,576 bytes in each of its two areas.
+const SECTORS: usize = 4_101;
+
+/// The world of a run: of one node on a disk in memory, with outlets in memory.
+type RunWorld = World<GateCell<MemDisk>, ListOutlet>;
+
+/// A disk in memory of so many sectors, which never failed. (What it holds is left out of the contract: of a given number, a
+/// proof that has it in reach would write out all the zeros.)
+fn empty_disk(alloc: Global, sectors: usize) -> Result<MemDisk, AllocError>
+    requires { SECTOR_BYTES * sectors < 2 ^ 64 }
+    ensures { IfOk result (λ disk. failures_of disk ≡ 0) }
+{
+    MemDisk::new(alloc, sectors)
 }
 
-/// A failure of a cell.
-fn cell_failure(fault: CellFault) -> Failure
-    ensures { fault ≡ CellFault.NoMemory → result ≡ Failure.NoMemory }
+/// A failure of the store in which the world keeps its record.
+fn store_failure(fault: StoreFault) -> Failure
+    ensures { result ≡ store_failure fault }
 {
     match fault {
-        CellFault::NoMemory => Failure::NoMemory,
-        CellFault::Device | CellFault::TooLarge | CellFault::Reopen => Failure::Other {
+        StoreFault::NoMemory => Failure::NoMemory,
+        _ => Failure::Other {
             number: fault.number(),
         },
     }
 }
 
 /// What follows an answer: a job that was granted is run, and comes back at once.
-fn follow(
-    alloc: Global,
-    world: &mut World<MemCell, ListOutlet>,
-    answer: Reply,
-) -> Result<(), Failure>
+fn follow(alloc: Global, world: &mut RunWorld, answer: Reply) -> Result<(), Failure>
     ensures same { (world.new.net ≡ world.old.net) × (world.new.inputs ≡ world.old.inputs) }
     ensures follows { OnOk result
-        (Follows (reply_view answer) (view_of world.old) (view_of world.new)) }
+        (Follows (reply_view answer) (world_of world.old) (world_of world.new)) }
     ensures err { IfErr result (λ failure. failure ≡ Failure.NoMemory) }
 {
     match answer {
@@ -86,9 +83,9 @@ fn follow(
 }
 
 /// The event that is next. A job that it grants is run and comes back at once.
-fn take_turn(alloc: Global, world: &mut World<MemCell, ListOutlet>) -> Result<(), Failure>
+fn take_turn(alloc: Global, world: &mut RunWorld) -> Result<(), Failure>
     ensures same { (world.new.net ≡ world.old.net) × (world.new.inputs ≡ world.old.inputs) }
-    ensures turn { OnOk result (IsWorldTurn (view_of world.old) (view_of world.new)) }
+    ensures turn { OnOk result (IsWorldTurn (world_of world.old) (world_of world.new)) }
     ensures err { IfErr result (λ failure. failure ≡ Failure.NoMemory) }
 {
     let event = world.pick(NODE);
@@ -99,9 +96,9 @@ fn take_turn(alloc: Global, world: &mut World<MemCell, ListOutlet>) -> Result<()
 }
 
 /// Whether so many items have left by a channel, if its items go outside.
-fn has_left(number: u8, channel: &Channel, world: &World<MemCell, ListOutlet>, items: u64) -> bool
+fn has_left(number: u8, channel: &Channel, world: &RunWorld, items: u64) -> bool
     ensures { result ≡ (if goes_outside channel.now.consumer
-        then nat_le items (length (released_of number (view_of world.now).stations))
+        then nat_le items (length (released_of number (world_of world.now).stations))
         else true) }
 {
     match channel.consumer {
@@ -111,10 +108,10 @@ fn has_left(number: u8, channel: &Channel, world: &World<MemCell, ListOutlet>, i
 }
 
 /// Whether so many items have left by each output.
-fn have_left(channels: &[Channel], world: &World<MemCell, ListOutlet>, items: u64) -> bool
+fn have_left(channels: &[Channel], world: &RunWorld, items: u64) -> bool
     requires { length channels.now ≤ MAX_CHANNELS }
     ensures { result ≡ list_all (λ stream. nat_le items (length stream))
-        (map (λ channel. released_of channel (view_of world.now).stations)
+        (map (λ channel. released_of channel (world_of world.now).stations)
         (output_channels 0 channels.now)) }
 {
     for (number, channel) in channels.iter().enumerate() {
@@ -126,10 +123,10 @@ fn have_left(channels: &[Channel], world: &World<MemCell, ListOutlet>, items: u6
 }
 
 /// Where what has left is cut: at so many items, where that is asked for and each output has them.
-fn cut(channels: &[Channel], world: &World<MemCell, ListOutlet>, items: Option<u64>) -> Option<u64>
+fn cut(channels: &[Channel], world: &RunWorld, items: Option<u64>) -> Option<u64>
     requires { length channels.now ≤ MAX_CHANNELS }
     ensures { result ≡ cut_at items
-        (map (λ channel. released_of channel (view_of world.now).stations)
+        (map (λ channel. released_of channel (world_of world.now).stations)
         (output_channels 0 channels.now)) }
 {
     match items {
@@ -145,14 +142,9 @@ fn cut(channels: &[Channel], world: &World<MemCell, ListOutlet>, items: Option<u
 }
 
 /// Whether a run is over: nothing is left to do, the rounds are over, or each output has the items that are asked for.
-fn is_over(
-    channels: &[Channel],
-    world: &World<MemCell, ListOutlet>,
-    rounds: u64,
-    items: Option<u64>,
-) -> bool
+fn is_over(channels: &[Channel], world: &RunWorld, rounds: u64, items: Option<u64>) -> bool
     requires { length channels.now ≤ MAX_CHANNELS }
-    ensures { result ≡ is_over (output_channels 0 channels.now) rounds items (view_of world.now) }
+    ensures { result ≡ is_over (output_channels 0 channels.now) rounds items (world_of world.now) }
 {
     world.complete() || rounds <= world.round() || cut(channels, world, items).is_some()
 }
@@ -161,7 +153,7 @@ fn is_over(
 fn take_turns(
     alloc: Global,
     channels: &[Channel],
-    world: &mut World<MemCell, ListOutlet>,
+    world: &mut RunWorld,
     rounds: u64,
     items: Option<u64>,
 ) -> Result<(), Failure>
@@ -169,8 +161,8 @@ fn take_turns(
     ensures same { (world.new.net ≡ world.old.net) × (world.new.inputs ≡ world.old.inputs) }
     ensures came { OnOk result ((turns : ℕ)
         × CameTo (is_over (output_channels 0 channels.now) rounds items) turns
-        (view_of world.old) (view_of world.new)
-        × ((is_over (output_channels 0 channels.now) rounds items (view_of world.new) ≡ true)
+        (world_of world.old) (world_of world.new)
+        × ((is_over (output_channels 0 channels.now) rounds items (world_of world.new) ≡ true)
         ⊎ (MAX_TURNS ≤ turns))) }
     ensures err { IfErr result (λ failure. failure ≡ Failure.NoMemory) }
 {
@@ -214,12 +206,12 @@ fn add_stream<'a>(
     streams: &mut Vec<Stream<'a>>,
     number: u8,
     channel: &Channel,
-    world: &'a World<MemCell, ListOutlet>,
+    world: &'a RunWorld,
     cut: Option<u64>,
 ) -> Result<(), AllocError>
     ensures { OnOk result (streams.new.items ≡ streams.old.items
         ++ (if goes_outside channel.now.consumer then first_items cut (released_of number
-        (view_of world.now).stations) ∷ [] else [])) }
+        (world_of world.now).stations) ∷ [] else [])) }
 {
     if let Port::Outside = channel.consumer {
         streams.push(Stream::new(first_items(world.released(number), cut)))?;
@@ -231,12 +223,12 @@ fn add_stream<'a>(
 fn streams<'a>(
     alloc: Global,
     channels: &[Channel],
-    world: &'a World<MemCell, ListOutlet>,
+    world: &'a RunWorld,
     cut: Option<u64>,
 ) -> Result<Vec<Stream<'a>>, AllocError>
     requires { length channels.now ≤ MAX_CHANNELS }
     ensures { IfOk result (λ streams. streams.items
-        ≡ map (λ channel. first_items cut (released_of channel (view_of world.now).stations))
+        ≡ map (λ channel. first_items cut (released_of channel (world_of world.now).stations))
         (output_channels 0 channels.now)) }
 {
     let mut streams = Vec::new(alloc);
@@ -256,10 +248,10 @@ pub fn report_of_run(
     items: Option<u64>,
 ) -> Result<(Vec<u8>, bool), Failure>
     requires fitting { Fits (network_of net.program) inputs }
-    requires one_node { IsOnOneNode (network_of net.program) }
+    requires runnable { CanRun (network_of net.program) }
     ensures ok { IfOk result (λ report. IsReport net rounds items inputs report.0.items report.1) }
-    // Nothing but memory can be missing.
-    ensures err { IfErr result (λ failure. failure ≡ Failure.NoMemory) }
+    // The store that was to keep its record refused, or memory is missing.
+    ensures err { IfErr result IsStoreFailure }
 {
     let Ok(outputs) = list_outputs(alloc, &net) else {
         return Err(Failure::NoMemory);
@@ -273,9 +265,12 @@ pub fn report_of_run(
     let Ok(share) = Arc::try_clone(&net) else {
         return Err(Failure::NoMemory);
     };
-    let mut world = match World::new(alloc, share, inputs, empty_cell(alloc), outputs) {
+    let Ok(disk) = empty_disk(alloc, SECTORS) else {
+        return Err(Failure::NoMemory);
+    };
+    let mut world = match World::new(alloc, share, inputs, disk, outputs) {
         Ok(world) => world,
-        Err(fault) => return Err(cell_failure(fault)),
+        Err(fault) => return Err(store_failure(fault)),
     };
     let channels = net.program.channels.as_slice();
     take_turns(alloc, channels, &mut world, rounds, items)?;

@@ -1,9 +1,10 @@
+pub mod Records
+mod Raising
+mod Checkpoints
+mod Recoveries
+mod Starts
 mod Handing
-mod Resting
 mod Slices
 mod Installs
-mod Keeping
-mod Sending
-mod Taking
 mod Choices
 mod Marking

@@ -13,7 +13,7 @@ use Rattle.record.specs.ImageView.{ImageView}
 use Rattle.record.specs.Ends.{received_of}
 use Rattle.turns.specs.Turns.{next_in_turn}
 use Rattle.node.specs.JobView.{JobView}
-use Rattle.node.specs.NodeView.{NodeView}
+use Rattle.node.specs.NodeView.{NodeView, RunningView, RunningNode, running_of, on_running}
 use Rattle.node.specs.Granting.{room_of, job_for}
 use Rattle.node.specs.Starting.{is_none}
 use Rattle.kahn_net.specs.declared.limits.TheConstants.{MAX_COUNT}
@@ -63,19 +63,35 @@ process_at net inputs image (Some number) = ready_process net inputs image numbe
 abbrev pub next_process : Network → List (List ℤ) → ImageView → Option ℕ → Option SavedProcessView
 next_process net inputs image last = process_at net inputs image (next_in_turn last (ready_processes net inputs image))
 
--- a node may grant a job: it runs, holds no tentative image, has no job out, and its version isn't the greatest
-abbrev pub may_grant : NodeView → Bool
-may_grant node = node.up && (is_none node.kept.tentative && (is_none node.out && nat_lt node.version MAX_COUNT))
+-- a node that runs may grant a job: it holds no tentative image, has no job out, and its version isn't the greatest
+abbrev pub may_grant : RunningNode → Bool
+may_grant node = is_none node.kept.tentative && (is_none node.out && nat_lt node.version MAX_COUNT)
 
-abbrev pub job_of : Network → List (List ℤ) → NodeView → Option SavedProcessView → Option JobView
+abbrev pub job_of : Network → List (List ℤ) → RunningNode → Option SavedProcessView → Option JobView
 job_of net inputs node None = None
 job_of net inputs node (Some saved) = Some (job_for net inputs node.current saved.number saved.standing node.version)
 
--- the job that a node grants next, if it may grant one and a process is ready
-abbrev pub next_job : Network → List (List ℤ) → NodeView → Option JobView
+-- the job that it grants next, if it may grant one and a process is ready
+abbrev pub next_job : Network → List (List ℤ) → RunningNode → Option JobView
 next_job net inputs node = if may_grant node then job_of net inputs node (next_process net inputs node.current node.last) else None
 
--- the node after a job was granted, or as it was
-abbrev pub after_grant : Option JobView → NodeView → NodeView
+-- and then, where a job was granted
+abbrev pub after_grant : Option JobView → RunningNode → RunningNode
 after_grant None node = node
-after_grant (Some job) node = record { kept = node.kept; current = node.current; out = Some job; version = node.version; last = Some job.process; up = node.up; restart = node.restart }
+after_grant (Some job) node = record node { out = Some job; last = Some job.process }
+
+-- the job that a node grants next, if it runs
+abbrev pub job_at : Network → List (List ℤ) → Option RunningNode → Option JobView
+job_at net inputs None = None
+job_at net inputs (Some node) = next_job net inputs node
+
+abbrev pub node_job : Network → List (List ℤ) → NodeView → Option JobView
+node_job net inputs node = job_at net inputs (running_of node)
+
+-- the node after a job was granted, or as it was
+abbrev pub granted : Option JobView → RunningView → RunningView
+granted None running = running
+granted (Some job) running = record running { out = Some job; last = Some job.process }
+
+abbrev pub with_grant : Option JobView → NodeView → NodeView
+with_grant job node = on_running (granted job) node

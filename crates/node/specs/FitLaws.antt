@@ -19,13 +19,13 @@ use Rattle.record.specs.ProcessView.{SavedProcessView}
 use Rattle.record.specs.ImageView.{ImageView}
 use Rattle.ckpt_codec.specs.RecordText.{role_of}
 use Rattle.node.specs.JobView.{JobView}
-use Rattle.node.specs.NodeView.{NodeView}
+use Rattle.node.specs.NodeView.{RunningNode}
 use Rattle.record.specs.Ends.{received_of, received_at, log_of, log_at, sent_in, end_of, base_in, base_of}
 use Rattle.node.specs.Sharing.{is_logging, log_share, IsWithinShare}
 use Rattle.node.specs.Granting.{is_process, next_items, room_in, room_of, room_from}
 use Rattle.record.specs.Changes.{log_with, pushed, counted, LogTakes}
 use Rattle.node.specs.Installing.{is_consumer, is_producer, taken_from, put_on, saved_pushed, saved_counted, moved, installed, ImageTakes}
-use Rattle.node.specs.Starting.{HasPutMore}
+use Rattle.node.specs.Starting.{IsBehind}
 use Rattle.node.specs.Reached.{ImageStands, HasReached, is_counting, role_between, IsLaidOut, CountsAreWithin, LogsAreWithin, IsJobOf, IsTurnOf}
 use Rattle.node.specs.ImageLaws.{channel_at, received_is, log_is, map_got, map_keeps, map_twice, end_of_changed}
 use Rattle.node.specs.ReachedLaws.{items_at_hand, items_of_channel}
@@ -306,6 +306,11 @@ more_sent (Receives received) items count = omega arith
 more_sent (Sends log) items count = let sum = length-append log.items items in omega (arith, sum)
 more_sent (Both received log) items count = let sum = length-append log.items items in omega (arith, sum)
 
+more_received : (end : End) (items : List ℤ) (count : ℕ) → received_at (Some end) ≤ received_at (Some (counted count (pushed items end)))
+more_received (Receives received) items count = omega arith
+more_received (Sends log) items count = omega arith
+more_received (Both received log) items count = omega arith
+
 same_base : (end : End) (items : List ℤ) (count : ℕ) → base_in (log_at (Some (counted count (pushed items end)))) ≡ base_in (log_at (Some end))
 same_base (Receives received) items count = refl
 same_base (Sends log) items count = refl
@@ -325,23 +330,34 @@ base_installed channels process after taken sent image c =
     at None = refl
     at (Some s) = same_base s.end (put_on channels process sent s.channel) (taken_from channels process taken s.channel)
 
--- a turn takes back nothing that was put
-pub put_more_installed : (channels : List Channel) (process : ℕ) (after : Standing) (taken : List ℕ) (sent : List (List ℤ)) (image : ImageView) → HasPutMore image (installed channels process after taken sent image)
-put_more_installed channels process after taken sent image c =
-    let changed : end_of (installed channels process after taken sent image) c ≡ option_map (λ (s : SavedEnd). (saved_counted channels process taken (saved_pushed channels process sent s)).end) (find (λ (s : SavedEnd). eqb s.channel c) image.ends) =
-    end_of_changed image (installed channels process after taken sent image) c (λ (s : SavedEnd). saved_counted channels process taken (saved_pushed channels process sent s)) (λ s. refl)
-    (map_twice (saved_pushed channels process sent) (saved_counted channels process taken) image.ends) in
-    omega (arith, at (find (λ (s : SavedEnd). eqb s.channel c) image.ends), ap (λ (o : Option End). sent_in (log_at o)) changed)
+-- a turn takes back nothing that was received or put
+pub behind_installed : (channels : List Channel) (process : ℕ) (after : Standing) (taken : List ℕ) (sent : List (List ℤ)) (image : ImageView) → IsBehind image (installed channels process after taken sent image)
+behind_installed channels process after taken sent image = record {
+  received = λ c. omega (arith, received_then (find (λ (s : SavedEnd). eqb s.channel c) image.ends), ap received_at (changed c));
+  base = λ c. omega (arith, base_installed channels process after taken sent image c);
+  sent = λ c. omega (arith, sent_then (find (λ (s : SavedEnd). eqb s.channel c) image.ends), ap (λ (o : Option End). sent_in (log_at o)) (changed c));
+}
   where
-    at : (o : Option SavedEnd) → sent_in (log_at (option_map (λ (s : SavedEnd). s.end) o))
+    changed : (c : ℕ)
+        → end_of (installed channels process after taken sent image) c ≡ option_map (λ (s : SavedEnd). (saved_counted channels process taken (saved_pushed channels process sent s)).end) (find (λ (s : SavedEnd). eqb s.channel c) image.ends)
+    changed c =
+        end_of_changed image (installed channels process after taken sent image) c (λ (s : SavedEnd). saved_counted channels process taken (saved_pushed channels process sent s)) (λ s. refl)
+        (map_twice (saved_pushed channels process sent) (saved_counted channels process taken) image.ends)
+
+    received_then : (o : Option SavedEnd) → received_at (option_map (λ (s : SavedEnd). s.end) o)
+        ≤ received_at (option_map (λ (s : SavedEnd). (saved_counted channels process taken (saved_pushed channels process sent s)).end) o)
+    received_then None = omega arith
+    received_then (Some s) = more_received s.end (put_on channels process sent s.channel) (taken_from channels process taken s.channel)
+
+    sent_then : (o : Option SavedEnd) → sent_in (log_at (option_map (λ (s : SavedEnd). s.end) o))
         ≤ sent_in (log_at (option_map (λ (s : SavedEnd). (saved_counted channels process taken (saved_pushed channels process sent s)).end) o))
-    at None = omega arith
-    at (Some s) = more_sent s.end (put_on channels process sent s.channel) (taken_from channels process taken s.channel)
+    sent_then None = omega arith
+    sent_then (Some s) = more_sent s.end (put_on channels process sent s.channel) (taken_from channels process taken s.channel)
 
 -- Nodes
 
 -- a turn on the job that was out fits what the node has now
-pub turn_fits : (net : Network) (inputs : List (List ℤ)) (node : NodeView) (job : JobView) (after : Standing) (taken : List ℕ) (sent : List (List ℤ))
+pub turn_fits : (net : Network) (inputs : List (List ℤ)) (node : RunningNode) (job : JobView) (after : Standing) (taken : List ℕ) (sent : List (List ℤ))
     → HasReached net inputs node → IsLaidOut net node.current → CountsAreWithin inputs node.current → LogsAreWithin node.current → Fits net inputs
     → IsJobOf net inputs node.current job → IsTurnOf net job after taken sent → ImageTakes net.channels job.process taken sent node.current
 turn_fits net inputs node job after taken sent reached laid counts logs fits of turn =
@@ -349,7 +365,7 @@ turn_fits net inputs node job after taken sent reached laid counts logs fits of 
     image_takes_turn net inputs reached.n reached.current_acts node.current job code.0 after taken sent reached.current laid counts logs fits of code.1 (turn code.0 code.1)
 
 -- and then no more was received than there is
-pub counts_installed : (net : Network) (inputs : List (List ℤ)) (node : NodeView) (job : JobView) (after : Standing) (taken : List ℕ) (sent : List (List ℤ))
+pub counts_installed : (net : Network) (inputs : List (List ℤ)) (node : RunningNode) (job : JobView) (after : Standing) (taken : List ℕ) (sent : List (List ℤ))
     → HasReached net inputs node → IsLaidOut net node.current → CountsAreWithin inputs node.current → IsJobOf net inputs node.current job → IsTurnOf net job after taken sent
     → CountsAreWithin inputs (installed net.channels job.process after taken sent node.current)
 counts_installed net inputs node job after taken sent reached laid counts of turn =
@@ -357,7 +373,7 @@ counts_installed net inputs node job after taken sent reached laid counts of tur
     counts_after_turn net inputs reached.n reached.current_acts node.current job code.0 after taken sent reached.current laid counts of code.1 (turn code.0 code.1)
 
 -- and each log is within its share
-pub logs_installed : (net : Network) (inputs : List (List ℤ)) (node : NodeView) (job : JobView) (after : Standing) (taken : List ℕ) (sent : List (List ℤ))
+pub logs_installed : (net : Network) (inputs : List (List ℤ)) (node : RunningNode) (job : JobView) (after : Standing) (taken : List ℕ) (sent : List (List ℤ))
     → HasReached net inputs node → IsLaidOut net node.current → LogsAreWithin node.current → IsJobOf net inputs node.current job → IsTurnOf net job after taken sent
     → LogsAreWithin (installed net.channels job.process after taken sent node.current)
 logs_installed net inputs node job after taken sent reached laid logs of turn =

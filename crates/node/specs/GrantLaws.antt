@@ -6,7 +6,7 @@ use Rattle.record.specs.ProcessView.{SavedProcessView}
 use Rattle.record.specs.ImageView.{ImageView}
 use Rattle.turns.specs.Turns.{next_in_turn}
 use Rattle.node.specs.JobView.{JobView}
-use Rattle.node.specs.NodeView.{NodeView}
+use Rattle.node.specs.NodeView.{RunningNode}
 use Rattle.node.specs.Granting.{job_for}
 use Rattle.node.specs.Choosing.{is_ready, ready_processes, process_at, next_process, may_grant, job_of, next_job}
 use Rattle.node.specs.Reached.{IsLaidOut, IsJobOf}
@@ -35,7 +35,7 @@ job_of_entry net inputs image k saved version laid is = record {
 }
 
 -- the job that a node grants is of where its process stands now
-pub job_granted : (net : Network) (inputs : List (List ℤ)) (node : NodeView) (job : JobView) → IsLaidOut net node.current → next_job net inputs node ≡ Some job → IsJobOf net inputs node.current job
+pub job_granted : (net : Network) (inputs : List (List ℤ)) (node : RunningNode) (job : JobView) → IsLaidOut net node.current → next_job net inputs node ≡ Some job → IsJobOf net inputs node.current job
 job_granted net inputs node job laid h = by_leave (may_grant node) h
   where
     by_process : (o : Option SavedProcessView) → next_process net inputs node.current node.last ≡ o → job_of net inputs node o ≡ Some job → IsJobOf net inputs node.current job

@@ -20,7 +20,7 @@ use Rattle.proc_step.specs.Turns.{AreNext, Turn, IsTurn}
 use Rattle.record.specs.ProcessView.{SavedProcessView}
 use Rattle.record.specs.ImageView.{ImageView}
 use Rattle.node.specs.JobView.{JobView}
-use Rattle.node.specs.NodeView.{NodeView}
+use Rattle.node.specs.NodeView.{RunningNode}
 use Rattle.record.specs.Ends.{received_at, log_at}
 use Rattle.node.specs.Granting.{is_process, items_from}
 use Rattle.record.specs.Changes.{log_with, pushed, counted}
@@ -271,7 +271,7 @@ job_has_code net inputs image job laid of = at (slice_get_cases net.codes job.pr
     at (inr past) = absurd (omega (arith, below, past.0))
 
 -- a node has come further by the turn on the job that was out
-pub reached_install : (net : Network) (inputs : List (List ℤ)) (node : NodeView) (job : JobView) (after : Standing) (taken : List ℕ) (sent : List (List ℤ))
+pub reached_install : (net : Network) (inputs : List (List ℤ)) (node : RunningNode) (job : JobView) (after : Standing) (taken : List ℕ) (sent : List (List ℤ))
     → HasReached net inputs node → IsLaidOut net node.current → IsJobOf net inputs node.current job → IsTurnOf net job after taken sent
     → HasReached net inputs (with_turn net.channels job.process after taken sent node)
 reached_install net inputs node job after taken sent reached laid of turn =
@@ -291,7 +291,7 @@ reached_install net inputs node job after taken sent reached laid of turn =
       current_after = λ q. (let far = reached.current_after q in let more = as_far_then job.process done.acts reached.current_acts q in omega (arith, far, more));
     }
 
-pub on_install : (net : Network) (inputs : List (List ℤ)) (node : NodeView) (job : JobView) (after : Standing) (taken : List ℕ) (sent : List (List ℤ))
+pub on_install : (net : Network) (inputs : List (List ℤ)) (node : RunningNode) (job : JobView) (after : Standing) (taken : List ℕ) (sent : List (List ℤ))
     → (reached : HasReached net inputs node) (laid : IsLaidOut net node.current) (of : IsJobOf net inputs node.current job) (turn : IsTurnOf net job after taken sent)
     → HasComeOn net inputs node (with_turn net.channels job.process after taken sent node) reached (reached_install net inputs node job after taken sent reached laid of turn)
 unfolding reached_install

@@ -8,7 +8,7 @@ use Rattle.record.specs.ProcessView.{SavedProcessView}
 use Rattle.record.specs.ImageView.{ImageView}
 use Rattle.record.specs.Ends.{received_at, log_at}
 use Rattle.node.specs.JobView.{JobView}
-use Rattle.node.specs.NodeView.{NodeView}
+use Rattle.node.specs.NodeView.{NodeView, ModeView, Down, InDoubt, Runs, RunningView, RunningNode, on_mode, on_running}
 use Rattle.node.specs.Granting.{is_process}
 use Rattle.record.specs.declared.image.SavedEnd.{SavedEnd}
 use Rattle.kahn_net.specs.declared.limits.TheConstants.{MAX_COUNT}
@@ -57,23 +57,36 @@ pub record EndTakes (channels : List Channel) (process : ℕ) (taken : List ℕ)
 abbrev pub ImageTakes : List Channel → ℕ → List ℕ → List (List ℤ) → ImageView → Type 0
 ImageTakes channels process taken sent image = (k : ℕ) (saved : SavedEnd) → slice_get image.ends k ≡ Some saved → EndTakes channels process taken sent saved
 
--- a node after the turn on the job that was out
-abbrev pub with_turn : List Channel → ℕ → Standing → List ℕ → List (List ℤ) → NodeView → NodeView
-with_turn channels process standing taken sent node = record {
-  kept = node.kept;
-  current = installed channels process standing taken sent node.current;
-  out = None;
-  version = node.version;
-  last = node.last;
-  up = node.up;
-  restart = node.restart;
-}
+-- a node that runs after the turn on the job that was out
+abbrev pub with_turn : List Channel → ℕ → Standing → List ℕ → List (List ℤ) → RunningNode → RunningNode
+with_turn channels process standing taken sent node = record node { current = installed channels process standing taken sent node.current; out = None }
+
+-- the same of what it has in memory; and how what comes back is taken in there, or left
+abbrev pub turned : List Channel → ℕ → Standing → List ℕ → List (List ℤ) → RunningView → RunningView
+turned channels process standing taken sent running = record running { current = installed channels process standing taken sent running.current; out = None }
+
+abbrev pub IsTaken : List Channel → JobView → Standing → List ℕ → List (List ℤ) → RunningView → Bool → RunningView → Type 0
+IsTaken channels job standing taken sent old true new = (old.out ≡ Some job) × (new ≡ turned channels job.process standing taken sent old)
+IsTaken channels job standing taken sent old false new = ¬ (old.out ≡ Some job) × (new ≡ old)
 
 -- what came back is of the job that is out at a node that runs
-abbrev pub IsOut : JobView → NodeView → Type 0
-IsOut job node = (node.up ≡ true) × (node.out ≡ Some job)
+abbrev pub IsOut : JobView → ModeView → Type 0
+IsOut job Down = ⊥
+IsOut job InDoubt = ⊥
+IsOut job (Runs running) = running.out ≡ Some job
+
+-- the turn fits what the node has now
+abbrev pub TakesTurn : List Channel → ℕ → List ℕ → List (List ℤ) → ModeView → Type 0
+TakesTurn channels process taken sent Down = Unit {0}
+TakesTurn channels process taken sent InDoubt = Unit {0}
+TakesTurn channels process taken sent (Runs running) = ImageTakes channels process taken sent running.current
 
 -- how what comes back is taken in, or left
+abbrev pub IsTakenIn : List Channel → JobView → Standing → List ℕ → List (List ℤ) → ModeView → Bool → ModeView → Type 0
+IsTakenIn channels job standing taken sent old true new = IsOut job old × (new ≡ on_mode (turned channels job.process standing taken sent) old)
+IsTakenIn channels job standing taken sent old false new = ¬ (IsOut job old) × (new ≡ old)
+
+-- the same of a node
 abbrev pub IsInstall : List Channel → JobView → Standing → List ℕ → List (List ℤ) → NodeView → Bool → NodeView → Type 0
-IsInstall channels job standing taken sent old true new = IsOut job old × (new ≡ with_turn channels job.process standing taken sent old)
-IsInstall channels job standing taken sent old false new = ¬ (IsOut job old) × (new ≡ old)
+IsInstall channels job standing taken sent old true new = IsOut job old.mode × (new ≡ on_running (turned channels job.process standing taken sent) old)
+IsInstall channels job standing taken sent old false new = ¬ (IsOut job old.mode) × (new ≡ old)

@@ -1,11 +1,13 @@
-pub mod Cell
-pub mod MemCell
 pub mod JobView
 pub mod NodeView
+pub mod ArmedRestarts
 pub mod Sharing
 pub mod Granting
 pub mod Installing
 pub mod Starting
+pub mod Recovering
+pub mod StoredView
+pub mod NodeOf
 pub mod Choosing
 pub mod Reached
 pub mod Trimming

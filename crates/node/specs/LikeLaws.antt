@@ -310,15 +310,9 @@ image_like net histories later made come permanent image valid first stands seco
 
 -- ---- channels with an end outside
 
--- each channel has an end outside
+-- no channel has both of its ends at processes, so that each has one outside
 abbrev pub HasOuterChannels : Network → Type 0
-HasOuterChannels net = (c : ℕ) (channel : Channel) → slice_get net.channels c ≡ Some channel → (channel.producer ≡ Outside) ⊎ (channel.consumer ≡ Outside)
-
-role_outer : (producer consumer : Port) → (producer ≡ Outside) ⊎ (consumer ≡ Outside) → role_between producer consumer ≡ 2 → ⊥
-role_outer Outside consumer outer e = absurd (cc)
-role_outer (Process p) Outside outer e = absurd (cc)
-role_outer (Process p) (Process q) (inl from) e = absurd (cc)
-role_outer (Process p) (Process q) (inr to) e = absurd (cc)
+HasOuterChannels net = (c : ℕ) (channel : Channel) → slice_get net.channels c ≡ Some channel → ¬ (role_between channel.producer channel.consumer ≡ 2)
 
 -- then no end receives what it sends
 pub outer_in_logs : (net : Network) (image : ImageView) → HasOuterChannels net → IsLaidOut net image → ReceivedAreInLogs image
@@ -335,7 +329,7 @@ outer_in_logs net image outer laid k received saved log is e = at (slice_get_cas
 
     at : ((x : Channel) × (saved.channel < length net.channels) × (slice_get net.channels saved.channel ≡ Some x) × (get_or net.channels saved.channel x ≡ x)) ⊎ ((length net.channels ≤ saved.channel) × (slice_get net.channels saved.channel ≡ None))
         → IsInLog log received
-    at (inl here) = absurd (role_outer here.0.producer here.0.consumer (outer saved.channel here.0 here.2) (sym (laid.roles k saved here.0 is here.2) ∙ ap role_of e))
+    at (inl here) = absurd (outer saved.channel here.0 here.2 (sym (laid.roles k saved here.0 is here.2) ∙ ap role_of e))
     at (inr past) = absurd (omega (arith, number, many, within, past.0))
 
 -- ---- before the first event

@@ -1,5 +1,5 @@
 -- A node before its first event.
-use Rattle.std.specs.Prelude.{ℕ, suc, true, List, [], ◌∷◌, replicate, None}
+use Rattle.std.specs.Prelude.{ℕ, suc, List, [], ◌∷◌, replicate, None}
 use Rattle.kahn_net.specs.Syntax.{Code, Network}
 use Rattle.kahn_net.specs.Processes.{NotBegun}
 use Rattle.kahn_net.specs.declared.program.Channel.{Channel}
@@ -8,7 +8,7 @@ use Rattle.kahn_net.specs.declared.program.Port.TheVariants.{Outside, Process}
 use Rattle.record.specs.ProcessView.{SavedProcessView}
 use Rattle.record.specs.ImageView.{ImageView}
 use Rattle.record.specs.RecordView.{RecordView}
-use Rattle.node.specs.NodeView.{NodeView}
+use Rattle.node.specs.NodeView.{NodeView, Runs, RunningNode}
 use Rattle.record.specs.declared.image.SavedEnd.{SavedEnd}
 use Rattle.record.specs.declared.image.End.{End}
 use Rattle.record.specs.declared.image.End.TheVariants.{Receives, Sends, Both}
@@ -36,5 +36,13 @@ opening_image net = record { processes = opening_processes 0 net.codes; ends = o
 abbrev pub opening_record : Network → ℕ → ℕ → RecordView
 opening_record net nodes number = record { node = number; epoch = 0; highest = replicate nodes 0; decision = None; permanent = opening_image net; tentative = None }
 
+-- a node that runs from its record's permanent image, and never went down
+abbrev pub running_from : RecordView → NodeView
+running_from kept = record { kept = kept; version = 0; restart = 0; armed = []; mode = Runs (record { current = kept.permanent; out = None; last = None }) }
+
+-- the node of this number, of so many; and as one that runs
 abbrev pub opening_node : Network → ℕ → ℕ → NodeView
-opening_node net nodes number = record { kept = opening_record net nodes number; current = opening_image net; out = None; version = 0; last = None; up = true; restart = 0 }
+opening_node net nodes number = running_from (opening_record net nodes number)
+
+abbrev pub opening_running : Network → ℕ → ℕ → RunningNode
+opening_running net nodes number = record { kept = opening_record net nodes number; version = 0; current = opening_image net; out = None; last = None }

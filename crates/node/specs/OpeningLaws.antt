@@ -10,7 +10,7 @@ use Rattle.retained.specs.LogState.{LogState, IsLogOf}
 use Rattle.record.specs.ProcessView.{SavedProcessView}
 use Rattle.record.specs.Ends.{received_at, log_at}
 use Rattle.ckpt_codec.specs.RecordText.{role_of}
-use Rattle.node.specs.Opening.{opening_processes, opening_end, opening_ends, opening_image, opening_node}
+use Rattle.node.specs.Opening.{opening_processes, opening_end, opening_ends, opening_image, opening_running}
 use Rattle.node.specs.Sharing.{is_logging}
 use Rattle.node.specs.Reached.{first_acts, EndStands, ImageStands, HasReached, numbers_from, is_counting, role_between, IsLaidOut, CountsAreWithin, LogsAreWithin}
 use Rattle.record.specs.declared.image.SavedEnd.{SavedEnd}
@@ -115,7 +115,7 @@ image_opening net histories = record { processes = processes; ends = ends }
         empty log b i = record { count = omega (arith, b, ap (length {A = ℤ}) i); items = i ∙ sym (ap (λ (n : ℕ). drop n none) b) }
 
 -- a node before its first event stands where no process has made an act
-pub reached_opening : (net : Network) (inputs : List (List ℤ)) (nodes number : ℕ) → HasReached net inputs (opening_node net nodes number)
+pub reached_opening : (net : Network) (inputs : List (List ℤ)) (nodes number : ℕ) → HasReached net inputs (opening_running net nodes number)
 reached_opening net inputs nodes number = record {
   n = 0;
   permanent_acts = none_made;

@@ -15,7 +15,7 @@ use Rattle.record.specs.ImageView.{ImageView}
 use Rattle.record.specs.Ends.{received_at, log_at}
 use Rattle.ckpt_codec.specs.RecordText.{role_of}
 use Rattle.node.specs.JobView.{JobView}
-use Rattle.node.specs.NodeView.{NodeView}
+use Rattle.node.specs.NodeView.{RunningNode}
 use Rattle.node.specs.Sharing.{is_logging, log_share, IsWithinShare}
 use Rattle.node.specs.Granting.{items_from, room_from}
 use Rattle.record.specs.declared.image.SavedEnd.{SavedEnd}
@@ -49,7 +49,7 @@ abbrev pub IsAsFar : (ℕ → ℕ) → (ℕ → ℕ) → Type 0
 IsAsFar made later = (p : ℕ) → made p ≤ later p
 
 -- The permanent image, the tentative one if it is held, and what the node has now stand on one approximation, one after another.
-pub record HasReached (net : Network) (inputs : List (List ℤ)) (node : NodeView) : Type 0 where
+pub record HasReached (net : Network) (inputs : List (List ℤ)) (node : RunningNode) : Type 0 where
   pub n : ℕ
   pub permanent_acts : ℕ → ℕ
   pub held_acts : ℕ → ℕ
@@ -109,6 +109,6 @@ abbrev pub IsTurnOf : Network → JobView → Standing → List ℕ → List (Li
 IsTurnOf net job after taken sent = (code : Code) → slice_get net.codes job.process ≡ Some code → IsTurn code job.standing job.items job.room after taken sent
 
 -- A node has come on: on the same approximation, its processes have made at least the acts of before.
-pub record HasComeOn (net : Network) (inputs : List (List ℤ)) (old new : NodeView) (before : HasReached net inputs old) (after : HasReached net inputs new) : Type 0 where
+pub record HasComeOn (net : Network) (inputs : List (List ℤ)) (old new : RunningNode) (before : HasReached net inputs old) (after : HasReached net inputs new) : Type 0 where
   pub same : after.n ≡ before.n
   pub further : IsAsFar before.current_acts after.current_acts

@@ -16,7 +16,7 @@ use Rattle.kahn_net.specs.declared.program.Port.{Port}
 use Rattle.kahn_net.specs.declared.program.Port.TheVariants.{Process}
 use Rattle.retained.specs.LogState.{LogState, IsLogOf}
 use Rattle.record.specs.ImageView.{ImageView}
-use Rattle.node.specs.NodeView.{NodeView}
+use Rattle.node.specs.NodeView.{RunningNode}
 use Rattle.record.specs.Ends.{log_of}
 use Rattle.node.specs.Reached.{first_acts, acts_of, ImageStands, HasReached, IsLaidOut, HasComeOn}
 use Rattle.node.specs.ImageLaws.{numbered_there, channel_at, log_is}
@@ -65,13 +65,16 @@ acts_are_front (Some code) histories m n c le =
           ∙ ap (λ (steps : List Step). sent_on c steps ++ sent_on c (drop m (take n (process_trace code histories).steps))) front);
     })
 
+pub acts_grow : (net : Network) (histories : List (List ℤ)) (made later : ℕ → ℕ) (c p : ℕ) → made p ≤ later p → IsPrefix (sent_on c (acts_of net histories made p)) (sent_on c (acts_of net histories later p))
+acts_grow net histories made later c p far = acts_are_front (slice_get net.codes p) histories (made p) (later p) c far
+
 -- a beginning of a beginning
 beginning_of_whole : (taken part whole : List ℤ) → IsPrefix part whole → IsPrefix taken part → IsPrefix taken whole
 beginning_of_whole taken part whole front begins =
     prefix_trans taken part whole begins front
 
 -- what left is still a beginning of what the process put, once the node has come on
-pub beginning_stays : (net : Network) (inputs : List (List ℤ)) (old new : NodeView) (before : HasReached net inputs old) (after : HasReached net inputs new) (c p : ℕ) (taken : List ℤ)
+pub beginning_stays : (net : Network) (inputs : List (List ℤ)) (old new : RunningNode) (before : HasReached net inputs old) (after : HasReached net inputs new) (c p : ℕ) (taken : List ℤ)
     → HasComeOn net inputs old new before after
     → IsPrefix taken (sent_on c (acts_of net (approximation net inputs before.n) before.current_acts p))
     → IsPrefix taken (sent_on c (acts_of net (approximation net inputs after.n) after.current_acts p))

@@ -1,5 +1,5 @@
 -- Laws of sizes: an image of a valid network whose logs keep to their share is within bounds, so that a record of two such images fits.
-use Rattle.std.proofs.Common.{◌≡◌, ℕ, ◌+◌, ◌<◌, ◌≤◌, ℤ, List, [], length, get_or, Option, Some, None, ◌⊎◌, inl, inr, refl, arith}
+use Rattle.std.proofs.Common.{◌≡◌, ℕ, ◌+◌, ◌<◌, ◌≤◌, ℤ, List, [], length, get_or, Some, None, ◌⊎◌, inl, inr, arith}
 use Rattle.std.specs.Prelude.{slice_get}
 use Rattle.std.proofs.Math.Logic.{∥∥₁_elim}
 use Rattle.std.proofs.Math.Bridge.{le_prop}
@@ -13,13 +13,13 @@ use Rattle.record.specs.ProcessView.{SavedProcessView}
 use Rattle.record.specs.ImageView.{ImageView}
 use Rattle.record.specs.RecordView.{RecordView}
 use Rattle.record.specs.declared.image.SavedEnd.{SavedEnd}
-use Rattle.record.specs.declared.record.Tentative.{Tentative}
 use Rattle.ckpt_codec.specs.RecordText.{variables_of}
-use Rattle.ckpt_codec.specs.SizeLaws.{IsImageWithin, IsRecordWithin, within_tentative}
+use Rattle.record.specs.Moves.{highest_seen}
+use Rattle.ckpt_codec.specs.SizeLaws.{IsImageWithin, IsRecordWithin, within_tentative, within_decision}
 use Rattle.ckpt_codec.specs.declared.lengths.TheConstants.{MAX_RETAINED_ITEMS}
-use Rattle.node.specs.NodeView.{NodeView}
+use Rattle.node.specs.NodeView.{RunningNode}
 use Rattle.node.specs.Reached.{HasReached, ImageStands, IsLaidOut, LogsAreWithin}
-use Rattle.node.specs.Starting.{with_own, highest_used, decided, decided_with}
+use Rattle.node.specs.Starting.{with_own, held_number, decided}
 use Rattle.node.specs.Opening.{opening_image, opening_record}
 use Rattle.node.specs.OpeningLaws.{reached_opening, laid_out_opening, logs_opening}
 use Rattle.node.specs.ImageLaws.{numbered_mark, numbered_count}
@@ -64,7 +64,7 @@ image_within net histories made image valid laid stands logs =
     }
 
 -- and so is a node's current image, however far it has come
-pub current_within : (net : Network) (inputs : List (List ℤ)) (node : NodeView) → IsValid net → IsLaidOut net node.current → LogsAreWithin node.current → ∥ HasReached net inputs node ∥₁
+pub current_within : (net : Network) (inputs : List (List ℤ)) (node : RunningNode) → IsValid net → IsLaidOut net node.current → LogsAreWithin node.current → ∥ HasReached net inputs node ∥₁
     → IsImageWithin MAX_RETAINED_ITEMS node.current
 current_within net inputs node valid laid logs reached = record {
   processes =
@@ -95,12 +95,8 @@ opening_within net nodes number valid few =
 
 -- the record of a start
 pub own_within : (node : ℕ) (image : ImageView) (kept : RecordView) → IsImageWithin MAX_RETAINED_ITEMS image → IsRecordWithin MAX_RETAINED_ITEMS kept → IsRecordWithin MAX_RETAINED_ITEMS (with_own node image kept)
-own_within node image kept here within = within_tentative MAX_RETAINED_ITEMS kept within node (highest_used node kept + 1) image here
+own_within node image kept here within = within_tentative MAX_RETAINED_ITEMS kept within node (highest_seen node kept + 1) image here
 
 -- the record of a decision
 pub decided_within : (kept : RecordView) → IsRecordWithin MAX_RETAINED_ITEMS kept → IsRecordWithin MAX_RETAINED_ITEMS (decided kept)
-decided_within kept within = at kept.tentative within.tentative
-  where
-    at : (o : Option Tentative) → ((t : Tentative) → o ≡ Some t → IsImageWithin MAX_RETAINED_ITEMS t.image) → IsRecordWithin MAX_RETAINED_ITEMS (decided_with kept o)
-    at None held = within
-    at (Some t) held = record { nodes = within.nodes; decision = λ d is. absurd (cc); permanent = held t refl; tentative = λ s is. absurd (cc) }
+decided_within kept within = within_decision MAX_RETAINED_ITEMS kept within (held_number kept.tentative) [] (omega arith)

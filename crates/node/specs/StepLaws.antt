@@ -4,14 +4,15 @@ use Rattle.kahn_net.specs.Syntax.{Network}
 use Rattle.kahn_net.specs.Approximations.{approximation}
 use Rattle.record.specs.ImageView.{ImageView}
 use Rattle.node.specs.JobView.{JobView}
-use Rattle.node.specs.NodeView.{NodeView}
+use Rattle.node.specs.NodeView.{RunningNode}
 use Rattle.node.specs.Choosing.{after_grant}
-use Rattle.node.specs.Starting.{with_own, decided, decided_with, with_kept, stopped}
+use Rattle.record.specs.Moves.{last_image}
+use Rattle.node.specs.Starting.{with_own, decided, keeping}
 use Rattle.node.specs.Reached.{ImageStands, IsAsFar, HasReached, HasComeOn}
 use Rattle.record.specs.declared.record.Tentative.{Tentative}
 
 -- a node that takes a tentative image of what it has now
-pub reached_start : (net : Network) (inputs : List (List ℤ)) (number : ℕ) (node : NodeView) → HasReached net inputs node → HasReached net inputs (with_kept (with_own number node.current node.kept) node)
+pub reached_start : (net : Network) (inputs : List (List ℤ)) (number : ℕ) (node : RunningNode) → HasReached net inputs node → HasReached net inputs (keeping (with_own number node.current node.kept) node)
 reached_start net inputs number node reached = record {
   n = reached.n;
   permanent_acts = reached.permanent_acts;
@@ -30,14 +31,14 @@ reached_start net inputs number node reached = record {
         subst (λ (x : ImageView). ImageStands net (approximation net inputs reached.n) reached.current_acts x) image reached.current
 
 -- a node whose tentative image becomes permanent, where one is held
-pub reached_decide : (net : Network) (inputs : List (List ℤ)) (node : NodeView) → HasReached net inputs node → HasReached net inputs (with_kept (decided node.kept) node)
+pub reached_decide : (net : Network) (inputs : List (List ℤ)) (node : RunningNode) → HasReached net inputs node → HasReached net inputs (keeping (decided node.kept) node)
 reached_decide net inputs node reached = record {
   n = reached.n;
   permanent_acts = permanent_then node.kept.tentative;
   held_acts = reached.held_acts;
   current_acts = reached.current_acts;
   permanent = permanent node.kept.tentative refl;
-  held = λ tentative is. absurd (none_left node.kept.tentative refl tentative is);
+  held = λ tentative is. absurd (cc);
   held_after = held_after node.kept.tentative;
   current = reached.current;
   current_after = reached.current_after;
@@ -51,30 +52,12 @@ reached_decide net inputs node reached = record {
     held_after None = reached.held_after
     held_after (Some tentative) = λ p. omega arith
 
-    permanent : (o : Option Tentative) → node.kept.tentative ≡ o → ImageStands net (approximation net inputs reached.n) (permanent_then o) (decided_with node.kept o).permanent
+    permanent : (o : Option Tentative) → node.kept.tentative ≡ o → ImageStands net (approximation net inputs reached.n) (permanent_then o) (last_image node.kept.permanent o)
     permanent None is = reached.permanent
     permanent (Some tentative) is = reached.held tentative is
 
-    none_left : (o : Option Tentative) → node.kept.tentative ≡ o → (tentative : Tentative) → (decided_with node.kept o).tentative ≡ Some tentative → ⊥
-    none_left None is tentative e = cc
-    none_left (Some held) is tentative e = cc
-
--- a node that went down
-pub reached_stopped : (net : Network) (inputs : List (List ℤ)) (round : ℕ) (node : NodeView) → HasReached net inputs node → HasReached net inputs (stopped round node)
-reached_stopped net inputs round node reached = record {
-  n = reached.n;
-  permanent_acts = reached.permanent_acts;
-  held_acts = reached.held_acts;
-  current_acts = reached.current_acts;
-  permanent = reached.permanent;
-  held = reached.held;
-  current = reached.current;
-  held_after = reached.held_after;
-  current_after = reached.current_after;
-}
-
 -- a node that granted a job, or none
-pub reached_grant : (net : Network) (inputs : List (List ℤ)) (job : Option JobView) (node : NodeView) → HasReached net inputs node → HasReached net inputs (after_grant job node)
+pub reached_grant : (net : Network) (inputs : List (List ℤ)) (job : Option JobView) (node : RunningNode) → HasReached net inputs node → HasReached net inputs (after_grant job node)
 reached_grant net inputs None node reached = reached
 reached_grant net inputs (Some job) node reached = record {
   n = reached.n;
@@ -90,22 +73,17 @@ reached_grant net inputs (Some job) node reached = record {
 
 -- Each leaves the approximation and the acts as they were
 
-pub on_start : (net : Network) (inputs : List (List ℤ)) (number : ℕ) (node : NodeView) (reached : HasReached net inputs node)
-    → HasComeOn net inputs node (with_kept (with_own number node.current node.kept) node) reached (reached_start net inputs number node reached)
+pub on_start : (net : Network) (inputs : List (List ℤ)) (number : ℕ) (node : RunningNode) (reached : HasReached net inputs node)
+    → HasComeOn net inputs node (keeping (with_own number node.current node.kept) node) reached (reached_start net inputs number node reached)
 unfolding reached_start
 on_start net inputs number node reached = record { same = refl; further = λ p. omega arith }
 
-pub on_decide : (net : Network) (inputs : List (List ℤ)) (node : NodeView) (reached : HasReached net inputs node)
-    → HasComeOn net inputs node (with_kept (decided node.kept) node) reached (reached_decide net inputs node reached)
+pub on_decide : (net : Network) (inputs : List (List ℤ)) (node : RunningNode) (reached : HasReached net inputs node)
+    → HasComeOn net inputs node (keeping (decided node.kept) node) reached (reached_decide net inputs node reached)
 unfolding reached_decide
 on_decide net inputs node reached = record { same = refl; further = λ p. omega arith }
 
-pub on_stopped : (net : Network) (inputs : List (List ℤ)) (round : ℕ) (node : NodeView) (reached : HasReached net inputs node)
-    → HasComeOn net inputs node (stopped round node) reached (reached_stopped net inputs round node reached)
-unfolding reached_stopped
-on_stopped net inputs round node reached = record { same = refl; further = λ p. omega arith }
-
-pub on_grant : (net : Network) (inputs : List (List ℤ)) (job : Option JobView) (node : NodeView) (reached : HasReached net inputs node)
+pub on_grant : (net : Network) (inputs : List (List ℤ)) (job : Option JobView) (node : RunningNode) (reached : HasReached net inputs node)
     → HasComeOn net inputs node (after_grant job node) reached (reached_grant net inputs job node reached)
 unfolding reached_grant
 on_grant net inputs None node reached = record { same = refl; further = λ p. omega arith }

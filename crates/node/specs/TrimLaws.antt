@@ -21,6 +21,7 @@ use Rattle.record.specs.Changes.{trimmed_log, trimmed_end, trimmed_saved, trimme
 use Rattle.node.specs.Reached.{acts_of, EndStands, ImageStands, is_counting, role_between, IsLaidOut, CountsAreWithin, LogsAreWithin, IsJobOf}
 use Rattle.node.specs.ImageLaws.{map_got, map_keeps, end_of_changed}
 use Rattle.node.specs.SharingLaws.{share_kept}
+use Rattle.node.specs.Starting.{IsBehind}
 use Rattle.record.specs.declared.image.SavedEnd.{SavedEnd}
 use Rattle.record.specs.declared.image.End.{End}
 use Rattle.record.specs.declared.image.End.TheVariants.{Receives, Sends, Both}
@@ -140,8 +141,8 @@ received_trimmed c position image d = ap received_at (end_of_trimmed c position 
     at None = refl
     at (Some s) = still_received position (eqb s.channel c) s.end
 
-pub put_more_trimmed : (c position : ℕ) (image : ImageView) (d : ℕ) → sent_of (trimmed_image c position image) d ≡ sent_of image d
-put_more_trimmed c position image d = ap (λ (o : Option End). sent_in (log_at o)) (end_of_trimmed c position image d) ∙ at (find (λ (s : SavedEnd). eqb s.channel d) image.ends)
+sent_trimmed : (c position : ℕ) (image : ImageView) (d : ℕ) → sent_of (trimmed_image c position image) d ≡ sent_of image d
+sent_trimmed c position image d = ap (λ (o : Option End). sent_in (log_at o)) (end_of_trimmed c position image d) ∙ at (find (λ (s : SavedEnd). eqb s.channel d) image.ends)
   where
     at : (o : Option SavedEnd) → sent_in (log_at (option_map (λ (s : SavedEnd). (trimmed_saved c position s).end) o)) ≡ sent_in (log_at (option_map (λ (s : SavedEnd). s.end) o))
     at None = refl
@@ -168,6 +169,32 @@ base_trimmed c position image d h =
     at : (o : Option SavedEnd) → base_in (log_at (option_map (λ (s : SavedEnd). s.end) o)) ≤ position → base_in (log_at (option_map (λ (s : SavedEnd). (trimmed_saved c position s).end) o)) ≤ position
     at None h = omega arith
     at (Some s) h = base_below position (eqb s.channel c) s.end h
+
+-- and where it begins is no earlier than before
+base_after : (position : ℕ) (log : LogState) → log.base ≤ (trimmed_log position log).base
+base_after position log = at (trimmed_cases position log)
+  where
+    at : ((trimmed_log position log ≡ log) ⊎ ((log.base ≤ position) × (position ≤ log_end log) × (trimmed_log position log ≡ trimmed log position))) → log.base ≤ (trimmed_log position log).base
+    at (inl same) = omega (arith, ap (λ (l : LogState). l.base) same)
+    at (inr cut) = omega (arith, cut.0, ap (λ (l : LogState). l.base) cut.2)
+
+later_base : (position : ℕ) (trims : Bool) (end : End) → base_in (log_at (Some end)) ≤ base_in (log_at (Some (cond trims (trimmed_end position end) end)))
+later_base position false end = omega arith
+later_base position true (Receives received) = omega arith
+later_base position true (Sends log) = base_after position log
+later_base position true (Both received log) = base_after position log
+
+-- so a log that lets go of items takes back nothing that was received or put
+pub behind_trimmed : (c position : ℕ) (image : ImageView) → IsBehind image (trimmed_image c position image)
+behind_trimmed c position image = record {
+  received = λ d. omega (arith, received_trimmed c position image d);
+  base = λ d. subst (λ (o : Option End). base_of image d ≤ base_in (log_at o)) (sym (end_of_trimmed c position image d)) (base_then (find (λ (s : SavedEnd). eqb s.channel d) image.ends));
+  sent = λ d. omega (arith, sent_trimmed c position image d);
+}
+  where
+    base_then : (o : Option SavedEnd) → base_in (log_at (option_map (λ (s : SavedEnd). s.end) o)) ≤ base_in (log_at (option_map (λ (s : SavedEnd). (trimmed_saved c position s).end) o))
+    base_then None = omega arith
+    base_then (Some s) = later_base position (eqb s.channel c) s.end
 
 -- as many ends have a log
 share_trimmed : (c position : ℕ) (image : ImageView) → log_share (trimmed_image c position image) ≡ log_share image

@@ -3,10 +3,25 @@ use Rattle.std.specs.Prelude.{◌≡◌, ℕ, ◌+◌, ◌++◌, ℤ, List, [], 
 use Rattle.retained.specs.LogState.{LogState, items_at}
 use Rattle.outlet.specs.Released.{CanRelease}
 use Rattle.record.specs.ImageView.{ImageView}
-use Rattle.node.specs.NodeView.{NodeView}
+use Rattle.record.specs.Changes.{trimmed_image}
+use Rattle.record.specs.Ends.{log_of}
+use Rattle.node.specs.NodeView.{NodeView, ModeView, Down, InDoubt, Runs, RunningView, RunningNode, on_running}
 
-abbrev pub with_current : ImageView → NodeView → NodeView
-with_current image node = record { kept = node.kept; current = image; out = node.out; version = node.version; last = node.last; up = node.up; restart = node.restart }
+abbrev pub with_current : ImageView → RunningNode → RunningNode
+with_current image node = record node { current = image }
+
+-- the node with the log of this channel so cut, if it runs
+abbrev pub cut_at : ℕ → ℕ → RunningView → RunningView
+cut_at channel position running = record running { current = trimmed_image channel position running.current }
+
+abbrev pub trimmed_node : ℕ → ℕ → NodeView → NodeView
+trimmed_node channel position node = on_running (cut_at channel position) node
+
+-- the log of this channel that a node has now, if it runs
+abbrev pub current_log : ℕ → ModeView → Option LogState
+current_log channel Down = None
+current_log channel InDoubt = None
+current_log channel (Runs running) = log_of running.current channel
 
 -- the log of this channel has the item that comes next for an outlet that took so many
 abbrev pub HasNext : Option LogState → ℕ → Type 0

@@ -1,18 +1,14 @@
 // An image after a turn of one of its processes.
-ghost use Rattle.std.specs.Prelude.{◌≡◌, ◌≤◌, ◌+◌, ◌-◌, ◌++◌, ℕ, [], map, length, take, drop, slice_get, true, ◌↔◌, IfOk, OnOk, OnErr, IsErrOf, IsTrue, Some, option_map};
+ghost use Rattle.std.specs.Prelude.{◌≡◌, ◌≤◌, ◌+◌, ◌-◌, ◌++◌, ℕ, [], map, length, take, drop, slice_get, OnOk, OnErr, IsErrOf, Some};
 ghost use Rattle.kahn_net.specs.States.{standing_of};
 ghost use Rattle.record.specs.Ends.{received_at, log_at};
 ghost use Rattle.record.specs.Changes.{LogTakes};
-ghost use Rattle.node.specs.Installing.{taken_from, put_on, saved_pushed, saved_counted, moved, installed, ImageTakes, IsOut, IsInstall};
-ghost use Rattle.node.specs.JobView.{job_view};
-ghost use Rattle.node.specs.NodeView.{node_view};
+ghost use Rattle.node.specs.Installing.{taken_from, put_on, saved_pushed, saved_counted, moved, installed, ImageTakes};
 ghost use Rattle.record.specs.declared.image.SavedEnd.{SavedEnd};
 ghost use Rattle.kahn_net.specs.declared.limits.TheConstants.{MAX_COUNT};
 
 use crate::granting::is_at;
-use crate::state::NodeState;
 use kahn_net::{Channel, History, ProcState};
-use proc_step::{Done, Job};
 use record::{End, Image, SavedEnd, SavedProcess};
 use retained::LogFault;
 use std::alloc::Global;
@@ -112,7 +108,7 @@ fn move_process(processes: &mut Vec<SavedProcess>, process: usize, state: ProcSt
 
 // Takes a turn of a process into an image: where it stands now, the items that it took from each channel, and those that
 // it sent on each. Refuses for want of memory alone, and the image is then as it was.
-fn install_turn(
+pub(crate) fn install_turn(
     alloc: Global,
     image: &mut Image,
     channels: &[Channel],
@@ -132,51 +128,4 @@ fn install_turn(
     count_all(&mut image.ends, channels, process, taken);
     move_process(&mut image.processes, process, state);
     Ok(())
-}
-
-impl NodeState {
-    /// Takes in what came of a job, if it is the one that is out at a node that runs; says whether it was. Refuses for
-    /// want of memory alone, and then nothing is changed.
-    pub fn install(
-        &mut self,
-        alloc: Global,
-        channels: &[Channel],
-        done: &Done,
-    ) -> Result<bool, LogFault>
-        requires { IsOut (job_view done.now.job) (node_view self.old)
-            → ImageTakes channels.now done.now.job.process done.now.taken.items done.now.sent.items
-            self.old.current }
-        ensures step { IfOk result
-            (λ applied. IsInstall channels.now (job_view done.now.job)
-            (standing_of done.now.state) done.now.taken.items done.now.sent.items
-            (node_view self.old) applied (node_view self.new)) }
-        ensures err { OnErr result (node_view self.new ≡ node_view self.old) }
-        ensures full { ¬ (IsErrOf result LogFault.Full) }
-    {
-        if !is_out(&self.out, self.up, &done.job) {
-            return Ok(false);
-        }
-        install_turn(
-            alloc,
-            &mut self.current,
-            channels,
-            done.job.process,
-            &done.state,
-            &done.taken,
-            &done.sent,
-        )?;
-        self.out = None;
-        Ok(true)
-    }
-}
-
-// Whether a job is the one that is out at a node that runs.
-fn is_out(out: &Option<Job>, up: bool, job: &Job) -> bool
-    ensures { IsTrue result ↔ ((up ≡ true)
-        × (option_map job_view out.now ≡ Some (job_view job.now))) }
-{
-    match out {
-        Some(out) => up && out.is_same(job),
-        None => false,
-    }
 }

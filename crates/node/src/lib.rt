@@ -1,28 +1,30 @@
-//! A node: what it has, the cell that keeps its record over a crash, and its events.
+//! A node: what it has, the store that keeps its record over a crash, and its events.
 //!
-//! `StableCell` is the model of that cell: a crash at any moment of a `put` leaves the old record or the new one.
+//! A node that is down has no more than what its store's cell holds; recovered, it runs from its permanent image.
 #![tactic(auto)]
 
-mod cell;
+mod checkpoint;
 mod choosing;
-mod events;
 mod granting;
 mod installing;
-mod memory;
+mod mode;
 mod node;
 mod opening;
+mod preparing;
 mod putting;
+mod recover;
 mod releasing;
+mod restart;
+mod running;
 mod sharing;
-mod starting;
 mod state;
 
-pub use cell::StableCell;
-pub use gate_cell::CellFault;
 pub use granting::MAX_JOB_ITEMS;
-pub use memory::MemCell;
+pub use mode::Mode;
 pub use node::Node;
-pub use putting::Putting;
+pub use opening::opening_record;
+pub use putting::{Putting, Recovery};
+pub use restart::{ArmedRestart, round_later};
+pub use running::Running;
 pub use sharing::share_law;
-pub use starting::{can_start, next_after};
-pub use state::NodeState;
+pub use state::{NodeState, next_after};

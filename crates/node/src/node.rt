@@ -1,23 +1,271 @@
-//! A node: what it has, and the cell that keeps its record.
-ghost use Rattle.std.specs.Prelude.{◌<◌, length, Option};
-ghost use Rattle.record.specs.RecordView.{RecordView};
-ghost use Rattle.node.specs.Starting.{LeavesAsMuch, AreInOrder, AgreeWhileUp};
+//! A node, and its events.
+ghost use Rattle.std.specs.Prelude.{◌≡◌, ◌⊎◌, ◌+◌, ◌<◌, ℤ, List, false, length, IfOk, IsErrOf, IsSome, IsTrue, None, OnErr, OnOk, Some, is_some, option_map};
+ghost use Rattle.kahn_net.specs.Streams.{IsPrefix};
+ghost use Rattle.kahn_net.specs.States.{standing_of};
+ghost use Rattle.kahn_net.specs.Syntax.{network_of};
+ghost use Rattle.retained.specs.LogState.{LogState, IsLogOf};
+ghost use Rattle.outlet.specs.Faults.{failures_after};
+ghost use Rattle.record.specs.Moves.{with_epoch};
+ghost use Rattle.ckpt_store.specs.Spelling.{fits_in};
+ghost use Rattle.ckpt_store.specs.StoreView.{cell_in, known_in, record_in};
+ghost use Rattle.node.specs.ArmedRestarts.{with_armed};
+ghost use Rattle.node.specs.Choosing.{node_job, with_grant};
+ghost use Rattle.node.specs.Installing.{IsInstall, IsOut, TakesTurn};
+ghost use Rattle.node.specs.JobView.{job_view};
+ghost use Rattle.node.specs.NodeView.{mode_view};
+ghost use Rattle.node.specs.Opening.{running_from};
+ghost use Rattle.node.specs.Recovering.{IsCrash, IsRecovery, IsRecoveryPut};
+ghost use Rattle.node.specs.Starting.{decided, with_own_now, IsDecision, IsLikeNow, IsPut, IsStart, LeavesCell};
+ghost use Rattle.node.specs.StoredView.{HasRecord, LeavesAsBefore, LeavesNext};
+ghost use Rattle.node.specs.Trimming.{HasNext, TookNext, current_log, trimmed_node};
 
-use crate::cell::StableCell;
+use crate::checkpoint::{decide, start};
+use crate::mode::Mode;
+use crate::preparing::arm;
+use crate::putting::{Putting, Recovery};
+use crate::recover::{crash, recover};
+use crate::running::Running;
 use crate::state::NodeState;
+use ckpt_store::Store;
+use gate_cell::StableCell;
+use kahn_net::Channel;
+use net_check::{Inputs, Net};
+use outlet::{Outlet, OutletFault};
+use proc_step::{Done, Job};
+use retained::LogFault;
+use sector_disk::ArmedFault;
+use std::alloc::{AllocError, Global};
+use std::sync::Arc;
 
-/// A node of a network, with its number there.
+/// A node of a network, with its number there and the store of its record.
 ///
-/// While it is up its cell is ready and holds its record. Whatever a crash leaves of the cell, now or after a failure
-/// of its device, has in its permanent image at least the items that the node's own permanent image has put.
+/// While it is up its store is ready. In every state a crash leaves the record that it has, and no other.
 #[derive(Drop)]
 pub struct Node<C: StableCell> {
     pub number: u8,
     pub state: NodeState,
-    pub cell: C,
-    pub ghost listed: { number < length state.kept.highest },
-    pub ghost agree: { AgreeWhileUp C.is_ready C.value state.up state.kept cell },
-    pub ghost in_order: { AreInOrder state.kept state.current },
-    pub ghost durable: { (left : Option RecordView) → C.may_leave cell left
-        → LeavesAsMuch state.kept.permanent left },
+    pub store: Store<C>,
+    pub ghost kept: { HasRecord number (mode_view state.mode) store },
+}
+
+impl<C: StableCell> Node<C> {
+    ghost use Rattle.node.specs.NodeOf.{view_of};
+
+    /// A node that runs from the permanent image of its store's record, and never went down.
+    pub fn run_from(alloc: Global, number: u8, store: Store<C>) -> Result<Node<C>, AllocError>
+        requires known { IsSome (known_in store) }
+        requires listed { number < length (record_in store).highest }
+        requires named { (record_in store).node ≡ number }
+        ensures view { IfOk result (λ node. view_of node ≡ running_from (record_in store)) }
+        ensures same { IfOk result (λ node. (node.number ≡ number) × (node.store ≡ store)) }
+    {
+        let image = match store.record() {
+            Ok(kept) => kept.permanent.copy(alloc)?,
+            Err(_) => return Err(AllocError),
+        };
+        Ok(Node {
+            number,
+            state: NodeState {
+                mode: Mode::Running(Running {
+                    current: image,
+                    out: None,
+                    last: None,
+                }),
+                version: 0,
+                restart: 0,
+                armed: Vec::new(alloc),
+            },
+            store,
+        })
+    }
+
+    /// Whether a job can be granted now.
+    pub fn has_job(&self, net: &Net, inputs: &Inputs) -> bool
+        ensures { result ≡ is_some
+            (node_job (network_of net.now.program) inputs.now (view_of self.now)) }
+    {
+        match self.store.record() {
+            Ok(kept) => self.state.has_job(net, inputs, kept),
+            Err(_) => false,
+        }
+    }
+
+    /// Grants a job to the ready process that is next: its state, the items at hand and the room. The node keeps a copy
+    /// to compare with what comes back. `None` where no job can be granted. Refuses for want of memory alone.
+    pub fn grant(
+        &mut self,
+        alloc: Global,
+        net: &Arc<Net>,
+        inputs: &Inputs,
+    ) -> Result<Option<Job>, AllocError>
+        ensures job { IfOk result (λ job. option_map job_view job
+            ≡ node_job (network_of net.now.value.program) inputs.now (view_of self.old)) }
+        ensures state { IfOk result (λ job. view_of self.new
+            ≡ with_grant (node_job (network_of net.now.value.program) inputs.now
+            (view_of self.old)) (view_of self.old)) }
+        ensures err { OnErr result (view_of self.new ≡ view_of self.old) }
+        ensures same { (self.new.store ≡ self.old.store) × (self.new.number ≡ self.old.number) }
+    {
+        match self.store.record() {
+            Ok(kept) => self.state.grant(alloc, net, inputs, kept),
+            Err(_) => Ok(None),
+        }
+    }
+
+    /// Takes in what came of a job, if it is the one that is out at a node that runs; says whether it was. Refuses for
+    /// want of memory alone, and then nothing is changed.
+    pub fn install(
+        &mut self,
+        alloc: Global,
+        channels: &[Channel],
+        done: &Done,
+    ) -> Result<bool, LogFault>
+        requires { IsOut (job_view done.now.job) (view_of self.old).mode
+            → TakesTurn channels.now done.now.job.process done.now.taken.items
+            done.now.sent.items (view_of self.old).mode }
+        ensures step { IfOk result (λ applied. IsInstall channels.now (job_view done.now.job)
+            (standing_of done.now.state) done.now.taken.items done.now.sent.items
+            (view_of self.old) applied (view_of self.new)) }
+        ensures err { OnErr result (view_of self.new ≡ view_of self.old) }
+        ensures full { ¬ (IsErrOf result LogFault.Full) }
+        ensures same { (self.new.store ≡ self.old.store) × (self.new.number ≡ self.old.number) }
+    {
+        self.state.install(alloc, channels, done)
+    }
+
+    /// Takes a tentative image of where the node stands now, under its next number: the first half of a checkpoint.
+    /// Where the device fails the node goes down, and may be recovered after the rounds that were armed with that call, or
+    /// from the next round on. Refuses for want of memory alone, and then nothing is changed.
+    pub fn start(&mut self, alloc: Global, round: u64) -> Result<Putting, AllocError>
+        requires { IsLikeNow (view_of self.old) }
+        ensures step { IfOk result (λ outcome. IsStart self.old.number round
+            (C.failed_call (cell_in self.new.store)) (view_of self.old) outcome
+            (view_of self.new)) }
+        ensures refused { OnErr result (view_of self.new ≡ view_of self.old) }
+        ensures put { IfOk result (IsPut
+            (fits_in (C.capacity (cell_in self.old.store))
+            (with_own_now self.old.number (view_of self.old)))
+            (C.failure_count (cell_in self.old.store))
+            (C.failure_count (cell_in self.new.store))) }
+        ensures unchanged { LeavesCell result
+            → cell_in self.new.store ≡ cell_in self.old.store }
+        ensures any_moment { LeavesNext (with_own_now self.old.number (view_of self.old))
+            self.old.store self.new.store }
+        ensures same_room { C.capacity (cell_in self.new.store)
+            ≡ C.capacity (cell_in self.old.store) }
+        ensures same_number { self.new.number ≡ self.old.number }
+    {
+        start(alloc, self.number, &mut self.state, &mut self.store, round)
+    }
+
+    /// Makes the node's own tentative image permanent: the second half of a checkpoint. Where the device fails the node
+    /// goes down, as of a start. Refuses for want of memory alone, and then nothing is changed.
+    pub fn decide(&mut self, alloc: Global, round: u64) -> Result<Putting, AllocError>
+        ensures step { IfOk result (λ outcome. IsDecision self.old.number round
+            (C.failed_call (cell_in self.new.store)) (view_of self.old) outcome
+            (view_of self.new)) }
+        ensures refused { OnErr result (view_of self.new ≡ view_of self.old) }
+        ensures put { IfOk result (IsPut
+            (fits_in (C.capacity (cell_in self.old.store)) (decided (view_of self.old).kept))
+            (C.failure_count (cell_in self.old.store))
+            (C.failure_count (cell_in self.new.store))) }
+        ensures unchanged { LeavesCell result
+            → cell_in self.new.store ≡ cell_in self.old.store }
+        ensures any_moment { LeavesNext (decided (view_of self.old).kept)
+            self.old.store self.new.store }
+        ensures same_room { C.capacity (cell_in self.new.store)
+            ≡ C.capacity (cell_in self.old.store) }
+        ensures same_number { self.new.number ≡ self.old.number }
+    {
+        decide(alloc, self.number, &mut self.state, &mut self.store, round)
+    }
+
+    /// Crashes, if it is up; says whether it was. What it had in memory is gone, what its cell holds is settled, by this
+    /// byte where one is given, and it may be recovered from the round `restart` on.
+    pub fn crash(&mut self, fill: Option<u8>, restart: u64) -> bool
+        ensures step { IsCrash restart (view_of self.old) result (view_of self.new) }
+        ensures any_moment { LeavesAsBefore self.old.store self.new.store }
+        ensures same_room { C.capacity (cell_in self.new.store)
+            ≡ C.capacity (cell_in self.old.store) }
+        ensures failures { C.failure_count (cell_in self.new.store)
+            ≡ C.failure_count (cell_in self.old.store) }
+        ensures unknown { IsTrue result → known_in self.new.store ≡ None }
+        ensures unchanged { result ≡ false → self.new.store ≡ self.old.store }
+        ensures same_number { self.new.number ≡ self.old.number }
+    {
+        crash(self.number, &mut self.state, &mut self.store, fill, restart)
+    }
+
+    /// Comes back, if it is down: in its next epoch, without a tentative image of its own, which is one put. It then runs
+    /// from its permanent image, or is in doubt where it holds another's tentative one. Where the device fails it stays
+    /// down, for as many rounds as of a start. Refuses for want of memory alone; device calls may have been made then, and
+    /// nothing else is changed.
+    pub fn recover(&mut self, alloc: Global, round: u64) -> Result<Recovery, AllocError>
+        ensures step { IfOk result (λ outcome. IsRecovery round
+            (C.failed_call (cell_in self.new.store)) (view_of self.old) outcome
+            (view_of self.new)) }
+        ensures refused { OnErr result (view_of self.new ≡ view_of self.old) }
+        ensures put { IfOk result (IsRecoveryPut
+            (fits_in (C.capacity (cell_in self.old.store)) (with_epoch (view_of self.old).kept))
+            (C.failure_count (cell_in self.old.store))
+            (C.failure_count (cell_in self.new.store))) }
+        ensures refused_failures { OnErr result (C.failure_count (cell_in self.new.store)
+            ≡ C.failure_count (cell_in self.old.store)) }
+        ensures unchanged { IfOk result (λ outcome. outcome ≡ Recovery.NotDue
+            → self.new.store ≡ self.old.store) }
+        ensures any_moment { LeavesNext (with_epoch (view_of self.old).kept)
+            self.old.store self.new.store }
+        ensures same_room { C.capacity (cell_in self.new.store)
+            ≡ C.capacity (cell_in self.old.store) }
+        ensures same_number { self.new.number ≡ self.old.number }
+    {
+        recover(alloc, self.number, &mut self.state, &mut self.store, round)
+    }
+
+    /// Prepares a failure of the node's disk, where there is one, and for how many rounds it is to keep the node down.
+    /// Without memory (1) it prepares nothing.
+    pub fn arm(&mut self, fault: ArmedFault, rounds: u64) -> Result<(), AllocError>
+        ensures armed { OnOk result
+            (view_of self.new ≡ with_armed fault.call rounds (view_of self.old)) }
+        ensures refused { OnErr result (view_of self.new ≡ view_of self.old) }
+        ensures any_moment { LeavesAsBefore self.old.store self.new.store }
+        ensures same_room { C.capacity (cell_in self.new.store)
+            ≡ C.capacity (cell_in self.old.store) }
+        ensures failures { C.failure_count (cell_in self.new.store)
+            ≡ C.failure_count (cell_in self.old.store) }
+        ensures same_number { self.new.number ≡ self.old.number }
+    {
+        arm(self.number, &mut self.state, &mut self.store, fault, rounds)
+    }
+
+    /// Hands an outlet the item of this channel that comes next for it, and lets the log go of what the outlet has.
+    /// Refuses with `NoMemory` (1), and then nothing is changed, and with `Failed` (60), where the outlet took the item
+    /// or didn't.
+    pub fn release<O: Outlet>(&mut self, channel: u8, outlet: &mut O) -> Result<(), OutletFault>
+        requires { HasNext (current_log channel (view_of self.old).mode)
+            (length (O.taken outlet.old)) }
+        ensures ok { OnOk result (length (O.taken outlet.new) ≡ length (O.taken outlet.old) + 1) }
+        ensures no_memory { IsErrOf result OutletFault.NoMemory
+            → (O.taken outlet.new ≡ O.taken outlet.old) × (view_of self.new ≡ view_of self.old) }
+        ensures failed { IsErrOf result OutletFault.Failed
+            → (length (O.taken outlet.new) ≡ length (O.taken outlet.old))
+            ⊎ (length (O.taken outlet.new) ≡ length (O.taken outlet.old) + 1) }
+        ensures trimmed { ¬ (IsErrOf result OutletFault.NoMemory) → view_of self.new
+            ≡ trimmed_node channel (length (O.taken outlet.new)) (view_of self.old) }
+        ensures item { OnOk result (TookNext (current_log channel (view_of self.old).mode)
+            (O.taken outlet.old) (O.taken outlet.new)) }
+        ensures failed_item { IsErrOf result OutletFault.Failed
+            → (O.taken outlet.new ≡ O.taken outlet.old)
+            ⊎ (TookNext (current_log channel (view_of self.old).mode) (O.taken outlet.old)
+            (O.taken outlet.new)) }
+        ensures begins { IsPrefix (O.taken outlet.old) (O.taken outlet.new) }
+        ensures history { (log : LogState)
+            (history : List ℤ) → current_log channel (view_of self.old).mode ≡ Some log
+            → IsLogOf log history → IsPrefix (O.taken outlet.old) history
+            → IsPrefix (O.taken outlet.new) history }
+        ensures count { O.failures outlet.new ≡ failures_after result (O.failures outlet.old) }
+        ensures same { (self.new.store ≡ self.old.store) × (self.new.number ≡ self.old.number) }
+    {
+        self.state.release(channel, outlet)
+    }
 }

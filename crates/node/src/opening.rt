@@ -1,16 +1,9 @@
 // A node before its first event.
-ghost use Rattle.std.specs.Prelude.{◌≡◌, ◌⊎◌, ◌<◌, ◌≤◌, map, length, false, IfOk, IsErrOf, IsTrue, Some};
+ghost use Rattle.std.specs.Prelude.{◌≡◌, ◌≤◌, map, length, IfOk};
 ghost use Rattle.kahn_net.specs.Syntax.{code_of, network_of};
-ghost use Rattle.sector_disk.specs.Clock.{LeavesOnly};
-ghost use Rattle.node.specs.NodeView.{node_view};
-ghost use Rattle.node.specs.Cell.{HasFailed};
-ghost use Rattle.node.specs.Opening.{opening_processes, opening_end, opening_ends, opening_image, opening_record, opening_node};
+ghost use Rattle.node.specs.Opening.{opening_processes, opening_end, opening_ends, opening_image, opening_record};
 ghost use Rattle.kahn_net.specs.declared.limits.TheConstants.{MAX_CHANNELS, MAX_PROCESSES};
 
-use crate::cell::StableCell;
-use crate::node::Node;
-use crate::state::NodeState;
-use gate_cell::CellFault;
 use kahn_net::{Channel, Mode, Port, ProcState, Process};
 use net_check::Net;
 use record::{End, Image, Record, SavedEnd, SavedProcess};
@@ -75,63 +68,23 @@ fn open_image(alloc: Global, net: &Net) -> Result<Image, AllocError>
     })
 }
 
-// What a node of so many nodes has before its first event.
-fn open_state(alloc: Global, net: &Net, nodes: usize, number: u8) -> Result<NodeState, AllocError>
-    ensures { IfOk result (λ state. node_view state
-        ≡ opening_node (network_of net.now.program) nodes number) }
+/// The record of the node of this number, of so many, before its first event. The node has every process and every
+/// channel of the network.
+pub fn opening_record(
+    alloc: Global,
+    net: &Net,
+    number: u8,
+    nodes: usize,
+) -> Result<Record, AllocError>
+    ensures { IfOk result
+        (λ kept. kept ≡ opening_record (network_of net.now.program) nodes number) }
 {
-    Ok(NodeState {
-        kept: Record {
-            node: number,
-            epoch: 0,
-            highest: vec![in alloc; 0; nodes]?,
-            decision: None,
-            permanent: open_image(alloc, net)?,
-            tentative: None,
-        },
-        current: open_image(alloc, net)?,
-        out: None,
-        version: 0,
-        last: None,
-        up: true,
-        restart: 0,
+    Ok(Record {
+        node: number,
+        epoch: 0,
+        highest: vec![in alloc; 0; nodes]?,
+        decision: None,
+        permanent: open_image(alloc, net)?,
+        tentative: None,
     })
-}
-
-impl<C: StableCell> Node<C> {
-    /// The node of this number of so many, before its first event: puts the opening record into its cell. The node has
-    /// every process and every channel of the network. Refuses as `put` of the cell does.
-    pub fn open(
-        alloc: Global,
-        net: &Net,
-        number: u8,
-        nodes: usize,
-        mut cell: C,
-    ) -> Result<Node<C>, CellFault>
-        requires ready { IsTrue (C.is_ready cell) }
-        requires listed { number < nodes }
-        ensures number { IfOk result (λ node. node.number ≡ number) }
-        ensures state { IfOk result
-            (λ node. node_view node.state ≡ opening_node (network_of net.now.program) nodes number) }
-        ensures fits { IfOk result
-            (λ node. IsTrue (C.fits cell (opening_record (network_of net.now.program) nodes number))
-            × (C.failure_count node.cell ≡ C.failure_count cell)) }
-        ensures too_large { IsErrOf result CellFault.TooLarge
-            → C.fits cell (opening_record (network_of net.now.program) nodes number) ≡ false }
-        ensures device { IsErrOf result CellFault.Device → HasFailed C.failure_count cell }
-        ensures reopen { ¬ (IsErrOf result CellFault.Reopen) }
-        // A crash at any moment meanwhile leaves what it might have left before, or the opening record.
-        ensures any_moment { IfOk result
-            (λ node. LeavesOnly C.moment C.left_since cell node.cell
-            (λ left. C.may_leave cell left
-            ⊎ (left ≡ Some (opening_record (network_of net.now.program) nodes number)))) }
-    {
-        let state = open_state(alloc, net, nodes, number)?;
-        cell.put(&state.kept)?;
-        Ok(Node {
-            number,
-            state,
-            cell,
-        })
-    }
 }

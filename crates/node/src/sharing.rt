@@ -10,7 +10,7 @@ ghost use Rattle.ckpt_codec.specs.declared.lengths.TheConstants.{MAX_RETAINED_IT
 ghost use Rattle.node.specs.Sharing.{is_logging, log_count, log_share};
 ghost use Rattle.node.specs.Starting.{with_own, decided};
 ghost use Rattle.node.specs.Opening.{opening_record};
-ghost use Rattle.node.specs.NodeView.{NodeView};
+ghost use Rattle.node.specs.NodeView.{RunningNode};
 ghost use Rattle.node.specs.Reached.{HasReached, ImageStands, IsLaidOut, LogsAreWithin};
 
 use ckpt_codec::MAX_RETAINED_ITEMS;
@@ -54,7 +54,7 @@ pub fn share_law()
     ensures image { (net : Network) (histories : List (List ℤ)) (made : ℕ → ℕ) (image : ImageView)
         → IsValid net → IsLaidOut net image → ImageStands net histories made image
         → LogsAreWithin image → IsImageWithin MAX_RETAINED_ITEMS image }
-    ensures current { (net : Network) (inputs : List (List ℤ)) (node : NodeView)
+    ensures current { (net : Network) (inputs : List (List ℤ)) (node : RunningNode)
         → IsValid net → IsLaidOut net node.current → LogsAreWithin node.current
         → ∥ HasReached net inputs node ∥₁ → IsImageWithin MAX_RETAINED_ITEMS node.current }
     ensures opening { (net : Network) (nodes number : ℕ) → IsValid net → nodes ≤ MAX_NODES

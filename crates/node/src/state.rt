@@ -1,23 +1,191 @@
-//! What a node has.
+//! What a node has beside its record.
+ghost use Rattle.std.specs.Prelude.{◌≡◌, ◌⊎◌, ◌+◌, ℤ, List, length, IfOk, IsErrOf, OnErr, OnOk, Some, is_some, option_map};
+ghost use Rattle.kahn_net.specs.Streams.{IsPrefix};
+ghost use Rattle.kahn_net.specs.Syntax.{network_of};
+ghost use Rattle.kahn_net.specs.States.{standing_of};
+ghost use Rattle.retained.specs.LogState.{LogState, IsLogOf};
+ghost use Rattle.outlet.specs.Faults.{failures_after};
+ghost use Rattle.record.specs.RecordView.{RecordView};
+ghost use Rattle.node.specs.ArmedRestarts.{restart_after};
+ghost use Rattle.node.specs.Choosing.{node_job, with_grant};
+ghost use Rattle.node.specs.Installing.{IsOut, IsTakenIn, TakesTurn};
+ghost use Rattle.node.specs.JobView.{job_view};
+ghost use Rattle.node.specs.Starting.{crashed, is_down, is_running, may_start, next_number};
+ghost use Rattle.node.specs.Trimming.{HasNext, TookNext, current_log, cut_at};
 
-use proc_step::Job;
-use record::{Image, Record};
+use crate::mode::Mode;
+use crate::releasing::release_next;
+use crate::restart::{ArmedRestart, round_later, rounds_at};
+use kahn_net::{Channel, MAX_COUNT};
+use net_check::{Inputs, Net};
+use outlet::{Outlet, OutletFault};
+use proc_step::{Done, Job};
+use record::Record;
+use retained::LogFault;
+use std::alloc::{AllocError, Global};
+use std::sync::Arc;
 
-/// All that a node has beside its cell.
+/// The next number, round or version. It stops at the greatest.
+pub fn next_after(number: u64) -> u64
+    ensures { result ≡ next_number number }
+{
+    if number < MAX_COUNT {
+        number + 1
+    } else {
+        number
+    }
+}
+
+/// All that a node has beside its record.
 #[derive(Drop)]
 pub struct NodeState {
-    /// The record, as the cell holds it while the node is up.
-    pub kept: Record,
-    /// Where its processes and channels stand now.
-    pub current: Image,
-    /// The job that is out, to compare with what comes back.
-    pub out: Option<Job>,
+    pub mode: Mode,
     /// Rises with each crash, so that a job from before it can be told. At the greatest no job is granted.
     pub version: u64,
-    /// The process to which the last job was granted.
-    pub last: Option<u8>,
-    /// It runs. It doesn't from a failure of its device on.
-    pub up: bool,
     /// The round from which a node that is down may be recovered.
     pub restart: u64,
+    /// How long each fault that is armed on the node's disk keeps it down, in the order of arming. None is taken out: a call
+    /// of the same count comes again only after a recount, and then the disk fails again.
+    pub armed: Vec<ArmedRestart>,
+}
+
+impl NodeState {
+    ghost use Rattle.node.specs.NodeView.{mode_view, node_view, on_mode};
+
+    /// It is neither down nor in doubt.
+    pub fn is_running(&self) -> bool
+        ensures { result ≡ is_running (mode_view self.now.mode) }
+    {
+        matches!(self.mode, Mode::Running(_))
+    }
+
+    pub fn is_down(&self) -> bool
+        ensures { result ≡ is_down (mode_view self.now.mode) }
+    {
+        matches!(self.mode, Mode::Down)
+    }
+
+    /// Whether a node with this record may take a tentative image of its own.
+    pub fn can_start(&self, kept: &Record) -> bool
+        ensures { result ≡ may_start (node_view kept.now self.now) }
+    {
+        self.is_running() && kept.tentative.is_none() && kept.decision.is_none()
+    }
+
+    /// Whether a node with this record can grant a job now.
+    pub fn has_job(&self, net: &Net, inputs: &Inputs, kept: &Record) -> bool
+        ensures { result ≡ is_some
+            (node_job (network_of net.now.program) inputs.now (node_view kept.now self.now)) }
+    {
+        match &self.mode {
+            Mode::Running(running) => running.has_job(net, inputs, kept, self.version),
+            Mode::Down | Mode::InDoubt => false,
+        }
+    }
+
+    // A node with this record grants a job to the ready process that is next.
+    pub(crate) fn grant(
+        &mut self,
+        alloc: Global,
+        net: &Arc<Net>,
+        inputs: &Inputs,
+        kept: &Record,
+    ) -> Result<Option<Job>, AllocError>
+        ensures job { IfOk result (λ job. option_map job_view job
+            ≡ node_job (network_of net.now.value.program) inputs.now
+            (node_view kept.now self.old)) }
+        ensures state { IfOk result (λ job. node_view kept.now self.new
+            ≡ with_grant (node_job (network_of net.now.value.program) inputs.now
+            (node_view kept.now self.old)) (node_view kept.now self.old)) }
+        ensures err { OnErr result (node_view kept.now self.new ≡ node_view kept.now self.old) }
+        ensures same_mode { is_down (mode_view self.new.mode) ≡ is_down (mode_view self.old.mode) }
+    {
+        let version = self.version;
+        match &mut self.mode {
+            Mode::Running(running) => running.grant(alloc, net, inputs, kept, version),
+            Mode::Down | Mode::InDoubt => Ok(None),
+        }
+    }
+
+    // Takes in what came of a job, if it is the one that is out at a node that runs.
+    pub(crate) fn install(
+        &mut self,
+        alloc: Global,
+        channels: &[Channel],
+        done: &Done,
+    ) -> Result<bool, LogFault>
+        requires { IsOut (job_view done.now.job) (mode_view self.old.mode)
+            → TakesTurn channels.now done.now.job.process done.now.taken.items
+            done.now.sent.items (mode_view self.old.mode) }
+        ensures step { IfOk result (λ applied. IsTakenIn channels.now (job_view done.now.job)
+            (standing_of done.now.state) done.now.taken.items done.now.sent.items
+            (mode_view self.old.mode) applied (mode_view self.new.mode)) }
+        ensures err { OnErr result (mode_view self.new.mode ≡ mode_view self.old.mode) }
+        ensures full { ¬ (IsErrOf result LogFault.Full) }
+        ensures same { (self.new.version ≡ self.old.version)
+            × (self.new.restart ≡ self.old.restart)
+            × (self.new.armed ≡ self.old.armed) }
+    {
+        match &mut self.mode {
+            Mode::Running(running) => running.install(alloc, channels, done),
+            Mode::Down | Mode::InDoubt => Ok(false),
+        }
+    }
+
+    // The round from which the node may be recovered, whose device failed at this call, in this round.
+    pub(crate) fn restart_after(&self, call: u64, round: u64) -> u64
+        ensures { result ≡ restart_after self.now.armed.items call round }
+    {
+        round_later(round, rounds_at(&self.armed, call))
+    }
+
+    // Down, to be recovered from this round on.
+    pub(crate) fn stop(&mut self, restart: u64)
+        ensures { (kept : RecordView) → node_view kept self.new
+            ≡ crashed restart (node_view kept self.old) }
+    {
+        self.mode = Mode::Down;
+        self.version = next_after(self.version);
+        self.restart = restart;
+    }
+
+    // Hands an outlet the item of this channel that comes next for it, and lets the log go of what the outlet has.
+    pub(crate) fn release<O: Outlet>(
+        &mut self,
+        channel: u8,
+        outlet: &mut O,
+    ) -> Result<(), OutletFault>
+        requires { HasNext (current_log channel (mode_view self.old.mode))
+            (length (O.taken outlet.old)) }
+        ensures ok { OnOk result (length (O.taken outlet.new) ≡ length (O.taken outlet.old) + 1) }
+        ensures no_memory { IsErrOf result OutletFault.NoMemory
+            → (O.taken outlet.new ≡ O.taken outlet.old)
+            × (mode_view self.new.mode ≡ mode_view self.old.mode) }
+        ensures failed { IsErrOf result OutletFault.Failed
+            → (length (O.taken outlet.new) ≡ length (O.taken outlet.old))
+            ⊎ (length (O.taken outlet.new) ≡ length (O.taken outlet.old) + 1) }
+        ensures trimmed { ¬ (IsErrOf result OutletFault.NoMemory)
+            → mode_view self.new.mode ≡ on_mode (cut_at channel (length (O.taken outlet.new)))
+            (mode_view self.old.mode) }
+        ensures item { OnOk result (TookNext (current_log channel (mode_view self.old.mode))
+            (O.taken outlet.old) (O.taken outlet.new)) }
+        ensures failed_item { IsErrOf result OutletFault.Failed
+            → (O.taken outlet.new ≡ O.taken outlet.old)
+            ⊎ (TookNext (current_log channel (mode_view self.old.mode)) (O.taken outlet.old)
+            (O.taken outlet.new)) }
+        ensures begins { IsPrefix (O.taken outlet.old) (O.taken outlet.new) }
+        ensures history { (log : LogState)
+            (history : List ℤ) → current_log channel (mode_view self.old.mode) ≡ Some log
+            → IsLogOf log history → IsPrefix (O.taken outlet.old) history
+            → IsPrefix (O.taken outlet.new) history }
+        ensures count { O.failures outlet.new ≡ failures_after result (O.failures outlet.old) }
+        ensures same { (self.new.version ≡ self.old.version)
+            × (self.new.restart ≡ self.old.restart)
+            × (self.new.armed ≡ self.old.armed) }
+    {
+        match &mut self.mode {
+            Mode::Running(running) => release_next(&mut running.current, channel, outlet),
+            Mode::Down | Mode::InDoubt => Ok(()),
+        }
+    }
 }

@@ -3,4 +3,16 @@
 #![tactic(auto)]
 
 #[cfg(test)]
-mod events;
+mod asserting;
+#[cfg(test)]
+mod checkpoints;
+#[cfg(test)]
+mod crashes;
+#[cfg(test)]
+mod images;
+#[cfg(test)]
+mod jobs;
+#[cfg(test)]
+mod nodes;
+#[cfg(test)]
+mod taking;

@@ -67,6 +67,10 @@ pub trait Disk: Drop {
     fn calls(&self) -> u64
         ensures { result ≡ call_count self.now };
 
+    /// The last device call that failed, by that count, or 0 where none has failed since the last recount.
+    fn failed_call(&self) -> u64
+        ensures { result ≡ failed_call self.now };
+
     /// Reads whole sectors, from the sector `first` on. Refuses with `Device` (20) and `Range` (21), and then leaves
     /// the bytes handed in as they were. No bytes are in range where `first` is at most the number of sectors.
     fn read(&mut self, first: usize, into: &mut [u8]) -> Result<(), DiskFault>

@@ -95,6 +95,10 @@ impl Disk for MemDisk {
         self.schedule.calls
     }
 
+    fn failed_call(&self) -> u64 {
+        self.schedule.failed_call
+    }
+
     fn read(&mut self, first: usize, into: &mut [u8]) -> Result<(), DiskFault>
         ensures range { IsErrOf result DiskFault.Range
             ↔ ¬ (IsInRange (sectors_of self.old) first (length into.old)) }

@@ -1,42 +1,50 @@
 -- What a crash may leave of a station's cell.
-use Rattle.std.proofs.Common.{◌≡◌, ◌⊎◌, ℕ, ◌≤◌, Option, Some, None, inl, inr, refl, sym, subst, ◌∙◌, arith}
-use Rattle.sector_disk.specs.Clock.{LeavesOnly}
+use Rattle.std.proofs.Common.{◌≡◌, inl, inr, ⊎_elim, ℕ, List, Option, Some, None, sym, subst, ap, ◌∙◌, arith}
+use Rattle.std.proofs.Math.Logic.{∥∥₁_map}
+use Rattle.sector_disk.specs.Clock.{Only}
+use Rattle.gate_cell.specs.declared.cell.StableCell.{Ghosts as CellWords}
 use Rattle.record.specs.Ends.{sent_of}
-use Rattle.record.specs.ImageView.{ImageView}
 use Rattle.record.specs.RecordView.{RecordView}
-use Rattle.node.specs.NodeView.{NodeView}
-use Rattle.node.specs.Starting.{with_own, decided, HasPutMore, LeavesAsMuch}
-use Rattle.world.specs.Pairs.{LeaveAsMuchSince}
-use Rattle.world.specs.Sound.{IsInOrder}
-use Rattle.world.specs.SoundLaws.{decided_more}
+use Rattle.ckpt_store.specs.Spelling.{Spells}
+use Rattle.ckpt_store.specs.StoreView.{cell_in, record_in}
+use Rattle.ckpt_store.specs.declared.store.Store.{Store}
+use Rattle.ckpt_store.proofs.Seen.{spelled_is}
+use Rattle.node.specs.StoredView.{LeavesNext, LeavesAsBefore}
+use Rattle.world.specs.Covered.{LeavesAsMuch, LeavesEither}
+use Rattle.world.specs.Pairs.{LeaveEitherSince}
 
-leaves_next : (image : ImageView) (kept : RecordView) (left : Option RecordView) → left ≡ Some kept → HasPutMore image kept.permanent → LeavesAsMuch image left
-leaves_next image kept left is more = record {
-  something = λ none. absurd (nothing kept (sym is ∙ none));
-  as_much = λ other e channel. subst (λ (k : RecordView). sent_of image channel ≤ sent_of k.permanent channel) (same kept other (sym is ∙ e)) (more channel);
-}
-  where
-    nothing : (k : RecordView) → Some k ≡ None → ⊥
-    nothing k e = cc
+-- what was left spells one record alone
+one_record : (kept other : RecordView) (left : Option (List ℕ)) → Spells kept left → Spells other left → kept ≡ other
+one_record kept other None is too = absurd is
+one_record kept other (Some bytes) is too = sym (spelled_is kept bytes is) ∙ spelled_is other bytes too
 
-    same : (k other : RecordView) → Some k ≡ Some other → k ≡ other
-    same k other e = cc
+module _ {C : Type 0} (words : CellWords C) where
+  -- what a crash leaves spells the record of its store, and no other
+  pub own_alone : (store : Store C words) → Only (Some (words.value (cell_in store))) (words.may_leave (cell_in store)) → (left : Option (List ℕ)) → words.may_leave (cell_in store) left
+      → (spelled : RecordView) → Spells spelled left → spelled ≡ record_in store
+  own_alone store settled left might spelled is = sym (spelled_is spelled (words.value (cell_in store)) (subst (λ (l : Option (List ℕ)). Spells spelled l) (settled left might) is))
 
-module _ {C : Type 0} (moment : C → ℕ) (left_since : C → ℕ → Option RecordView → Type 0) (may_leave : C → Option RecordView → Type 0) (old : NodeView) (cell cell' : C)
-    (durable : (left : Option RecordView) → may_leave cell left → LeavesAsMuch old.kept.permanent left) where
-  -- through a put of a record that has put at least as much
-  through : (kept : RecordView) → LeavesOnly moment left_since cell cell' (λ left. may_leave cell left ⊎ (left ≡ Some kept)) → HasPutMore old.kept.permanent kept.permanent
-      → LeaveAsMuchSince moment left_since cell cell' old.kept.permanent
-  through kept any more left since = at (any.each left since)
-    where
-      at : may_leave cell left ⊎ (left ≡ Some kept) → LeavesAsMuch old.kept.permanent left
-      at (inl was) = durable left was
-      at (inr is) = leaves_next old.kept.permanent kept left is more
+  pub own_spelled : (store : Store C words) → Only (Some (words.value (cell_in store))) (words.may_leave (cell_in store)) → (left : Option (List ℕ)) → words.may_leave (cell_in store) left
+      → ∥ Spells (record_in store) left ∥₁
+  own_spelled store settled left might = ∥∥₁_map (store.kept.leaves left might) (λ some. subst (λ (kept : RecordView). Spells kept left) (own_alone store settled left might some.0 some.1) some.1)
 
-  -- the put of a start, which leaves the permanent image alone
-  pub through_start : (number : ℕ) → LeavesOnly moment left_since cell cell' (λ left. may_leave cell left ⊎ (left ≡ Some (with_own number old.current old.kept))) → LeaveAsMuchSince moment left_since cell cell' old.kept.permanent
-  through_start number any = through (with_own number old.current old.kept) any (λ channel. omega arith)
+  pub own_left : (store : Store C words) (next : RecordView) → Only (Some (words.value (cell_in store))) (words.may_leave (cell_in store)) → (left : Option (List ℕ)) → words.may_leave (cell_in store) left
+      → LeavesEither (record_in store) next left
+  own_left store next settled left might = record { something = store.kept.leaves left might; one_of = λ spelled is. inl (own_alone store settled left might spelled is) }
 
-  -- and that of a decision
-  pub through_decision : IsInOrder old → LeavesOnly moment left_since cell cell' (λ left. may_leave cell left ⊎ (left ≡ Some (decided old.kept))) → LeaveAsMuchSince moment left_since cell cell' old.kept.permanent
-  through_decision order any = through (decided old.kept) any (decided_more old order old.kept.tentative refl)
+  pub leaves_own : (store : Store C words) → Only (Some (words.value (cell_in store))) (words.may_leave (cell_in store)) → (left : Option (List ℕ)) → words.may_leave (cell_in store) left
+      → LeavesAsMuch (record_in store).permanent left
+  leaves_own store settled left might = record {
+    something = store.kept.leaves left might;
+    as_much = λ spelled is channel. (let same = own_alone store settled left might spelled is in omega (arith, ap (λ (r : RecordView). sent_of r.permanent channel) same));
+  }
+
+  module _ (old new : Store C words) (settled : Only (Some (words.value (cell_in old))) (words.may_leave (cell_in old))) where
+    -- through a put of this record
+    pub through : (next : RecordView) → LeavesNext next old new → LeaveEitherSince words.moment words.left_since (cell_in old) (cell_in new) (record_in old) next
+    through next run left since =
+        ⊎_elim (own_left old next settled left) (λ is. record { something = ∣ (next, is) ∣₁; one_of = λ spelled too. inr (one_record spelled next left too is) }) (run.each left since)
+
+    -- and where nothing was put
+    pub through_crash : LeavesAsBefore old new → LeaveEitherSince words.moment words.left_since (cell_in old) (cell_in new) (record_in old) (record_in old)
+    through_crash run left since = own_left old (record_in old) settled left (run.each left since)

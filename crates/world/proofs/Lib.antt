@@ -1,5 +1,7 @@
 mod Cells
+mod Lines
 mod Openings
+mod OpeningStores
 mod Views
 mod Stations
 mod Showing

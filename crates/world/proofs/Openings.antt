@@ -3,6 +3,12 @@ use Rattle.std.proofs.Common.{◌≡◌, ℕ, zero, suc, ◌+◌, ◌<◌, Bool,
 use Rattle.std.specs.Prelude.{if◌then◌else◌}
 use Rattle.std.proofs.Math.Seq.{drop-cons}
 use Rattle.kahn_net.specs.declared.program.Channel.{Channel}
+use Rattle.kahn_net.specs.Syntax.{Network, network_of}
+use Rattle.record.specs.RecordView.{RecordView}
+use Rattle.node.specs.NodeView.{NodeView}
+use Rattle.node.specs.Opening.{opening_node, opening_record, running_from}
+use Rattle.world.specs.Turns.{no_turns}
+use Rattle.world.specs.declared.round_turns.RoundTurns.{RoundTurns}
 use Rattle.world.specs.Invariant.{output_of, outputs_of}
 use Rattle.world.specs.OutputView.{OutputView}
 use Rattle.world.specs.Sound.{goes_outside, output_channels}
@@ -11,7 +17,6 @@ use Rattle.std.specs.List.{AllByRecursion}
 use Rattle.world.specs.OpeningWorld.{fresh, opening_outlet, opening_station, opening_world, IsUnused}
 use Rattle.world.specs.StationView.{OutletView, StationView, outlet_view, outlet_views}
 use Rattle.world.specs.Steps.{WorldView}
-use Rattle.kahn_net.specs.Syntax.{network_of}
 use Rattle.net_check.specs.declared.net.Net.{Net}
 use Rattle.world.specs.declared.output.Output.{Output}
 
@@ -56,6 +61,19 @@ opened_nothing taken failures (first ∷ outputs) none zero output is =
     let same : output_of (opening_outlet (outlet_view taken failures first)) ≡ output = cc in
     subst (λ (o : OutputView). o.taken ≡ []) same none.0
 opened_nothing taken failures (first ∷ outputs) none (suc j) output is = opened_nothing taken failures outputs none.1 j output is
+
+-- a station whose node runs from the opening record
+pub opened_station : (net : Network) (number failures before : ℕ) (kept : RecordView) (node : NodeView) (outlets : List OutletView) (turns : RoundTurns)
+    → number ≡ 0 → node ≡ running_from kept → kept ≡ opening_record net 1 0 → failures ≡ before → turns ≡ no_turns 0
+    → ◌≡◌ {A = StationView} (record { number = number; node = node; failures = failures; outlets = outlets; turns = turns }) (opening_station net before outlets)
+opened_station net number failures before kept node outlets turns first runs is same none =
+    ap (λ (n : ℕ). station_at n node failures turns) first
+    ∙ (ap (λ (state : NodeView). station_at 0 state failures turns) (runs ∙ ap running_from is)
+    ∙ (ap (λ (n : ℕ). station_at 0 (opening_node net 1 0) n turns) same
+    ∙ ap (λ (t : RoundTurns). station_at 0 (opening_node net 1 0) before t) none))
+  where
+    station_at : ℕ → NodeView → ℕ → RoundTurns → StationView
+    station_at n state count t = record { number = n; node = state; failures = count; outlets = outlets; turns = t }
 
 -- the world of one station that opened
 pub opened_world : {S : Type 0} (view : S → StationView) (given net : Net) (inputs : List (List ℤ)) (failures : ℕ) (before after : List OutletView) (stations earlier : List S) (station : S)

@@ -1,24 +1,22 @@
 -- Views of stations.
-use Rattle.std.proofs.Common.{◌≡◌, ℕ, zero, suc, ◌<◌, Bool, true, cond, List, ℤ, [], ◌∷◌, length, get_or, Option, Some, None, map, refl, sym, ap, subst, ◌∙◌}
+use Rattle.std.proofs.Common.{◌≡◌, ℕ, zero, suc, ◌<◌, Bool, List, ℤ, [], ◌∷◌, length, get_or, Option, Some, map, refl, sym, ap, subst, ◌∙◌}
 use Rattle.std.specs.Prelude.{Result, Ok, Err, IfOk, OnErr, slice_get, slice_set}
 use Rattle.std.proofs.lemmas.List.{map-set}
 use Rattle.std.proofs.lemmas.Option.{slice_get_read}
 use Rattle.std.specs.declared.alloc.AllocError.{AllocError}
 use Rattle.kahn_net.specs.Syntax.{Network}
-use Rattle.record.specs.Ends.{log_of}
 use Rattle.node.specs.NodeView.{NodeView}
-use Rattle.record.specs.Changes.{trimmed_image}
-use Rattle.node.specs.Trimming.{with_current}
+use Rattle.node.specs.Trimming.{current_log, trimmed_node}
 use Rattle.world.specs.Invariant.{outputs_of}
 use Rattle.world.specs.OutputLaws.{map_at, set_same}
 use Rattle.world.specs.OutputView.{OutputView, output_view, outputs_view}
 use Rattle.world.specs.StationView.{OutletView, StationView, outlet_view, outlet_views}
-use Rattle.world.specs.Steps.{first_waiting, next_release, IsHanded, IsRelease, IsStationStep, IsActOf, IsAct}
+use Rattle.world.specs.Steps.{next_release, IsHanded, IsRelease, IsStationStep, IsActOf, IsAct}
 use Rattle.world.specs.WorldView.{IsCellUnchanged}
 use Rattle.world.specs.EventView.{EventView}
 use Rattle.world.specs.ReplyView.{reply_view}
 use Rattle.world.specs.declared.station.Station.{Station}
-use Rattle.node.specs.declared.cell.StableCell.{Ghosts as CellWords}
+use Rattle.gate_cell.specs.declared.cell.StableCell.{Ghosts as CellWords}
 use Rattle.record.specs.RecordView.{RecordView}
 use Rattle.world.specs.declared.output.Output.{Output}
 use Rattle.world.specs.declared.event.Reply.{Reply}
@@ -34,27 +32,19 @@ outlet_set taken failures outputs j y = map-set (outlet_view taken failures) out
 
 -- Items that leave
 
-pub next_at : (round place : ℕ) (old : StationView) → old.node.up ≡ true → first_waiting old.node.kept round 0 old.outlets ≡ Some place → next_release round old ≡ Some place
-next_at round place old up first = ap (λ (b : Bool). cond b (first_waiting old.node.kept round 0 old.outlets) None) up ∙ first
-
--- nothing is to leave
-pub none_waits : (round : ℕ) (old : StationView) → old.node.up ≡ true → first_waiting old.node.kept round 0 old.outlets ≡ None → next_release round old ≡ None
-none_waits round old up first = ap (λ (b : Bool). cond b (first_waiting old.node.kept round 0 old.outlets) None) up ∙ first
-
 module _ (round place : ℕ) (old : StationView) (outlet later : OutletView) (node : NodeView) where
   abbrev stands : NodeView → ℕ → ℕ → List OutletView → StationView
   stands state number failures outlets = record { number = number; node = state; failures = failures; outlets = outlets; turns = old.turns }
 
   -- one item left, or didn't
-  pub release_step : (failures number : ℕ) (outlets : List OutletView) (result : Result Reply AllocError) → old.node.up ≡ true → first_waiting old.node.kept round 0 old.outlets ≡ Some place
-      → slice_get old.outlets place ≡ Some outlet
+  pub release_step : (failures number : ℕ) (outlets : List OutletView) (result : Result Reply AllocError) → next_release round old ≡ Some place → slice_get old.outlets place ≡ Some outlet
       → number ≡ old.number → failures ≡ old.failures → outlets ≡ slice_set old.outlets place later
-      → IfOk result (λ reply. node ≡ with_current (trimmed_image outlet.channel (length later.taken) old.node.current) old.node)
-      → IfOk result (λ reply. IsHanded round (log_of old.node.current outlet.channel) outlet (reply_view reply) later)
+      → IfOk result (λ reply. node ≡ trimmed_node outlet.channel (length later.taken) old.node)
+      → IfOk result (λ reply. IsHanded round (current_log outlet.channel old.node.mode) outlet (reply_view reply) later)
       → IfOk result (λ reply. IsRelease round (next_release round old) old (reply_view reply) (stands node number failures outlets))
-  release_step failures number outlets (Err e) up first there same_number same_failures set trimmed handed = tt
-  release_step failures number outlets (Ok reply) up first there same_number same_failures set trimmed handed =
-      subst (λ (next : Option ℕ). IsRelease round next old (reply_view reply) (stands node number failures outlets)) (sym (next_at round place old up first))
+  release_step failures number outlets (Err e) next there same_number same_failures set trimmed handed = tt
+  release_step failures number outlets (Ok reply) next there same_number same_failures set trimmed handed =
+      subst (λ (next : Option ℕ). IsRelease round next old (reply_view reply) (stands node number failures outlets)) (sym next)
       (record {
         outlet = outlet;
         later = later;
@@ -99,14 +89,7 @@ seen_at view xs place x within is = map_at view xs place x (slice_get_read xs (l
 
 -- a cell that nobody called
 pub cell_stays : {C O : Type 0} {cell : CellWords C} (station : Station C O cell) → IsCellUnchanged station station
-cell_stays station = record {
-  same_value = refl;
-  same_readiness = refl;
-  now = λ left. (λ h. h, λ h. h);
-  same_moment = refl;
-  since = λ t left. (λ h. h, λ h. h);
-  same_failures = refl;
-}
+cell_stays station = refl
 
 -- a refused event leaves the list of stations as it is seen
 pub refused_at : {S : Type 0} (view : S → StationView) (P : Type 0) (xs : List S) (place : ℕ) (x y : S) (result : Result Reply AllocError) → place < length xs → x ≡ get_or xs place x

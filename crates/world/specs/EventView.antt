@@ -1,6 +1,7 @@
 -- Events without pointers.
 use Rattle.std.specs.Prelude.{ℕ, Option, Some, None}
 use Rattle.kahn_net.specs.Syntax.{Code}
+use Rattle.sector_disk.specs.declared.disk.ArmedFault.{ArmedFault}
 use Rattle.world.specs.DoneView.{DoneView, done_view}
 use Rattle.world.specs.declared.event.Event.{Event}
 use Rattle.world.specs.declared.event.Event.TheVariants as event
@@ -12,6 +13,9 @@ pub data EventView : Type 0 where
   Start : (node : ℕ) → EventView
   Decide : (node : ℕ) → EventView
   Release : (node : ℕ) → EventView
+  Crash : (node : ℕ) → (fill : ℕ) → (rounds : ℕ) → EventView
+  Recover : (node : ℕ) → EventView
+  Arm : (node : ℕ) → (fault : ArmedFault) → (rounds : ℕ) → EventView
   Idle : (node : ℕ) → EventView
 
 abbrev pub event_view : Event → EventView
@@ -21,6 +25,9 @@ event_view (event.Send k) = Send k
 event_view (event.Start k) = Start k
 event_view (event.Decide k) = Decide k
 event_view (event.Release k) = Release k
+event_view (event.Crash k fill rounds) = Crash k fill rounds
+event_view (event.Recover k) = Recover k
+event_view (event.Arm k fault rounds) = Arm k fault rounds
 event_view (event.Idle k) = Idle k
 
 -- the node of a process
@@ -36,4 +43,7 @@ event_node (Send k) = k
 event_node (Start k) = k
 event_node (Decide k) = k
 event_node (Release k) = k
+event_node (Crash k fill rounds) = k
+event_node (Recover k) = k
+event_node (Arm k fault rounds) = k
 event_node (Idle k) = k

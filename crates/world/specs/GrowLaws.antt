@@ -1,25 +1,27 @@
 -- What has left a station only grows by an event, and is covered at each moment of it.
-use Rattle.std.proofs.Common.{◌≡◌, ◌≢◌, ◌⊎◌, inl, inr, ℕ, ◌≤◌, Bool, true, false, List, ℤ, Option, Some, None, refl, sym, ap, subst, ◌∙◌, arith}
-use Rattle.std.specs.Prelude.{slice_get, slice_set}
-use Rattle.std.proofs.lemmas.List.{length-set, map-set}
+use Rattle.std.proofs.Common.{◌≡◌, ◌≢◌, ◌⊎◌, inl, inr, ℕ, zero, suc, ◌≤◌, Bool, true, false, List, ℤ, [], ◌∷◌, length, Option, Some, None, refl, sym, ap, subst, ◌∙◌, arith}
+use Rattle.std.specs.Prelude.{slice_get, slice_set, not}
+use Rattle.std.proofs.lemmas.List.{map-set}
 use Rattle.kahn_net.specs.Streams.{IsPrefix}
 use Rattle.kahn_net.specs.Laws.Prefixes.{prefix_refl}
 use Rattle.kahn_net.specs.Syntax.{Network}
-use Rattle.record.specs.Ends.{log_of, sent_of}
+use Rattle.record.specs.Ends.{sent_of}
+use Rattle.record.specs.ImageView.{ImageView}
+use Rattle.node.specs.Starting.{is_down, IsBehind}
+use Rattle.node.specs.Trimming.{current_log}
 use Rattle.record.specs.RecordView.{RecordView}
-use Rattle.node.specs.NodeView.{NodeView}
-use Rattle.node.specs.Starting.{LeavesAsMuch}
-use Rattle.world.specs.Covered.{AreCovered, AreCoveredSince}
+use Rattle.world.specs.Covered.{AreCovered, AreCoveredSince, LeavesAsMuch, LeavesEither}
 use Rattle.world.specs.EventView.{EventView}
 use Rattle.world.specs.EventView as event
 use Rattle.world.specs.Growing.{EachBegins}
 use Rattle.world.specs.HandedLaws.{took_or_not, took_begins}
 use Rattle.world.specs.Invariant.{output_of, outputs_of}
+use Rattle.world.specs.OrderLaws.{behind_itself}
 use Rattle.world.specs.OutputLaws.{map_at, set_cases}
 use Rattle.world.specs.OutputView.{OutputView}
 use Rattle.world.specs.Pairs.{HasMoved, HasGrown}
 use Rattle.world.specs.ReplyView.{ReplyView}
-use Rattle.world.specs.Sound.{OutputsAreSound}
+use Rattle.world.specs.RecordSound.{CoversAll}
 use Rattle.world.specs.StationView.{OutletView, StationView}
 use Rattle.world.specs.Steps.{next_release, IsSendOf, IsReleaseAt, IsRelease, IsStationStep}
 
@@ -40,10 +42,15 @@ begins_same xs = record {
 begins_still : (old new : StationView) → new.outlets ≡ old.outlets → EachBegins (outputs_of old.outlets) (outputs_of new.outlets)
 begins_still old new same = subst (λ (outlets : List OutletView). EachBegins (outputs_of old.outlets) (outputs_of outlets)) (sym same) (begins_same (outputs_of old.outlets))
 
+length_set : (xs : List OutputView) (j : ℕ) (y : OutputView) → length (slice_set xs j y) ≡ length xs
+length_set [] j y = refl
+length_set (z ∷ xs) zero y = refl
+length_set (z ∷ xs) (suc j) y = ap suc (length_set xs j y)
+
 -- where one of them has more
 begins_set : (xs : List OutputView) (j : ℕ) (x y : OutputView) → slice_get xs j ≡ Some x → y.channel ≡ x.channel → IsPrefix x.taken y.taken → EachBegins xs (slice_set xs j y)
 begins_set xs j x y is channel begins = record {
-  count = length-set xs j y;
+  count = length_set xs j y;
   begins = λ i output later h g. at i output later h (set_cases xs j i y later g);
 }
   where
@@ -61,7 +68,7 @@ begins_set xs j x y is channel begins = record {
 
 release_begins : (round place : ℕ) (old : StationView) (answer : ReplyView) (new : StationView) → IsReleaseAt round place old answer new → EachBegins (outputs_of old.outlets) (outputs_of new.outlets)
 release_begins round place old answer new step =
-    let log = log_of old.node.current step.outlet.channel in
+    let log = current_log step.outlet.channel old.node.mode in
     subst (λ (outputs : List OutputView). EachBegins (outputs_of old.outlets) outputs) (sym (ap (λ (s : StationView). outputs_of s.outlets) step.same ∙ map-set output_of old.outlets place step.later))
     (begins_set (outputs_of old.outlets) place (output_of step.outlet) (output_of step.later) (map_at output_of old.outlets place step.outlet step.there) step.handed.channel
     (took_begins log step.outlet.taken step.later.taken (took_or_not round log step.outlet answer step.later step.handed)))
@@ -79,32 +86,44 @@ pub step_begins : (net : Network) (inputs : List (List ℤ)) (room : RecordView 
     → IsStationStep net inputs room round e old answer new → EachBegins (outputs_of old.outlets) (outputs_of new.outlets)
 step_begins net inputs room round (event.Grant k) old answer new step = begins_still old new (ap (λ (s : StationView). s.outlets) step.1)
 step_begins net inputs room round (event.Install done) old answer new step = begins_still old new (ap (λ (s : StationView). s.outlets) step.same)
-step_begins net inputs room round (event.Send k) old answer new step = send_begins old.node.up round old answer new step
+step_begins net inputs room round (event.Send k) old answer new step = send_begins (not (is_down old.node.mode)) round old answer new step
 step_begins net inputs room round (event.Start k) old answer new step = begins_still old new (ap (λ (s : StationView). s.outlets) step.same)
 step_begins net inputs room round (event.Decide k) old answer new step = begins_still old new (ap (λ (s : StationView). s.outlets) step.same)
 step_begins net inputs room round (event.Release k) old answer new step = release_or_not round (next_release round old) old answer new step
+step_begins net inputs room round (event.Crash k fill rounds) old answer new step = begins_still old new (ap (λ (s : StationView). s.outlets) step.same)
+step_begins net inputs room round (event.Recover k) old answer new step = begins_still old new (ap (λ (s : StationView). s.outlets) step.same)
+step_begins net inputs room round (event.Arm k fault rounds) old answer new step = begins_still old new (ap (λ (s : StationView). s.outlets) step.1)
 step_begins net inputs room round (event.Idle k) old answer new step = begins_still old new (ap (λ (s : StationView). s.outlets) step.1)
 
 -- What a crash leaves covers what has left
 
-module _ {C : Type 0} (moment : C → ℕ) (left_since : C → ℕ → Option RecordView → Type 0) (may_leave : C → Option RecordView → Type 0)
-    (only_now : (cell : C) (left : Option RecordView) → left_since cell (moment cell) left → may_leave cell left) where
-  covered_by : (node : NodeView) (outputs : List OutputView) (left : Option RecordView) → OutputsAreSound node outputs → LeavesAsMuch node.kept.permanent left → AreCovered left outputs
-  covered_by node outputs left sound leaves = λ j output h.
-      let at = sound j output h in
+-- one of two records has put at least as much, where the next one isn't behind
+either_as_much : (kept next : RecordView) (left : Option (List ℕ)) → IsBehind kept.permanent next.permanent → LeavesEither kept next left → LeavesAsMuch kept.permanent left
+either_as_much kept next left ahead leaves = record { something = leaves.something; as_much = λ spelled is channel. at spelled channel (leaves.one_of spelled is) }
+  where
+    at : (spelled : RecordView) (channel : ℕ) → (spelled ≡ kept) ⊎ (spelled ≡ next) → sent_of kept.permanent channel ≤ sent_of spelled.permanent channel
+    at spelled channel (inl same) = omega (arith, ap (λ (r : RecordView). sent_of r.permanent channel) same)
+    at spelled channel (inr same) = let more = ahead.sent channel in omega (arith, more, ap (λ (r : RecordView). sent_of r.permanent channel) same)
+
+module _ {C : Type 0} (moment : C → ℕ) (left_since : C → ℕ → Option (List ℕ) → Type 0) (may_leave : C → Option (List ℕ) → Type 0)
+    (only_now : (cell : C) (left : Option (List ℕ)) → left_since cell (moment cell) left → may_leave cell left) where
+  covered_by : (permanent : ImageView) (outputs : List OutputView) (left : Option (List ℕ)) → CoversAll permanent outputs → LeavesAsMuch permanent left → AreCovered left outputs
+  covered_by permanent outputs left sound leaves = λ j output h.
+      let few = sound j output h in
       record {
         something = leaves.something;
-        covers = λ kept is. let more : sent_of node.kept.permanent output.channel ≤ sent_of kept.permanent output.channel = leaves.as_much kept is output.channel in omega (arith, at.covered, more);
+        covers = λ kept is. let more : sent_of permanent output.channel ≤ sent_of kept.permanent output.channel = leaves.as_much kept is output.channel in omega (arith, few, more);
       }
 
-  module _ (old new : NodeView) (before after : List OutletView) (cell cell' : C) (was : OutputsAreSound old (outputs_of before)) (is : OutputsAreSound new (outputs_of after))
-      (durable : (left : Option RecordView) → may_leave cell' left → LeavesAsMuch new.kept.permanent left) (moved : HasMoved moment left_since cell cell' old.kept.permanent before after) where
+  module _ (kept next : RecordView) (new : ImageView) (before after : List OutletView) (cell cell' : C) (was : CoversAll kept.permanent (outputs_of before)) (is : CoversAll new (outputs_of after))
+      (durable : (left : Option (List ℕ)) → may_leave cell' left → LeavesAsMuch new left) (ahead : IsBehind kept.permanent next.permanent) (moved : HasMoved moment left_since cell cell' kept next before after) where
     covered_then : AreCoveredSince moment left_since cell cell' (outputs_of after)
     covered_then left since = at moved.apart
       where
-        at : (cell ≡ cell') ⊎ ((before ≡ after) × ((other : Option RecordView) → left_since cell' (moment cell) other → LeavesAsMuch old.kept.permanent other)) → AreCovered left (outputs_of after)
+        at : (cell ≡ cell') ⊎ ((before ≡ after) × ((other : Option (List ℕ)) → left_since cell' (moment cell) other → LeavesEither kept next other)) → AreCovered left (outputs_of after)
         at (inl same) = covered_by new (outputs_of after) left is (durable left (only_now cell' left (subst (λ (c : C). left_since cell' (moment c) left) same since)))
-        at (inr through) = covered_by old (outputs_of after) left (subst (λ (outlets : List OutletView). OutputsAreSound old (outputs_of outlets)) through.0 was) (through.1 left since)
+        at (inr through) =
+            covered_by kept.permanent (outputs_of after) left (subst (λ (outlets : List OutletView). CoversAll kept.permanent (outputs_of outlets)) through.0 was) (either_as_much kept next left ahead (through.1 left since))
 
     -- where an event left a station sound, and its outputs begin with what they had
     pub has_grown : EachBegins (outputs_of before) (outputs_of after) → HasGrown moment left_since cell cell' (outputs_of before) (outputs_of after)
@@ -115,6 +134,7 @@ module _ {C : Type 0} (moment : C → ℕ) (left_since : C → ℕ → Option Re
         at (inr through) = inl (ap outputs_of through.0)
 
   -- a station that nobody touched
-  pub still_grown : (node : NodeView) (outlets : List OutletView) (cell : C) → OutputsAreSound node (outputs_of outlets) → ((left : Option RecordView) → may_leave cell left → LeavesAsMuch node.kept.permanent left)
+  pub still_grown : (kept : RecordView) (outlets : List OutletView) (cell : C) → CoversAll kept.permanent (outputs_of outlets) → ((left : Option (List ℕ)) → may_leave cell left → LeavesAsMuch kept.permanent left)
       → HasGrown moment left_since cell cell (outputs_of outlets) (outputs_of outlets)
-  still_grown node outlets cell sound durable = has_grown node node outlets outlets cell cell sound sound durable (record { later = omega arith; apart = inl refl }) (begins_same (outputs_of outlets))
+  still_grown kept outlets cell sound durable =
+      has_grown kept kept kept.permanent outlets outlets cell cell sound sound durable (behind_itself kept.permanent) (record { later = omega arith; apart = inl refl }) (begins_same (outputs_of outlets))

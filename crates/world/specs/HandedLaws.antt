@@ -9,9 +9,11 @@ use Rattle.retained.specs.LogState.{LogState, IsLogOf, item_at}
 use Rattle.outlet.specs.ReleaseLaws.{released_one}
 use Rattle.outlet.proofs.Steps.{goes_on}
 use Rattle.kahn_net.specs.Syntax.{Network}
-use Rattle.record.specs.Ends.{log_of, sent_of}
+use Rattle.record.specs.Ends.{sent_of}
 use Rattle.record.specs.RecordView.{RecordView}
-use Rattle.node.specs.Trimming.{HasNext, TookNext, logged_at}
+use Rattle.node.specs.NodeView.{ModeView, Down, InDoubt, Runs, running_node, running_in}
+use Rattle.node.specs.Starting.{is_running}
+use Rattle.node.specs.Trimming.{HasNext, TookNext, current_log, logged_at}
 use Rattle.world.specs.Invariant.{output_of, outputs_of, StationInvariant}
 use Rattle.world.specs.LeaveLaws.{has_next}
 use Rattle.world.specs.OutputLaws.{map_at}
@@ -44,7 +46,7 @@ waiting_at kept round first (x ∷ outlets) place is = at (is_waiting kept round
 
 -- the permanent image covers more than it has
 pub next_waits : (round place : ℕ) (old : StationView) (outlet : OutletView) → next_release round old ≡ Some place → slice_get old.outlets place ≡ Some outlet → length outlet.taken < sent_of old.node.kept.permanent outlet.channel
-next_waits round place old outlet next there = at old.node.up next
+next_waits round place old outlet next there = at (is_running old.node.mode) next
   where
     at : (b : Bool) → cond b (first_waiting old.node.kept round 0 old.outlets) None ≡ Some place → length outlet.taken < sent_of old.node.kept.permanent outlet.channel
     at false e = absurd (cc)
@@ -56,9 +58,16 @@ next_waits round place old outlet next there = at old.node.up next
 
 -- and the log has the item that comes next for it
 pub next_there : (net : Network) (inputs : List (List ℤ)) (old : StationView) (round place : ℕ) (outlet : OutletView) → StationInvariant net inputs old → next_release round old ≡ Some place → slice_get old.outlets place ≡ Some outlet
-    → HasNext (log_of old.node.current outlet.channel) (length outlet.taken)
-next_there net inputs old round place outlet inv next there =
-    has_next net inputs old.node (outputs_of old.outlets) place (output_of outlet) inv.sound inv.order (map_at output_of old.outlets place outlet there) (next_waits round place old outlet next there)
+    → HasNext (current_log outlet.channel old.node.mode) (length outlet.taken)
+next_there net inputs old round place outlet inv next there = at old.node.mode refl next
+  where
+    at : (m : ModeView) → old.node.mode ≡ m → cond (is_running m) (first_waiting old.node.kept round 0 old.outlets) None ≡ Some place → HasNext (current_log outlet.channel m) (length outlet.taken)
+    at Down is e = absurd (cc)
+    at InDoubt is e = absurd (cc)
+    at (Runs running) is e =
+        let node = running_node old.node.kept old.node.version running in
+        let runs = inv.runs node (ap (running_in old.node.kept old.node.version) is) in
+        has_next net inputs node (outputs_of old.outlets) place (output_of outlet) runs.sound runs.order (map_at output_of old.outlets place outlet there) (next_waits round place old outlet next there)
 
 -- What it took
 

@@ -13,11 +13,11 @@ use Rattle.kahn_net.specs.Laws.Prefixes.{prefix_trans}
 use Rattle.kahn_net.specs.declared.program.Channel.{Channel}
 use Rattle.kahn_net.specs.declared.program.Port.{Port}
 use Rattle.kahn_net.specs.declared.program.Port.TheVariants.{Outside, Process}
-use Rattle.node.specs.NodeView.{NodeView}
+use Rattle.record.specs.RecordView.{RecordView}
 use Rattle.node.specs.Reached.{acts_of}
 use Rattle.node.specs.ReleaseLaws.{acts_put_prefix}
 use Rattle.world.specs.OutputView.{OutputView}
-use Rattle.world.specs.Sound.{HasCome, IsSound}
+use Rattle.world.specs.RecordSound.{RecordHasCome, RecordIsSound}
 use Rattle.world.specs.OutputLaws.{output_channel}
 use Rattle.world.specs.Invariant.{outputs_of, AreSound, WorldInvariant}
 use Rattle.world.specs.StationView.{StationView}
@@ -31,7 +31,7 @@ AreWithin net inputs outputs n = (j : ℕ) (output : OutputView) → slice_get o
 abbrev pub AreApproximated : WorldView → Type 0
 AreApproximated world = ∥ ((n : ℕ) × ((i : ℕ) (station : StationView) → slice_get world.stations i ≡ Some station → AreWithin world.net world.inputs (outputs_of station.outlets) n)) ∥₁
 
-module _ (net : Network) (inputs : List (List ℤ)) (node : NodeView) (outputs : List OutputView) where
+module _ (net : Network) (inputs : List (List ℤ)) (kept : RecordView) (outputs : List OutputView) where
   -- a channel whose items go outside is one on which a process puts
   from_process : IsValid net → (c : ℕ) (channel : Channel) → slice_get net.channels c ≡ Some channel → channel.consumer ≡ Outside → (p : ℕ) × (channel.producer ≡ Process p)
   from_process valid c channel on to = at channel.producer refl
@@ -40,17 +40,17 @@ module _ (net : Network) (inputs : List (List ℤ)) (node : NodeView) (outputs :
       at Outside from = absurd (valid.joined c channel on from to)
       at (Process p) from = (p, from)
 
-  -- the approximation behind the one on which the node stands
-  within_next : IsValid net → IsSound net inputs node outputs → (come : HasCome net inputs node outputs) → AreWithin net inputs outputs (suc come.reached.n)
+  -- the approximation behind the one on which the record stands
+  within_next : IsValid net → RecordIsSound net inputs kept outputs → (come : RecordHasCome net inputs kept outputs) → AreWithin net inputs outputs (suc come.n)
   within_next valid sound come j output is =
-      let there = output_channel net inputs node outputs sound j output is in
+      let there = output_channel net outputs sound.listed j output is in
       let from = from_process valid output.channel there.0 there.1 there.2 in
-      prefix_trans output.taken (sent_on output.channel (acts_of net (approximation net inputs come.reached.n) come.reached.current_acts from.0)) (history_of (approximation net inputs (suc come.reached.n)) output.channel)
-      ((come.released j from.0 output there.0 is there.1 from.1))
-      (acts_put_prefix net inputs come.reached.n come.reached.current_acts output.channel from.0 there.0 there.1 from.1)
+      prefix_trans output.taken (sent_on output.channel (acts_of net (approximation net inputs come.n) come.permanent_acts from.0)) (history_of (approximation net inputs (suc come.n)) output.channel)
+      (come.released j from.0 output there.0 is there.1 from.1)
+      (acts_put_prefix net inputs come.n come.permanent_acts output.channel from.0 there.0 there.1 from.1)
 
-  station_within : IsValid net → IsSound net inputs node outputs → ∥ ((n : ℕ) × AreWithin net inputs outputs n) ∥₁
-  station_within valid sound = ∥∥₁_map sound.come (λ come. (suc come.reached.n, within_next valid sound come))
+  station_within : IsValid net → RecordIsSound net inputs kept outputs → ∥ ((n : ℕ) × AreWithin net inputs outputs n) ∥₁
+  station_within valid sound = ∥∥₁_map sound.come (λ come. (suc come.n, within_next valid sound come))
 
   -- and in each later one
   within_later : IsValid net → Fits net inputs → (m n : ℕ) → m ≤ n → AreWithin net inputs outputs m → AreWithin net inputs outputs n
@@ -63,15 +63,15 @@ all_within : (net : Network) (inputs : List (List ℤ)) → IsValid net → Fits
     → ∥ ((n : ℕ) × ((i : ℕ) (station : StationView) → slice_get stations i ≡ Some station → AreWithin net inputs (outputs_of station.outlets) n)) ∥₁
 all_within net inputs valid fits [] sound = ∣ (0, λ i station is. absurd (cc)) ∣₁
 all_within net inputs valid fits (s ∷ stations) sound =
-    ∥∥₁_map₂ (station_within net inputs s.node (outputs_of s.outlets) valid (sound 0 s refl).sound) (all_within net inputs valid fits stations (λ i station is. sound (suc i) station is))
+    ∥∥₁_map₂ (station_within net inputs s.node.kept (outputs_of s.outlets) valid (sound 0 s refl).kept) (all_within net inputs valid fits stations (λ i station is. sound (suc i) station is))
     (λ one others. (one.0 + others.0, at one.0 others.0 one.1 others.1))
   where
     at : (m k : ℕ) → AreWithin net inputs (outputs_of s.outlets) m → ((i : ℕ) (station : StationView) → slice_get stations i ≡ Some station → AreWithin net inputs (outputs_of station.outlets) k)
         → (i : ℕ) (station : StationView) → slice_get (s ∷ stations) i ≡ Some station → AreWithin net inputs (outputs_of station.outlets) (m + k)
     at m k one others zero station is =
         let same : s ≡ station = cc in
-        subst (λ (t : StationView). AreWithin net inputs (outputs_of t.outlets) (m + k)) same (within_later net inputs s.node (outputs_of s.outlets) valid fits m (m + k) (omega arith) one)
-    at m k one others (suc i) station is = within_later net inputs station.node (outputs_of station.outlets) valid fits k (m + k) (omega arith) (others i station is)
+        subst (λ (t : StationView). AreWithin net inputs (outputs_of t.outlets) (m + k)) same (within_later net inputs s.node.kept (outputs_of s.outlets) valid fits m (m + k) (omega arith) one)
+    at m k one others (suc i) station is = within_later net inputs station.node.kept (outputs_of station.outlets) valid fits k (m + k) (omega arith) (others i station is)
 
 pub released_prefix : (world : WorldView) → WorldInvariant world → AreApproximated world
 released_prefix world inv = all_within world.net world.inputs inv.valid inv.fits world.stations inv.stations

@@ -13,7 +13,7 @@ use Rattle.kahn_net.specs.declared.program.Channel.{Channel}
 use Rattle.kahn_net.specs.declared.program.Port.TheVariants.{Process}
 use Rattle.retained.specs.LogState.{LogState, IsLogOf, log_end, trimmed}
 use Rattle.record.specs.ImageView.{ImageView}
-use Rattle.node.specs.NodeView.{NodeView}
+use Rattle.node.specs.NodeView.{RunningNode}
 use Rattle.record.specs.Ends.{log_of, log_at, base_in, base_of, sent_in, sent_of}
 use Rattle.record.specs.Changes.{trimmed_log, trimmed_end, trimmed_saved, trimmed_image}
 use Rattle.node.specs.Trimming.{with_current, HasNext}
@@ -25,7 +25,8 @@ use Rattle.record.specs.declared.image.SavedEnd.{SavedEnd}
 use Rattle.record.specs.declared.image.End.{End}
 use Rattle.record.specs.declared.image.End.TheVariants.{Receives, Sends, Both}
 use Rattle.world.specs.OutputView.{OutputView}
-use Rattle.world.specs.Sound.{OutputIsSound, OutputsAreSound, HasCome, IsInOrder, IsSound}
+use Rattle.node.specs.Starting.{AreInOrder}
+use Rattle.world.specs.Sound.{OutputIsSound, OutputsAreSound, HasCome, IsSound}
 use Rattle.world.specs.OutputLaws.{set_cases, set_keeps, same_output}
 use Rattle.kahn_net.specs.Streams.{IsPrefix}
 
@@ -91,16 +92,16 @@ beginning_length taken whole is =
     let few = min-le_right (length taken) (length whole) in
     omega (arith, ap (length {A = ℤ}) is, count, few)
 
-module _ (net : Network) (inputs : List (List ℤ)) (node : NodeView) (outputs : List OutputView) where
+module _ (net : Network) (inputs : List (List ℤ)) (node : RunningNode) (outputs : List OutputView) where
   -- The next item
 
   -- where the permanent image covers more than has left, the log has the item that comes next
-  pub has_next : (j : ℕ) (output : OutputView) → IsSound net inputs node outputs → IsInOrder node → slice_get outputs j ≡ Some output
+  pub has_next : (j : ℕ) (output : OutputView) → IsSound net inputs node outputs → AreInOrder node.kept node.current → slice_get outputs j ≡ Some output
       → length output.taken < sent_of node.kept.permanent output.channel → HasNext (log_of node.current output.channel) (length output.taken)
   has_next j output sound order is more = at (log_of node.current output.channel) (sound.covered j output is).no_gap ahead
     where
       ahead : length output.taken < sent_of node.current output.channel
-      ahead = let later = order.current_ahead output.channel in omega (arith, more, later)
+      ahead = let later = order.current_ahead.sent output.channel in omega (arith, more, later)
 
       at : (o : Option LogState) → base_in o ≤ length output.taken → length output.taken < sent_in o → HasNext o (length output.taken)
       at None gap few = omega (arith, few)
@@ -126,7 +127,7 @@ module _ (net : Network) (inputs : List (List ℤ)) (node : NodeView) (outputs :
             (record { no_gap = base_trimmed output.channel (length taken) node.current output.channel before; covered = covers })
         at (inr other) =
             let before = sound.covered i one other.1 in
-            let apart : one.channel ≢ output.channel = (λ e. other.0 (same_output net inputs node outputs sound i j one output other.1 is e)) in
+            let apart : one.channel ≢ output.channel = (λ e. other.0 (same_output net outputs sound.listed i j one output other.1 is e)) in
             let base = base_elsewhere output.channel (length taken) node.current one.channel apart in
             let gap = before.no_gap in
             record { no_gap = omega (arith, base, gap); covered = before.covered }

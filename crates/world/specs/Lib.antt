@@ -3,6 +3,8 @@ pub mod DoneView
 pub mod EventView
 pub mod ReplyView
 pub mod Sound
+pub mod RecordSound
+pub mod RecordLaws
 pub mod Covered
 pub mod Replies
 pub mod Growing
@@ -13,7 +15,11 @@ pub mod Invariant
 pub mod SoundLaws
 pub mod OrderLaws
 pub mod HandedLaws
+pub mod BoundLaws
 pub mod StepKeeps
+pub mod Roomy
+pub mod RoomLaws
+pub mod ActLaws
 pub mod GrowLaws
 pub mod Headline
 pub mod OpenLaws
@@ -27,6 +33,10 @@ pub mod Quiet
 pub mod QuietLaws
 pub mod WorldView
 pub mod WholeView
+pub mod RecoveryLine
+pub mod LineLaws
 pub mod Released
 pub mod OpeningWorld
 pub mod Runnable
+pub mod OuterLaws
+pub mod Closing

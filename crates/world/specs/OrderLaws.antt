@@ -1,51 +1,54 @@
 -- The images of a node stay one after another.
-use Rattle.std.proofs.Common.{◌≡◌, ℕ, Option, Some, None, refl, sym, subst, arith}
+use Rattle.std.proofs.Common.{◌≡◌, ℕ, Option, Some, None, refl, subst, arith}
 use Rattle.record.specs.ImageView.{ImageView}
 use Rattle.record.specs.RecordView.{RecordView}
 use Rattle.record.specs.declared.record.Tentative.{Tentative}
 use Rattle.node.specs.JobView.{JobView}
-use Rattle.node.specs.NodeView.{NodeView}
+use Rattle.node.specs.NodeView.{RunningNode}
 use Rattle.node.specs.Choosing.{after_grant}
-use Rattle.node.specs.Starting.{AreInOrder, HasPutMore, with_own, decided_with, IsStart, IsDecision}
-use Rattle.world.specs.Sound.{IsInOrder}
-use Rattle.node.specs.declared.putting.Putting.{Putting}
-use Rattle.node.specs.declared.putting.Putting.TheVariants.{NotDue, Stored, Refused, Failed}
+use Rattle.record.specs.Moves.{last_image}
+use Rattle.node.specs.Starting.{AreInOrder, IsBehind, with_own, decided}
 
-pub order_granted : (job : Option JobView) (node : NodeView) → IsInOrder node → IsInOrder (after_grant job node)
+-- Images
+
+pub behind_itself : (image : ImageView) → IsBehind image image
+behind_itself image = record { received = λ c. omega arith; base = λ c. omega arith; sent = λ c. omega arith }
+
+pub behind_then : (image later last : ImageView) → IsBehind image later → IsBehind later last → IsBehind image last
+behind_then image later last a b = record {
+  received = λ c. (let x = a.received c in let y = b.received c in omega (arith, x, y));
+  base = λ c. (let x = a.base c in let y = b.base c in omega (arith, x, y));
+  sent = λ c. (let x = a.sent c in let y = b.sent c in omega (arith, x, y));
+}
+
+-- Nodes
+
+pub order_granted : (job : Option JobView) (node : RunningNode) → AreInOrder node.kept node.current → AreInOrder (after_grant job node).kept (after_grant job node).current
 order_granted None node order = order
 order_granted (Some job) node order = order
 
--- where more was put since
-pub order_ahead : (kept : RecordView) (current later : ImageView) → HasPutMore current later → AreInOrder kept current → AreInOrder kept later
+-- where the node has gone on since
+pub order_ahead : (kept : RecordView) (current later : ImageView) → IsBehind current later → AreInOrder kept current → AreInOrder kept later
 order_ahead kept current later more order = record {
-  current_ahead = λ c. (let a = order.current_ahead c in let b = more c in omega (arith, a, b));
+  current_ahead = behind_then kept.permanent current later order.current_ahead more;
   held_ahead = order.held_ahead;
-  held_behind = λ held is c. (let a = order.held_behind held is c in let b = more c in omega (arith, a, b));
+  held_behind = λ held is. behind_then held.image current later (order.held_behind held is) more;
 }
 
-order_own : (number : ℕ) (kept : RecordView) (current : ImageView) → AreInOrder kept current → AreInOrder (with_own number current kept) current
+pub order_own : (number : ℕ) (kept : RecordView) (current : ImageView) → AreInOrder kept current → AreInOrder (with_own number current kept) current
 order_own number kept current order = record {
   current_ahead = order.current_ahead;
-  held_ahead = λ held is. (let same : current ≡ held.image = cc in subst (HasPutMore kept.permanent) same order.current_ahead);
-  held_behind = λ held is. (let same : current ≡ held.image = cc in subst (λ (i : ImageView). HasPutMore i current) same (λ c. omega arith));
+  held_ahead = λ held is. (let same : current ≡ held.image = cc in subst (IsBehind kept.permanent) same order.current_ahead);
+  held_behind = λ held is. (let same : current ≡ held.image = cc in subst (λ (i : ImageView). IsBehind i current) same (behind_itself current));
 }
 
-order_kept : (kept : RecordView) (o : Option Tentative) (current : ImageView) → kept.tentative ≡ o → AreInOrder kept current → AreInOrder (decided_with kept o) current
-order_kept kept None current is order = order
-order_kept kept (Some held) current is order = record {
-  current_ahead = order.held_behind held is;
+order_last : (kept : RecordView) (o : Option Tentative) (current : ImageView) → kept.tentative ≡ o → AreInOrder kept current → IsBehind (last_image kept.permanent o) current
+order_last kept None current is order = order.current_ahead
+order_last kept (Some held) current is order = order.held_behind held is
+
+pub order_decided : (kept : RecordView) (current : ImageView) → AreInOrder kept current → AreInOrder (decided kept) current
+order_decided kept current order = record {
+  current_ahead = order_last kept kept.tentative current refl order;
   held_ahead = λ other e. absurd (cc);
   held_behind = λ other e. absurd (cc);
 }
-
-pub order_started : (number round : ℕ) (old : NodeView) (outcome : Putting) (new : NodeView) → IsStart number round old outcome new → IsInOrder old → IsInOrder new
-order_started number round old NotDue new step order = subst IsInOrder (sym step.1) order
-order_started number round old Stored new step order = subst IsInOrder (sym step.2) (order_own number old.kept old.current order)
-order_started number round old (Refused refusal) new step order = subst IsInOrder (sym step.2) order
-order_started number round old Failed new step order = subst IsInOrder (sym step.2) order
-
-pub order_decided : (number round : ℕ) (old : NodeView) (outcome : Putting) (new : NodeView) → IsDecision number round old outcome new → IsInOrder old → IsInOrder new
-order_decided number round old NotDue new step order = subst IsInOrder (sym step.1) order
-order_decided number round old Stored new step order = subst IsInOrder (sym step.1) (order_kept old.kept old.kept.tentative old.current refl order)
-order_decided number round old (Refused refusal) new step order = subst IsInOrder (sym step.2) order
-order_decided number round old Failed new step order = subst IsInOrder (sym step.1) order

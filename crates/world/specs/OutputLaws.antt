@@ -1,13 +1,12 @@
 -- Laws of a station's outputs: each is of a channel of its own, which goes outside.
-use Rattle.std.proofs.Common.{◌≡◌, ◌≢◌, ◌⊎◌, inl, inr, ℕ, zero, suc, ◌+◌, ◌≤◌, Bool, true, false, cond, ℤ, List, [], ◌∷◌, map, Some, refl, sym, ap, ◌∙◌, arith}
+use Rattle.std.proofs.Common.{◌≡◌, ◌≢◌, ◌⊎◌, inl, inr, ℕ, zero, suc, ◌+◌, ◌≤◌, Bool, true, false, cond, List, [], ◌∷◌, map, Some, refl, sym, ap, ◌∙◌, arith}
 use Rattle.std.specs.Prelude.{slice_get, slice_set}
 use Rattle.kahn_net.specs.Syntax.{Network}
 use Rattle.kahn_net.specs.declared.program.Channel.{Channel}
 use Rattle.kahn_net.specs.declared.program.Port.{Port}
 use Rattle.kahn_net.specs.declared.program.Port.TheVariants.{Outside, Process}
-use Rattle.node.specs.NodeView.{NodeView}
 use Rattle.world.specs.OutputView.{OutputView}
-use Rattle.world.specs.Sound.{goes_outside, output_channels, IsSound}
+use Rattle.world.specs.Sound.{goes_outside, output_channels}
 
 -- The numbers of the outputs' channels
 
@@ -95,19 +94,19 @@ set_same {A} (z ∷ xs) (suc j) x is = ap (λ (ws : List A). z ∷ ws) (set_same
 
 -- Outputs
 
-module _ (net : Network) (inputs : List (List ℤ)) (node : NodeView) (outputs : List OutputView) where
-  listed_at : IsSound net inputs node outputs → (j : ℕ) (output : OutputView) → slice_get outputs j ≡ Some output → slice_get (output_channels 0 net.channels) j ≡ Some (output.channel)
-  listed_at sound j output is = ap (λ (numbers : List ℕ). slice_get numbers j) (sym sound.listed) ∙ map_at (λ (o : OutputView). o.channel) outputs j output is
+module _ (net : Network) (outputs : List OutputView) (listed : map (λ (o : OutputView). o.channel) outputs ≡ output_channels 0 net.channels) where
+  listed_at : (j : ℕ) (output : OutputView) → slice_get outputs j ≡ Some output → slice_get (output_channels 0 net.channels) j ≡ Some (output.channel)
+  listed_at j output is = ap (λ (numbers : List ℕ). slice_get numbers j) (sym listed) ∙ map_at (λ (o : OutputView). o.channel) outputs j output is
 
   -- two outputs of one channel are the same one
-  pub same_output : IsSound net inputs node outputs → (i j : ℕ) (one other : OutputView) → slice_get outputs i ≡ Some one → slice_get outputs j ≡ Some other → one.channel ≡ other.channel → i ≡ j
-  same_output sound i j one other a b same =
-      one_place 0 net.channels i j other.channel (listed_at sound i one a ∙ ap (λ (c : ℕ). Some c) same) (listed_at sound j other b)
+  pub same_output : (i j : ℕ) (one other : OutputView) → slice_get outputs i ≡ Some one → slice_get outputs j ≡ Some other → one.channel ≡ other.channel → i ≡ j
+  same_output i j one other a b same =
+      one_place 0 net.channels i j other.channel (listed_at i one a ∙ ap (λ (c : ℕ). Some c) same) (listed_at j other b)
 
   -- the channel of an output is one of the network, and its items go outside
-  pub output_channel : IsSound net inputs node outputs → (j : ℕ) (output : OutputView) → slice_get outputs j ≡ Some output
+  pub output_channel : (j : ℕ) (output : OutputView) → slice_get outputs j ≡ Some output
       → (channel : Channel) × (slice_get net.channels output.channel ≡ Some channel) × (channel.consumer ≡ Outside)
-  output_channel sound j output is =
-      let there = channel_there 0 net.channels j output.channel (listed_at sound j output is) in
+  output_channel j output is =
+      let there = channel_there 0 net.channels j output.channel (listed_at j output is) in
       let sum : 0 + there.0 ≡ there.0 = omega arith in
       (there.1, ap (slice_get net.channels) (there.2 ∙ sum) ∙ there.3, there.4)

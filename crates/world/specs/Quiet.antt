@@ -9,7 +9,7 @@ use Rattle.kahn_net.specs.declared.program.Port.{Port}
 use Rattle.kahn_net.specs.declared.program.Port.TheVariants.{Outside, Process}
 use Rattle.record.specs.ProcessView.{SavedProcessView}
 use Rattle.record.specs.ImageView.{ImageView}
-use Rattle.node.specs.NodeView.{NodeView}
+use Rattle.node.specs.NodeView.{RunningNode, running_of}
 use Rattle.record.specs.Ends.{received_of, sent_of}
 use Rattle.node.specs.Choosing.{next_at}
 use Rattle.node.specs.Starting.{is_none}
@@ -47,13 +47,17 @@ abbrev pub have_all_left : ImageView → List OutputView → Bool
 have_all_left image [] = true
 have_all_left image (output ∷ outputs) = (length output.taken == sent_of image output.channel) && have_all_left image outputs
 
--- nothing is left to do at a node: it is up, no job is out, its processes are at rest, and all that they put has left
-abbrev pub is_quiet : Network → List (List ℤ) → NodeView → List OutputView → Bool
-is_quiet net inputs node outputs = node.up && (is_none node.out && (are_at_rest net inputs node.current node.current.processes && have_all_left node.current outputs))
+-- nothing is left to do at a node that runs: no job is out, its processes are at rest, and all that they put has left
+abbrev pub is_quiet : Network → List (List ℤ) → RunningNode → List OutputView → Bool
+is_quiet net inputs node outputs = is_none node.out && (are_at_rest net inputs node.current node.current.processes && have_all_left node.current outputs)
+
+abbrev pub is_quiet_at : Network → List (List ℤ) → Option RunningNode → List OutputView → Bool
+is_quiet_at net inputs None outputs = false
+is_quiet_at net inputs (Some node) outputs = is_quiet net inputs node outputs
 
 -- and at no station of a world
 abbrev pub are_quiet : WorldView → Bool
-are_quiet world = list_all (λ (station : StationView). is_quiet world.net world.inputs station.node (outputs_of station.outlets)) world.stations
+are_quiet world = list_all (λ (station : StationView). is_quiet_at world.net world.inputs (running_of station.node) (outputs_of station.outlets)) world.stations
 
 -- each output has left to its end in the n-th approximation
 abbrev pub AreAll : Network → List (List ℤ) → List OutputView → ℕ → Type 0

@@ -25,7 +25,7 @@ use Rattle.kahn_net.specs.declared.program.Port.{Port}
 use Rattle.kahn_net.specs.declared.program.Port.TheVariants.{Outside, Process}
 use Rattle.record.specs.ProcessView.{SavedProcessView}
 use Rattle.record.specs.ImageView.{ImageView}
-use Rattle.node.specs.NodeView.{NodeView}
+use Rattle.node.specs.NodeView.{RunningNode, running_of}
 use Rattle.record.specs.Ends.{received_at, received_of, sent_of}
 use Rattle.node.specs.Choosing.{next_at}
 use Rattle.node.specs.Starting.{is_none}
@@ -42,7 +42,7 @@ use Rattle.world.specs.StationView.{StationView}
 use Rattle.world.specs.Steps.{WorldView}
 use Rattle.world.specs.Sound.{HasCome, IsSound}
 use Rattle.world.specs.OutputLaws.{output_channel}
-use Rattle.world.specs.Quiet.{got_all, has_got_all, can_rest, is_at_rest, are_at_rest, have_all_left, is_quiet, are_quiet, AreAll, AreWhole}
+use Rattle.world.specs.Quiet.{got_all, has_got_all, can_rest, is_at_rest, are_at_rest, have_all_left, is_quiet, is_quiet_at, are_quiet, AreAll, AreWhole}
 
 -- What the tests say
 
@@ -68,12 +68,12 @@ left_at image (x ∷ outputs) (suc j) output all is =
     left_at image outputs j output (and_parts (length x.taken == sent_of image x.channel) (have_all_left image outputs) all).1 is
 
 -- where nothing is left to do, the processes are at rest, and all that was put has left
-rest_of : (net : Network) (inputs : List (List ℤ)) (node : NodeView) (outputs : List OutputView) → IsTrue (is_quiet net inputs node outputs)
+rest_of : (net : Network) (inputs : List (List ℤ)) (node : RunningNode) (outputs : List OutputView) → IsTrue (is_quiet net inputs node outputs)
     → IsTrue (are_at_rest net inputs node.current node.current.processes) × IsTrue (have_all_left node.current outputs)
 rest_of net inputs node outputs quiet =
     let rest = are_at_rest net inputs node.current node.current.processes in
     let left = have_all_left node.current outputs in
-    and_parts rest left (and_parts (is_none node.out) (rest && left) (and_parts node.up (is_none node.out && (rest && left)) quiet).1).1
+    and_parts rest left (and_parts (is_none node.out) (rest && left) quiet).1
 
 -- no more was received of a channel than came from outside
 received_within : (net : Network) (inputs : List (List ℤ)) (image : ImageView) (c : ℕ) (channel : Channel) → IsLaidOut net image → CountsAreWithin inputs image → slice_get net.channels c ≡ Some channel
@@ -85,7 +85,7 @@ received_within net inputs image c channel laid counts is =
     let few = subst (λ (d : ℕ). received_at (Some (there.0.end)) ≤ length (history_of inputs d)) here (counts c there.0 there.1) in
     omega (arith, count, few)
 
-module _ (net : Network) (inputs : List (List ℤ)) (node : NodeView) (outputs : List OutputView) (valid : IsValid net) (fits : Fits net inputs) (sound : IsSound net inputs node outputs)
+module _ (net : Network) (inputs : List (List ℤ)) (node : RunningNode) (outputs : List OutputView) (valid : IsValid net) (fits : Fits net inputs) (sound : IsSound net inputs node outputs)
     (come : HasCome net inputs node outputs) where
   -- the approximation on which the node stands
   abbrev base : List (List ℤ)
@@ -233,7 +233,7 @@ module _ (net : Network) (inputs : List (List ℤ)) (node : NodeView) (outputs :
   taken_whole : IsTrue (are_at_rest net inputs node.current node.current.processes) → IsTrue (have_all_left node.current outputs)
       → (j : ℕ) (output : OutputView) → slice_get outputs j ≡ Some output → output.taken ≡ history_of (approximation net inputs (suc come.reached.n)) output.channel
   taken_whole rest left j output is =
-      let there = output_channel net inputs node outputs sound j output is in
+      let there = output_channel net outputs sound.listed j output is in
       let from = producer_of output.channel there.0 there.1 there.2 in
       let count = left_at node.current outputs j output left is in
       let put = sent_stands net base come.reached.current_acts node.current output.channel from.0 there.0 come.reached.current sound.kept.laid_out there.1 from.1 in
@@ -247,9 +247,15 @@ module _ (net : Network) (inputs : List (List ℤ)) (node : NodeView) (outputs :
       (suc come.reached.n, settled_rests net inputs made valid fits (λ p code there. all_made p code there rest.0) come.reached.n now_within, taken_whole rest.0 rest.1)
 
 -- Where nothing is left to do at a station, what has left of each output is its channel's whole history in the least solution
-station_whole : (net : Network) (inputs : List (List ℤ)) (node : NodeView) (outputs : List OutputView) → IsValid net → Fits net inputs → IsSound net inputs node outputs
+station_whole : (net : Network) (inputs : List (List ℤ)) (node : RunningNode) (outputs : List OutputView) → IsValid net → Fits net inputs → IsSound net inputs node outputs
     → IsTrue (is_quiet net inputs node outputs) → ∥ ((n : ℕ) × IsReached net inputs n × AreAll net inputs outputs n) ∥₁
 station_whole net inputs node outputs valid fits sound quiet = ∥∥₁_map sound.come (λ come. whole_there net inputs node outputs valid fits sound come quiet)
+
+-- the same of one that may not run
+station_whole_at : (net : Network) (inputs : List (List ℤ)) (o : Option RunningNode) (outputs : List OutputView) → IsValid net → Fits net inputs → ((node : RunningNode) → o ≡ Some node → IsSound net inputs node outputs)
+    → IsTrue (is_quiet_at net inputs o outputs) → ∥ ((n : ℕ) × IsReached net inputs n × AreAll net inputs outputs n) ∥₁
+station_whole_at net inputs None outputs valid fits sound quiet = absurd (cc)
+station_whole_at net inputs (Some node) outputs valid fits sound quiet = station_whole net inputs node outputs valid fits (sound node refl) quiet
 
 module _ (net : Network) (inputs : List (List ℤ)) where
   all_later : (outputs : List OutputView) (m n : ℕ) → approximation net inputs n ≡ approximation net inputs m → AreAll net inputs outputs m → AreAll net inputs outputs n
@@ -257,12 +263,12 @@ module _ (net : Network) (inputs : List (List ℤ)) where
 
   -- the approximations come to rest at one place, so one serves all stations
   all_whole : IsValid net → Fits net inputs → (n : ℕ) → IsReached net inputs n → (stations : List StationView) → AreSound net inputs stations
-      → IsTrue (list_all (λ (station : StationView). is_quiet net inputs station.node (outputs_of station.outlets)) stations)
+      → IsTrue (list_all (λ (station : StationView). is_quiet_at net inputs (running_of station.node) (outputs_of station.outlets)) stations)
       → ∥ ((n : ℕ) × IsReached net inputs n × ((i : ℕ) (station : StationView) → slice_get stations i ≡ Some station → AreAll net inputs (outputs_of station.outlets) n)) ∥₁
   all_whole valid fits n reached [] sound quiet = ∣ (n, reached, λ i station is. absurd (cc)) ∣₁
   all_whole valid fits n reached (s ∷ stations) sound quiet =
-      let parts = and_parts (is_quiet net inputs s.node (outputs_of s.outlets)) (list_all (λ (station : StationView). is_quiet net inputs station.node (outputs_of station.outlets)) stations) quiet in
-      ∥∥₁_map₂ (station_whole net inputs s.node (outputs_of s.outlets) valid fits (sound 0 s refl).sound parts.0) (all_whole valid fits n reached stations (λ i station is. sound (suc i) station is) parts.1)
+      let parts = and_parts (is_quiet_at net inputs (running_of s.node) (outputs_of s.outlets)) (list_all (λ (station : StationView). is_quiet_at net inputs (running_of station.node) (outputs_of station.outlets)) stations) quiet in
+      ∥∥₁_map₂ (station_whole_at net inputs (running_of s.node) (outputs_of s.outlets) valid fits (λ node is. ((sound 0 s refl).runs node is).sound) parts.0) (all_whole valid fits n reached stations (λ i station is. sound (suc i) station is) parts.1)
       (λ one others. (one.0 + others.0, rests one.0 others.0 one.1, at one.0 others.0 one.1 others.1 one.2 others.2))
     where
       rests : (m k : ℕ) → IsReached net inputs m → IsReached net inputs (m + k)
@@ -277,12 +283,12 @@ module _ (net : Network) (inputs : List (List ℤ)) where
       at m k here there one others (suc i) station is = all_later (outputs_of station.outlets) k (m + k) (agreement net inputs k (m + k) there (omega arith)) (others i station is)
 
   from_first : IsValid net → Fits net inputs → (stations : List StationView) → 0 < length stations → AreSound net inputs stations
-      → IsTrue (list_all (λ (station : StationView). is_quiet net inputs station.node (outputs_of station.outlets)) stations)
+      → IsTrue (list_all (λ (station : StationView). is_quiet_at net inputs (running_of station.node) (outputs_of station.outlets)) stations)
       → ∥ ((n : ℕ) × IsReached net inputs n × ((i : ℕ) (station : StationView) → slice_get stations i ≡ Some station → AreAll net inputs (outputs_of station.outlets) n)) ∥₁
   from_first valid fits [] some sound quiet = absurd (omega (arith, some))
   from_first valid fits (s ∷ stations) some sound quiet =
-      ∥∥₁_elim (station_whole net inputs s.node (outputs_of s.outlets) valid fits (sound 0 s refl).sound
-      (and_parts (is_quiet net inputs s.node (outputs_of s.outlets)) (list_all (λ (station : StationView). is_quiet net inputs station.node (outputs_of station.outlets)) stations) quiet).0)
+      ∥∥₁_elim (station_whole_at net inputs (running_of s.node) (outputs_of s.outlets) valid fits (λ node is. ((sound 0 s refl).runs node is).sound)
+      (and_parts (is_quiet_at net inputs (running_of s.node) (outputs_of s.outlets)) (list_all (λ (station : StationView). is_quiet_at net inputs (running_of station.node) (outputs_of station.outlets)) stations) quiet).0)
       ∥∥₁_prop (λ one. all_whole valid fits one.0 one.1 (s ∷ stations) sound quiet)
 
 -- where nothing is left to do in a world, the streams that left are whole

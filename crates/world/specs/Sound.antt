@@ -7,8 +7,7 @@ use Rattle.kahn_net.specs.declared.program.Channel.{Channel}
 use Rattle.kahn_net.specs.declared.program.Port.{Port}
 use Rattle.kahn_net.specs.declared.program.Port.TheVariants.{Outside, Process}
 use Rattle.node.specs.JobView.{JobView}
-use Rattle.node.specs.NodeView.{NodeView}
-use Rattle.node.specs.Starting.{AreInOrder}
+use Rattle.node.specs.NodeView.{RunningNode}
 use Rattle.record.specs.Ends.{base_of, sent_of}
 use Rattle.node.specs.Reached.{HasReached, IsLaidOut, CountsAreWithin, LogsAreWithin, IsJobOf, acts_of}
 use Rattle.world.specs.OutputView.{OutputView}
@@ -21,26 +20,22 @@ goes_outside (Process p) = false
 
 -- its image has every process and channel, no more was received than there is, and its logs are within their limits (a view of a node
 -- doesn't say so, and without it a turn might not fit)
-pub record NodeIsSound (net : Network) (inputs : List (List ℤ)) (node : NodeView) : Type 0 where
+pub record NodeIsSound (net : Network) (inputs : List (List ℤ)) (node : RunningNode) : Type 0 where
   pub laid_out : IsLaidOut net node.current
   pub counts : CountsAreWithin inputs node.current
   pub logs : LogsAreWithin node.current
 
--- its images are one after another: what it keeps over a crash, and what it has now
-abbrev pub IsInOrder : NodeView → Type 0
-IsInOrder node = AreInOrder node.kept node.current
-
 -- the log of an output goes back to what its outlet has, and the permanent image covers all of that
-pub record OutputIsSound (node : NodeView) (output : OutputView) : Type 0 where
+pub record OutputIsSound (node : RunningNode) (output : OutputView) : Type 0 where
   pub no_gap : base_of node.current output.channel ≤ length output.taken
   pub covered : length output.taken ≤ sent_of node.kept.permanent output.channel
 
-abbrev pub OutputsAreSound : NodeView → List OutputView → Type 0
+abbrev pub OutputsAreSound : RunningNode → List OutputView → Type 0
 OutputsAreSound node outputs = (j : ℕ) (output : OutputView) → slice_get outputs j ≡ Some output → OutputIsSound node output
 
 -- The node's images stand on one approximation of the histories; the job that is out is of where its process stands now; and what has left
 -- of each output is, on that same approximation, a beginning of what its process has put by now.
-pub record HasCome (net : Network) (inputs : List (List ℤ)) (node : NodeView) (outputs : List OutputView) : Type 0 where
+pub record HasCome (net : Network) (inputs : List (List ℤ)) (node : RunningNode) (outputs : List OutputView) : Type 0 where
   pub reached : HasReached net inputs node
   pub out : (job : JobView) → node.out ≡ Some job → IsJobOf net inputs node.current job
   pub released : (j p : ℕ) (output : OutputView) (channel : Channel) → slice_get outputs j ≡ Some output → slice_get net.channels output.channel ≡ Some channel → channel.producer ≡ Process p
@@ -52,7 +47,7 @@ output_channels number [] = []
 output_channels number (channel ∷ channels) = if goes_outside channel.consumer then number ∷ output_channels (suc number) channels else output_channels (suc number) channels
 
 -- All of it: there is an outlet for each output of the network, in order, and what is said above.
-pub record IsSound (net : Network) (inputs : List (List ℤ)) (node : NodeView) (outputs : List OutputView) : Type 0 where
+pub record IsSound (net : Network) (inputs : List (List ℤ)) (node : RunningNode) (outputs : List OutputView) : Type 0 where
   pub listed : map (λ (output : OutputView). output.channel) outputs ≡ output_channels 0 net.channels
   pub kept : NodeIsSound net inputs node
   pub covered : OutputsAreSound node outputs

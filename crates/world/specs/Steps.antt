@@ -2,27 +2,31 @@
 --
 -- A relation goes by cases of the event; a reply that an event never has is nowhere in its case. An event that can't happen is answered by
 -- `NotDue` and changes nothing, and only such an event is. Free in it are the failures
--- of devices and outlets alone, and of an outlet's failure, whether it took the item all the same.
+-- of devices and outlets alone: of a device's, which of its calls failed and whether the record was put all the same, and of an outlet's,
+-- whether it took the item.
 use Rattle.std.specs.Prelude.{◌≡◌, ◌⊎◌, ◌==◌, ℕ, ◌+◌, nat_lt, Bool, true, false, ◌&&◌, ◌||◌, not, if◌then◌else◌, ℤ, List, [], ◌∷◌, length, Option, Some, None, slice_get, slice_set}
 use Rattle.kahn_net.specs.Syntax.{Network}
 use Rattle.kahn_net.specs.declared.program.Channel.{Channel}
 use Rattle.retained.specs.LogState.{LogState}
-use Rattle.record.specs.Ends.{log_of, sent_of}
+use Rattle.record.specs.Ends.{sent_of}
+use Rattle.record.specs.Moves.{with_epoch}
 use Rattle.node.specs.JobView.{JobView}
 use Rattle.record.specs.RecordView.{RecordView}
+use Rattle.node.specs.ArmedRestarts.{round_later, with_armed}
 use Rattle.node.specs.NodeView.{NodeView}
-use Rattle.node.specs.Choosing.{next_job, after_grant}
+use Rattle.node.specs.Choosing.{node_job, with_grant}
 use Rattle.node.specs.Installing.{IsInstall}
-use Rattle.node.specs.Starting.{is_none, next_number, with_own, decided, IsStart, IsDecision, IsPut}
-use Rattle.record.specs.Changes.{trimmed_image}
-use Rattle.node.specs.Trimming.{with_current, TookNext}
+use Rattle.node.specs.Recovering.{IsCrash, IsRecovery, IsRecoveryPut}
+use Rattle.node.specs.Starting.{is_none, is_running, is_down, next_number, with_own_now, decided, IsStart, IsDecision, IsPut}
+use Rattle.node.specs.Trimming.{current_log, trimmed_node, TookNext}
 use Rattle.node.specs.declared.putting.Putting.{Putting}
+use Rattle.node.specs.declared.putting.Recovery.{Recovery}
 use Rattle.world.specs.DoneView.{DoneView, IsTurnOfJob}
 use Rattle.world.specs.EventView.{EventView, event_node}
 use Rattle.world.specs.EventView as event
 use Rattle.world.specs.ReplyView.{ReplyView}
 use Rattle.world.specs.ReplyView as reply
-use Rattle.world.specs.Replies.{grant_reply, install_reply, start_reply, decision_reply}
+use Rattle.world.specs.Replies.{grant_reply, install_reply, start_reply, decision_reply, crash_reply, recovery_reply}
 use Rattle.world.specs.Turns.{turns_of, turns_granted, turns_started, count_send, count_idle}
 use Rattle.world.specs.StationView.{OutletView, StationView}
 use Rattle.world.specs.declared.round_turns.RoundTurns.{RoundTurns}
@@ -35,7 +39,7 @@ moved_to node failures turns station = record { number = station.number; node = 
 
 -- the job that can be granted is, and is in the answer
 abbrev pub IsGrant : ℕ → Option JobView → StationView → ReplyView → StationView → Type 0
-IsGrant round job old answer new = (answer ≡ grant_reply job) × (new ≡ moved_to (after_grant job old.node) old.failures (turns_granted job round old.turns) old)
+IsGrant round job old answer new = (answer ≡ grant_reply job) × (new ≡ moved_to (with_grant job old.node) old.failures (turns_granted job round old.turns) old)
 
 -- what came back is a turn of its job's own code, and is taken in where it is of the job that is out
 pub record IsInstalled (channels : List Channel) (done : DoneView) (old : StationView) (answer : ReplyView) (new : StationView) : Type 0 where
@@ -50,21 +54,43 @@ abbrev pub IsSendOf : Bool → ℕ → StationView → ReplyView → StationView
 IsSendOf false round old answer new = (answer ≡ reply.NotDue) × (new ≡ old)
 IsSendOf true round old answer new = (answer ≡ reply.Sent) × (new ≡ moved_to old.node old.failures (count_send (not (is_none old.node.kept.tentative)) (turns_of round old.turns)) old)
 
--- a checkpoint is begun; `fits` is what the node's cell has room for
+-- a checkpoint is begun; `fits` is what the node's cell has room for, and `call` the device call that failed, where the device did
 pub record IsBegun (fits : RecordView → Bool) (round : ℕ) (old : StationView) (answer : ReplyView) (new : StationView) : Type 0 where
   pub outcome : Putting
-  pub step : IsStart old.number round old.node outcome new.node
-  pub put : IsPut (fits (with_own old.number old.node.current old.node.kept)) old.failures new.failures outcome
+  pub call : ℕ
+  pub step : IsStart old.number round call old.node outcome new.node
+  pub put : IsPut (fits (with_own_now old.number old.node)) old.failures new.failures outcome
   pub answers : answer ≡ start_reply outcome
   pub same : new ≡ moved_to new.node new.failures (turns_started outcome round old.turns) old
 
 -- and decided
 pub record IsDecided (fits : RecordView → Bool) (round : ℕ) (old : StationView) (answer : ReplyView) (new : StationView) : Type 0 where
   pub outcome : Putting
-  pub step : IsDecision old.number round old.node outcome new.node
+  pub call : ℕ
+  pub step : IsDecision old.number round call old.node outcome new.node
   pub put : IsPut (fits (decided old.node.kept)) old.failures new.failures outcome
   pub answers : answer ≡ decision_reply outcome
   pub same : new ≡ moved_to new.node new.failures old.turns old
+
+-- a node that is up crashes, and may be recovered so many rounds later
+pub record IsFallen (rounds round : ℕ) (old : StationView) (answer : ReplyView) (new : StationView) : Type 0 where
+  pub was_up : Bool
+  pub step : IsCrash (round_later round rounds) old.node was_up new.node
+  pub answers : answer ≡ crash_reply was_up
+  pub same : new ≡ moved_to new.node old.failures old.turns old
+
+-- and one that is down comes back
+pub record IsBack (fits : RecordView → Bool) (round : ℕ) (old : StationView) (answer : ReplyView) (new : StationView) : Type 0 where
+  pub outcome : Recovery
+  pub call : ℕ
+  pub step : IsRecovery round call old.node outcome new.node
+  pub put : IsRecoveryPut (fits (with_epoch old.node.kept)) old.failures new.failures outcome
+  pub answers : answer ≡ recovery_reply outcome
+  pub same : new ≡ moved_to new.node new.failures old.turns old
+
+-- a fault is armed for this device call, behind those armed before, and for how many rounds it is to keep the node down
+abbrev pub IsArmed : ℕ → ℕ → StationView → ReplyView → StationView → Type 0
+IsArmed call rounds old answer new = (answer ≡ reply.Acted) × (new ≡ moved_to (with_armed call rounds old.node) old.failures old.turns old)
 
 -- an outlet failed in this round
 abbrev pub has_failed_in : ℕ → Option ℕ → Bool
@@ -80,9 +106,9 @@ abbrev pub first_waiting : RecordView → ℕ → ℕ → List OutletView → Op
 first_waiting kept round place [] = None
 first_waiting kept round place (outlet ∷ outlets) = if is_waiting kept round outlet then Some place else first_waiting kept round (place + 1) outlets
 
--- where the next item of a station would leave, if its node is up
+-- where the next item of a station would leave, if its node runs
 abbrev pub next_release : ℕ → StationView → Option ℕ
-next_release round station = if station.node.up then first_waiting station.node.kept round 0 station.outlets else None
+next_release round station = if is_running station.node.mode then first_waiting station.node.kept round 0 station.outlets else None
 
 -- the outlet was handed the next item of this log: it took it, or failed and took it or didn't
 pub record IsHanded (round : ℕ) (log : Option LogState) (outlet : OutletView) (answer : ReplyView) (later : OutletView) : Type 0 where
@@ -96,7 +122,7 @@ pub record IsHanded (round : ℕ) (log : Option LogState) (outlet : OutletView) 
 abbrev pub released_to : OutletView → ℕ → OutletView → StationView → StationView
 released_to outlet place later station = record {
   number = station.number;
-  node = with_current (trimmed_image outlet.channel (length later.taken) station.node.current) station.node;
+  node = trimmed_node outlet.channel (length later.taken) station.node;
   failures = station.failures;
   outlets = slice_set station.outlets place later;
   turns = station.turns;
@@ -106,7 +132,7 @@ pub record IsReleaseAt (round place : ℕ) (old : StationView) (answer : ReplyVi
   pub outlet : OutletView
   pub later : OutletView
   pub there : slice_get old.outlets place ≡ Some outlet
-  pub handed : IsHanded round (log_of old.node.current outlet.channel) outlet answer later
+  pub handed : IsHanded round (current_log outlet.channel old.node.mode) outlet answer later
   pub same : new ≡ released_to outlet place later old
 
 abbrev pub IsRelease : ℕ → Option ℕ → StationView → ReplyView → StationView → Type 0
@@ -119,12 +145,15 @@ IsIdle round old answer new = (answer ≡ reply.Idled) × (new ≡ moved_to old.
 
 -- An event of the node of this station, of a network that runs on these inputs; `fits` is what the node's cell has room for
 abbrev pub IsStationStep : Network → List (List ℤ) → (RecordView → Bool) → ℕ → EventView → StationView → ReplyView → StationView → Type 0
-IsStationStep net inputs fits round (event.Grant k) old answer new = IsGrant round (next_job net inputs old.node) old answer new
+IsStationStep net inputs fits round (event.Grant k) old answer new = IsGrant round (node_job net inputs old.node) old answer new
 IsStationStep net inputs fits round (event.Install done) old answer new = IsInstalled net.channels done old answer new
-IsStationStep net inputs fits round (event.Send k) old answer new = IsSendOf old.node.up round old answer new
+IsStationStep net inputs fits round (event.Send k) old answer new = IsSendOf (not (is_down old.node.mode)) round old answer new
 IsStationStep net inputs fits round (event.Start k) old answer new = IsBegun fits round old answer new
 IsStationStep net inputs fits round (event.Decide k) old answer new = IsDecided fits round old answer new
 IsStationStep net inputs fits round (event.Release k) old answer new = IsRelease round (next_release round old) old answer new
+IsStationStep net inputs fits round (event.Crash k fill rounds) old answer new = IsFallen rounds round old answer new
+IsStationStep net inputs fits round (event.Recover k) old answer new = IsBack fits round old answer new
+IsStationStep net inputs fits round (event.Arm k fault rounds) old answer new = IsArmed fault.call rounds old answer new
 IsStationStep net inputs fits round (event.Idle k) old answer new = IsIdle round old answer new
 
 -- A world
@@ -138,7 +167,7 @@ pub record WorldView : Type 0 where
 
 -- a round need not wait for this node: it has idled, or it is down and not to be recovered yet
 abbrev pub is_done_with : ℕ → StationView → Bool
-is_done_with round station = (turns_of round station.turns).idled || (not station.node.up && nat_lt round station.node.restart)
+is_done_with round station = (turns_of round station.turns).idled || (is_down station.node.mode && nat_lt round station.node.restart)
 
 abbrev pub are_done_with : ℕ → List StationView → Bool
 are_done_with round [] = true
@@ -155,7 +184,11 @@ round_after reply.Decided round stations = round
 round_after (reply.Refused refusal) round stations = round
 round_after (reply.Released output number) round stations = round
 round_after reply.OutletFailed round stations = round
+round_after reply.Crashed round stations = round
+round_after reply.Recovered round stations = round
+round_after reply.InDoubt round stations = round
 round_after reply.Down round stations = round
+round_after reply.Acted round stations = round
 round_after reply.Idled round stations = if are_done_with round stations then next_number round else round
 round_after reply.NotDue round stations = round
 

@@ -1,13 +1,13 @@
 -- A whole world without pointers.
 use Rattle.std.specs.List.{AllZip}
-use Rattle.node.specs.declared.cell.StableCell.{Ghosts as CellWords}
+use Rattle.gate_cell.specs.declared.cell.StableCell.{Ghosts as CellWords}
 use Rattle.outlet.specs.declared.outlet.Outlet.{Ghosts as OutletWords}
 use Rattle.world.specs.Steps.{WorldView}
 use Rattle.world.specs.WorldView.{world_view, IsGrown}
 use Rattle.world.specs.declared.world.World.{World}
 
-abbrev pub view_of : {C O : Type 0} {cell : CellWords C} {outlet : OutletWords O} → World C O cell outlet → WorldView
-view_of {C} {O} {cell} {outlet} world = world_view outlet.taken outlet.failures world.net world.inputs world.stations.items world.round
+abbrev pub world_of : {C O : Type 0} {cell : CellWords C} {outlet : OutletWords O} → World C O cell outlet → WorldView
+world_of {C} {O} {cell} {outlet} world = world_view outlet.taken outlet.failures world.net world.inputs world.stations.items world.round
 
 -- what has left each station only grew, and is covered at each moment between
 abbrev pub HaveGrown : {C O : Type 0} {cell : CellWords C} {outlet : OutletWords O} → World C O cell outlet → World C O cell outlet → Type 0

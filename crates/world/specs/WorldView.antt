@@ -1,11 +1,11 @@
 -- A world without pointers.
-use Rattle.std.specs.Prelude.{ℕ, ℤ, ◌≡◌, ◌⊎◌, List, map, Bool, Option, Some}
-use Rattle.sector_disk.specs.Clock.{LeavesOnly}
+use Rattle.std.specs.Prelude.{ℕ, ℤ, ◌≡◌, List, map, Bool}
 use Rattle.kahn_net.specs.Syntax.{network_of}
 use Rattle.record.specs.RecordView.{RecordView}
-use Rattle.node.specs.NodeView.{node_view}
-use Rattle.node.specs.Cell.{IsUnchanged}
-use Rattle.node.specs.declared.cell.StableCell.{Ghosts as CellWords}
+use Rattle.gate_cell.specs.declared.cell.StableCell.{Ghosts as CellWords}
+use Rattle.ckpt_store.specs.Spelling.{fits_in}
+use Rattle.ckpt_store.specs.StoreView.{cell_in}
+use Rattle.node.specs.NodeOf.{view_of}
 use Rattle.std.specs.declared.sync.Arc.{Arc}
 use Rattle.std.specs.declared.alloc.Global.{Global}
 use Rattle.net_check.specs.declared.net.Net.{Net}
@@ -21,8 +21,8 @@ use Rattle.world.specs.declared.station.Station.{Station}
 abbrev pub station_view : {C O : Type 0} {cell : CellWords C} → (O → List ℤ) → (O → ℕ) → Station C O cell → StationView
 station_view {C} {O} {cell} taken failures station = record {
   number = station.node.number;
-  node = node_view station.node.state;
-  failures = cell.failure_count station.node.cell;
+  node = view_of station.node;
+  failures = cell.failure_count (cell_in station.node.store);
   outlets = outlet_views taken failures station.outputs.items;
   turns = station.turns;
 }
@@ -33,19 +33,19 @@ world_view taken failures net inputs stations round = record { net = network_of 
 
 -- what each station's cell has room for
 abbrev pub rooms : {C O : Type 0} {cell : CellWords C} → List (Station C O cell) → List (RecordView → Bool)
-rooms {C} {O} {cell} stations = map (λ (station : Station C O cell). cell.fits station.node.cell) stations
+rooms {C} {O} {cell} stations = map (λ (station : Station C O cell). fits_in (cell.capacity (cell_in station.node.store))) stations
+
+-- the most bytes that each station's cell has room for
+abbrev pub capacities : {C O : Type 0} {cell : CellWords C} → List (Station C O cell) → List ℕ
+capacities {C} {O} {cell} stations = map (λ (station : Station C O cell). cell.capacity (cell_in station.node.store)) stations
 
 -- a station's cell wasn't touched
 abbrev pub IsCellUnchanged : {C O : Type 0} {cell : CellWords C} → Station C O cell → Station C O cell → Type 0
-IsCellUnchanged {C} {O} {cell} old new = IsUnchanged cell.value cell.is_ready cell.may_leave cell.moment cell.left_since cell.failure_count old.node.cell new.node.cell
+IsCellUnchanged old new = cell_in new.node.store ≡ cell_in old.node.store
 
 -- what has left a station only grew, and is covered at each moment between
 abbrev pub IsGrown : {C O : Type 0} {cell : CellWords C} → (O → List ℤ) → Station C O cell → Station C O cell → Type 0
-IsGrown {C} {O} {cell} taken old new = HasGrown cell.moment cell.left_since old.node.cell new.node.cell (outputs_view taken old.outputs.items) (outputs_view taken new.outputs.items)
-
--- a crash at any moment since a station was given this cell leaves what it might have left before, or the station's first record
-abbrev pub IsOpenedOn : {C O : Type 0} {cell : CellWords C} → C → RecordView → Station C O cell → Type 0
-IsOpenedOn {C} {O} {cell} given first station = LeavesOnly cell.moment cell.left_since given station.node.cell (λ (left : Option RecordView). cell.may_leave given left ⊎ (left ≡ Some first))
+IsGrown {C} {O} {cell} taken old new = HasGrown cell.moment cell.left_since (cell_in old.node.store) (cell_in new.node.store) (outputs_view taken old.outputs.items) (outputs_view taken new.outputs.items)
 
 -- a station with the outlets of these outputs
 abbrev pub HasOutlets : {C O : Type 0} {cell : CellWords C} → List (Output O) → Station C O cell → Type 0

@@ -1,12 +1,18 @@
 // An event at its station.
-ghost use Rattle.std.specs.Prelude.{◌≡◌, IfOk, OnErr};
+ghost use Rattle.std.specs.Prelude.{◌≡◌, IfOk, OnErr, not};
 ghost use Rattle.kahn_net.specs.Fits.{Fits};
 ghost use Rattle.kahn_net.specs.Syntax.{network_of};
+ghost use Rattle.ckpt_store.specs.Spelling.{fits_in};
+ghost use Rattle.ckpt_store.specs.StoreView.{cell_in};
+ghost use Rattle.node.specs.NodeOf.{view_of};
+ghost use Rattle.node.specs.Starting.{is_down};
+ghost use Rattle.node.specs.LikeLaws.{HasOuterChannels};
 ghost use Rattle.world.specs.EventView.{event_view};
 ghost use Rattle.world.specs.Invariant.{StationInvariant};
 ghost use Rattle.world.specs.Pairs.{HasMoved};
+ghost use Rattle.world.specs.RecoveryLine.{next_kept};
 ghost use Rattle.world.specs.Replies.{LeavesCells, TakesMemory};
-ghost use Rattle.world.specs.ReplyView.{reply_view};
+ghost use Rattle.world.specs.ReplyView.{answer_view, reply_view};
 ghost use Rattle.world.specs.StationView.{outlet_views};
 ghost use Rattle.world.specs.Turns.{count_send, count_idle};
 ghost use Rattle.world.specs.Steps.{IsSendOf, IsIdle, IsStationStep};
@@ -15,8 +21,8 @@ ghost use Rattle.world.specs.WorldView.{station_view, IsCellUnchanged};
 use crate::event::{Event, Reply};
 use crate::round_turns::RoundTurns;
 use crate::station::Station;
+use gate_cell::StableCell;
 use net_check::{Inputs, Net};
-use node::StableCell;
 use outlet::Outlet;
 use std::alloc::{AllocError, Global};
 use std::sync::Arc;
@@ -48,15 +54,18 @@ impl<C: StableCell, O: Outlet> Station<C, O> {
         ensures outputs { outlet_views O.taken O.failures self.new.outputs.items
             ≡ outlet_views O.taken O.failures self.old.outputs.items }
         ensures same { self.new.node ≡ self.old.node }
-        ensures step { IsSendOf self.old.node.state.up round
+        ensures step { IsSendOf (not (is_down (view_of self.old.node).mode)) round
             (station_view O.taken O.failures self.old) (reply_view result)
             (station_view O.taken O.failures self.new) }
     {
         let node = &self.node;
-        if !node.state.up {
+        if node.state.is_down() {
             return Reply::NotDue;
         }
-        let holding = node.state.kept.tentative.is_some();
+        let Ok(kept) = node.store.record() else {
+            return Reply::NotDue;
+        };
+        let holding = kept.tentative.is_some();
         self.turns = self.turns.of(round).with_send(holding);
         Reply::Sent
     }
@@ -83,10 +92,12 @@ impl<C: StableCell, O: Outlet> Station<C, O> {
         event: &Event,
     ) -> Result<Reply, AllocError>
         requires fits { Fits (network_of net.now.value.program) inputs.now }
+        requires outer { HasOuterChannels (network_of net.now.value.program) }
         requires sound { StationInvariant (network_of net.now.value.program) inputs.now
             (station_view O.taken O.failures self.old) }
-        ensures moved { HasMoved C.moment C.left_since self.old.node.cell self.new.node.cell
-            self.old.node.state.kept.permanent
+        ensures moved { HasMoved C.moment C.left_since (cell_in self.old.node.store)
+            (cell_in self.new.node.store) (view_of self.old.node).kept
+            (next_kept (event_view event.now) (station_view O.taken O.failures self.old))
             (outlet_views O.taken O.failures self.old.outputs.items)
             (outlet_views O.taken O.failures self.new.outputs.items) }
         ensures refused { OnErr result
@@ -94,10 +105,12 @@ impl<C: StableCell, O: Outlet> Station<C, O> {
             × TakesMemory (event_view event.now)) }
         ensures step { IfOk result
             (λ reply. IsStationStep (network_of net.now.value.program) inputs.now
-            (C.fits self.old.node.cell) round (event_view event.now)
+            (fits_in (C.capacity (cell_in self.old.node.store))) round (event_view event.now)
             (station_view O.taken O.failures self.old) (reply_view reply)
             (station_view O.taken O.failures self.new)) }
-        ensures unchanged { IfOk result (λ reply. LeavesCells (reply_view reply))
+        ensures same_room { C.capacity (cell_in self.new.node.store)
+            ≡ C.capacity (cell_in self.old.node.store) }
+        ensures unchanged { LeavesCells (event_view event.now) (answer_view result)
             → IsCellUnchanged self.old self.new }
     {
         match event {
@@ -107,6 +120,9 @@ impl<C: StableCell, O: Outlet> Station<C, O> {
             Event::Start(_) => self.start(alloc, round),
             Event::Decide(_) => self.decide(alloc, round),
             Event::Release(_) => self.release(round),
+            Event::Crash { fill, rounds, .. } => Ok(self.crash(round, *fill, *rounds)),
+            Event::Recover(_) => self.recover(alloc, round),
+            Event::Arm { fault, rounds, .. } => self.arm(*fault, *rounds),
             Event::Idle(_) => Ok(self.idle(round)),
         }
     }

@@ -1,8 +1,12 @@
 // A station's checkpoints.
 ghost use Rattle.std.specs.Prelude.{◌≡◌, ◌≤◌, IfOk, OnErr};
-ghost use Rattle.world.specs.Pairs.{LeaveAsMuchSince};
-ghost use Rattle.world.specs.Replies.{start_reply, decision_reply, LeavesCells};
-ghost use Rattle.world.specs.ReplyView.{reply_view};
+ghost use Rattle.ckpt_store.specs.Spelling.{fits_in};
+ghost use Rattle.ckpt_store.specs.StoreView.{cell_in};
+ghost use Rattle.node.specs.NodeOf.{view_of};
+ghost use Rattle.node.specs.Starting.{IsLikeNow, decided, with_own_now};
+ghost use Rattle.world.specs.Pairs.{LeaveEitherSince};
+ghost use Rattle.world.specs.Replies.{AnswerLeaves, start_reply, decision_reply};
+ghost use Rattle.world.specs.ReplyView.{answer_view, reply_view};
 ghost use Rattle.world.specs.StationView.{outlet_views};
 ghost use Rattle.world.specs.Turns.{count_start, turns_started};
 ghost use Rattle.world.specs.Steps.{IsBegun, IsDecided};
@@ -11,7 +15,8 @@ ghost use Rattle.world.specs.WorldView.{station_view, IsCellUnchanged};
 use crate::event::Reply;
 use crate::round_turns::RoundTurns;
 use crate::station::Station;
-use node::{Putting, StableCell};
+use gate_cell::StableCell;
+use node::Putting;
 use outlet::Outlet;
 use std::alloc::{AllocError, Global};
 
@@ -60,18 +65,22 @@ fn decision_reply(putting: Putting) -> Reply
 impl<C: StableCell, O: Outlet> Station<C, O> {
     /// Begins a checkpoint.
     pub(crate) fn start(&mut self, alloc: Global, round: u64) -> Result<Reply, AllocError>
+        requires { IsLikeNow (view_of self.old.node) }
         ensures outputs { outlet_views O.taken O.failures self.new.outputs.items
             ≡ outlet_views O.taken O.failures self.old.outputs.items }
-        ensures leaves { LeaveAsMuchSince C.moment C.left_since self.old.node.cell
-            self.new.node.cell self.old.node.state.kept.permanent }
-        ensures later { C.moment self.old.node.cell ≤ C.moment self.new.node.cell }
+        ensures leaves { LeaveEitherSince C.moment C.left_since (cell_in self.old.node.store)
+            (cell_in self.new.node.store) (view_of self.old.node).kept
+            (with_own_now self.old.node.number (view_of self.old.node)) }
+        ensures later { C.moment (cell_in self.old.node.store) ≤ C.moment (cell_in self.new.node.store) }
+        ensures same_room { C.capacity (cell_in self.new.node.store)
+            ≡ C.capacity (cell_in self.old.node.store) }
         ensures refused { OnErr result
             (station_view O.taken O.failures self.new ≡ station_view O.taken O.failures self.old) }
         ensures step { IfOk result
-            (λ reply. IsBegun (C.fits self.old.node.cell) round
+            (λ reply. IsBegun (fits_in (C.capacity (cell_in self.old.node.store))) round
             (station_view O.taken O.failures self.old) (reply_view reply)
             (station_view O.taken O.failures self.new)) }
-        ensures unchanged { IfOk result (λ reply. LeavesCells (reply_view reply))
+        ensures unchanged { AnswerLeaves (answer_view result)
             → IsCellUnchanged self.old self.new }
     {
         let putting = self.node.start(alloc, round)?;
@@ -82,16 +91,19 @@ impl<C: StableCell, O: Outlet> Station<C, O> {
     pub(crate) fn decide(&mut self, alloc: Global, round: u64) -> Result<Reply, AllocError>
         ensures outputs { outlet_views O.taken O.failures self.new.outputs.items
             ≡ outlet_views O.taken O.failures self.old.outputs.items }
-        ensures leaves { LeaveAsMuchSince C.moment C.left_since self.old.node.cell
-            self.new.node.cell self.old.node.state.kept.permanent }
-        ensures later { C.moment self.old.node.cell ≤ C.moment self.new.node.cell }
+        ensures leaves { LeaveEitherSince C.moment C.left_since (cell_in self.old.node.store)
+            (cell_in self.new.node.store) (view_of self.old.node).kept
+            (decided (view_of self.old.node).kept) }
+        ensures later { C.moment (cell_in self.old.node.store) ≤ C.moment (cell_in self.new.node.store) }
+        ensures same_room { C.capacity (cell_in self.new.node.store)
+            ≡ C.capacity (cell_in self.old.node.store) }
         ensures refused { OnErr result
             (station_view O.taken O.failures self.new ≡ station_view O.taken O.failures self.old) }
         ensures step { IfOk result
-            (λ reply. IsDecided (C.fits self.old.node.cell) round
+            (λ reply. IsDecided (fits_in (C.capacity (cell_in self.old.node.store))) round
             (station_view O.taken O.failures self.old) (reply_view reply)
             (station_view O.taken O.failures self.new)) }
-        ensures unchanged { IfOk result (λ reply. LeavesCells (reply_view reply))
+        ensures unchanged { AnswerLeaves (answer_view result)
             → IsCellUnchanged self.old self.new }
     {
         let putting = self.node.decide(alloc, round)?;

@@ -1,6 +1,7 @@
 //! Events, and what comes of them.
 
 use proc_step::{Done, Job};
+use sector_disk::ArmedFault;
 
 /// What can happen. Each names its node, and `Install` that of its job's process.
 #[derive(Drop)]
@@ -17,6 +18,22 @@ pub enum Event {
     Decide(u8),
     /// One item of an output that a permanent checkpoint covers leaves the system.
     Release(u8),
+    /// The node crashes: what it had in memory is gone, and its disk is settled by this byte. It may be recovered so many
+    /// rounds later.
+    Crash {
+        node: u8,
+        fill: u8,
+        rounds: u64,
+    },
+    /// The node, which is down, comes back in its next epoch.
+    Recover(u8),
+    /// A failure of the node's disk is prepared. Where it takes the node down, that may be recovered so many rounds later: 1 for
+    /// a mere failure.
+    Arm {
+        node: u8,
+        fault: ArmedFault,
+        rounds: u64,
+    },
     /// The node lets its turn pass.
     Idle(u8),
 }
@@ -40,14 +57,21 @@ pub enum Reply {
     Sent,
     Started,
     Decided,
-    /// A start or a decision was refused: its record would be too large (22), or the number of a start would pass
-    /// 2^63 - 1 (44).
+    /// A start, a decision or a recovery was refused: its record would be too large (22), or the number of a start or the
+    /// epoch of a recovery would pass 2^63 - 1 (44).
     Refused(u8),
     Released(Freed),
     /// The outlet failed. It took the item or didn't.
     OutletFailed,
+    Crashed,
+    /// The node runs again, from its permanent image.
+    Recovered,
+    /// The node is up again, and holds another's tentative image: it waits for the verdict.
+    InDoubt,
     /// The device failed in this event, and the node is down.
     Down,
+    /// What was to be prepared is.
+    Acted,
     Idled,
     /// The event can't happen now, or its node isn't of this world. Nothing is changed.
     NotDue,

@@ -7,12 +7,15 @@
 
 mod acting;
 mod checkpoints;
+mod closing;
 mod event;
+mod laws;
 mod one_node;
 mod opening;
 mod output;
 mod picking;
 mod quiet;
+mod recovering;
 mod released;
 mod releasing;
 mod round_turns;
@@ -21,6 +24,7 @@ mod turning;
 mod world;
 
 pub use event::{Event, Freed, Refused, Reply};
+pub use laws::line_law;
 pub use one_node::can_run;
 pub use opening::list_outputs;
 pub use output::Output;

@@ -1,24 +1,24 @@
 // Which event is next for a node.
-ghost use Rattle.std.specs.Prelude.{◌≡◌, ◌||◌, ◌&&◌, nat_lt, is_some};
+ghost use Rattle.std.specs.Prelude.{◌≡◌, ◌||◌, ◌&&◌, nat_lt, not, is_some};
 ghost use Rattle.kahn_net.specs.Syntax.{network_of};
 ghost use Rattle.record.specs.Ends.{received_of, sent_of};
-ghost use Rattle.node.specs.Choosing.{next_job};
-ghost use Rattle.node.specs.NodeView.{node_view};
-ghost use Rattle.node.specs.Starting.{is_own, may_decide};
-ghost use Rattle.world.specs.Choice.{counts_rose, has_turn, wants_checkpoint, has_sent, station_choice, choice};
-ghost use Rattle.world.specs.Steps.{next_release};
+ghost use Rattle.node.specs.Choosing.{node_job};
+ghost use Rattle.node.specs.NodeOf.{view_of};
+ghost use Rattle.node.specs.NodeView.{node_view, running_of};
+ghost use Rattle.node.specs.Starting.{is_down, is_own, may_decide};
+ghost use Rattle.world.specs.Choice.{counts_rose, has_more, has_sent, has_turn, may_recover, station_choice, wants_checkpoint, choice};
 ghost use Rattle.world.specs.Turns.{turns_of};
 ghost use Rattle.world.specs.EventView.{event_view};
-ghost use Rattle.world.specs.WholeView.{view_of};
+ghost use Rattle.world.specs.WholeView.{world_of};
 ghost use Rattle.world.specs.WorldView.{station_view};
 
 use crate::event::Event;
-use crate::releasing::next_output;
 use crate::station::Station;
 use crate::turning::MAX_GRANTS;
 use crate::world::World;
+use gate_cell::StableCell;
 use net_check::{Inputs, Net};
-use node::{NodeState, StableCell, can_start};
+use node::{Mode, NodeState};
 use outlet::Outlet;
 use record::{Image, Record};
 
@@ -30,13 +30,6 @@ fn holds_own(kept: &Record, number: u8) -> bool
         Some(held) => held.initiator == number,
         None => false,
     }
-}
-
-// Whether a node may make its own tentative image permanent.
-fn may_decide(state: &NodeState, number: u8) -> bool
-    ensures { result ≡ may_decide number (node_view state.now) }
-{
-    state.up && holds_own(&state.kept, number)
 }
 
 // Whether a count of this channel is above what it is in an earlier image.
@@ -66,63 +59,95 @@ fn has_turn(nodes: usize, round: u64, number: u8) -> bool
     nodes > 0 && round % (nodes as u64) == u64::from(number)
 }
 
+// Whether a node that may begin a checkpoint has something new to keep.
+fn has_new(state: &NodeState, kept: &Record) -> bool
+    ensures { result ≡ has_more (running_of (node_view kept.now state.now)) }
+{
+    match &state.mode {
+        Mode::Running(running) => has_more(&running.current, &kept.permanent),
+        Mode::Down | Mode::InDoubt => false,
+    }
+}
+
 impl<C: StableCell, O: Outlet> Station<C, O> {
-    // Whether an item is next to leave here.
-    fn has_release(&self, round: u64) -> bool
-        ensures { result ≡ is_some (next_release round (station_view O.taken O.failures self.now)) }
+    // Whether its node is down and may be recovered by now.
+    fn may_recover(&self, round: u64) -> bool
+        ensures { result ≡ may_recover round (station_view O.taken O.failures self.now) }
     {
-        let node = &self.node;
-        node.state.up && next_output(&node.state.kept, &self.outputs, round).is_some()
+        let state = &self.node.state;
+        state.is_down() && state.restart <= round
     }
 
     // Whether a job is next: a process is ready, and fewer were granted in this round than may be.
     fn has_grant(&self, net: &Net, inputs: &Inputs, round: u64) -> bool
         ensures { result ≡ (nat_lt (turns_of round self.now.turns).granted MAX_GRANTS
-            && is_some (next_job (network_of net.now.program) inputs.now
-            (node_view self.now.node.state))) }
+            && is_some (node_job (network_of net.now.program) inputs.now
+            (view_of self.now.node))) }
+    {
+        self.turns.of(round).granted < MAX_GRANTS && self.node.has_job(net, inputs)
+    }
+
+    // Whether its node may make its own tentative image permanent.
+    fn may_decide(&self) -> bool
+        ensures { result ≡ may_decide self.now.node.number (view_of self.now.node) }
     {
         let node = &self.node;
-        self.turns.of(round).granted < MAX_GRANTS && node.state.has_job(net, inputs)
+        match node.store.record() {
+            Ok(kept) => node.state.is_running() && holds_own(kept, node.number),
+            Err(_) => false,
+        }
     }
 
     // Whether its node is the one whose turn it is to begin a checkpoint in this round, and has something new to keep.
     fn wants_checkpoint(&self, nodes: usize, round: u64) -> bool
-        ensures { result ≡ wants_checkpoint nodes round (station_view O.taken O.failures self.now) }
+        ensures { result ≡ wants_checkpoint nodes round
+            (station_view O.taken O.failures self.now) }
     {
         let node = &self.node;
-        let state = &node.state;
-        has_turn(nodes, round, node.number)
-            && !self.turns.of(round).started
-            && can_start(state)
-            && has_more(&state.current, &state.kept.permanent)
+        match node.store.record() {
+            Ok(kept) => {
+                has_turn(nodes, round, node.number)
+                    && !self.turns.of(round).started
+                    && node.state.can_start(kept)
+                    && has_new(&node.state, kept)
+            }
+            Err(_) => false,
+        }
     }
 
-    // Whether its node has sent in this round; what it sent while it held a tentative image doesn't count afterwards.
-    fn has_sent(&self, round: u64) -> bool
-        ensures { result ≡ has_sent round (station_view O.taken O.failures self.now) }
+    // Whether its node, which is up, is to send: it hasn't in this round, or held a tentative image when it did, and doesn't now.
+    fn may_send(&self, round: u64) -> bool
+        ensures { result ≡ (not (is_down (view_of self.now.node).mode)
+            && not (has_sent round (station_view O.taken O.failures self.now))) }
     {
-        let turns = self.turns.of(round);
         let node = &self.node;
-        turns.sent && !(turns.sent_holding && node.state.kept.tentative.is_none())
+        let turns = self.turns.of(round);
+        match node.store.record() {
+            Ok(kept) => {
+                !node.state.is_down()
+                    && !(turns.sent && !(turns.sent_holding && kept.tentative.is_none()))
+            }
+            Err(_) => false,
+        }
     }
 
     // The event that is next for its node.
     fn pick(&self, net: &Net, inputs: &Inputs, nodes: usize, round: u64) -> Event
-        ensures { event_view result ≡ station_choice (network_of net.now.program) inputs.now nodes
-            round (station_view O.taken O.failures self.now) }
+        ensures { event_view result ≡ station_choice (network_of net.now.program) inputs.now
+            nodes round (station_view O.taken O.failures self.now) }
     {
-        let node = &self.node;
-        let state = &node.state;
-        let number = node.number;
-        if self.has_release(round) {
+        let number = self.node.number;
+        if self.may_recover(round) {
+            Event::Recover(number)
+        } else if self.next_release(round).is_some() {
             Event::Release(number)
         } else if self.has_grant(net, inputs, round) {
             Event::Grant(number)
-        } else if may_decide(state, number) {
+        } else if self.may_decide() {
             Event::Decide(number)
         } else if self.wants_checkpoint(nodes, round) {
             Event::Start(number)
-        } else if state.up && !self.has_sent(round) {
+        } else if self.may_send(round) {
             Event::Send(number)
         } else {
             Event::Idle(number)
@@ -131,10 +156,10 @@ impl<C: StableCell, O: Outlet> Station<C, O> {
 }
 
 impl<C: StableCell, O: Outlet> World<C, O> {
-    /// The event that is next for a node: a release, a grant (at most 64 a round), a decision, a start, a send, or else
+    /// The event that is next for a node: a recovery, a release, a grant (at most 64 a round), a decision, a start, a send, or else
     /// letting its turn pass. Takes no memory.
     pub fn pick(&self, node: u8) -> Event
-        ensures { event_view result ≡ choice (view_of self.now) node }
+        ensures { event_view result ≡ choice (world_of self.now) node }
     {
         match self.stations.get(usize::from(node)) {
             Some(station) => station.pick(&self.net, &self.inputs, self.stations.len(), self.round),

@@ -2,19 +2,21 @@
 ghost use Rattle.std.specs.Prelude.{◌≡◌, ◌≤◌, length, slice_get, IsTrue};
 ghost use Rattle.kahn_net.specs.Streams.{history_of};
 ghost use Rattle.kahn_net.specs.Syntax.{network_of};
-ghost use Rattle.node.specs.NodeView.{node_view};
+ghost use Rattle.node.specs.NodeOf.{view_of};
+ghost use Rattle.node.specs.NodeView.{running_of};
 ghost use Rattle.world.specs.Invariant.{outputs_of};
-ghost use Rattle.world.specs.Quiet.{has_got_all, is_at_rest, are_at_rest, have_all_left, is_quiet, are_quiet, AreWhole};
+ghost use Rattle.world.specs.Quiet.{has_got_all, is_at_rest, are_at_rest, have_all_left, is_quiet_at, are_quiet, AreWhole};
 ghost use Rattle.world.specs.StationView.{outlet_views};
-ghost use Rattle.world.specs.WholeView.{view_of};
+ghost use Rattle.world.specs.WholeView.{world_of};
 ghost use Rattle.kahn_net.specs.declared.limits.TheConstants.{MAX_CHANNELS};
 
 use crate::output::Output;
 use crate::station::Station;
 use crate::world::World;
+use gate_cell::StableCell;
 use kahn_net::{Channel, History, Port};
 use net_check::Net;
-use node::StableCell;
+use node::Mode;
 use outlet::Outlet;
 use proc_step::{NextAct, next_act};
 use record::{Image, SavedProcess};
@@ -85,19 +87,21 @@ fn have_all_left<O: Outlet>(image: &Image, outputs: &[Output<O>]) -> bool
 }
 
 impl<C: StableCell, O: Outlet> Station<C, O> {
-    // Whether nothing is left to do here: the node is up, no job is out, and no process can do more than it did, all of
+    // Whether nothing is left to do here: the node runs, no job is out, and no process can do more than it did, all of
     // which has left.
     fn is_complete(&self, net: &Net, inputs: &[History]) -> bool
-        ensures { result ≡ is_quiet (network_of net.now.program) inputs.now
-            (node_view self.now.node.state)
+        ensures { result ≡ is_quiet_at (network_of net.now.program) inputs.now
+            (running_of (view_of self.now.node))
             (outputs_of (outlet_views O.taken O.failures self.now.outputs.items)) }
     {
-        let node = &self.node;
-        let state = &node.state;
-        state.up
-            && state.out.is_none()
-            && are_at_rest(net, inputs, &state.current)
-            && have_all_left(&state.current, &self.outputs)
+        match &self.node.state.mode {
+            Mode::Running(running) => {
+                running.out.is_none()
+                    && are_at_rest(net, inputs, &running.current)
+                    && have_all_left(&running.current, &self.outputs)
+            }
+            Mode::Down | Mode::InDoubt => false,
+        }
     }
 }
 
@@ -106,10 +110,10 @@ impl<C: StableCell, O: Outlet> World<C, O> {
     /// out, and each outlet has all that was put. Takes no memory.
     pub fn complete(&self) -> bool
         // It says just that, of each station.
-        ensures quiet { result ≡ are_quiet (view_of self.now) }
+        ensures quiet { result ≡ are_quiet (world_of self.now) }
         // And then the approximations have come to rest, at the network's least solution, and each stream that has left
         // is its channel's whole history there.
-        ensures whole { IsTrue result → AreWhole (view_of self.now) }
+        ensures whole { IsTrue result → AreWhole (world_of self.now) }
     {
         let inputs = self.inputs.as_slice();
         for station in &self.stations {

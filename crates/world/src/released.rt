@@ -2,12 +2,11 @@
 ghost use Rattle.std.specs.Prelude.{◌≡◌, ◌==◌, find, option_copied, option_map};
 ghost use Rattle.world.specs.StationView.{OutletView, outlet_views};
 ghost use Rattle.world.specs.Released.{released_of};
-ghost use Rattle.world.specs.WholeView.{view_of};
+ghost use Rattle.world.specs.WholeView.{world_of};
 
 use crate::output::Output;
-use crate::station::Station;
 use crate::world::World;
-use node::StableCell;
+use gate_cell::StableCell;
 use outlet::Outlet;
 
 // The items that have left by the output of this channel, where it is one of these.
@@ -28,7 +27,7 @@ fn released_by<O: Outlet>(outputs: &[Output<O>], channel: u8) -> Option<&[i64]>
 impl<C: StableCell, O: Outlet> World<C, O> {
     /// The items that have left by the output of this channel, in order; none where the channel is no output.
     pub fn released(&self, channel: u8) -> &[i64]
-        ensures { result.now ≡ released_of channel (view_of self.now).stations }
+        ensures { result.now ≡ released_of channel (world_of self.now).stations }
     {
         for station in &self.stations {
             if let Some(items) = released_by(&station.outputs, channel) {
@@ -36,12 +35,5 @@ impl<C: StableCell, O: Outlet> World<C, O> {
             }
         }
         &[]
-    }
-
-    /// Ends the world: its stations as they stand, with their cells and outlets.
-    pub fn close(self) -> Vec<Station<C, O>>
-        ensures { result ≡ self.stations }
-    {
-        self.stations
     }
 }

@@ -1,9 +1,7 @@
 // A station's outputs: one item leaves the system.
 ghost use Rattle.std.specs.Prelude.{◌≡◌, ◌<◌, ℕ, length, IfSome, IfOk, OnErr, Some, slice_get};
-ghost use Rattle.record.specs.Ends.{log_of};
-ghost use Rattle.record.specs.Changes.{trimmed_image};
-ghost use Rattle.node.specs.Trimming.{with_current, HasNext};
-ghost use Rattle.node.specs.NodeView.{node_view};
+ghost use Rattle.node.specs.NodeOf.{view_of};
+ghost use Rattle.node.specs.Trimming.{HasNext, current_log, trimmed_node};
 ghost use Rattle.world.specs.ReplyView.{reply_view};
 ghost use Rattle.world.specs.StationView.{OutletView, outlet_view, outlet_views};
 ghost use Rattle.world.specs.Steps.{has_failed_in, is_waiting, first_waiting, next_release, IsHanded, IsRelease};
@@ -12,7 +10,8 @@ ghost use Rattle.world.specs.WorldView.{station_view};
 use crate::event::{Freed, Reply};
 use crate::output::Output;
 use crate::station::Station;
-use node::{Node, StableCell};
+use gate_cell::StableCell;
+use node::Node;
 use outlet::{Outlet, OutletFault};
 use record::Record;
 use std::alloc::AllocError;
@@ -60,18 +59,17 @@ fn release_at<C: StableCell, O: Outlet>(
     output: &mut Output<O>,
     round: u64,
 ) -> Result<Reply, AllocError>
-    requires { HasNext (log_of node.old.state.current output.old.channel)
+    requires { HasNext (current_log output.old.channel (view_of node.old).mode)
         (length (O.taken output.old.outlet)) }
     ensures refused { OnErr result
-        ((node_view node.new.state ≡ node_view node.old.state)
+        ((view_of node.new ≡ view_of node.old)
         × (outlet_view O.taken O.failures output.new ≡ outlet_view O.taken O.failures output.old)) }
     ensures trimmed { IfOk result
-        (λ reply. node_view node.new.state
-        ≡ with_current (trimmed_image output.old.channel
-        (length (O.taken output.new.outlet)) node.old.state.current) (node_view node.old.state)) }
-    ensures same { (node.new.cell ≡ node.old.cell) × (node.new.number ≡ node.old.number) }
+        (λ reply. view_of node.new ≡ trimmed_node output.old.channel
+        (length (O.taken output.new.outlet)) (view_of node.old)) }
+    ensures same { (node.new.store ≡ node.old.store) × (node.new.number ≡ node.old.number) }
     ensures handed { IfOk result
-        (λ reply. IsHanded round (log_of node.old.state.current output.old.channel)
+        (λ reply. IsHanded round (current_log output.old.channel (view_of node.old).mode)
         (outlet_view O.taken O.failures output.old) (reply_view reply)
         (outlet_view O.taken O.failures output.new)) }
 {
@@ -90,13 +88,29 @@ fn release_at<C: StableCell, O: Outlet>(
 }
 
 impl<C: StableCell, O: Outlet> Station<C, O> {
+    /// The place of the output by which the next item would leave, if the node runs.
+    pub(crate) fn next_release(&self, round: u64) -> Option<usize>
+        ensures within { IfSome result (λ j. j < length self.now.outputs.items) }
+        ensures next { result ≡ next_release round (station_view O.taken O.failures self.now) }
+    {
+        let node = &self.node;
+        if !node.state.is_running() {
+            return None;
+        }
+        match node.store.record() {
+            Ok(kept) => next_output(kept, &self.outputs, round),
+            Err(_) => None,
+        }
+    }
+
     /// Lets one item leave, which its log has where an outlet waits for it.
     pub(crate) fn release(&mut self, round: u64) -> Result<Reply, AllocError>
         requires { (place : ℕ) (outlet : OutletView)
             → next_release round (station_view O.taken O.failures self.old) ≡ Some place
             → slice_get (outlet_views O.taken O.failures self.old.outputs.items) place ≡ Some outlet
-            → HasNext (log_of self.old.node.state.current outlet.channel) (length outlet.taken) }
-        ensures cell { self.new.node.cell ≡ self.old.node.cell }
+            → HasNext (current_log outlet.channel (view_of self.old.node).mode)
+            (length outlet.taken) }
+        ensures cell { self.new.node.store ≡ self.old.node.store }
         ensures refused { OnErr result
             (station_view O.taken O.failures self.new ≡ station_view O.taken O.failures self.old) }
         ensures step { IfOk result
@@ -104,11 +118,7 @@ impl<C: StableCell, O: Outlet> Station<C, O> {
             (station_view O.taken O.failures self.old) (reply_view reply)
             (station_view O.taken O.failures self.new)) }
     {
-        let node = &self.node;
-        if !node.state.up {
-            return Ok(Reply::NotDue);
-        }
-        let Some(j) = next_output(&node.state.kept, &self.outputs, round) else {
+        let Some(j) = self.next_release(round) else {
             return Ok(Reply::NotDue);
         };
         release_at(&mut self.node, &mut self.outputs[j], round)

@@ -2,7 +2,8 @@
 
 use crate::output::Output;
 use crate::round_turns::RoundTurns;
-use node::{Node, StableCell};
+use gate_cell::StableCell;
+use node::Node;
 use outlet::Outlet;
 
 /// A node and the outputs on which its processes put.

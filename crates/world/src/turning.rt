@@ -1,10 +1,10 @@
 // A station's jobs: they are granted, and what came of them comes back.
 ghost use Rattle.std.specs.Prelude.{◌≡◌, true, IfOk, OnErr, Some, option_map};
 ghost use Rattle.kahn_net.specs.Syntax.{network_of};
-ghost use Rattle.node.specs.NodeView.{node_view};
+ghost use Rattle.node.specs.NodeOf.{view_of};
 ghost use Rattle.node.specs.JobView.{job_view};
-ghost use Rattle.node.specs.Choosing.{next_job};
-ghost use Rattle.node.specs.Installing.{ImageTakes, IsOut};
+ghost use Rattle.node.specs.Choosing.{node_job};
+ghost use Rattle.node.specs.Installing.{IsOut, TakesTurn};
 ghost use Rattle.world.specs.DoneView.{done_view};
 ghost use Rattle.world.specs.Replies.{grant_reply};
 ghost use Rattle.world.specs.ReplyView.{reply_view};
@@ -16,8 +16,8 @@ ghost use Rattle.world.specs.WorldView.{station_view};
 use crate::event::Reply;
 use crate::round_turns::RoundTurns;
 use crate::station::Station;
+use gate_cell::StableCell;
 use net_check::{Inputs, Net};
-use node::StableCell;
 use outlet::Outlet;
 use proc_step::{Done, Job};
 use std::alloc::{AllocError, Global};
@@ -64,12 +64,12 @@ impl<C: StableCell, O: Outlet> Station<C, O> {
     ) -> Result<Reply, AllocError>
         ensures outputs { outlet_views O.taken O.failures self.new.outputs.items
             ≡ outlet_views O.taken O.failures self.old.outputs.items }
-        ensures cell { self.new.node.cell ≡ self.old.node.cell }
+        ensures cell { self.new.node.store ≡ self.old.node.store }
         ensures refused { OnErr result
             (station_view O.taken O.failures self.new ≡ station_view O.taken O.failures self.old) }
         ensures step { IfOk result
-            (λ reply. IsGrant round (next_job (network_of net.now.value.program) inputs.now
-            (node_view self.old.node.state)) (station_view O.taken O.failures self.old)
+            (λ reply. IsGrant round (node_job (network_of net.now.value.program) inputs.now
+            (view_of self.old.node)) (station_view O.taken O.failures self.old)
             (reply_view reply) (station_view O.taken O.failures self.new)) }
     {
         let granted = self.node.grant(alloc, net, inputs)?;
@@ -83,12 +83,12 @@ impl<C: StableCell, O: Outlet> Station<C, O> {
         net: &Net,
         done: &Done,
     ) -> Result<Reply, AllocError>
-        requires { IsOut (job_view done.now.job) (node_view self.old.node.state)
-            → ImageTakes (network_of net.now.program).channels done.now.job.process
-            done.now.taken.items done.now.sent.items self.old.node.state.current }
+        requires { IsOut (job_view done.now.job) (view_of self.old.node).mode
+            → TakesTurn (network_of net.now.program).channels done.now.job.process
+            done.now.taken.items done.now.sent.items (view_of self.old.node).mode }
         ensures outputs { outlet_views O.taken O.failures self.new.outputs.items
             ≡ outlet_views O.taken O.failures self.old.outputs.items }
-        ensures cell { self.new.node.cell ≡ self.old.node.cell }
+        ensures cell { self.new.node.store ≡ self.old.node.store }
         ensures refused { OnErr result
             (station_view O.taken O.failures self.new ≡ station_view O.taken O.failures self.old) }
         ensures step { IfOk result

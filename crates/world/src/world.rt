@@ -3,18 +3,22 @@ ghost use Rattle.std.specs.Prelude.{◌≡◌, map, IfOk, IfErr, OnErr};
 ghost use Rattle.std.specs.List.{AllZip};
 ghost use Rattle.kahn_net.specs.Fits.{Fits};
 ghost use Rattle.kahn_net.specs.Syntax.{network_of};
+ghost use Rattle.node.specs.LikeLaws.{HasOuterChannels};
 ghost use Rattle.world.specs.EventView.{event_node, event_view};
 ghost use Rattle.world.specs.Headline.{AreApproximated};
 ghost use Rattle.world.specs.Invariant.{AreSound, WorldInvariant};
-ghost use Rattle.world.specs.Replies.{LeavesCells, TakesMemory};
-ghost use Rattle.world.specs.ReplyView.{reply_view};
+ghost use Rattle.world.specs.RecoveryLine.{StaysInLine, KeepsLine, HasOneLine};
+ghost use Rattle.world.specs.Replies.{IsTooLarge, LeavesCells, TakesMemory};
+ghost use Rattle.world.specs.ReplyView.{answer_view, reply_view};
+ghost use Rattle.world.specs.Roomy.{HasFullRoom};
 ghost use Rattle.world.specs.Steps.{is_done_with, are_done_with, round_after, IsAct, IsStep};
-ghost use Rattle.world.specs.WorldView.{station_view, world_view, rooms, IsCellUnchanged, IsGrown};
+ghost use Rattle.world.specs.WorldView.{capacities, rooms, station_view, world_view, IsCellUnchanged, IsGrown};
 
 use crate::event::{Event, Refused, Reply};
 use crate::station::Station;
+use gate_cell::StableCell;
 use net_check::{Inputs, Net};
-use node::{StableCell, next_after};
+use node::next_after;
 use outlet::Outlet;
 use std::alloc::{AllocError, Global};
 use std::sync::Arc;
@@ -46,6 +50,9 @@ fn node_of(event: &Event) -> u8
         Event::Start(node) => *node,
         Event::Decide(node) => *node,
         Event::Release(node) => *node,
+        Event::Crash { node, .. } => *node,
+        Event::Recover(node) => *node,
+        Event::Arm { node, .. } => *node,
         Event::Idle(node) => *node,
     }
 }
@@ -61,9 +68,11 @@ fn act_at<C: StableCell, O: Outlet>(
     event: &Event,
 ) -> Result<Reply, AllocError>
     requires fits { Fits (network_of net.now.value.program) inputs.now }
+    requires outer { HasOuterChannels (network_of net.now.value.program) }
     requires sound { AreSound (network_of net.now.value.program) inputs.now
         (map (station_view O.taken O.failures) stations.old.items) }
     ensures grown { AllZip (IsGrown O.taken) stations.old.items stations.new.items }
+    ensures line { AllZip (StaysInLine O.taken O.failures) stations.old.items stations.new.items }
     ensures refused { OnErr result
         ((map (station_view O.taken O.failures) stations.new.items
         ≡ map (station_view O.taken O.failures) stations.old.items)
@@ -73,7 +82,8 @@ fn act_at<C: StableCell, O: Outlet>(
         (rooms stations.old.items) round (event_view event.now)
         (map (station_view O.taken O.failures) stations.old.items) (reply_view reply)
         (map (station_view O.taken O.failures) stations.new.items)) }
-    ensures unchanged { IfOk result (λ reply. LeavesCells (reply_view reply))
+    ensures same_rooms { capacities stations.new.items ≡ capacities stations.old.items }
+    ensures unchanged { LeavesCells (event_view event.now) (answer_view result)
         → AllZip IsCellUnchanged stations.old.items stations.new.items }
 {
     if number >= stations.len() {
@@ -88,7 +98,7 @@ impl<C: StableCell, O: Outlet> Station<C, O> {
         ensures { result ≡ is_done_with round (station_view O.taken O.failures self.now) }
     {
         let node = &self.node;
-        self.turns.of(round).idled || (!node.state.up && node.state.restart > round)
+        self.turns.of(round).idled || (node.state.is_down() && node.state.restart > round)
     }
 }
 
@@ -119,7 +129,7 @@ fn round_after<C: StableCell, O: Outlet>(
 }
 
 impl<C: StableCell, O: Outlet> World<C, O> {
-    ghost use Rattle.world.specs.WholeView.{view_of, HaveGrown};
+    ghost use Rattle.world.specs.WholeView.{world_of, HaveGrown};
 
     /// The round, from 0.
     pub fn round(&self) -> u64
@@ -134,19 +144,33 @@ impl<C: StableCell, O: Outlet> World<C, O> {
         // Each stream that has left begins with what had left before; whatever a crash of a node at any moment of the
         // event leaves covers all that has left; and no event both lets an item leave and writes a record.
         ensures grown { HaveGrown self.old self.new }
+        // Whatever a crash of all nodes leaves at moments of the event spells a record of each, and the line from which
+        // they would then restart is sound, covers all that has left, and isn't behind the line before the event.
+        ensures line { KeepsLine O.taken O.failures (network_of self.old.net.value.program)
+            self.old.stations.items self.new.stations.items }
+        // By the end of the event one line alone is possible: that of the records which the nodes keep.
+        ensures settled { HasOneLine O.taken O.failures self.new.stations.items }
         // Each stream that has left is a prefix of its channel's history in one approximation on the inputs, the same
         // for all streams of the world.
-        ensures prefix { AreApproximated (view_of self.new) }
+        ensures prefix { AreApproximated (world_of self.new) }
         // The network and its inputs stay.
         ensures same { (self.new.net ≡ self.old.net) × (self.new.inputs ≡ self.old.inputs) }
         // It is a step of the world: what is answered, and what is there afterwards.
         ensures step { IfOk result
             (λ reply. IsStep (rooms self.old.stations.items) (event_view event)
-            (view_of self.old) (reply_view reply) (view_of self.new)) }
+            (world_of self.old) (reply_view reply) (world_of self.new)) }
+        // Each cell has the room that it had; and where that of the event's node has room for the longest record, no event
+        // is refused because a record is too large.
+        ensures same_capacities { capacities self.new.stations.items
+            ≡ capacities self.old.stations.items }
+        ensures same_rooms { rooms self.new.stations.items ≡ rooms self.old.stations.items }
+        ensures roomy { HasFullRoom (event_node (event_view event))
+            (capacities self.old.stations.items)
+            → IfOk result (λ reply. ¬ (IsTooLarge (reply_view reply))) }
         // What it doesn't touch stays as it was: the cells where no record was put, and all of it at a refusal.
-        ensures unchanged { IfOk result (λ reply. LeavesCells (reply_view reply))
+        ensures unchanged { LeavesCells (event_view event) (answer_view result)
             → AllZip IsCellUnchanged self.old.stations.items self.new.stations.items }
-        ensures refused { OnErr result (view_of self.new ≡ view_of self.old) }
+        ensures refused { OnErr result (world_of self.new ≡ world_of self.old) }
         // An event that takes no memory isn't refused.
         ensures memory { OnErr result (TakesMemory (event_view event)) }
         ensures handed_back { IfErr result (λ refused. refused.event ≡ event) }

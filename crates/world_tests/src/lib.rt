@@ -3,8 +3,14 @@
 #![tactic(auto)]
 
 #[cfg(test)]
+mod asserting;
+#[cfg(test)]
+mod crashes;
+#[cfg(test)]
 mod events;
 #[cfg(test)]
-mod weak_cell;
+mod stops;
+#[cfg(test)]
+mod sums;
 #[cfg(test)]
 mod weak_outlet;

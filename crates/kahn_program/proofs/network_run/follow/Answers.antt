@@ -1,26 +1,23 @@
-use Rattle.std.proofs.Common.{Bool, List, refl, sym, subst, ap}
+use Rattle.std.proofs.Common.{refl, sym, subst, ap}
 use Rattle.node.specs.JobView.{job_view}
-use Rattle.record.specs.RecordView.{RecordView}
 use Rattle.world.specs.DoneView.{done_view}
 use Rattle.world.specs.EventView.{Install}
 use Rattle.world.specs.ReplyView.{reply_view}
 use Rattle.world.specs.declared.event.Reply.{Reply}
 use Rattle.kahn_program.specs.Turning.{Follows}
-use Rattle.world.specs.Steps.{IsStep}
-use Rattle.world.specs.WholeView.{view_of}
-use Rattle.kahn_program.proofs.Turns.{nothing_follows, rooms_fit}
+use Rattle.world.specs.WholeView.{world_of}
+use Rattle.kahn_program.proofs.Turns.{in_room, nothing_follows}
 use Rattle.kahn_program.proofs.network_run.follow.Goals as goal
 
 pub returns-in-Ok-apply-clause-follows : goal.returns-in-Ok-apply-clause-follows
 returns-in-Ok-apply-clause-follows c =
     let old = c.args.world.now in
     let new = c.apply.new.self in
-    subst (λ (answer : Reply). Follows (reply_view answer) (view_of old) (view_of new)) (sym c.in-Granted.is) (
+    subst (λ (answer : Reply). Follows (reply_view answer) (world_of old) (world_of new)) (sym c.in-Granted.is) (
       done_view c.in-Ok.done,
       ap job_view c.in-Ok.ensures,
       reply_view c.in-Ok-apply.field-0,
-      subst (λ (fits : List (RecordView → Bool)). IsStep fits (Install (done_view c.in-Ok.done)) (view_of old) (reply_view c.in-Ok-apply.field-0) (view_of new))
-          (rooms_fit (λ taken. taken) (λ outlet. 0) (λ cell. refl) old.stations.items) c.in-Ok-apply.ensures.step,
+      in_room (λ taken. taken) (λ outlet. 0) old.stations.items (Install (done_view c.in-Ok.done)) (world_of old) (world_of new) (reply_view c.in-Ok-apply.field-0) refl c.in-Ok-apply.ensures.step,
     )
 
 pub returns : goal.returns

@@ -1,18 +1,19 @@
-use Rattle.std.proofs.Common.{refl, ◌≡◌, ℕ, ℤ, List, length, sym, ap, ◌∙◌}
+use Rattle.std.proofs.Common.{refl, ◌≡◌, ℕ, ℤ, List, length, sym, ap, subst, ◌∙◌}
 use Rattle.kahn_net.specs.Syntax.{network_of}
 use Rattle.net_check.specs.declared.net.Net.{Net}
 use Rattle.world.specs.Released.{released_of}
-use Rattle.world.specs.WholeView.{view_of}
+use Rattle.world.specs.WholeView.{world_of}
 use Rattle.kahn_program.specs.Report.{output_count, report_text}
 use Rattle.kahn_program.specs.Runs.{first_items}
 use Rattle.kahn_program.proofs.Released.{counted_streams, run_of, reported}
-use Rattle.kahn_program.proofs.Cells.{only_memory}
 use Rattle.kahn_program.proofs.Turns.{last_world, opens_first}
+use Rattle.world.specs.Runnable.{CanRun}
+use Rattle.kahn_net.specs.Syntax.{Network}
 use Rattle.kahn_program.proofs.network_run.report_of_run.Goals as goal
 
 pub report-requires : goal.report-requires
 report-requires c =
-    let f = λ (channel : ℕ). first_items c.cut-cut.result (released_of channel (view_of c.take_turns.new.world).stations) in
+    let f = λ (channel : ℕ). first_items c.cut-cut.result (released_of channel (world_of c.take_turns.new.world).stations) in
     ap (length {A = List ℤ}) (c.deref-3.ensures.value ∙ c.in-Ok-streams.ensures)
     ∙ (counted_streams f 0 c.as_slice-channels.result.now
     ∙ ap output_count (c.as_slice-channels.ensures.value ∙ ap (λ (n : Net). n.program.channels.items) (c.deref.ensures ∙ sym c.deref-2.ensures)))
@@ -27,12 +28,12 @@ returns-in-Ok-report-clause-ok c =
     let told = c.is_whole-complete.result in
     let network : network_of now.net.value.program ≡ network_of net.program = ap (λ a. network_of a.value.program) (c.take_turns.ensures.same.0 ∙ c.in-Ok-new-3.ensures.same.0) ∙ ap (λ (n : Net). network_of n.program) shared in
     let items : now.inputs.value ≡ c.args.inputs = ap (λ a. a.value) (c.take_turns.ensures.same.1 ∙ c.in-Ok-new-3.ensures.same.1) ∙ c.in-Ok-new-2.ensures.ok in
-    let run = run_of (view_of now) (network_of net.program) c.args.inputs c.complete.result network items now.sound c.complete.ensures.whole in
+    let run = run_of (world_of now) (network_of net.program) c.args.inputs c.complete.result network items now.sound c.complete.ensures.whole in
     let given : c.as_slice-channels.result.now ≡ net.program.channels.items = c.as_slice-channels.ensures.value ∙ ap (λ (n : Net). n.program.channels.items) (c.deref.ensures ∙ c.in-Ok-new.ensures.ok) in
-    let opened = opens_first _ _ (λ outlet. refl) (network_of net.program) _ c.args.inputs _ c.in-Ok.outputs.items (view_of first) (ap (λ (n : Net). network_of n.program) shared) c.in-Ok-new-2.ensures.ok
-    c.in-Ok-new-3.ensures.opening c.in-Ok.ensures.listed c.in-Ok.ensures.empty in
-    let last = last_world (network_of net.program) c.args.inputs c.as_slice-channels.result.now c.args.rounds c.args.items (view_of first) (view_of now) given opened c.in_ok-take_turns.ensures.came in
-    reported net c.args.inputs c.as_slice-channels.result.now c.args.rounds c.args.items c.cut-cut.result c.in-Ok-streams.streams.items (view_of now) c.in-Ok-report.bytes.items c.complete.result told
+    let opened = opens_first _ _ (λ outlet. refl) (network_of net.program) _ c.args.inputs _ c.in-Ok.outputs.items (world_of first) (ap (λ (n : Net). network_of n.program) shared) c.in-Ok-new-2.ensures.ok
+    _ c.in-Ok-empty_disk.ensures c.in-Ok-new-3.ensures.opening c.in-Ok.ensures.listed c.in-Ok.ensures.empty in
+    let last = last_world (network_of net.program) c.args.inputs c.as_slice-channels.result.now c.args.rounds c.args.items (world_of first) (world_of now) given opened c.in_ok-take_turns.ensures.came in
+    reported net c.args.inputs c.as_slice-channels.result.now c.args.rounds c.args.items c.cut-cut.result c.in-Ok-streams.streams.items (world_of now) c.in-Ok-report.bytes.items c.complete.result told
     given
     c.cut-cut.ensures
     c.in-Ok-streams.ensures
@@ -41,6 +42,7 @@ returns-in-Ok-report-clause-ok c =
     ∙ ap (λ (l : List (List ℤ)). report_text net.program.channels.items net.channel_names.items l told) c.deref-3.ensures.value))
     run c.complete.ensures.quiet last
 
-pub returns-in-Err-clause-err : goal.returns-in-Err-clause-err
-returns-in-Err-clause-err c =
-    c.cell_failure.ensures (only_memory c.in-Err.fault _ refl c.in-Err.ensures.too_large c.in-Err.ensures.device c.in-Err.ensures.reopen)
+pub new-requires-3-clause-runnable : goal.new-requires-3-clause-runnable
+new-requires-3-clause-runnable c =
+    let shared = c.in-Ok-try_clone.ensures ∙ c.in-Ok-new.ensures.ok in
+    subst (λ (n : Network). CanRun n) (sym (ap (λ (n : Net). network_of n.program) shared)) c.requires.runnable

@@ -1,10 +1,10 @@
 use Rattle.std.proofs.Common.{rules, ℕ}
 use Rattle.world.specs.Released.{released_of}
-use Rattle.world.specs.WholeView.{view_of}
+use Rattle.world.specs.WholeView.{world_of}
 use Rattle.kahn_program.specs.Runs.{first_items}
 use Rattle.kahn_program.proofs.Released.{streams_next}
 use Rattle.kahn_program.proofs.network_run.streams.Goals as goal
 
 pub loop-number-preserved : goal.loop-number-preserved
 loop-number-preserved c =
-    streams_next (λ (channel : ℕ). first_items c.args.cut (released_of channel (view_of c.args.world.now).stations)) c.args.channels.now c.loop-number.number _ _ _ _ (search rules) c.loop-number.invariant c.in_ok-add_stream.ensures
+    streams_next (λ (channel : ℕ). first_items c.args.cut (released_of channel (world_of c.args.world.now).stations)) c.args.channels.now c.loop-number.number _ _ _ _ (search rules) c.loop-number.invariant c.in_ok-add_stream.ensures

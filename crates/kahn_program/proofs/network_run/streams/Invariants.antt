@@ -1,12 +1,12 @@
 use Rattle.std.proofs.Common.{◌≡◌, ◌++◌, ℕ, drop, map}
 use Rattle.world.specs.Sound.{output_channels}
 use Rattle.world.specs.Released.{released_of}
-use Rattle.world.specs.WholeView.{view_of}
+use Rattle.world.specs.WholeView.{world_of}
 use Rattle.kahn_program.specs.Runs.{first_items}
 use Rattle.kahn_program.proofs.network_run.streams.Given as goal
 
 -- what was listed, and then what is to come
 abbrev pub invariant-loop-number : goal.invariant-loop-number
 invariant-loop-number l =
-    l.streams.items ++ map (λ (channel : ℕ). first_items l.cut (released_of channel (view_of l.world).stations)) (output_channels l.number (drop l.number l.channels))
-    ≡ map (λ (channel : ℕ). first_items l.cut (released_of channel (view_of l.world).stations)) (output_channels 0 l.channels)
+    l.streams.items ++ map (λ (channel : ℕ). first_items l.cut (released_of channel (world_of l.world).stations)) (output_channels l.number (drop l.number l.channels))
+    ≡ map (λ (channel : ℕ). first_items l.cut (released_of channel (world_of l.world).stations)) (output_channels 0 l.channels)

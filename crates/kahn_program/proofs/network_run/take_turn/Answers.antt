@@ -1,27 +1,26 @@
-use Rattle.std.proofs.Common.{Bool, List, refl, subst}
+use Rattle.std.proofs.Common.{refl, subst}
 use Rattle.std.proofs.lemmas.Result.{on_ok_weaker}
-use Rattle.record.specs.RecordView.{RecordView}
 use Rattle.world.specs.Choice.{choice}
 use Rattle.world.specs.EventView.{EventView}
 use Rattle.world.specs.ReplyView.{reply_view}
 use Rattle.world.specs.Steps.{IsStep}
-use Rattle.world.specs.WholeView.{view_of}
+use Rattle.world.specs.WholeView.{world_of}
 use Rattle.world.specs.WorldView.{rooms}
-use Rattle.kahn_program.proofs.Turns.{rooms_fit}
+use Rattle.kahn_program.proofs.Turns.{in_room}
 use Rattle.kahn_program.proofs.network_run.take_turn.Goals as goal
 
 pub returns-in-Ok-clause-turn : goal.returns-in-Ok-clause-turn
 returns-in-Ok-clause-turn c =
     let old = c.args.world.now in
-    let view = view_of old in
-    let later = view_of c.apply.new.self in
+    let view = world_of old in
+    let later = world_of c.apply.new.self in
     let answer = reply_view c.in-Ok.answer in
     let step = subst (λ (event : EventView). IsStep (rooms old.stations.items) event view answer later) c.pick-event.ensures c.in-Ok.ensures.step in
     on_ok_weaker c.follow.result
     (λ follows. record {
       answer = answer;
       between = later;
-      step = subst (λ (fits : List (RecordView → Bool)). IsStep fits (choice view 0) view answer later) (rooms_fit (λ taken. taken) (λ outlet. 0) (λ cell. refl) old.stations.items) step;
+      step = in_room (λ taken. taken) (λ outlet. 0) old.stations.items (choice view 0) view later answer refl step;
       follows = follows;
     })
     c.follow.ensures.follows

@@ -1,22 +1,31 @@
-use Rattle.std.proofs.Common.{rules}
+use Rattle.std.proofs.Common.{rules, refl}
+use Rattle.std.proofs.lemmas.Option.{slice_get_read}
 use Rattle.kahn_net.specs.Syntax.{network_of}
+use Rattle.ckpt_store.specs.Spelling.{fits_in}
+use Rattle.ckpt_store.specs.StoreView.{cell_in}
 use Rattle.world.specs.EventView.{event_view}
+use Rattle.world.specs.OutputLaws.{set_keeps}
 use Rattle.world.specs.PairLaws.{on_err_map, pairs_refl, pairs_set}
 use Rattle.world.specs.WorldView.{station_view}
 use Rattle.world.specs.declared.station.Station.{Station}
-use Rattle.world.proofs.Stations.{all_still, all_grown}
+use Rattle.world.proofs.Stations.{all_still, all_grown, all_still_in_line, all_in_line}
 use Rattle.world.proofs.Views.{acted, cell_stays, refused_at, seen_at}
 use Rattle.world.proofs.world.act_at.Goals as goal
 
 pub act-requires : goal.act-requires
 act-requires g c = record {
   fits = c.requires.fits;
+  outer = c.requires.outer;
   sound = c.requires.sound c.args.number (station_view g.O.Outlet.taken g.O.Outlet.failures c.index_mut.result.now) (seen_at (station_view g.O.Outlet.taken g.O.Outlet.failures) c.args.stations.now.items c.args.number c.index_mut.result.now (search rules) c.index_mut.ensures.value);
 }
 
 pub returns-then-number-len-clause-grown : goal.returns-then-number-len-clause-grown
 returns-then-number-len-clause-grown g c =
     all_still {cell = g.C.StableCell} g.O.Outlet.taken g.O.Outlet.failures g.met.C.StableCell.only_now (network_of c.args.net.now.value.program) c.args.inputs.now c.args.stations.now.items c.requires.sound
+
+pub returns-then-number-len-clause-line : goal.returns-then-number-len-clause-line
+returns-then-number-len-clause-line g c =
+    all_still_in_line {cell = g.C.StableCell} g.O.Outlet.taken g.O.Outlet.failures g.met.C.StableCell.only_now (network_of c.args.net.now.value.program) c.args.inputs.now c.args.stations.now.items c.requires.sound
 
 pub returns-then-number-len-clause-unchanged : goal.returns-then-number-len-clause-unchanged
 returns-then-number-len-clause-unchanged g c = λ h. pairs_refl _ _ (λ i station is. cell_stays station)
@@ -25,7 +34,14 @@ pub returns-clause-grown : goal.returns-clause-grown
 returns-clause-grown g c =
     let net = c.args.net.now.value in
     let x = c.index_mut.result.now in
-    all_grown {cell = g.C.StableCell} g.O.Outlet.taken g.O.Outlet.failures g.met.C.StableCell.only_now (network_of net.program) c.args.inputs.now c.requires.fits (g.C.StableCell.fits x.node.cell) c.args.round (event_view c.args.event.now) c.args.stations.now.items c.args.number x _ c.act.result
+    all_grown {cell = g.C.StableCell} g.O.Outlet.taken g.O.Outlet.failures g.met.C.StableCell.only_now (network_of net.program) c.args.inputs.now net.valid c.requires.fits (fits_in (g.C.StableCell.capacity (cell_in x.node.store))) c.args.round (event_view c.args.event.now) c.args.stations.now.items c.args.number x _ c.act.result
+    c.requires.sound (search rules) c.index_mut.ensures.value c.act.ensures.moved c.act.ensures.step (on_err_map c.act.result c.act.ensures.refused (λ same. same.0))
+
+pub returns-clause-line : goal.returns-clause-line
+returns-clause-line g c =
+    let net = c.args.net.now.value in
+    let x = c.index_mut.result.now in
+    all_in_line {cell = g.C.StableCell} g.O.Outlet.taken g.O.Outlet.failures g.met.C.StableCell.only_now (network_of net.program) c.args.inputs.now net.valid c.requires.fits (fits_in (g.C.StableCell.capacity (cell_in x.node.store))) c.args.round (event_view c.args.event.now) c.args.stations.now.items c.args.number x _ c.act.result
     c.requires.sound (search rules) c.index_mut.ensures.value c.act.ensures.moved c.act.ensures.step (on_err_map c.act.result c.act.ensures.refused (λ same. same.0))
 
 pub returns-clause-refused : goal.returns-clause-refused
@@ -34,8 +50,13 @@ returns-clause-refused g c =
 
 pub returns-clause-step : goal.returns-clause-step
 returns-clause-step g c =
-    acted (network_of c.args.net.now.value.program) c.args.inputs.now (station_view g.O.Outlet.taken g.O.Outlet.failures) (λ (station : Station g.row.C.Denot g.row.O.Denot g.C.StableCell). g.C.StableCell.fits station.node.cell)
+    acted (network_of c.args.net.now.value.program) c.args.inputs.now (station_view g.O.Outlet.taken g.O.Outlet.failures) (λ (station : Station g.row.C.Denot g.row.O.Denot g.C.StableCell). fits_in (g.C.StableCell.capacity (cell_in station.node.store)))
     c.args.round (event_view c.args.event.now) c.args.stations.now.items c.args.number c.index_mut.result.now _ c.act.result (search rules) c.index_mut.ensures.value c.act.ensures.step
+
+pub returns-clause-same_rooms : goal.returns-clause-same_rooms
+returns-clause-same_rooms g c =
+    set_keeps (λ (station : Station g.row.C.Denot g.row.O.Denot g.C.StableCell). g.C.StableCell.capacity (cell_in station.node.store)) c.args.stations.now.items c.args.number c.index_mut.result.now _
+    (slice_get_read c.args.stations.now.items _ c.args.number c.index_mut.result.now refl (search rules) c.index_mut.ensures.value) c.act.ensures.same_room
 
 pub returns-clause-unchanged : goal.returns-clause-unchanged
 returns-clause-unchanged g c = λ leaves. pairs_set _ _ _ c.index_mut.result.now _ (λ i station is. cell_stays station) (search rules) c.index_mut.ensures.value (c.act.ensures.unchanged leaves)

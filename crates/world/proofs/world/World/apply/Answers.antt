@@ -1,15 +1,19 @@
 use Rattle.std.proofs.Common.{ℤ, List, map, ap, sym, subst, ◌∙◌}
 use Rattle.kahn_net.specs.Syntax.{network_of}
+use Rattle.ckpt_store.specs.Spelling.{fits_in}
+use Rattle.ckpt_store.specs.StoreView.{cell_in}
 use Rattle.world.specs.EventView.{event_view}
 use Rattle.world.specs.Headline.{released_prefix, AreApproximated}
-use Rattle.world.specs.Invariant.{StationInvariant}
+use Rattle.world.specs.Invariant.{StationInvariant, WorldInvariant}
 use Rattle.world.specs.ReplyView.{reply_view}
+use Rattle.world.specs.RoomLaws.{never_too_large, rooms_of}
 use Rattle.world.specs.StationView.{StationView}
 use Rattle.world.specs.Steps.{round_after}
 use Rattle.world.specs.StepKeeps.{act_keeps_world}
-use Rattle.world.specs.WholeView.{view_of}
-use Rattle.world.specs.WorldView.{station_view, world_view, rooms}
+use Rattle.world.specs.WholeView.{world_of}
+use Rattle.world.specs.WorldView.{rooms, station_view, world_view}
 use Rattle.world.specs.declared.station.Station.{Station}
+use Rattle.world.proofs.Lines.{keeps_line, one_line}
 use Rattle.world.proofs.world.World.apply.Goals as goal
 
 pub act_at-requires-clause-sound : goal.act_at-requires-clause-sound
@@ -23,7 +27,7 @@ invariant_of-self g c =
     let was = c.args.self.now in
     let view = station_view {cell = g.C.StableCell} g.O.Outlet.taken g.O.Outlet.failures in
     record {
-      sound = act_keeps_world (rooms was.stations.items) (event_view c.args.event) (view_of was) (reply_view c.in-Ok.reply) c.deref.result.now c.from-number.result c.round_after-self.result (map view c.act_at.new.stations.items) was.sound
+      sound = act_keeps_world (rooms was.stations.items) (event_view c.args.event) (world_of was) (reply_view c.in-Ok.reply) c.deref.result.now c.from-number.result c.round_after-self.result (map view c.act_at.new.stations.items) was.sound
           c.deref.ensures (c.from-number.ensures ∙ c.node_of.ensures) c.in-Ok.ensures.step
           (c.round_after-self.ensures ∙ ap (λ (l : List (Station g.row.C.Denot g.row.O.Denot g.C.StableCell)). round_after (reply_view c.in-Ok.reply) was.round (map view l)) c.deref-in-Ok.ensures.value);
     }
@@ -33,7 +37,7 @@ returns-in-Ok-clause-prefix g c =
     let was = c.args.self.now in
     let view = station_view {cell = g.C.StableCell} g.O.Outlet.taken g.O.Outlet.failures in
     released_prefix (world_view {cell = g.C.StableCell} g.O.Outlet.taken g.O.Outlet.failures was.net was.inputs c.act_at.new.stations.items c.round_after-self.result)
-    (act_keeps_world (rooms was.stations.items) (event_view c.args.event) (view_of was) (reply_view c.in-Ok.reply) c.deref.result.now c.from-number.result c.round_after-self.result (map view c.act_at.new.stations.items) was.sound
+    (act_keeps_world (rooms was.stations.items) (event_view c.args.event) (world_of was) (reply_view c.in-Ok.reply) c.deref.result.now c.from-number.result c.round_after-self.result (map view c.act_at.new.stations.items) was.sound
     c.deref.ensures (c.from-number.ensures ∙ c.node_of.ensures) c.in-Ok.ensures.step
     (c.round_after-self.ensures ∙ ap (λ (l : List (Station g.row.C.Denot g.row.O.Denot g.C.StableCell)). round_after (reply_view c.in-Ok.reply) was.round (map view l)) c.deref-in-Ok.ensures.value))
 
@@ -41,4 +45,47 @@ pub returns-in-Err-clause-prefix : goal.returns-in-Err-clause-prefix
 returns-in-Err-clause-prefix g c =
     let was = c.args.self.now in
     subst (λ (stations : List StationView). AreApproximated (record { net = network_of was.net.value.program; inputs = was.inputs.value; stations = stations; round = was.round })) (sym c.in-Err.ensures.refused.0)
-    (released_prefix (view_of was) was.sound)
+    (released_prefix (world_of was) was.sound)
+
+-- the line is kept, whether the event was made or refused
+pub returns-in-Ok-clause-line : goal.returns-in-Ok-clause-line
+returns-in-Ok-clause-line g c =
+    let was = c.args.self.now in
+    let view = station_view {cell = g.C.StableCell} g.O.Outlet.taken g.O.Outlet.failures in
+    keeps_line {cell = g.C.StableCell} g.O.Outlet.taken g.O.Outlet.failures (network_of was.net.value.program) was.inputs.value was.stations.items c.act_at.new.stations.items was.round c.round_after-self.result was.sound
+    (act_keeps_world (rooms was.stations.items) (event_view c.args.event) (world_of was) (reply_view c.in-Ok.reply) c.deref.result.now c.from-number.result c.round_after-self.result (map view c.act_at.new.stations.items) was.sound
+    c.deref.ensures (c.from-number.ensures ∙ c.node_of.ensures) c.in-Ok.ensures.step
+    (c.round_after-self.ensures ∙ ap (λ (l : List (Station g.row.C.Denot g.row.O.Denot g.C.StableCell)). round_after (reply_view c.in-Ok.reply) was.round (map view l)) c.deref-in-Ok.ensures.value))
+    c.act_at.ensures.line
+
+pub returns-in-Err-clause-line : goal.returns-in-Err-clause-line
+returns-in-Err-clause-line g c =
+    let was = c.args.self.now in
+    keeps_line {cell = g.C.StableCell} g.O.Outlet.taken g.O.Outlet.failures (network_of was.net.value.program) was.inputs.value was.stations.items c.act_at.new.stations.items was.round was.round was.sound
+    (subst (λ (stations : List StationView). WorldInvariant (record { net = network_of was.net.value.program; inputs = was.inputs.value; stations = stations; round = was.round })) (sym c.in-Err.ensures.refused.0) was.sound)
+    c.act_at.ensures.line
+
+pub returns-in-Ok-clause-settled : goal.returns-in-Ok-clause-settled
+returns-in-Ok-clause-settled g c = one_line {cell = g.C.StableCell} g.O.Outlet.taken g.O.Outlet.failures c.act_at.new.stations.items
+
+pub returns-in-Err-clause-settled : goal.returns-in-Err-clause-settled
+returns-in-Err-clause-settled g c = one_line {cell = g.C.StableCell} g.O.Outlet.taken g.O.Outlet.failures c.act_at.new.stations.items
+
+-- the rooms are what the capacities say
+pub returns-in-Ok-clause-same_rooms : goal.returns-in-Ok-clause-same_rooms
+returns-in-Ok-clause-same_rooms g c =
+    let capacity = λ (station : Station g.row.C.Denot g.row.O.Denot g.C.StableCell). g.C.StableCell.capacity (cell_in station.node.store) in
+    rooms_of capacity c.act_at.new.stations.items ∙ (ap (map fits_in) c.in-Ok.ensures.same_rooms ∙ sym (rooms_of capacity c.args.self.now.stations.items))
+
+pub returns-in-Err-clause-same_rooms : goal.returns-in-Err-clause-same_rooms
+returns-in-Err-clause-same_rooms g c =
+    let capacity = λ (station : Station g.row.C.Denot g.row.O.Denot g.C.StableCell). g.C.StableCell.capacity (cell_in station.node.store) in
+    rooms_of capacity c.act_at.new.stations.items ∙ (ap (map fits_in) c.in-Err.ensures.same_rooms ∙ sym (rooms_of capacity c.args.self.now.stations.items))
+
+pub returns-in-Ok-clause-roomy : goal.returns-in-Ok-clause-roomy
+returns-in-Ok-clause-roomy g c = λ room.
+    let was = c.args.self.now in
+    let view = station_view {cell = g.C.StableCell} g.O.Outlet.taken g.O.Outlet.failures in
+    never_too_large (network_of was.net.value.program) was.inputs.value c.deref.result.now (λ (station : Station g.row.C.Denot g.row.O.Denot g.C.StableCell). g.C.StableCell.capacity (cell_in station.node.store))
+    was.stations.items c.from-number.result _ was.round (event_view c.args.event) (map view was.stations.items) (reply_view c.in-Ok.reply) (map view c.act_at.new.stations.items)
+    was.sound.valid was.sound.stations c.deref.ensures (c.from-number.ensures ∙ c.node_of.ensures) room c.in-Ok.ensures.step

@@ -1,0 +1,175 @@
+-- From a put that a store did, or refused, to what came of the event.
+use Rattle.std.proofs.Common.{◌≡◌, ◌⊎◌, inl, inr, ⊎_elim, ℕ, ◌<◌, ◌≤◌, Bool, true, false, List, length, Option, Some, None, Result, Ok, Err, refl, sym, ◌∙◌, ap, subst}
+use Rattle.std.specs.Prelude.{IsTrue, IsErrOf, OnOk, OnErr, IfOk, IfErr, IsSome}
+use Rattle.sector_disk.specs.Clock.{Only}
+use Rattle.gate_cell.specs.declared.cell.StableCell.{Ghosts as CellWords}
+use Rattle.record.specs.RecordView.{RecordView}
+use Rattle.ckpt_store.specs.StoreFault.{IsOfPut}
+use Rattle.ckpt_store.specs.StoreView.{cell_in, known_in, record_in, Changes}
+use Rattle.ckpt_store.specs.declared.store.Store.{Store}
+use Rattle.ckpt_store.specs.declared.fault.StoreFault.{StoreFault}
+use Rattle.ckpt_store.specs.declared.fault.StoreFault.TheVariants as fault
+use Rattle.node.specs.NodeView.{NodeView, node_view, mode_view}
+use Rattle.node.specs.Starting.{is_down, crashed, with_kept, HasFailedAt}
+use Rattle.node.specs.StoredView.{HasRecord, LeavesNext, IsCrashed, has_failed, put_outcome, IsAnswer}
+use Rattle.node.specs.declared.state.NodeState.{NodeState}
+use Rattle.node.specs.declared.putting.Putting.{Putting}
+use Rattle.node.specs.declared.putting.Putting.TheVariants.{Stored, Refused, Failed}
+use Rattle.node.proofs.Records.{settled_ready, one_of_both, then_crashed, change_refusals, change_moments, change_done, change_refused}
+
+-- What an event that puts this record comes to.
+pub record Ends {C : Type 0} {words : CellWords C} (next : RecordView) (restart : ℕ) (old new : Store C words) (before after : NodeState) (put : Result (Unit {0}) StoreFault) : Type 0 where
+  pub moments : LeavesNext next old new
+  pub refusals : IfErr put IsOfPut
+  pub settled : Only (Some (words.value (cell_in new))) (words.may_leave (cell_in new))
+  pub stored : OnOk put ((record_in new ≡ next) × IsSome (known_in new) × (after ≡ before))
+  pub refused : OnErr put (has_failed put ≡ false → (record_in new ≡ record_in old) × IsSome (known_in new) × (after ≡ before))
+  pub failed : IsTrue (has_failed put) → ((record_in new ≡ record_in old) ⊎ (record_in new ≡ next)) × ((kept : RecordView) → node_view kept after ≡ crashed restart (node_view kept before))
+
+by_test : (b : Bool) {P : Type 0} → (b ≡ false → P) → (b ≡ true → P) → P
+by_test true f t = t refl
+by_test false f t = f refl
+
+not_device : (put : Result (Unit {0}) StoreFault) → has_failed put ≡ false → ¬ (IsErrOf put fault.Device)
+not_device put test e = let both : has_failed (Err fault.Device) ≡ false = ap has_failed (sym e) ∙ test in cc
+
+module _ {C : Type 0} (words : CellWords C)
+    (includes_now : (cell : C) (t : ℕ) (left : Option (List ℕ)) → t ≤ words.moment cell → words.may_leave cell left → words.left_since cell t left)
+    (may_stay : (cell : C) → words.may_leave cell (Some (words.value cell)))
+    (ready_settled : (cell : C) → IsTrue (words.is_ready cell) → Only (Some (words.value cell)) (words.may_leave cell))
+    (cause : RecordView → Option StoreFault) (change : RecordView → RecordView) (old mid new : Store C words) (put : Result (Unit {0}) StoreFault) (some : IsSome (known_in old)) (fine : cause (record_in old) ≡ None)
+    (changes : Changes cause change old mid put) (only : Only (Some (words.value (cell_in old))) (words.may_leave (cell_in old))) (restart : ℕ) (before after : NodeState) where
+  pub ended : (has_failed put ≡ false → (new ≡ mid) × (after ≡ before))
+      → (IsTrue (has_failed put) → IsCrashed mid new × ((kept : RecordView) → node_view kept after ≡ crashed restart (node_view kept before)))
+      → Ends (change (record_in old)) restart old new before after put
+  ended stays crash = record {
+    moments = moments;
+    refusals = change_refusals words includes_now may_stay ready_settled cause change old mid put some fine changes;
+    settled = settled;
+    stored = stored put refl;
+    refused = refused put refl;
+    failed = λ test. (one_of_both words includes_now may_stay ready_settled (change (record_in old)) old new only moments, (crash test).1);
+  }
+    where
+      run : LeavesNext (change (record_in old)) old mid
+      run = change_moments words includes_now may_stay ready_settled cause change old mid put some fine changes
+
+      moments : LeavesNext (change (record_in old)) old new
+      moments = by_test (has_failed put) (λ test. subst (λ (s : Store C words). LeavesNext (change (record_in old)) old s) (sym (stays test).0) run)
+          (λ test. then_crashed words includes_now may_stay ready_settled (change (record_in old)) old mid new run (crash test).0.any_moment)
+
+      stored : (p : Result (Unit {0}) StoreFault) → put ≡ p → OnOk p ((record_in new ≡ change (record_in old)) × IsSome (known_in new) × (after ≡ before))
+      stored (Ok x) is =
+          let done = subst (λ (p : Result (Unit {0}) StoreFault). OnOk p ((record_in mid ≡ change (record_in old)) × IsSome (known_in mid))) is
+          (change_done words includes_now may_stay ready_settled cause change old mid put some fine changes) in
+          let same = stays (ap has_failed is) in
+          (subst (λ (s : Store C words). record_in s ≡ change (record_in old)) (sym same.0) done.0, subst (λ (s : Store C words). IsSome (known_in s)) (sym same.0) done.1, same.1)
+      stored (Err e) is = tt
+
+      refused : (p : Result (Unit {0}) StoreFault) → put ≡ p → OnErr p (has_failed p ≡ false → (record_in new ≡ record_in old) × IsSome (known_in new) × (after ≡ before))
+      refused (Ok x) is = tt
+      refused (Err e) is = λ test. (
+          let same = stays (ap has_failed is ∙ test) in
+          let kept = subst (λ (p : Result (Unit {0}) StoreFault). OnErr p (¬ (IsErrOf p fault.Device) → (record_in mid ≡ record_in old) × IsSome (known_in mid) × (cell_in mid ≡ cell_in old))) is
+          (change_refused words includes_now may_stay ready_settled cause change old mid put some fine changes) (not_device (Err e) test) in
+          (subst (λ (s : Store C words). record_in s ≡ record_in old) (sym same.0) kept.0, subst (λ (s : Store C words). IsSome (known_in s)) (sym same.0) kept.1, same.1))
+
+      ready : has_failed put ≡ false → IsSome (known_in new)
+      ready test = at put refl
+        where
+          at : (p : Result (Unit {0}) StoreFault) → put ≡ p → IsSome (known_in new)
+          at (Ok x) is = (stored (Ok x) is).1
+          at (Err e) is = (refused (Err e) is (ap has_failed (sym is) ∙ test)).1
+
+      settled : Only (Some (words.value (cell_in new))) (words.may_leave (cell_in new))
+      settled = by_test (has_failed put) (λ test. settled_ready words includes_now may_stay ready_settled new (ready test)) (λ test. (crash test).0.settled)
+
+-- ---- what came of an event
+
+pub is_answered : (result : Option Putting) {E : Type 0} (answer : Result Putting E) → IsAnswer result answer → (P : Putting → Type 0) → ((x : Putting) → result ≡ Some x → P x) → IfOk answer P
+is_answered None (Ok y) is P so = absurd is
+is_answered None (Err e) is P so = tt
+is_answered (Some x) (Ok y) is P so = subst P (sym is) (so x refl)
+is_answered (Some x) (Err e) is P so = absurd is
+
+-- by the kinds of a put's result: done, without memory, too large, or the device failed
+abbrev ByKind : (Result (Unit {0}) StoreFault → Type 0) → Type 0
+ByKind P = P (Ok tt) × P (Err fault.NoMemory) × P (Err fault.TooLarge) × P (Err fault.Device)
+
+by_kind : (P : Result (Unit {0}) StoreFault → Type 0) → P (Ok tt) → P (Err fault.NoMemory) → P (Err fault.TooLarge) → P (Err fault.Device) → (put : Result (Unit {0}) StoreFault) → IfErr put IsOfPut → P put
+by_kind P done memory large device (Ok x) is = done
+by_kind P done memory large device (Err fault.NoMemory) is = memory
+by_kind P done memory large device (Err fault.Device) is = device
+by_kind P done memory large device (Err fault.TooLarge) is = large
+by_kind P done memory large device (Err fault.Reopen) is = absurd is
+by_kind P done memory large device (Err fault.Truncated) is = absurd is
+by_kind P done memory large device (Err fault.Version) is = absurd is
+by_kind P done memory large device (Err fault.Malformed) is = absurd is
+by_kind P done memory large device (Err fault.HoldsOther) is = absurd is
+by_kind P done memory large device (Err fault.PastNumber) is = absurd is
+by_kind P done memory large device (Err fault.NotHeld) is = absurd is
+by_kind P done memory large device (Err fault.Unsettled) is = absurd is
+by_kind P done memory large device (Err fault.Spent) is = absurd is
+
+module _ {C : Type 0} {words : CellWords C} (next : RecordView) (restart : ℕ) (old new : Store C words) (before after : NodeState) (put : Result (Unit {0}) StoreFault) (ends : Ends next restart old new before after put) where
+  abbrev was : NodeView
+  was = node_view (record_in old) before
+
+  abbrev now : NodeView
+  now = node_view (record_in new) after
+
+  same_view : record_in new ≡ record_in old → after ≡ before → now ≡ was
+  same_view kept state = ap (λ (r : RecordView). node_view r after) kept ∙ ap (node_view (record_in old)) state
+
+  -- the relation of an event that puts a record, from its cases
+  pub ends_step : (P : Putting → NodeView → Type 0) → P Stored (with_kept next was) → P (Refused 22) was → ((w : NodeView) → HasFailedAt restart next was w → P Failed w)
+      → (x : Putting) → put_outcome put ≡ Some x → P x now
+  ends_step P done large device =
+      by_kind (λ p. OnOk p ((record_in new ≡ next) × IsSome (known_in new) × (after ≡ before)) → OnErr p (has_failed p ≡ false → (record_in new ≡ record_in old) × IsSome (known_in new) × (after ≡ before))
+      → (IsTrue (has_failed p) → ((record_in new ≡ record_in old) ⊎ (record_in new ≡ next)) × ((kept : RecordView) → node_view kept after ≡ crashed restart (node_view kept before)))
+      → (x : Putting) → put_outcome p ≡ Some x → P x now)
+      (λ stored refused failed x is.
+      subst (λ (y : Putting). P y now) (is_some_of is)
+      (subst (P Stored) (sym (ap (λ (r : RecordView). node_view r after) stored.0 ∙ ap (node_view next) stored.2)) done))
+      (λ stored refused failed x is. absurd (cc))
+      (λ stored refused failed x is.
+      let same = refused refl in
+      subst (λ (y : Putting). P y now) (is_some_of is) (subst (P (Refused 22)) (sym (same_view same.0 same.2)) large))
+      (λ stored refused failed x is.
+      let down = failed refl in
+      subst (λ (y : Putting). P y now) (is_some_of is)
+      (device now (⊎_elim (λ kept. inl (ap (λ (r : RecordView). node_view r after) kept ∙ down.1 (record_in old))) (λ kept. inr (ap (λ (r : RecordView). node_view r after) kept ∙ down.1 next)) down.0)))
+      put ends.refusals ends.stored ends.refused ends.failed
+    where
+      is_some_of : {x y : Putting} → Some x ≡ Some y → x ≡ y
+      is_some_of is = cc
+
+  -- the record, in any case
+  pub ends_either : (record_in new ≡ record_in old) ⊎ (record_in new ≡ next)
+  ends_either = at put refl
+    where
+      at : (p : Result (Unit {0}) StoreFault) → put ≡ p → (record_in new ≡ record_in old) ⊎ (record_in new ≡ next)
+      at (Ok x) is = inr (subst (λ (p : Result (Unit {0}) StoreFault). OnOk p ((record_in new ≡ next) × IsSome (known_in new) × (after ≡ before))) is ends.stored).0
+      at (Err e) is =
+          by_test (has_failed put)
+          (λ test. inl ((subst (λ (p : Result (Unit {0}) StoreFault). OnErr p (has_failed p ≡ false → (record_in new ≡ record_in old) × IsSome (known_in new) × (after ≡ before))) is ends.refused) (ap has_failed (sym is) ∙ test)).0)
+          (λ test. (ends.failed test).0)
+
+  is_up : is_down (mode_view after.mode) ≡ false → IsSome (known_in new)
+  is_up up = at put refl
+    where
+      at : (p : Result (Unit {0}) StoreFault) → put ≡ p → IsSome (known_in new)
+      at (Ok x) is = (subst (λ (p : Result (Unit {0}) StoreFault). OnOk p ((record_in new ≡ next) × IsSome (known_in new) × (after ≡ before))) is ends.stored).1
+      at (Err e) is =
+          by_test (has_failed put)
+          (λ test. ((subst (λ (p : Result (Unit {0}) StoreFault). OnErr p (has_failed p ≡ false → (record_in new ≡ record_in old) × IsSome (known_in new) × (after ≡ before))) is ends.refused) (ap has_failed (sym is) ∙ test)).1)
+          (λ test. (let down : is_down (mode_view after.mode) ≡ true = ap (λ (n : NodeView). is_down n.mode) ((ends.failed test).1 next) in absurd (cc)))
+
+  -- what a node's type keeps
+  pub ends_kept : (number : ℕ) → HasRecord number (mode_view before.mode) old → length next.highest ≡ length (record_in old).highest → next.node ≡ (record_in old).node → HasRecord number (mode_view after.mode) new
+  ends_kept number has long node = record {
+    listed = ⊎_elim (λ same. subst (λ (r : RecordView). number < length r.highest) (sym same) has.listed) (λ same. subst (λ (r : RecordView). number < length r.highest) (sym same) (subst (λ (n : ℕ). number < n) (sym long) has.listed)) ends_either;
+    named = ⊎_elim (λ same. ap (λ (r : RecordView). r.node) same ∙ has.named) (λ same. ap (λ (r : RecordView). r.node) same ∙ (node ∙ has.named)) ends_either;
+    ready = is_up;
+    settled = ends.settled;
+  }

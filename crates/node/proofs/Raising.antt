@@ -1,0 +1,121 @@
+-- A store that is reopened and put into its next epoch.
+use Rattle.std.proofs.Common.{◌≡◌, ℕ, ◌<◌, ◌≤◌, Bool, true, false, List, Option, Some, None, Result, Ok, Err, refl, ◌∙◌, ap, subst}
+use Rattle.std.specs.Prelude.{IsTrue, IsErrOf, OnOk, OnErr, IfOk, IfErr, IsSome, nat_lt, cond}
+use Rattle.std.proofs.lemmas.Bool.{ltb-true}
+use Rattle.sector_disk.specs.Clock.{Only}
+use Rattle.gate_cell.specs.declared.cell.StableCell.{Ghosts as CellWords}
+use Rattle.record.specs.ImageView.{ImageView}
+use Rattle.record.specs.RecordView.{RecordView}
+use Rattle.record.specs.Moves.{with_epoch}
+use Rattle.kahn_net.specs.declared.limits.TheConstants.{MAX_COUNT}
+use Rattle.ckpt_store.specs.Spelling.{fits_in, IsLengthTold}
+use Rattle.ckpt_store.specs.Loading.{IsOfReopening}
+use Rattle.ckpt_store.specs.Refusals.{refusal_to_raise, first_refusal, ComesFirst}
+use Rattle.ckpt_store.specs.StoreFault.{IsOfPut, HasFailures}
+use Rattle.ckpt_store.specs.StoreView.{cell_in, known_in, record_in, record_spelled, Changes, Reopens}
+use Rattle.ckpt_store.specs.declared.store.Store.{Store}
+use Rattle.ckpt_store.specs.declared.fault.StoreFault.{StoreFault}
+use Rattle.ckpt_store.specs.declared.fault.StoreFault.TheVariants as fault
+use Rattle.node.specs.StoredView.{LeavesNext, IsRaised, IsRaiseRefusal}
+use Rattle.node.proofs.Records.{some_known, still_settled, looked, looked_then, settled_ready, change_moments, change_fits, change_done}
+
+of_reopening : (fits : Bool) (kept : RecordView) (e : StoreFault) → IsOfReopening e → IsRaiseRefusal fits kept e
+of_reopening fits kept fault.NoMemory is = tt
+of_reopening fits kept fault.Device is = tt
+of_reopening fits kept fault.TooLarge is = absurd is
+of_reopening fits kept fault.Reopen is = absurd is
+of_reopening fits kept fault.Truncated is = absurd is
+of_reopening fits kept fault.Version is = absurd is
+of_reopening fits kept fault.Malformed is = absurd is
+of_reopening fits kept fault.HoldsOther is = absurd is
+of_reopening fits kept fault.PastNumber is = absurd is
+of_reopening fits kept fault.NotHeld is = absurd is
+of_reopening fits kept fault.Unsettled is = absurd is
+of_reopening fits kept fault.Spent is = absurd is
+
+of_put : (fits : Bool) (kept : RecordView) (e : StoreFault) → kept.epoch < MAX_COUNT → IsOfPut e → IsLengthTold {T = Unit {0}} fits (Err e) → IsRaiseRefusal fits kept e
+of_put fits kept fault.NoMemory less is told = tt
+of_put fits kept fault.Device less is told = tt
+of_put fits kept fault.TooLarge less is told = (less, told)
+of_put fits kept fault.Reopen less is told = absurd is
+of_put fits kept fault.Truncated less is told = absurd is
+of_put fits kept fault.Version less is told = absurd is
+of_put fits kept fault.Malformed less is told = absurd is
+of_put fits kept fault.HoldsOther less is told = absurd is
+of_put fits kept fault.PastNumber less is told = absurd is
+of_put fits kept fault.NotHeld less is told = absurd is
+of_put fits kept fault.Unsettled less is told = absurd is
+of_put fits kept fault.Spent less is told = absurd is
+
+module _ {C : Type 0} (words : CellWords C)
+    (includes_now : (cell : C) (t : ℕ) (left : Option (List ℕ)) → t ≤ words.moment cell → words.may_leave cell left → words.left_since cell t left)
+    (may_stay : (cell : C) → words.may_leave cell (Some (words.value cell)))
+    (ready_settled : (cell : C) → IsTrue (words.is_ready cell) → Only (Some (words.value cell)) (words.may_leave cell))
+    (old : Store C words) (settled : Only (Some (words.value (cell_in old))) (words.may_leave (cell_in old))) where
+  -- it couldn't be reopened
+  pub not_reopened : (mid : Store C words) (e : StoreFault) → Reopens old mid {T = Unit {0}} (Err e) → IsRaised old mid (Err e)
+  not_reopened mid e load = record {
+    image = tt;
+    raised = tt;
+    refused = of_reopening (fits_in (words.capacity (cell_in old)) (with_epoch (record_in old))) (record_in old) e load.refusals;
+    same_record = λ other. ap record_spelled load.same_value;
+    failures = record { device = λ is. load.failures.device (device_too e is); otherwise = λ other. load.failures.otherwise (λ is. other (device_so e is)) };
+    settled = λ other. still_settled words includes_now may_stay ready_settled old mid settled load.any_moment load.same_value;
+    any_moment = looked words includes_now may_stay ready_settled (with_epoch (record_in old)) old mid load.any_moment;
+    same_room = load.same_room;
+  }
+    where
+      device_too : (e : StoreFault) → IsErrOf {T = ImageView} (Err e) fault.Device → IsErrOf {T = Unit {0}} (Err e) fault.Device
+      device_too e is = let same : e ≡ fault.Device = cc in ap Err same
+
+      device_so : (e : StoreFault) → IsErrOf {T = Unit {0}} (Err e) fault.Device → IsErrOf {T = ImageView} (Err e) fault.Device
+      device_so e is = let same : e ≡ fault.Device = cc in ap Err same
+
+  -- or was, and is the same as before
+  pub reopened_then : (mid new : Store C words) (result : Result ImageView StoreFault) → Reopens old mid {T = Unit {0}} (Ok tt) → IsRaised mid new result → IsRaised old new result
+  reopened_then mid new result load raised =
+      let same : record_in mid ≡ record_in old = ap record_spelled load.same_value in
+      let before : words.failure_count (cell_in mid) ≡ words.failure_count (cell_in old) = load.failures.otherwise (λ is. cc) in
+      record {
+        image = subst (λ (r : RecordView). IfOk result (λ image. image ≡ r.permanent)) same raised.image;
+        raised = subst (λ (r : RecordView). OnOk result ((record_in new ≡ with_epoch r) × IsSome (known_in new) × (r.epoch < MAX_COUNT) × IsTrue (fits_in (words.capacity (cell_in old)) (with_epoch r)))) same
+            (subst (λ (n : ℕ). OnOk result ((record_in new ≡ with_epoch (record_in mid)) × IsSome (known_in new) × ((record_in mid).epoch < MAX_COUNT) × IsTrue (fits_in n (with_epoch (record_in mid))))) load.same_room raised.raised);
+        refused = subst (λ (r : RecordView). IfErr result (IsRaiseRefusal (fits_in (words.capacity (cell_in old)) (with_epoch r)) r)) same
+            (subst (λ (n : ℕ). IfErr result (IsRaiseRefusal (fits_in n (with_epoch (record_in mid))) (record_in mid))) load.same_room raised.refused);
+        same_record = subst (λ (r : RecordView). OnErr result (¬ (IsErrOf result fault.Device) → record_in new ≡ r)) same raised.same_record;
+        failures = subst (λ (n : ℕ). HasFailures n (words.failure_count (cell_in new)) result) before raised.failures;
+        settled = raised.settled;
+        any_moment = subst (λ (r : RecordView). LeavesNext (with_epoch r) old new) same (looked_then words includes_now may_stay ready_settled (with_epoch (record_in mid)) old mid new load.any_moment raised.any_moment);
+        same_room = raised.same_room ∙ load.same_room;
+      }
+
+module _ {C : Type 0} (words : CellWords C)
+    (includes_now : (cell : C) (t : ℕ) (left : Option (List ℕ)) → t ≤ words.moment cell → words.may_leave cell left → words.left_since cell t left)
+    (may_stay : (cell : C) → words.may_leave cell (Some (words.value cell)))
+    (ready_settled : (cell : C) → IsTrue (words.is_ready cell) → Only (Some (words.value cell)) (words.may_leave cell))
+    (old : Store C words) (settled : Only (Some (words.value (cell_in old))) (words.may_leave (cell_in old))) (some : IsSome (known_in old)) where
+  raised_so : (new : Store C words) (image : ImageView) → image ≡ (record_in old).permanent → (changes : Changes refusal_to_raise with_epoch old new {T = Unit {0}} (Ok tt)) → (record_in old).epoch < MAX_COUNT → refusal_to_raise (record_in old) ≡ None
+      → IsRaised old new (Ok image)
+  raised_so new image is changes less fine =
+      let done = change_done words includes_now may_stay ready_settled refusal_to_raise with_epoch old new (Ok tt) some fine changes in
+      record {
+        image = is;
+        raised = (done.0, done.1, less, change_fits words includes_now may_stay ready_settled refusal_to_raise with_epoch old new (Ok tt) some fine changes);
+        refused = tt;
+        same_record = tt;
+        failures = record { device = λ e. cc; otherwise = λ other. changes.failures.otherwise (λ e. cc) };
+        settled = λ other. settled_ready words includes_now may_stay ready_settled new done.1;
+        any_moment = change_moments words includes_now may_stay ready_settled refusal_to_raise with_epoch old new (Ok tt) some fine changes;
+        same_room = changes.same_room;
+      }
+
+  -- the epoch was raised
+  pub raised : (new : Store C words) (image : ImageView) → image ≡ (record_in old).permanent → Changes refusal_to_raise with_epoch old new {T = Unit {0}} (Ok tt) → IsRaised old new (Ok image)
+  raised new image is changes = at (nat_lt (record_in old).epoch MAX_COUNT) refl
+    where
+      spent : nat_lt (record_in old).epoch MAX_COUNT ≡ false → ComesFirst {T = Unit {0}} (Some fault.Spent) (Ok tt)
+      spent test = subst (λ (o : Option StoreFault). ComesFirst {T = Unit {0}} o (Ok tt)) (ap (first_refusal refusal_to_raise) (some_known words old some) ∙ ap (λ (b : Bool). cond b None (Some fault.Spent)) test) changes.refusals
+
+      at : (b : Bool) → nat_lt (record_in old).epoch MAX_COUNT ≡ b → IsRaised old new (Ok image)
+      at true test = raised_so new image is changes (ltb-true (record_in old).epoch MAX_COUNT test) (ap (λ (b : Bool). cond b None (Some fault.Spent)) test)
+      at false test = let no : ComesFirst {T = Unit {0}} (Some fault.Spent) (Ok tt) = spent test in absurd (cc)

@@ -1,0 +1,171 @@
+-- A start and a decision as puts of the next record.
+use Rattle.std.proofs.Common.{◌≡◌, inr, ℕ, ◌+◌, ◌<◌, ◌≤◌, Bool, true, false, ◌&&◌, List, [], length, Option, Some, None, Result, refl, sym, ◌∙◌, ap, subst, arith, eqb}
+use Rattle.std.specs.Prelude.{IsTrue, IfOk, is_some, cond, nat_le, nat_lt}
+use Rattle.std.proofs.lemmas.Bool.{le-ltb, eq-eqb}
+use Rattle.std.proofs.lemmas.List.{length-set}
+use Rattle.sector_disk.specs.Clock.{Only}
+use Rattle.gate_cell.specs.declared.cell.StableCell.{Ghosts as CellWords}
+use Rattle.record.specs.ImageView.{ImageView}
+use Rattle.record.specs.RecordView.{RecordView}
+use Rattle.record.specs.Moves.{highest_seen, with_tentative, with_decision}
+use Rattle.record.specs.declared.record.Tentative.{Tentative}
+use Rattle.kahn_net.specs.declared.limits.TheConstants.{MAX_COUNT}
+use Rattle.ckpt_store.specs.Refusals.{is_held, is_other_held, refusal_to_take, refusal_to_decide}
+use Rattle.ckpt_store.specs.StoreView.{record_in, Changes}
+use Rattle.ckpt_store.specs.declared.store.Store.{Store}
+use Rattle.ckpt_store.specs.declared.fault.StoreFault.{StoreFault}
+use Rattle.ckpt_store.specs.declared.fault.StoreFault.TheVariants as fault
+use Rattle.node.specs.ArmedRestarts.{restart_after}
+use Rattle.node.specs.declared.restart.ArmedRestart.{ArmedRestart}
+use Rattle.node.specs.NodeView.{NodeView, ModeView, Down, InDoubt, Runs, RunningView, node_view, mode_view, running_in}
+use Rattle.node.specs.Starting.{is_none, is_running, is_down, is_own, own_number, held_number, crashed, may_start, may_decide, own_at, with_own_now, decided, IsStart, IsDecision}
+use Rattle.node.specs.StoredView.{HasRecord, IsCrashed, has_failed, put_outcome, IsAnswer}
+use Rattle.node.specs.declared.state.NodeState.{NodeState}
+use Rattle.node.specs.declared.putting.Putting.{Putting}
+use Rattle.node.proofs.Checkpoints.{Ends, ended, ends_step, ends_kept, is_answered}
+
+none_is : {A : Type 0} (o : Option A) → is_none o ≡ true → o ≡ None
+none_is None is = refl
+none_is (Some x) is = absurd (cc)
+
+both_of : (a b : Bool) → (a && b) ≡ true → (a ≡ true) × (b ≡ true)
+both_of true b is = (refl, is)
+both_of false b is = absurd (cc)
+
+and_false : (a : Bool) → (a && false) ≡ false
+and_false true = refl
+and_false false = refl
+
+all_false : (a b c d : Bool) (w x y z : Option StoreFault) → a ≡ false → b ≡ false → c ≡ false → d ≡ false → cond a w (cond b x (cond c y (cond d z None))) ≡ None
+all_false true b c d w x y z p q r s = absurd (cc)
+all_false false true c d w x y z p q r s = absurd (cc)
+all_false false false true d w x y z p q r s = absurd (cc)
+all_false false false false true w x y z p q r s = absurd (cc)
+all_false false false false false w x y z p q r s = refl
+
+none_other : (initiator number : ℕ) (o : Option Tentative) → o ≡ None → is_other_held initiator number o ≡ false
+none_other initiator number None is = refl
+none_other initiator number (Some held) is = absurd (cc)
+
+none_some : {A : Type 0} (a : Bool) (o : Option A) → o ≡ None → (a && is_some o) ≡ false
+none_some a None is = and_false a
+none_some a (Some x) is = absurd (cc)
+
+not_above : (n m : ℕ) → m < n → nat_le n m ≡ false
+not_above n m less = grind (arith, less)
+
+not_past : (n : ℕ) → n < MAX_COUNT → nat_lt MAX_COUNT (n + 1) ≡ false
+not_past n less = le-ltb MAX_COUNT (n + 1) (omega (arith, less))
+
+-- an own image that is held has this number
+own_is : (number : ℕ) (o : Option Tentative) (held : ℕ) → own_number number o ≡ Some held → (held_number o ≡ held) × (is_held number held o ≡ true) × (is_own number o ≡ true)
+own_is number None held is = absurd (cc)
+own_is number (Some t) held is = at (eqb t.initiator number) refl is
+  where
+    at : (b : Bool) → eqb t.initiator number ≡ b → cond b (Some t.number) None ≡ Some held → (t.number ≡ held) × ((eqb t.initiator number && eqb t.number held) ≡ true) × (eqb t.initiator number ≡ true)
+    at true test e = let same : t.number ≡ held = cc in (same, ap (λ (b : Bool). b && eqb t.number held) test ∙ eq-eqb t.number held same, test)
+    at false test e = absurd (cc)
+
+-- ---- a start
+
+module _ (number highest : ℕ) (image : ImageView) (kept : RecordView) (version restart : ℕ) (armed : List ArmedRestart) (mode : ModeView) (running : RunningView) (runs : mode ≡ Runs running) (same : image ≡ running.current) (seen : highest ≡ highest_seen number kept) where
+  abbrev view : NodeView
+  view = record { kept = kept; version = version; restart = restart; armed = armed; mode = mode }
+
+  pub next_own : with_tentative number (highest + 1) image kept ≡ with_own_now number view
+  next_own =
+      ap (λ (n : ℕ). with_tentative number (n + 1) image kept) seen
+      ∙ (ap (λ (i : ImageView). with_tentative number (highest_seen number kept + 1) i kept) same
+      ∙ ap (λ (m : ModeView). own_at number kept (running_in kept version m)) (sym runs))
+
+  pub own_fine : may_start view ≡ true → highest < MAX_COUNT → refusal_to_take number (highest + 1) kept ≡ None
+  own_fine due less =
+      let parts = both_of (is_running mode) (is_none kept.tentative && is_none kept.decision) due in
+      let free = both_of (is_none kept.tentative) (is_none kept.decision) parts.1 in
+      all_false (is_other_held number (highest + 1) kept.tentative) (nat_le (highest + 1) (highest_seen number kept)) (eqb number kept.node && is_some kept.decision) (nat_lt MAX_COUNT (highest + 1)) _ _ _ _
+      (none_other number (highest + 1) kept.tentative (none_is kept.tentative free.0)) (not_above (highest + 1) (highest_seen number kept) (omega (arith, seen)))
+      (none_some (eqb number kept.node) kept.decision (none_is kept.decision free.1)) (not_past highest less)
+
+module _ {C : Type 0} (words : CellWords C)
+    (includes_now : (cell : C) (t : ℕ) (left : Option (List ℕ)) → t ≤ words.moment cell → words.may_leave cell left → words.left_since cell t left)
+    (may_stay : (cell : C) → words.may_leave cell (Some (words.value cell)))
+    (ready_settled : (cell : C) → IsTrue (words.is_ready cell) → Only (Some (words.value cell)) (words.may_leave cell))
+    (number round call : ℕ) (old mid new : Store C words) (before after : NodeState) (put : Result (Unit {0}) StoreFault) (has : HasRecord number (mode_view before.mode) old)
+    (stays : has_failed put ≡ false → (new ≡ mid) × (after ≡ before))
+    (crash : IsTrue (has_failed put) → IsCrashed mid new × ((kept : RecordView) → node_view kept after ≡ crashed (restart_after before.armed.items call round) (node_view kept before))) where
+  -- from there on it may be recovered, where the device failed
+  abbrev restart : ℕ
+  restart = restart_after before.armed.items call round
+
+  abbrev was : NodeView
+  was = node_view (record_in old) before
+
+  up : is_running (mode_view before.mode) ≡ true → is_down (mode_view before.mode) ≡ false
+  up = at (mode_view before.mode)
+    where
+      at : (m : ModeView) → is_running m ≡ true → is_down m ≡ false
+      at Down is = absurd (cc)
+      at InDoubt is = absurd (cc)
+      at (Runs running) is = refl
+
+  module _ (highest : ℕ) (image : ImageView) (running : RunningView) (runs : mode_view before.mode ≡ Runs running) (same : image ≡ running.current) (seen : highest ≡ highest_seen number (record_in old)) (due : may_start was ≡ true)
+      (less : highest < MAX_COUNT) (changes : Changes (refusal_to_take number (highest + 1)) (with_tentative number (highest + 1) image) old mid put) where
+    pub start_ends : Ends (with_own_now number was) restart old new before after put
+    start_ends =
+        subst (λ (next : RecordView). Ends next restart old new before after put) (next_own number highest image (record_in old) before.version before.restart before.armed.items (mode_view before.mode) running runs same seen)
+        (ended words includes_now may_stay ready_settled (refusal_to_take number (highest + 1)) (with_tentative number (highest + 1) image) old mid new put
+        (has.ready (ap is_down runs)) (own_fine number highest image (record_in old) before.version before.restart before.armed.items (mode_view before.mode) running runs same seen due less) changes has.settled restart before after stays crash)
+
+    pub start_kept : HasRecord number (mode_view after.mode) new
+    start_kept = ends_kept (with_own_now number was) restart old new before after put start_ends number has long node
+      where
+        next : RecordView
+        next = with_own_now number was
+
+        is : next ≡ with_tentative number (highest + 1) image (record_in old)
+        is = sym (next_own number highest image (record_in old) before.version before.restart before.armed.items (mode_view before.mode) running runs same seen)
+
+        long : length next.highest ≡ length ((record_in old).highest)
+        long = ap (λ (r : RecordView). length r.highest) is ∙ length-set ((record_in old).highest) number (highest + 1)
+
+        node : next.node ≡ (record_in old).node
+        node = ap (λ (r : RecordView). r.node) is
+
+    pub start_step : {E : Type 0} (answer : Result Putting E) → IsAnswer (put_outcome put) answer → IfOk answer (λ outcome. IsStart number round call was outcome (node_view (record_in new) after))
+    start_step answer is =
+        is_answered (put_outcome put) answer is (λ outcome. IsStart number round call was outcome (node_view (record_in new) after))
+        (ends_step (with_own_now number was) restart old new before after put start_ends (λ outcome now. IsStart number round call was outcome now)
+        (due, seen_less, refl) (due, inr (refl, seen_less), refl) (λ w failed. (due, seen_less, failed)))
+      where
+        seen_less : highest_seen number (record_in old) < MAX_COUNT
+        seen_less = subst (λ (n : ℕ). n < MAX_COUNT) seen less
+
+  -- ---- a decision
+
+  module _ (held : ℕ) (participants : List ℕ) (nobody : participants ≡ []) (runs : is_running (mode_view before.mode) ≡ true) (is : own_number number (record_in old).tentative ≡ Some held)
+      (changes : Changes (refusal_to_decide held) (with_decision held participants) old mid put) where
+    pub decide_ends : Ends (decided (record_in old)) restart old new before after put
+    decide_ends =
+        subst (λ (next : RecordView). Ends next restart old new before after put) next
+        (ended words includes_now may_stay ready_settled (refusal_to_decide held) (with_decision held participants) old mid new put (has.ready (up runs)) fine changes has.settled restart before after stays crash)
+      where
+        next : with_decision held participants (record_in old) ≡ decided (record_in old)
+        next =
+            ap (λ (ps : List ℕ). with_decision held ps (record_in old)) nobody
+            ∙ ap (λ (n : ℕ). with_decision n [] (record_in old)) (sym (own_is number (record_in old).tentative held is).0)
+
+        fine : refusal_to_decide held (record_in old) ≡ None
+        fine = ap (λ (b : Bool). cond b None (Some fault.NotHeld))
+            (ap (λ (node : ℕ). is_held node held (record_in old).tentative) has.named ∙ (own_is number (record_in old).tentative held is).1)
+
+    pub decide_kept : HasRecord number (mode_view after.mode) new
+    decide_kept = ends_kept (decided (record_in old)) restart old new before after put decide_ends number has refl refl
+
+    pub decide_step : {E : Type 0} (answer : Result Putting E) → IsAnswer (put_outcome put) answer → IfOk answer (λ outcome. IsDecision number round call was outcome (node_view (record_in new) after))
+    decide_step answer is_answer =
+        is_answered (put_outcome put) answer is_answer (λ outcome. IsDecision number round call was outcome (node_view (record_in new) after))
+        (ends_step (decided (record_in old)) restart old new before after put decide_ends (λ outcome now. IsDecision number round call was outcome now)
+        (due, refl) (due, refl, refl) (λ w failed. (due, failed)))
+      where
+        due : may_decide number was ≡ true
+        due = ap (λ (b : Bool). b && is_own number (record_in old).tentative) runs ∙ (own_is number (record_in old).tentative held is).2

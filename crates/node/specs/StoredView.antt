@@ -1,0 +1,110 @@
+-- A node's record, as its store has it.
+use Rattle.std.specs.Prelude.{◌≡◌, ◌⊎◌, ℕ, ◌<◌, ◌≤◌, Bool, true, false, length, Option, Some, None, IsSome, IsTrue, Result, Ok, Err, IfOk, IfErr, OnOk, OnErr, IsErrOf}
+use Rattle.sector_disk.specs.Clock.{Only, LeavesOnly}
+use Rattle.gate_cell.specs.declared.cell.StableCell.{Ghosts as CellWords}
+use Rattle.record.specs.RecordView.{RecordView}
+use Rattle.record.specs.ImageView.{ImageView}
+use Rattle.record.specs.Moves.{with_epoch}
+use Rattle.kahn_net.specs.declared.limits.TheConstants.{MAX_COUNT}
+use Rattle.ckpt_store.specs.Spelling.{Spells, fits_in}
+use Rattle.ckpt_store.specs.StoreFault.{refusal_number, HasFailures}
+use Rattle.ckpt_store.specs.StoreView.{cell_in, known_in, record_in}
+use Rattle.ckpt_store.specs.declared.store.Store.{Store}
+use Rattle.ckpt_store.specs.declared.fault.StoreFault.{StoreFault}
+use Rattle.ckpt_store.specs.declared.fault.StoreFault.TheVariants as fault
+use Rattle.node.specs.NodeView.{ModeView}
+use Rattle.node.specs.Starting.{is_down}
+use Rattle.node.specs.declared.putting.Putting.{Putting}
+use Rattle.node.specs.declared.putting.Putting.TheVariants.{Stored, Refused, Failed}
+
+-- What a node's type keeps of its store: the record is the node's and has an entry for it; while the node is up the store is ready; and a
+-- crash now leaves that record and no other.
+pub record HasRecord {C : Type 0} {words : CellWords C} (number : ℕ) (mode : ModeView) (store : Store C words) : Type 0 where
+  pub listed : number < length ((record_in store).highest)
+  pub named : (record_in store).node ≡ number
+  pub ready : is_down mode ≡ false → IsSome (known_in store)
+  pub settled : Only (Some (words.value (cell_in store))) (words.may_leave (cell_in store))
+
+-- a crash at any moment between leaves what it might have left before, or this record
+abbrev pub LeavesNext : {C : Type 0} {words : CellWords C} → RecordView → Store C words → Store C words → Type 0
+LeavesNext {words = words} next old new = LeavesOnly words.moment words.left_since (cell_in old) (cell_in new) (λ left. words.may_leave (cell_in old) left ⊎ Spells next left)
+
+-- or nothing but that
+abbrev pub LeavesAsBefore : {C : Type 0} {words : CellWords C} → Store C words → Store C words → Type 0
+LeavesAsBefore {words = words} old new = LeavesOnly words.moment words.left_since (cell_in old) (cell_in new) (words.may_leave (cell_in old))
+
+-- What a crash makes of a store that has a record: none is known until it is reopened, and what its cell holds is settled.
+pub record IsCrashed {C : Type 0} {words : CellWords C} (old new : Store C words) : Type 0 where
+  pub down : known_in new ≡ None
+  pub left : words.may_leave (cell_in old) (Some (words.value (cell_in new)))
+  pub settled : Only (Some (words.value (cell_in new))) (words.may_leave (cell_in new))
+  pub any_moment : LeavesAsBefore old new
+  pub same_room : words.capacity (cell_in new) ≡ words.capacity (cell_in old)
+  pub failures : words.failure_count (cell_in new) ≡ words.failure_count (cell_in old)
+  pub same_failed : words.failed_call (cell_in new) ≡ words.failed_call (cell_in old)
+
+-- why a record isn't raised to its next epoch: there is none (44), the record doesn't fit (22), or memory or the device fails
+abbrev pub IsRaiseRefusal : Bool → RecordView → StoreFault → Type 0
+IsRaiseRefusal fits kept fault.NoMemory = Unit {0}
+IsRaiseRefusal fits kept fault.Device = Unit {0}
+IsRaiseRefusal fits kept fault.TooLarge = (kept.epoch < MAX_COUNT) × (fits ≡ false)
+IsRaiseRefusal fits kept fault.Spent = MAX_COUNT ≤ kept.epoch
+IsRaiseRefusal fits kept fault.Reopen = ⊥
+IsRaiseRefusal fits kept fault.Truncated = ⊥
+IsRaiseRefusal fits kept fault.Version = ⊥
+IsRaiseRefusal fits kept fault.Malformed = ⊥
+IsRaiseRefusal fits kept fault.HoldsOther = ⊥
+IsRaiseRefusal fits kept fault.PastNumber = ⊥
+IsRaiseRefusal fits kept fault.NotHeld = ⊥
+IsRaiseRefusal fits kept fault.Unsettled = ⊥
+
+-- The store of a node that is down was reopened, and its record is in the next epoch: `result` is the permanent image, or why it isn't. After a
+-- failure of the device the record is the old one or the next one; after any other refusal the old one.
+pub record IsRaised {C : Type 0} {words : CellWords C} (old new : Store C words) (result : Result ImageView StoreFault) : Type 0 where
+  pub image : IfOk result (λ image. image ≡ (record_in old).permanent)
+  pub raised : OnOk result ((record_in new ≡ with_epoch (record_in old)) × IsSome (known_in new) × ((record_in old).epoch < MAX_COUNT) × IsTrue (fits_in (words.capacity (cell_in old)) (with_epoch (record_in old))))
+  pub refused : IfErr result (IsRaiseRefusal (fits_in (words.capacity (cell_in old)) (with_epoch (record_in old))) (record_in old))
+  pub same_record : OnErr result (¬ (IsErrOf result fault.Device) → record_in new ≡ record_in old)
+  pub failures : HasFailures (words.failure_count (cell_in old)) (words.failure_count (cell_in new)) result
+  pub settled : ¬ (IsErrOf result fault.Device) → Only (Some (words.value (cell_in new))) (words.may_leave (cell_in new))
+  pub any_moment : LeavesNext (with_epoch (record_in old)) old new
+  pub same_room : words.capacity (cell_in new) ≡ words.capacity (cell_in old)
+
+-- what a put that the store did, or refused, comes to: nothing where memory was missing
+abbrev pub put_outcome : Result (Unit {0}) StoreFault → Option Putting
+put_outcome (Ok x) = Some Stored
+put_outcome (Err fault.NoMemory) = None
+put_outcome (Err fault.Device) = Some Failed
+put_outcome (Err fault.TooLarge) = Some (Refused 22)
+put_outcome (Err fault.Reopen) = Some (Refused (refusal_number fault.Reopen))
+put_outcome (Err fault.Truncated) = Some (Refused (refusal_number fault.Truncated))
+put_outcome (Err fault.Version) = Some (Refused (refusal_number fault.Version))
+put_outcome (Err fault.Malformed) = Some (Refused (refusal_number fault.Malformed))
+put_outcome (Err fault.HoldsOther) = Some (Refused (refusal_number fault.HoldsOther))
+put_outcome (Err fault.PastNumber) = Some (Refused (refusal_number fault.PastNumber))
+put_outcome (Err fault.NotHeld) = Some (Refused (refusal_number fault.NotHeld))
+put_outcome (Err fault.Unsettled) = Some (Refused (refusal_number fault.Unsettled))
+put_outcome (Err fault.Spent) = Some (Refused (refusal_number fault.Spent))
+
+-- this is answered, or memory is missing
+abbrev pub IsAnswer : {A E : Type 0} → Option A → Result A E → Type 0
+IsAnswer None (Ok y) = ⊥
+IsAnswer None (Err e) = Unit {0}
+IsAnswer (Some x) (Ok y) = y ≡ x
+IsAnswer (Some x) (Err e) = ⊥
+
+-- the device failed
+abbrev pub has_failed : Result (Unit {0}) StoreFault → Bool
+has_failed (Ok x) = false
+has_failed (Err fault.Device) = true
+has_failed (Err fault.NoMemory) = false
+has_failed (Err fault.TooLarge) = false
+has_failed (Err fault.Reopen) = false
+has_failed (Err fault.Truncated) = false
+has_failed (Err fault.Version) = false
+has_failed (Err fault.Malformed) = false
+has_failed (Err fault.HoldsOther) = false
+has_failed (Err fault.PastNumber) = false
+has_failed (Err fault.NotHeld) = false
+has_failed (Err fault.Unsettled) = false
+has_failed (Err fault.Spent) = false

@@ -1,0 +1,41 @@
+// A fault is armed on a node's disk.
+ghost use Rattle.std.specs.Prelude.{◌≡◌, OnErr, OnOk};
+ghost use Rattle.ckpt_store.specs.StoreView.{cell_in, record_in};
+ghost use Rattle.node.specs.ArmedRestarts.{with_armed};
+ghost use Rattle.node.specs.NodeView.{mode_view, node_view};
+ghost use Rattle.node.specs.StoredView.{HasRecord, LeavesAsBefore};
+
+use crate::restart::ArmedRestart;
+use crate::state::NodeState;
+use ckpt_store::Store;
+use gate_cell::StableCell;
+use sector_disk::ArmedFault;
+use std::alloc::AllocError;
+
+// Arms a fault, and notes for how many rounds it is to keep the node down. The room for the note is taken first, so that the
+// disk isn't armed where the node couldn't note it.
+pub(crate) fn arm<C: StableCell>(
+    number: u8,
+    state: &mut NodeState,
+    store: &mut Store<C>,
+    fault: ArmedFault,
+    rounds: u64,
+) -> Result<(), AllocError>
+    requires { HasRecord number (mode_view state.old.mode) store.old }
+    ensures kept { HasRecord number (mode_view state.new.mode) store.new }
+    ensures armed { OnOk result (node_view (record_in store.new) state.new
+        ≡ with_armed fault.call rounds (node_view (record_in store.old) state.old)) }
+    ensures refused { OnErr result (node_view (record_in store.new) state.new
+        ≡ node_view (record_in store.old) state.old) }
+    ensures any_moment { LeavesAsBefore store.old store.new }
+    ensures same_room { C.capacity (cell_in store.new) ≡ C.capacity (cell_in store.old) }
+    ensures failures { C.failure_count (cell_in store.new) ≡ C.failure_count (cell_in store.old) }
+{
+    state.armed.reserve(1)?;
+    store.arm(fault)?;
+    state.armed.push_reserved(ArmedRestart {
+        call: fault.call,
+        rounds,
+    });
+    Ok(())
+}

@@ -1,0 +1,156 @@
+// A node crashes, and comes back.
+ghost use Rattle.std.specs.Prelude.{◌≡◌, false, IfOk, IsSome, IsTrue, None, OnErr, Some, is_some};
+ghost use Rattle.sector_disk.specs.Clock.{Only};
+ghost use Rattle.ckpt_store.specs.Spelling.{fits_in};
+ghost use Rattle.ckpt_store.specs.StoreView.{cell_in, known_in, record_in};
+ghost use Rattle.record.specs.Moves.{with_epoch};
+ghost use Rattle.record.specs.RecordView.{RecordView};
+ghost use Rattle.node.specs.NodeView.{mode_view, node_view, with_mode};
+ghost use Rattle.node.specs.Recovering.{IsCrash, IsRecovery, IsRecoveryPut, back_answer, restored_from, restored_mode};
+ghost use Rattle.node.specs.StoredView.{HasRecord, IsRaised, LeavesAsBefore, LeavesNext};
+
+use crate::checkpoint::has_failed;
+use crate::mode::Mode;
+use crate::putting::Recovery;
+use crate::running::Running;
+use crate::state::NodeState;
+use ckpt_store::{Store, StoreFault};
+use gate_cell::StableCell;
+use record::Image;
+use std::alloc::{AllocError, Global};
+
+// A node that is up crashes; says whether it was. What its cell holds is settled by this byte, where one is given.
+pub(crate) fn crash<C: StableCell>(
+    number: u8,
+    state: &mut NodeState,
+    store: &mut Store<C>,
+    fill: Option<u8>,
+    restart: u64,
+) -> bool
+    requires { HasRecord number (mode_view state.old.mode) store.old }
+    ensures kept { HasRecord number (mode_view state.new.mode) store.new }
+    ensures step { IsCrash restart (node_view (record_in store.old) state.old) result
+        (node_view (record_in store.new) state.new) }
+    ensures any_moment { LeavesAsBefore store.old store.new }
+    ensures same_room { C.capacity (cell_in store.new) ≡ C.capacity (cell_in store.old) }
+    ensures failures { C.failure_count (cell_in store.new) ≡ C.failure_count (cell_in store.old) }
+    ensures unknown { IsTrue result → known_in store.new ≡ None }
+    ensures unchanged { result ≡ false → store.new ≡ store.old }
+{
+    if state.is_down() {
+        return false;
+    }
+    store.crash(fill);
+    state.stop(restart);
+    true
+}
+
+// The mode in which a node comes back, with this permanent image.
+fn mode_from(image: Image, holds: bool) -> Mode
+    ensures { mode_view result ≡ restored_from image holds }
+{
+    if holds {
+        Mode::InDoubt
+    } else {
+        Mode::Running(Running {
+            current: image,
+            out: None,
+            last: None,
+        })
+    }
+}
+
+// Takes the memory for the permanent image of a store that is open, and raises its epoch.
+fn raise_open<C: StableCell>(alloc: Global, store: &mut Store<C>) -> Result<Image, StoreFault>
+    requires known { IsSome (known_in store.old) }
+    requires settled { Only (Some (C.value (cell_in store.old))) (C.may_leave (cell_in store.old)) }
+    ensures { IsRaised store.old store.new result }
+{
+    let Ok(kept) = store.record() else {
+        return Err(StoreFault::Reopen);
+    };
+    let Ok(image) = kept.permanent.copy(alloc) else {
+        return Err(StoreFault::NoMemory);
+    };
+    match store.raise_epoch(alloc) {
+        Ok(()) => Ok(image),
+        Err(fault) => Err(fault),
+    }
+}
+
+// Reopens the store of a node that is down, and raises its epoch.
+fn raise<C: StableCell>(alloc: Global, store: &mut Store<C>) -> Result<Image, StoreFault>
+    requires { Only (Some (C.value (cell_in store.old))) (C.may_leave (cell_in store.old)) }
+    ensures { IsRaised store.old store.new result }
+{
+    match store.reopen(alloc) {
+        Ok(()) => raise_open(alloc, store),
+        Err(fault) => Err(fault),
+    }
+}
+
+// Whether a store's record holds a tentative image.
+fn holds<C: StableCell>(store: &Store<C>) -> bool
+    ensures { IsSome (known_in store.now) → result ≡ is_some (record_in store.now).tentative }
+{
+    match store.record() {
+        Ok(kept) => kept.tentative.is_some(),
+        Err(_) => false,
+    }
+}
+
+// A node comes back, with its record's permanent image.
+fn come_back<C: StableCell>(image: Image, state: &mut NodeState, store: &Store<C>) -> Recovery
+    requires known { IsSome (known_in store.now) }
+    requires image { image ≡ (record_in store.now).permanent }
+    ensures state { (kept : RecordView) → node_view kept state.new
+        ≡ with_mode (restored_mode (record_in store.now)) (node_view kept state.old) }
+    ensures answer { result ≡ back_answer (restored_mode (record_in store.now)) }
+{
+    let holds = holds(store);
+    state.mode = mode_from(image, holds);
+    if holds {
+        Recovery::Waiting
+    } else {
+        Recovery::Recovered
+    }
+}
+
+// A node that is down comes back in its next epoch, without a tentative image of its own.
+pub(crate) fn recover<C: StableCell>(
+    alloc: Global,
+    number: u8,
+    state: &mut NodeState,
+    store: &mut Store<C>,
+    round: u64,
+) -> Result<Recovery, AllocError>
+    requires { HasRecord number (mode_view state.old.mode) store.old }
+    ensures kept { HasRecord number (mode_view state.new.mode) store.new }
+    ensures step { IfOk result (λ outcome. IsRecovery round
+        (C.failed_call (cell_in store.new)) (node_view (record_in store.old) state.old) outcome
+        (node_view (record_in store.new) state.new)) }
+    ensures refused { OnErr result (node_view (record_in store.new) state.new
+        ≡ node_view (record_in store.old) state.old) }
+    ensures put { IfOk result (IsRecoveryPut
+        (fits_in (C.capacity (cell_in store.old)) (with_epoch (record_in store.old)))
+        (C.failure_count (cell_in store.old)) (C.failure_count (cell_in store.new))) }
+    ensures refused_failures { OnErr result
+        (C.failure_count (cell_in store.new) ≡ C.failure_count (cell_in store.old)) }
+    ensures unchanged { IfOk result (λ outcome. outcome ≡ Recovery.NotDue → store.new ≡ store.old) }
+    ensures any_moment { LeavesNext (with_epoch (record_in store.old)) store.old store.new }
+    ensures same_room { C.capacity (cell_in store.new) ≡ C.capacity (cell_in store.old) }
+{
+    if !state.is_down() {
+        return Ok(Recovery::NotDue);
+    }
+    match raise(alloc, store) {
+        Ok(image) => Ok(come_back(image, state, store)),
+        Err(StoreFault::NoMemory) => Err(AllocError),
+        Err(StoreFault::Device) => {
+            store.crash(None);
+            state.restart = state.restart_after(store.failed_call(), round);
+            Ok(Recovery::Failed)
+        }
+        Err(fault) => Ok(Recovery::Refused(fault.number())),
+    }
+}

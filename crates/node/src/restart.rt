@@ -1,0 +1,34 @@
+//! How long a failing device keeps its node down.
+ghost use Rattle.std.specs.Prelude.{◌≡◌};
+ghost use Rattle.node.specs.ArmedRestarts.{round_later, rounds_at};
+
+use kahn_net::MAX_COUNT;
+
+/// For how many rounds a fault that is armed at a device call keeps the node down.
+#[derive(Clone, Copy, Debug, PartialEq, Eq)]
+pub struct ArmedRestart {
+    /// The call, as the count of device calls since the last recount, from 1.
+    pub call: u64,
+    /// So many rounds after the failure the node may be recovered: 1 for a mere failure.
+    pub rounds: u64,
+}
+
+/// The round that comes so many later. The last one is the greatest number.
+pub fn round_later(round: u64, rounds: u64) -> u64
+    ensures { result ≡ round_later round rounds }
+{
+    round.saturating_add(rounds).min(MAX_COUNT)
+}
+
+// For how many rounds the failure of this call keeps the node down: of several faults armed for one call the first counts, and
+// a failure that nobody armed takes one round.
+pub(crate) fn rounds_at(armed: &[ArmedRestart], call: u64) -> u64
+    ensures { result ≡ rounds_at armed.now call }
+{
+    for restart in armed {
+        if restart.call == call {
+            return restart.rounds;
+        }
+    }
+    1
+}

@@ -1,0 +1,150 @@
+//! What a node has while it runs.
+ghost use Rattle.std.specs.Prelude.{◌≡◌, ◌↔◌, IfOk, IsErrOf, IsTrue, OnErr, Some, is_some, option_map};
+ghost use Rattle.kahn_net.specs.Syntax.{network_of};
+ghost use Rattle.kahn_net.specs.States.{standing_of};
+ghost use Rattle.node.specs.Choosing.{after_grant, may_grant, next_job};
+ghost use Rattle.node.specs.Installing.{ImageTakes, IsTaken};
+ghost use Rattle.node.specs.JobView.{job_view};
+
+use crate::choosing::next_process;
+use crate::granting::make_job;
+use crate::installing::install_turn;
+use kahn_net::{Channel, MAX_COUNT};
+use net_check::{Inputs, Net};
+use proc_step::{Done, Job};
+use record::{Image, Record};
+use retained::LogFault;
+use std::alloc::{AllocError, Global};
+use std::sync::Arc;
+
+/// What a node has in memory while it runs. A crash loses it.
+#[derive(Drop)]
+pub struct Running {
+    /// Where its processes and channels stand now.
+    pub current: Image,
+    /// The job that is out, to compare with what comes back.
+    pub out: Option<Job>,
+    /// The process to which the last job was granted: none at first, and once an image was restored.
+    pub last: Option<u8>,
+}
+
+impl Running {
+    ghost use Rattle.node.specs.NodeView.{running_node, running_view};
+
+    // Whether a job may be granted, if a process is ready, at a node with this record and version.
+    fn can_grant(&self, kept: &Record, version: u64) -> bool
+        ensures { result ≡ may_grant (running_node kept.now version (running_view self.now)) }
+    {
+        kept.tentative.is_none() && self.out.is_none() && version < MAX_COUNT
+    }
+
+    /// Whether a job can be granted now, at a node with this record and version.
+    pub fn has_job(&self, net: &Net, inputs: &Inputs, kept: &Record, version: u64) -> bool
+        ensures { result ≡ is_some (next_job (network_of net.now.program) inputs.now
+            (running_node kept.now version (running_view self.now))) }
+    {
+        self.can_grant(kept, version)
+            && next_process(net, inputs.as_slice(), &self.current, self.last).is_some()
+    }
+
+    // The job that is granted next.
+    fn next_job(
+        &self,
+        alloc: Global,
+        net: &Arc<Net>,
+        inputs: &Inputs,
+        kept: &Record,
+        version: u64,
+    ) -> Result<Option<Job>, AllocError>
+        ensures { IfOk result (λ job. option_map job_view job
+            ≡ next_job (network_of net.now.value.program) inputs.now
+            (running_node kept.now version (running_view self.now))) }
+    {
+        if !self.can_grant(kept, version) {
+            return Ok(None);
+        }
+        match next_process(net, inputs.as_slice(), &self.current, self.last) {
+            Some(saved) => Ok(Some(make_job(
+                alloc,
+                net,
+                inputs,
+                &self.current,
+                usize::from(saved.number),
+                &saved.state,
+                version,
+            )?)),
+            None => Ok(None),
+        }
+    }
+
+    /// Grants a job to the ready process that is next: its state, the items at hand and the room. A copy is kept to
+    /// compare with what comes back. `None` where no job can be granted. Refuses for want of memory alone.
+    pub fn grant(
+        &mut self,
+        alloc: Global,
+        net: &Arc<Net>,
+        inputs: &Inputs,
+        kept: &Record,
+        version: u64,
+    ) -> Result<Option<Job>, AllocError>
+        ensures job { IfOk result (λ job. option_map job_view job
+            ≡ next_job (network_of net.now.value.program) inputs.now
+            (running_node kept.now version (running_view self.old))) }
+        ensures state { IfOk result
+            (λ job. running_node kept.now version (running_view self.new)
+            ≡ after_grant (next_job (network_of net.now.value.program) inputs.now
+            (running_node kept.now version (running_view self.old)))
+            (running_node kept.now version (running_view self.old))) }
+        ensures err { OnErr result (running_view self.new ≡ running_view self.old) }
+    {
+        let job = self.next_job(alloc, net, inputs, kept, version)?;
+        if let Some(out) = self.next_job(alloc, net, inputs, kept, version)? {
+            self.last = Some(out.process as u8);
+            self.out = Some(out);
+        }
+        Ok(job)
+    }
+
+    // Whether a job is the one that is out.
+    fn is_out(&self, job: &Job) -> bool
+        ensures { IsTrue result ↔ ((running_view self.now).out ≡ Some (job_view job.now)) }
+    {
+        match &self.out {
+            Some(out) => out.is_same(job),
+            None => false,
+        }
+    }
+
+    /// Takes in what came of a job, if it is the one that is out; says whether it was. Refuses for want of memory alone,
+    /// and then nothing is changed.
+    pub fn install(
+        &mut self,
+        alloc: Global,
+        channels: &[Channel],
+        done: &Done,
+    ) -> Result<bool, LogFault>
+        requires { (running_view self.old).out ≡ Some (job_view done.now.job)
+            → ImageTakes channels.now done.now.job.process done.now.taken.items done.now.sent.items
+            self.old.current }
+        ensures step { IfOk result (λ applied. IsTaken channels.now (job_view done.now.job)
+            (standing_of done.now.state) done.now.taken.items done.now.sent.items
+            (running_view self.old) applied (running_view self.new)) }
+        ensures err { OnErr result (running_view self.new ≡ running_view self.old) }
+        ensures full { ¬ (IsErrOf result LogFault.Full) }
+    {
+        if !self.is_out(&done.job) {
+            return Ok(false);
+        }
+        install_turn(
+            alloc,
+            &mut self.current,
+            channels,
+            done.job.process,
+            &done.state,
+            &done.taken,
+            &done.sent,
+        )?;
+        self.out = None;
+        Ok(true)
+    }
+}

@@ -1,0 +1,192 @@
+//! How the tests grant a job and take in what came of it.
+
+ghost use Rattle.std.specs.Prelude.{◌≡◌, IsTrue, Some};
+ghost use Rattle.retained.specs.LogState.{Overfills};
+ghost use Rattle.record.specs.Ends.{received_at, log_at};
+ghost use Rattle.node.specs.Granting.{is_process};
+ghost use Rattle.node.specs.NodeView.{mode_view};
+ghost use Rattle.record.specs.Changes.{LogTakes};
+ghost use Rattle.node.specs.Installing.{taken_from, put_on, EndTakes, ImageTakes, TakesTurn};
+
+use crate::nodes::TestNode;
+use kahn_net::{Channel, History, MAX_COUNT, Port};
+use net_check::{Inputs, Net, bind, check};
+use net_text::{parse, parse_inputs};
+use node::Mode;
+use proc_step::{Done, Job};
+use record::{End, Image, SavedEnd};
+use retained::{Log, MAX_LOG_ITEMS};
+use std::alloc::Global;
+use std::sync::Arc;
+use std::test::Fail;
+
+// The running sum: input 0, output 1.
+const SUM: &str =
+    "kahn 1; input i; output o; process sum on 0 { var a; var v; loop { v = get i; a = a + v; put a to o; } }";
+
+// Two outputs, 0 and 1.
+const PAIR: &str =
+    "kahn 1; output a; output b; process pair on 0 { var v; put v to a; put v to b; }";
+
+fn net_of(alloc: Global, text: &str) -> Result<Arc<Net>, Fail> {
+    let net = check(alloc, parse(alloc, text)?)?;
+    Ok(Arc::new(alloc, net)?)
+}
+
+pub(crate) fn sum_net(alloc: Global) -> Result<Arc<Net>, Fail> {
+    net_of(alloc, SUM)
+}
+
+pub(crate) fn pair_net(alloc: Global) -> Result<Arc<Net>, Fail> {
+    net_of(alloc, PAIR)
+}
+
+pub(crate) fn items_in(alloc: Global, net: &Net, text: &str) -> Result<Inputs, Fail> {
+    Ok(bind(alloc, net, parse_inputs(alloc, text)?)?)
+}
+// Whether this process stands at an end of a channel.
+fn is_at(port: Port, process: usize) -> bool
+    ensures { result ≡ is_process process port }
+{
+    match port {
+        Port::Outside => false,
+        Port::Process(number) => process == number,
+    }
+}
+
+// How many items a process took from a channel.
+fn count_taken(channels: &[Channel], process: usize, taken: &[usize], channel: u8) -> usize
+    ensures { result ≡ taken_from channels.now process taken.now channel }
+{
+    match channels.get(usize::from(channel)) {
+        Some(ends) if is_at(ends.consumer, process) => {
+            taken.get(usize::from(channel)).copied().unwrap_or(0)
+        }
+        _ => 0,
+    }
+}
+
+// The items that a process put on a channel.
+fn items_put<'a>(
+    channels: &[Channel],
+    process: usize,
+    sent: &'a [History],
+    channel: u8,
+) -> &'a [i64]
+    ensures { result.now ≡ put_on channels.now process sent.now channel }
+{
+    match channels.get(usize::from(channel)) {
+        Some(ends) if is_at(ends.producer, process) => {
+            match sent.get(usize::from(channel)) {
+                Some(items) => items.as_slice(),
+                None => &[],
+            }
+        }
+        _ => &[],
+    }
+}
+
+fn received_at(end: &End) -> u64
+    ensures { result ≡ received_at (Some end.now) }
+{
+    match end {
+        End::Receives { received } | End::Both { received, .. } => *received,
+        End::Sends { .. } => 0,
+    }
+}
+
+fn log_fits(log: &Log, count: usize) -> bool
+    ensures { IsTrue result → ¬ (Overfills log.now count) }
+{
+    count <= MAX_LOG_ITEMS - log.len() && count as u64 <= MAX_COUNT - log.end()
+}
+
+fn put_fits(end: &End, count: usize) -> bool
+    ensures { IsTrue result → LogTakes count (log_at (Some end.now)) }
+{
+    match end {
+        End::Receives { .. } => true,
+        End::Sends { log } | End::Both { log, .. } => log_fits(log, count),
+    }
+}
+
+// Whether an end takes what came of a job.
+fn end_fits(channels: &[Channel], done: &Done, saved: &SavedEnd) -> bool
+    ensures { IsTrue result → EndTakes channels.now done.now.job.process done.now.taken.items
+        done.now.sent.items saved.now }
+{
+    let process = done.job.process;
+    let taken = count_taken(channels, process, &done.taken, saved.channel) as u64;
+    let put = items_put(channels, process, &done.sent, saved.channel).len();
+    taken <= MAX_COUNT && received_at(&saved.end) <= MAX_COUNT - taken && put_fits(&saved.end, put)
+}
+
+fn image_fits(channels: &[Channel], done: &Done, image: &Image) -> bool
+    ensures { IsTrue result → ImageTakes channels.now done.now.job.process done.now.taken.items
+        done.now.sent.items image.now }
+{
+    for saved in &image.ends {
+        if !end_fits(channels, done, saved) {
+            return false;
+        }
+    }
+    true
+}
+
+// Whether what a node has, if it runs, takes what came of a job.
+fn mode_fits(channels: &[Channel], done: &Done, mode: &Mode) -> bool
+    ensures { IsTrue result → TakesTurn channels.now done.now.job.process done.now.taken.items
+        done.now.sent.items (mode_view mode.now) }
+{
+    match mode {
+        Mode::Running(running) => image_fits(channels, done, &running.current),
+        Mode::Down | Mode::InDoubt => true,
+    }
+}
+
+/// Takes in what came of a job; says whether it was taken in.
+pub(crate) fn take_in(
+    alloc: Global,
+    node: &mut TestNode,
+    net: &Net,
+    done: &Done,
+) -> Result<bool, Fail> {
+    let state = &node.state;
+    if !mode_fits(&net.program.channels, done, &state.mode) {
+        return Err("the turn doesn't fit".into());
+    }
+    Ok(node.install(alloc, &net.program.channels, done)?)
+}
+
+/// The job that a node grants.
+pub(crate) fn granted(
+    alloc: Global,
+    node: &mut TestNode,
+    net: &Arc<Net>,
+    inputs: &Inputs,
+) -> Result<Job, Fail> {
+    match node.grant(alloc, net, inputs)? {
+        Some(job) => Ok(job),
+        None => Err("no job".into()),
+    }
+}
+
+/// What came of the job that a node grants.
+pub(crate) fn done_by(
+    alloc: Global,
+    node: &mut TestNode,
+    net: &Arc<Net>,
+    inputs: &Inputs,
+) -> Result<Done, Fail> {
+    Ok(granted(alloc, node, net, inputs)?.run(alloc)?)
+}
+
+/// Whether nothing is granted, nor said to be.
+pub(crate) fn grants_nothing(
+    alloc: Global,
+    node: &mut TestNode,
+    net: &Arc<Net>,
+    inputs: &Inputs,
+) -> Result<bool, Fail> {
+    Ok(!node.has_job(net, inputs) && node.grant(alloc, net, inputs)?.is_none())
+}

@@ -1,0 +1,5 @@
+use Rattle.world.specs.LineLaws.{lines_follow}
+use Rattle.world.proofs.laws.line_law.Goals as goal
+
+pub returns : goal.returns
+returns c = lines_follow

@@ -1,0 +1,30 @@
+use Rattle.std.proofs.Common.{◌≡◌, refl, sym, ap, ◌∙◌}
+use Rattle.ckpt_store.specs.StoreView.{cell_in}
+use Rattle.node.specs.declared.putting.Recovery.{Recovery}
+use Rattle.node.specs.declared.putting.Recovery.TheVariants as recovery
+use Rattle.world.specs.Replies.{recovery_reply}
+use Rattle.world.specs.ReplyView.{NotDue}
+use Rattle.world.proofs.Cells.{through}
+use Rattle.world.proofs.station.Station.recover.Goals as goal
+
+pub returns-in-Err-clause-leaves : goal.returns-in-Err-clause-leaves
+returns-in-Err-clause-leaves g c =
+    let was = c.args.self.now in
+    let C = g.C.StableCell in
+    through C was.node.store c.recover.new.self.store was.node.kept.settled _ c.recover.ensures.any_moment
+
+pub returns-in-Ok-clause-leaves : goal.returns-in-Ok-clause-leaves
+returns-in-Ok-clause-leaves g c =
+    let was = c.args.self.now in
+    let C = g.C.StableCell in
+    through C was.node.store c.recover.new.self.store was.node.kept.settled _ c.recover.ensures.any_moment
+
+was_up : (outcome : Recovery) → recovery_reply outcome ≡ NotDue → outcome ≡ recovery.NotDue
+was_up recovery.NotDue is = refl
+was_up recovery.Recovered is = absurd (cc)
+was_up recovery.Waiting is = absurd (cc)
+was_up (recovery.Refused refusal) is = absurd (cc)
+was_up recovery.Failed is = absurd (cc)
+
+pub returns-in-Ok-clause-unchanged : goal.returns-in-Ok-clause-unchanged
+returns-in-Ok-clause-unchanged g c = λ not_due. ap cell_in (c.in-Ok.ensures.unchanged (was_up c.in-Ok.recovery (sym c.recovery_reply.ensures ∙ not_due)))
