@@ -164,6 +164,20 @@ fn mode_fits(channels: &[Channel], done: &Done, mode: &Mode) -> bool
     }
 }
 
+// Takes in what came of a job, if it fits.
+fn install(
+    alloc: Global,
+    node: &mut TestNode,
+    channels: &[Channel],
+    done: &Done,
+) -> Result<bool, Fail> {
+    let state = &node.state;
+    if !mode_fits(channels, done, &state.mode) {
+        return Err("the turn doesn't fit".into());
+    }
+    Ok(node.install(alloc, channels, done)?)
+}
+
 /// Takes in what came of a job; says whether it was taken in.
 pub(crate) fn take_in(
     alloc: Global,
@@ -171,11 +185,7 @@ pub(crate) fn take_in(
     feed: &Feed,
     done: &Done,
 ) -> Result<bool, Fail> {
-    let state = &node.state;
-    if !mode_fits(&feed.net.program.channels, done, &state.mode) {
-        return Err("the turn doesn't fit".into());
-    }
-    Ok(node.install(alloc, &feed.net.program.channels, done)?)
+    install(alloc, node, &feed.net.program.channels, done)
 }
 
 /// The job that a node grants.
