@@ -9,15 +9,15 @@ use Rattle.kahn_net.specs.Streams.{history_of, IsPrefix}
 use Rattle.kahn_net.specs.Syntax.{Network, network_of}
 use Rattle.kahn_net.specs.Approximations.{approximation}
 use Rattle.kahn_net.specs.declared.program.Channel.{Channel}
-use Rattle.world.specs.Sound.{goes_outside, output_channels}
-use Rattle.world.specs.Steps.{WorldView}
-use Rattle.world.specs.OutputLaws.{map_at}
-use Rattle.world.specs.Headline.{released_prefix}
-use Rattle.world.specs.Invariant.{output_of, outputs_of, WorldInvariant}
-use Rattle.world.specs.OutputView.{OutputView}
-use Rattle.world.specs.Quiet.{are_quiet, AreWhole}
-use Rattle.world.specs.StationView.{OutletView, StationView}
-use Rattle.world.specs.Released.{taken_or, released_of}
+use Rattle.protocol.specs.World.Sound.{goes_outside, output_channels}
+use Rattle.protocol.specs.World.Steps.{WorldView}
+use Rattle.protocol.specs.WorldLaws.OutputLaws.{map_at}
+use Rattle.protocol.specs.World.Headline.{released_prefix}
+use Rattle.protocol.specs.World.Invariant.{output_of, outputs_of, WorldInvariant}
+use Rattle.protocol.specs.World.OutputView.{OutputView}
+use Rattle.protocol.specs.World.Quiet.{are_quiet, AreWhole}
+use Rattle.protocol.specs.World.StationView.{OutletView, StationView}
+use Rattle.protocol.specs.World.Released.{taken_or, released_of}
 use Rattle.kahn_net.specs.declared.program.Port.{Port}
 use Rattle.kahn_net.specs.declared.program.Port.TheVariants.{Outside, Process}
 use Rattle.std.specs.List.{list_all}

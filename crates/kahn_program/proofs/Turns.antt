@@ -8,12 +8,15 @@ use Rattle.gate_cell.specs.declared.cell.StableCell.{Ghosts as CellWords}
 use Rattle.ckpt_store.specs.Spelling.{fits_in}
 use Rattle.ckpt_store.specs.StoreView.{cell_in}
 use Rattle.proc_step.specs.declared.job.Job.{Job}
-use Rattle.world.specs.OpeningWorld.{IsUnused, opening_outlet, opening_station, opening_world}
-use Rattle.world.specs.Sound.{output_channels}
-use Rattle.world.specs.StationView.{OutletView, StationView, outlet_view, outlet_views}
-use Rattle.world.specs.Steps.{WorldView, IsStep}
-use Rattle.world.specs.EventView.{EventView}
-use Rattle.world.specs.ReplyView.{ReplyView, reply_view}
+use Rattle.protocol.specs.World.OpeningWorld.{opening_outlet, opening_station, opening_world}
+use Rattle.world.specs.OpeningWorld.{IsUnused}
+use Rattle.protocol.specs.World.Sound.{output_channels}
+use Rattle.protocol.specs.World.StationView.{OutletView, StationView}
+use Rattle.world.specs.StationView.{outlet_view, outlet_views}
+use Rattle.protocol.specs.World.Steps.{WorldView, IsStep}
+use Rattle.protocol.specs.World.EventView.{EventView}
+use Rattle.protocol.specs.World.ReplyView.{ReplyView}
+use Rattle.world.specs.ReplyView.{reply_view}
 use Rattle.world.specs.WorldView.{rooms, station_view}
 use Rattle.world.specs.declared.event.Reply.{Reply}
 use Rattle.world.specs.declared.event.Reply.TheVariants.{Granted, Installed, Discarded, Sent, Started, Decided, Refused, Released, OutletFailed, Crashed, Recovered, InDoubt, Down, Acted, Idled, NotDue}

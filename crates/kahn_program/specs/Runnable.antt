@@ -1,7 +1,7 @@
 -- Why a network on its inputs comes to no report.
 use Rattle.std.specs.Prelude.{◌≡◌, ◌⊎◌, ℕ, ℤ, List, Option, Some, None}
 use Rattle.kahn_net.specs.Syntax.{Network}
-use Rattle.world.specs.Runnable.{CanRun}
+use Rattle.protocol.specs.World.Runnable.{CanRun}
 use Rattle.stream_eq.specs.Limits.{HasLongHistory}
 use Rattle.ckpt_store.specs.StoreFault.{refusal_number}
 use Rattle.ckpt_store.specs.declared.fault.StoreFault.{StoreFault}

@@ -6,14 +6,14 @@ use Rattle.kahn_net.specs.Streams.{history_of, IsPrefix}
 use Rattle.kahn_net.specs.Syntax.{Network, network_of}
 use Rattle.kahn_net.specs.Approximations.{approximation, IsReached, IsSolution}
 use Rattle.net_check.specs.declared.net.Net.{Net}
-use Rattle.world.specs.Sound.{output_channels}
-use Rattle.world.specs.Quiet.{are_quiet}
-use Rattle.world.specs.Released.{released_of}
-use Rattle.world.specs.StationView.{StationView}
+use Rattle.protocol.specs.World.Sound.{output_channels}
+use Rattle.protocol.specs.World.Quiet.{are_quiet}
+use Rattle.protocol.specs.World.Released.{released_of}
+use Rattle.protocol.specs.World.StationView.{StationView}
 use Rattle.kahn_program.specs.Readings.{IsNetOf, AreInputsOf}
 use Rattle.kahn_program.specs.Report.{report_text}
-use Rattle.world.specs.Runnable.{CanRun}
-use Rattle.world.specs.Steps.{WorldView}
+use Rattle.protocol.specs.World.Runnable.{CanRun}
+use Rattle.protocol.specs.World.Steps.{WorldView}
 use Rattle.kahn_program.specs.Turning.{CameTo, first_world}
 use Rattle.kahn_program.specs.declared.network_run.TheConstants.{MAX_TURNS}
 

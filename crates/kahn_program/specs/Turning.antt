@@ -2,14 +2,14 @@
 use Rattle.std.specs.Prelude.{◌≡◌, ℕ, zero, suc, Bool, false, ℤ, List, [], map, length, None}
 use Rattle.kahn_net.specs.Syntax.{Network}
 use Rattle.ckpt_store.specs.Spelling.{fits_in}
-use Rattle.world.specs.Choice.{choice}
-use Rattle.world.specs.DoneView.{DoneView}
-use Rattle.world.specs.EventView.{EventView, Install}
-use Rattle.world.specs.OpeningWorld.{opening_world}
-use Rattle.world.specs.ReplyView.{ReplyView, Granted, Installed, Discarded, Sent, Started, Decided, Refused, Released, OutletFailed, Crashed, Recovered, InDoubt, Down, Acted, Idled, NotDue}
-use Rattle.world.specs.Sound.{output_channels}
-use Rattle.world.specs.StationView.{OutletView}
-use Rattle.world.specs.Steps.{WorldView, IsStep}
+use Rattle.protocol.specs.World.Choice.{choice}
+use Rattle.protocol.specs.World.DoneView.{DoneView}
+use Rattle.protocol.specs.World.EventView.{EventView, Install}
+use Rattle.protocol.specs.World.OpeningWorld.{opening_world}
+use Rattle.protocol.specs.World.ReplyView.{ReplyView, Granted, Installed, Discarded, Sent, Started, Decided, Refused, Released, OutletFailed, Crashed, Recovered, InDoubt, Down, Acted, Idled, NotDue}
+use Rattle.protocol.specs.World.Sound.{output_channels}
+use Rattle.protocol.specs.World.StationView.{OutletView}
+use Rattle.protocol.specs.World.Steps.{WorldView, IsStep}
 
 -- a step of a world, of which each station's cell has room for values of so many bytes
 pub record IsStepInRoom (event : EventView) (old : WorldView) (answer : ReplyView) (new : WorldView) : Type 0 where

@@ -4,7 +4,7 @@ ghost use Rattle.std.specs.Prelude.{◌≡◌, ◌≤◌, ◌++◌, ◌∷◌, [
 ghost use Rattle.kahn_net.specs.Fits.{Fits};
 ghost use Rattle.kahn_net.specs.Streams.{history_of};
 ghost use Rattle.kahn_net.specs.Syntax.{network_of};
-ghost use Rattle.world.specs.Sound.{goes_outside, output_channels};
+ghost use Rattle.protocol.specs.World.Sound.{goes_outside, output_channels};
 ghost use Rattle.kahn_program.specs.Runnable.{IsApproximationFailure};
 ghost use Rattle.kahn_program.specs.Runs.{IsApproximated};
 ghost use Rattle.kahn_net.specs.declared.limits.TheConstants.{MAX_CHANNELS};

@@ -9,12 +9,13 @@ use Rattle.ckpt_store.specs.StoreView.{cell_in, known_in, record_in, Changes}
 use Rattle.ckpt_store.specs.declared.store.Store.{Store}
 use Rattle.ckpt_store.specs.declared.fault.StoreFault.{StoreFault}
 use Rattle.ckpt_store.specs.declared.fault.StoreFault.TheVariants as fault
-use Rattle.node.specs.NodeView.{NodeView, node_view, mode_view}
-use Rattle.node.specs.Starting.{is_down, crashed, with_kept, HasFailedAt}
+use Rattle.protocol.specs.Node.NodeView.{NodeView}
+use Rattle.node.specs.NodeView.{node_view, mode_view}
+use Rattle.protocol.specs.Node.Starting.{is_down, crashed, with_kept, HasFailedAt}
 use Rattle.node.specs.StoredView.{HasRecord, LeavesNext, IsCrashed, has_failed, put_outcome, IsAnswer}
 use Rattle.node.specs.declared.state.NodeState.{NodeState}
-use Rattle.node.specs.declared.putting.Putting.{Putting}
-use Rattle.node.specs.declared.putting.Putting.TheVariants.{Stored, Refused, Failed}
+use Rattle.protocol.specs.declared.putting.Putting.{Putting}
+use Rattle.protocol.specs.declared.putting.Putting.TheVariants.{Stored, Refused, Failed}
 use Rattle.node.proofs.Records.{settled_ready, one_of_both, then_crashed, change_refusals, change_moments, change_done, change_refused}
 
 -- What an event that puts this record comes to.

@@ -9,7 +9,7 @@ use Rattle.kahn_net.specs.declared.program.Channel.{Channel}
 use Rattle.record.specs.Ends.{received_at}
 use Rattle.record.specs.ProcessView.{SavedProcessView}
 use Rattle.record.specs.Changes.{pushed, counted}
-use Rattle.node.specs.Installing.{moved, put_on, taken_from, saved_pushed, saved_counted}
+use Rattle.protocol.specs.Node.Installing.{moved, put_on, taken_from, saved_pushed, saved_counted}
 use Rattle.record.specs.declared.image.SavedEnd.{SavedEnd}
 use Rattle.record.specs.declared.image.End.{End}
 use Rattle.record.specs.declared.image.End.TheVariants.{Receives, Sends, Both}

@@ -9,14 +9,15 @@ use Rattle.record.specs.Moves.{with_epoch}
 use Rattle.kahn_net.specs.declared.limits.TheConstants.{MAX_COUNT}
 use Rattle.ckpt_store.specs.StoreView.{cell_in, known_in, record_in, Holds}
 use Rattle.ckpt_store.specs.declared.store.Store.{Store}
-use Rattle.node.specs.ArmedRestarts.{restart_after}
-use Rattle.node.specs.NodeView.{NodeView, ModeView, Down, InDoubt, Runs, node_view, mode_view, with_mode}
-use Rattle.node.specs.Starting.{is_down, crashed, with_kept}
-use Rattle.node.specs.Recovering.{IsRecovery, back_answer, restored, restored_mode, put_off}
+use Rattle.protocol.specs.Node.ArmedRestarts.{restart_after}
+use Rattle.protocol.specs.Node.NodeView.{NodeView, ModeView, Down, InDoubt, Runs, with_mode}
+use Rattle.node.specs.NodeView.{node_view, mode_view}
+use Rattle.protocol.specs.Node.Starting.{is_down, crashed, with_kept}
+use Rattle.protocol.specs.Node.Recovering.{IsRecovery, back_answer, restored, restored_mode, put_off}
 use Rattle.node.specs.StoredView.{HasRecord, LeavesNext, LeavesAsBefore}
 use Rattle.node.specs.declared.state.NodeState.{NodeState}
-use Rattle.node.specs.declared.putting.Recovery.{Recovery}
-use Rattle.node.specs.declared.putting.Recovery.TheVariants.{Failed}
+use Rattle.protocol.specs.declared.putting.Recovery.{Recovery}
+use Rattle.protocol.specs.declared.putting.Recovery.TheVariants.{Failed}
 use Rattle.node.proofs.Records.{crash_keeps, one_of_both, then_crashed}
 
 module _ {C : Type 0} (words : CellWords C) (number restart : ℕ) (old new : Store C words) (before after : NodeState) (has : HasRecord number (mode_view before.mode) old) (up : is_down (mode_view before.mode) ≡ false)

@@ -2,7 +2,7 @@
 use Rattle.std.proofs.Common.{◌≡◌, ℕ, ◌-◌, List, ℤ, length, take, drop, min, sym, ap, ◌∙◌}
 use Rattle.std.proofs.Math.Seq.{take-length}
 use Rattle.std.proofs.lemmas.List.{take_min, drop_min, length-drop}
-use Rattle.node.specs.declared.granting.TheConstants.{MAX_JOB_ITEMS}
+use Rattle.protocol.specs.declared.limits.TheConstants.{MAX_JOB_ITEMS}
 
 -- the next items after so many, at most 64
 pub next_slice : (items : List ℤ) (received start count : ℕ) → start ≡ min received (length items) → count ≡ min MAX_JOB_ITEMS (length (take (length items - start) (drop start items)))

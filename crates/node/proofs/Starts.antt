@@ -15,13 +15,14 @@ use Rattle.ckpt_store.specs.StoreView.{record_in, Changes}
 use Rattle.ckpt_store.specs.declared.store.Store.{Store}
 use Rattle.ckpt_store.specs.declared.fault.StoreFault.{StoreFault}
 use Rattle.ckpt_store.specs.declared.fault.StoreFault.TheVariants as fault
-use Rattle.node.specs.ArmedRestarts.{restart_after}
-use Rattle.node.specs.declared.restart.ArmedRestart.{ArmedRestart}
-use Rattle.node.specs.NodeView.{NodeView, ModeView, Down, InDoubt, Runs, RunningView, node_view, mode_view, running_in}
-use Rattle.node.specs.Starting.{is_none, is_running, is_down, is_own, own_number, held_number, crashed, may_start, may_decide, own_at, with_own_now, decided, IsStart, IsDecision}
+use Rattle.protocol.specs.Node.ArmedRestarts.{restart_after}
+use Rattle.protocol.specs.declared.armed_restart.ArmedRestart.{ArmedRestart}
+use Rattle.protocol.specs.Node.NodeView.{NodeView, ModeView, Down, InDoubt, Runs, RunningView, running_in}
+use Rattle.node.specs.NodeView.{node_view, mode_view}
+use Rattle.protocol.specs.Node.Starting.{is_none, is_running, is_down, is_own, own_number, held_number, crashed, may_start, may_decide, own_at, with_own_now, decided, IsStart, IsDecision}
 use Rattle.node.specs.StoredView.{HasRecord, IsCrashed, has_failed, put_outcome, IsAnswer}
 use Rattle.node.specs.declared.state.NodeState.{NodeState}
-use Rattle.node.specs.declared.putting.Putting.{Putting}
+use Rattle.protocol.specs.declared.putting.Putting.{Putting}
 use Rattle.node.proofs.Checkpoints.{Ends, ended, ends_step, ends_kept, is_answered}
 
 none_is : {A : Type 0} (o : Option A) → is_none o ≡ true → o ≡ None

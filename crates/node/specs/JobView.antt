@@ -1,17 +1,9 @@
--- A job without pointers: two jobs are the same where these are equal.
-use Rattle.std.specs.Prelude.{ℕ, ℤ, List, Option, slice_get}
-use Rattle.kahn_net.specs.Syntax.{Code, network_of}
-use Rattle.kahn_net.specs.Processes.{Standing}
+-- A job as data: two jobs are the same where these are equal.
+use Rattle.std.specs.Prelude.{slice_get}
+use Rattle.kahn_net.specs.Syntax.{network_of}
 use Rattle.kahn_net.specs.States.{standing_of}
 use Rattle.proc_step.specs.declared.job.Job.{Job}
-
-pub record JobView : Type 0 where
-  pub process : ℕ
-  pub code : Option Code
-  pub version : ℕ
-  pub standing : Standing
-  pub items : List (List ℤ)
-  pub room : List ℕ
+use Rattle.protocol.specs.Node.JobView.{JobView}
 
 abbrev pub job_view : Job → JobView
 job_view job = record {

@@ -1,7 +1,8 @@
 -- A node without pointers, and with its record.
 use Rattle.gate_cell.specs.declared.cell.StableCell.{Ghosts as CellWords}
 use Rattle.ckpt_store.specs.StoreView.{record_in}
-use Rattle.node.specs.NodeView.{NodeView, node_view}
+use Rattle.protocol.specs.Node.NodeView.{NodeView}
+use Rattle.node.specs.NodeView.{node_view}
 use Rattle.node.specs.declared.node.Node.{Node}
 
 abbrev pub view_of : {C : Type 0} {words : CellWords C} → Node C words → NodeView

@@ -1,44 +1,12 @@
--- A node without pointers, its store aside.
-use Rattle.std.specs.Prelude.{ℕ, List, Option, Some, None, option_map}
-use Rattle.record.specs.ImageView.{ImageView}
+-- A node as data, its store aside.
+use Rattle.std.specs.Prelude.{option_map}
 use Rattle.record.specs.RecordView.{RecordView}
-use Rattle.node.specs.JobView.{JobView, job_view}
+use Rattle.protocol.specs.Node.NodeView.{NodeView, ModeView, Down, InDoubt, Runs, RunningView}
+use Rattle.node.specs.JobView.{job_view}
 use Rattle.node.specs.declared.mode.Mode.{Mode}
 use Rattle.node.specs.declared.mode.Mode.TheVariants as mode
-use Rattle.node.specs.declared.restart.ArmedRestart.{ArmedRestart}
 use Rattle.node.specs.declared.running.Running.{Running}
 use Rattle.node.specs.declared.state.NodeState.{NodeState}
-
--- what a node has in memory while it runs: where it stands, the job that is out, and the process to which the last job was granted
-pub record RunningView : Type 0 where
-  pub current : ImageView
-  pub out : Option JobView
-  pub last : Option ℕ
-
--- A node is down, and has no more than its record; or it holds another's tentative image and waits for the verdict; or it runs.
-pub data ModeView : Type 0 where
-  Down : ModeView
-  InDoubt : ModeView
-  Runs : (running : RunningView) → ModeView
-
--- What a node keeps over a crash is its record, its version, the round from which it may be recovered, and how long each fault that is
--- armed on its disk keeps it down, in the order of arming.
-pub record NodeView : Type 0 where
-  pub kept : RecordView
-  pub version : ℕ
-  pub restart : ℕ
-  pub armed : List ArmedRestart
-  pub mode : ModeView
-
--- a node that runs, all in one
-pub record RunningNode : Type 0 where
-  pub kept : RecordView
-  pub version : ℕ
-  pub current : ImageView
-  pub out : Option JobView
-  pub last : Option ℕ
-
--- ---- what the code has
 
 abbrev pub running_view : Running → RunningView
 running_view running = record { current = running.current; out = option_map job_view running.out; last = running.last }
@@ -51,31 +19,3 @@ mode_view (mode.Running running) = Runs (running_view running)
 -- a node with this record
 abbrev pub node_view : RecordView → NodeState → NodeView
 node_view kept state = record { kept = kept; version = state.version; restart = state.restart; armed = state.armed.items; mode = mode_view state.mode }
-
--- ---- nodes that run
-
-abbrev pub running_node : RecordView → ℕ → RunningView → RunningNode
-running_node kept version running = record { kept = kept; version = version; current = running.current; out = running.out; last = running.last }
-
-abbrev pub running_in : RecordView → ℕ → ModeView → Option RunningNode
-running_in kept version Down = None
-running_in kept version InDoubt = None
-running_in kept version (Runs running) = Some (running_node kept version running)
-
--- the node, if it runs
-abbrev pub running_of : NodeView → Option RunningNode
-running_of node = running_in node.kept node.version node.mode
-
--- the mode after this change of what the node has in memory, if it runs
-abbrev pub on_mode : (RunningView → RunningView) → ModeView → ModeView
-on_mode change Down = Down
-on_mode change InDoubt = InDoubt
-on_mode change (Runs running) = Runs (change running)
-
--- the node in this mode
-abbrev pub with_mode : ModeView → NodeView → NodeView
-with_mode mode node = record node { mode = mode }
-
--- the node after this change, if it runs; else as it is
-abbrev pub on_running : (RunningView → RunningView) → NodeView → NodeView
-on_running change node = with_mode (on_mode change node.mode) node

@@ -12,10 +12,10 @@ use Rattle.ckpt_store.specs.StoreView.{cell_in, known_in, record_in}
 use Rattle.ckpt_store.specs.declared.store.Store.{Store}
 use Rattle.ckpt_store.specs.declared.fault.StoreFault.{StoreFault}
 use Rattle.ckpt_store.specs.declared.fault.StoreFault.TheVariants as fault
-use Rattle.node.specs.NodeView.{ModeView}
-use Rattle.node.specs.Starting.{is_down}
-use Rattle.node.specs.declared.putting.Putting.{Putting}
-use Rattle.node.specs.declared.putting.Putting.TheVariants.{Stored, Refused, Failed}
+use Rattle.protocol.specs.Node.NodeView.{ModeView}
+use Rattle.protocol.specs.Node.Starting.{is_down}
+use Rattle.protocol.specs.declared.putting.Putting.{Putting}
+use Rattle.protocol.specs.declared.putting.Putting.TheVariants.{Stored, Refused, Failed}
 
 -- What a node's type keeps of its store: the record is the node's and has an entry for it; while the node is up the store is ready; and a
 -- crash now leaves that record and no other.

@@ -2,19 +2,19 @@
 ghost use Rattle.std.specs.Prelude.{◌≡◌, ◌<◌, false, IfOk, IsTrue, OnErr, Some, length};
 ghost use Rattle.ckpt_store.specs.Spelling.{fits_in};
 ghost use Rattle.ckpt_store.specs.StoreView.{cell_in, record_in};
-ghost use Rattle.node.specs.ArmedRestarts.{restart_after};
+ghost use Rattle.protocol.specs.Node.ArmedRestarts.{restart_after};
 ghost use Rattle.node.specs.NodeView.{mode_view, node_view};
 ghost use Rattle.record.specs.Moves.{highest_seen};
 ghost use Rattle.record.specs.RecordView.{RecordView};
-ghost use Rattle.node.specs.Starting.{crashed, decided, own_number, with_own_now, IsDecision, IsLikeNow, IsPut, IsStart, LeavesCell};
+ghost use Rattle.protocol.specs.Node.Starting.{crashed, decided, own_number, with_own_now, IsDecision, IsLikeNow, IsPut, IsStart, LeavesCell};
 ghost use Rattle.node.specs.StoredView.{HasRecord, IsCrashed, IsAnswer, LeavesNext, has_failed, put_outcome};
 
 use crate::mode::Mode;
-use crate::putting::Putting;
 use crate::state::NodeState;
 use ckpt_store::{Store, StoreFault};
 use gate_cell::StableCell;
 use kahn_net::MAX_COUNT;
+use protocol::Putting;
 use record::Record;
 use std::alloc::{AllocError, Global};
 

@@ -1,8 +1,8 @@
 // Which process of a node goes on next.
 ghost use Rattle.std.specs.Prelude.{◌≡◌, ◌≤◌, ◌<◌, ◌&&◌, length, slice_get, take, IfSome, option_copied};
 ghost use Rattle.kahn_net.specs.Syntax.{network_of};
-ghost use Rattle.node.specs.Sharing.{log_share};
-ghost use Rattle.node.specs.Choosing.{has_item, has_room, is_ready, ready_process, ready_processes, next_process};
+ghost use Rattle.protocol.specs.Node.Sharing.{log_share};
+ghost use Rattle.protocol.specs.Node.Choosing.{has_item, has_room, is_ready, ready_process, ready_processes, next_process};
 ghost use Rattle.kahn_net.specs.declared.limits.TheConstants.{MAX_CHANNELS};
 
 use crate::granting::places;

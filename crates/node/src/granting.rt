@@ -3,20 +3,18 @@ ghost use Rattle.std.specs.Prelude.{◌≡◌, ◌≤◌, ◌<◌, IfOk, length,
 ghost use Rattle.kahn_net.specs.Syntax.{network_of};
 ghost use Rattle.kahn_net.specs.States.{standing_of};
 ghost use Rattle.node.specs.JobView.{job_view};
-ghost use Rattle.node.specs.Granting.{is_process, next_items, items_from, room_in, room_from, job_for};
+ghost use Rattle.protocol.specs.Node.Granting.{is_process, next_items, items_from, room_in, room_from, job_for};
 ghost use Rattle.kahn_net.specs.declared.limits.TheConstants.{MAX_CHANNELS};
 
 use crate::sharing::share_of;
 use kahn_net::{Channel, History, MAX_COUNT, Port, ProcState};
 use net_check::{Inputs, Net};
 use proc_step::Job;
+use protocol::MAX_JOB_ITEMS;
 use record::Image;
 use retained::Log;
 use std::alloc::{AllocError, Global};
 use std::sync::Arc;
-
-/// The most items of a channel in a job, and the most places of room.
-pub const MAX_JOB_ITEMS: usize = 64;
 
 /// Whether this process stands at an end of a channel.
 pub(crate) fn is_at(port: Port, process: usize) -> bool

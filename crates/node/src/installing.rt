@@ -3,7 +3,7 @@ ghost use Rattle.std.specs.Prelude.{◌≡◌, ◌≤◌, ◌+◌, ◌-◌, ◌+
 ghost use Rattle.kahn_net.specs.States.{standing_of};
 ghost use Rattle.record.specs.Ends.{received_at, log_at};
 ghost use Rattle.record.specs.Changes.{LogTakes};
-ghost use Rattle.node.specs.Installing.{taken_from, put_on, saved_pushed, saved_counted, moved, installed, ImageTakes};
+ghost use Rattle.protocol.specs.Node.Installing.{taken_from, put_on, saved_pushed, saved_counted, moved, installed, ImageTakes};
 ghost use Rattle.record.specs.declared.image.SavedEnd.{SavedEnd};
 ghost use Rattle.kahn_net.specs.declared.limits.TheConstants.{MAX_COUNT};
 

@@ -1,7 +1,7 @@
 // A node before its first event.
 ghost use Rattle.std.specs.Prelude.{◌≡◌, ◌≤◌, map, length, IfOk};
 ghost use Rattle.kahn_net.specs.Syntax.{code_of, network_of};
-ghost use Rattle.node.specs.Opening.{opening_processes, opening_end, opening_ends, opening_image, opening_record};
+ghost use Rattle.protocol.specs.Node.Opening.{opening_processes, opening_end, opening_ends, opening_image, opening_record};
 ghost use Rattle.kahn_net.specs.declared.limits.TheConstants.{MAX_CHANNELS, MAX_PROCESSES};
 
 use kahn_net::{Channel, Mode, Port, ProcState, Process};

@@ -1,14 +1,14 @@
 // A fault is armed on a node's disk.
 ghost use Rattle.std.specs.Prelude.{◌≡◌, OnErr, OnOk};
 ghost use Rattle.ckpt_store.specs.StoreView.{cell_in, record_in};
-ghost use Rattle.node.specs.ArmedRestarts.{with_armed};
+ghost use Rattle.protocol.specs.Node.ArmedRestarts.{with_armed};
 ghost use Rattle.node.specs.NodeView.{mode_view, node_view};
 ghost use Rattle.node.specs.StoredView.{HasRecord, LeavesAsBefore};
 
-use crate::restart::ArmedRestart;
 use crate::state::NodeState;
 use ckpt_store::Store;
 use gate_cell::StableCell;
+use protocol::ArmedRestart;
 use sector_disk::ArmedFault;
 use std::alloc::AllocError;
 

@@ -5,17 +5,18 @@ ghost use Rattle.ckpt_store.specs.Spelling.{fits_in};
 ghost use Rattle.ckpt_store.specs.StoreView.{cell_in, known_in, record_in};
 ghost use Rattle.record.specs.Moves.{with_epoch};
 ghost use Rattle.record.specs.RecordView.{RecordView};
-ghost use Rattle.node.specs.NodeView.{mode_view, node_view, with_mode};
-ghost use Rattle.node.specs.Recovering.{IsCrash, IsRecovery, IsRecoveryPut, back_answer, restored_from, restored_mode};
+ghost use Rattle.protocol.specs.Node.NodeView.{with_mode};
+ghost use Rattle.node.specs.NodeView.{mode_view, node_view};
+ghost use Rattle.protocol.specs.Node.Recovering.{IsCrash, IsRecovery, IsRecoveryPut, back_answer, restored_from, restored_mode};
 ghost use Rattle.node.specs.StoredView.{HasRecord, IsRaised, LeavesAsBefore, LeavesNext};
 
 use crate::checkpoint::has_failed;
 use crate::mode::Mode;
-use crate::putting::Recovery;
 use crate::running::Running;
 use crate::state::NodeState;
 use ckpt_store::{Store, StoreFault};
 use gate_cell::StableCell;
+use protocol::Recovery;
 use record::Image;
 use std::alloc::{AllocError, Global};
 

@@ -5,7 +5,7 @@ ghost use Rattle.outlet.specs.Released.{CanRelease};
 ghost use Rattle.outlet.specs.Faults.{failures_after};
 ghost use Rattle.record.specs.Ends.{log_of};
 ghost use Rattle.record.specs.Changes.{trimmed_image};
-ghost use Rattle.node.specs.Trimming.{HasNext, TookNext};
+ghost use Rattle.protocol.specs.Node.Trimming.{HasNext, TookNext};
 ghost use Rattle.kahn_net.specs.Streams.{IsPrefix};
 
 use outlet::{Outlet, OutletFault, release};

@@ -1,17 +1,9 @@
 //! How long a failing device keeps its node down.
 ghost use Rattle.std.specs.Prelude.{◌≡◌};
-ghost use Rattle.node.specs.ArmedRestarts.{round_later, rounds_at};
+ghost use Rattle.protocol.specs.Node.ArmedRestarts.{round_later, rounds_at};
 
 use kahn_net::MAX_COUNT;
-
-/// For how many rounds a fault that is armed at a device call keeps the node down.
-#[derive(Clone, Copy, Debug, PartialEq, Eq)]
-pub struct ArmedRestart {
-    /// The call, as the count of device calls since the last recount, from 1.
-    pub call: u64,
-    /// So many rounds after the failure the node may be recovered: 1 for a mere failure.
-    pub rounds: u64,
-}
+use protocol::ArmedRestart;
 
 /// The round that comes so many later. The last one is the greatest number.
 pub fn round_later(round: u64, rounds: u64) -> u64

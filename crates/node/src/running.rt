@@ -2,8 +2,8 @@
 ghost use Rattle.std.specs.Prelude.{◌≡◌, ◌↔◌, IfOk, IsErrOf, IsTrue, OnErr, Some, is_some, option_map};
 ghost use Rattle.kahn_net.specs.Syntax.{network_of};
 ghost use Rattle.kahn_net.specs.States.{standing_of};
-ghost use Rattle.node.specs.Choosing.{after_grant, may_grant, next_job};
-ghost use Rattle.node.specs.Installing.{ImageTakes, IsTaken};
+ghost use Rattle.protocol.specs.Node.Choosing.{after_grant, may_grant, next_job};
+ghost use Rattle.protocol.specs.Node.Installing.{ImageTakes, IsTaken};
 ghost use Rattle.node.specs.JobView.{job_view};
 
 use crate::choosing::next_process;
@@ -29,7 +29,8 @@ pub struct Running {
 }
 
 impl Running {
-    ghost use Rattle.node.specs.NodeView.{running_node, running_view};
+    ghost use Rattle.protocol.specs.Node.NodeView.{running_node};
+    ghost use Rattle.node.specs.NodeView.{running_view};
 
     // Whether a job may be granted, if a process is ready, at a node with this record and version.
     fn can_grant(&self, kept: &Record, version: u64) -> bool

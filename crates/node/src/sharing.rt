@@ -7,11 +7,11 @@ ghost use Rattle.record.specs.ImageView.{ImageView};
 ghost use Rattle.record.specs.RecordView.{RecordView};
 ghost use Rattle.ckpt_codec.specs.SizeLaws.{IsImageWithin, IsRecordWithin};
 ghost use Rattle.ckpt_codec.specs.declared.lengths.TheConstants.{MAX_RETAINED_ITEMS};
-ghost use Rattle.node.specs.Sharing.{is_logging, log_count, log_share};
-ghost use Rattle.node.specs.Starting.{with_own, decided};
-ghost use Rattle.node.specs.Opening.{opening_record};
-ghost use Rattle.node.specs.NodeView.{RunningNode};
-ghost use Rattle.node.specs.Reached.{HasReached, ImageStands, IsLaidOut, LogsAreWithin};
+ghost use Rattle.protocol.specs.Node.Sharing.{is_logging, log_count, log_share};
+ghost use Rattle.protocol.specs.Node.Starting.{with_own, decided};
+ghost use Rattle.protocol.specs.Node.Opening.{opening_record};
+ghost use Rattle.protocol.specs.Node.NodeView.{RunningNode};
+ghost use Rattle.protocol.specs.Node.Reached.{HasReached, ImageStands, IsLaidOut, LogsAreWithin};
 
 use ckpt_codec::MAX_RETAINED_ITEMS;
 use record::{End, Image};

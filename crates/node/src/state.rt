@@ -6,20 +6,21 @@ ghost use Rattle.kahn_net.specs.States.{standing_of};
 ghost use Rattle.retained.specs.LogState.{LogState, IsLogOf};
 ghost use Rattle.outlet.specs.Faults.{failures_after};
 ghost use Rattle.record.specs.RecordView.{RecordView};
-ghost use Rattle.node.specs.ArmedRestarts.{restart_after};
-ghost use Rattle.node.specs.Choosing.{node_job, with_grant};
-ghost use Rattle.node.specs.Installing.{IsOut, IsTakenIn, TakesTurn};
+ghost use Rattle.protocol.specs.Node.ArmedRestarts.{restart_after};
+ghost use Rattle.protocol.specs.Node.Choosing.{node_job, with_grant};
+ghost use Rattle.protocol.specs.Node.Installing.{IsOut, IsTakenIn, TakesTurn};
 ghost use Rattle.node.specs.JobView.{job_view};
-ghost use Rattle.node.specs.Starting.{crashed, is_down, is_running, may_start, next_number};
-ghost use Rattle.node.specs.Trimming.{HasNext, TookNext, current_log, cut_at};
+ghost use Rattle.protocol.specs.Node.Starting.{crashed, is_down, is_running, may_start, next_number};
+ghost use Rattle.protocol.specs.Node.Trimming.{HasNext, TookNext, current_log, cut_at};
 
 use crate::mode::Mode;
 use crate::releasing::release_next;
-use crate::restart::{ArmedRestart, round_later, rounds_at};
+use crate::restart::{round_later, rounds_at};
 use kahn_net::{Channel, MAX_COUNT};
 use net_check::{Inputs, Net};
 use outlet::{Outlet, OutletFault};
 use proc_step::{Done, Job};
+use protocol::ArmedRestart;
 use record::Record;
 use retained::LogFault;
 use std::alloc::{AllocError, Global};
@@ -50,7 +51,8 @@ pub struct NodeState {
 }
 
 impl NodeState {
-    ghost use Rattle.node.specs.NodeView.{mode_view, node_view, on_mode};
+    ghost use Rattle.protocol.specs.Node.NodeView.{on_mode};
+    ghost use Rattle.node.specs.NodeView.{mode_view, node_view};
 
     /// It is neither down nor in doubt.
     pub fn is_running(&self) -> bool

@@ -2,9 +2,9 @@
 use Rattle.std.proofs.Common.{◌≡◌, ◌⊎◌, inl, inr, ℕ, ◌<◌, ◌≤◌, Bool, true, false, Option, Some, None, refl, sym, ap, ◌∙◌, arith}
 use Rattle.std.specs.Prelude.{◌≢◌}
 use Rattle.std.proofs.lemmas.Bool.Decides.{eqb_tells}
-use Rattle.protocol.specs.Images.{Image, AtMost}
-use Rattle.protocol.specs.Records.{Tentative, Record, Holds, effective}
-use Rattle.protocol.specs.Nodes.{Live, Mode, In_doubt, Running, current_of, live_of}
+use Rattle.protocol.specs.Machine.Images.{Image, AtMost}
+use Rattle.protocol.specs.Machine.Records.{Tentative, Record, Holds, effective}
+use Rattle.protocol.specs.Machine.Nodes.{Live, Mode, In_doubt, Running, current_of, live_of}
 
 pub false_true : false ≡ true → ⊥
 false_true e = cc e

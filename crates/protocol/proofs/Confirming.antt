@@ -1,12 +1,12 @@
 -- A decision no longer names a node that holds no image of it: the line stays.
 use Rattle.std.proofs.Common.{◌≡◌, inl, inr, ℕ, Bool, true, sym, ap, ◌∙◌, arith}
 use Rattle.std.specs.Prelude.{◌≢◌}
-use Rattle.protocol.specs.Images.{Image, Net}
-use Rattle.protocol.specs.Records.{Holds, effective}
-use Rattle.protocol.specs.Moves.{Confirms}
-use Rattle.protocol.specs.Nodes.{Live}
-use Rattle.protocol.specs.Worlds.{World, node_of, IsLive}
-use Rattle.protocol.specs.Invariant.{NodeOk, Agreed, SettledSays}
+use Rattle.protocol.specs.Machine.Images.{Image, Net}
+use Rattle.protocol.specs.Machine.Records.{Holds, effective}
+use Rattle.protocol.specs.Machine.Moves.{Confirms}
+use Rattle.protocol.specs.Machine.Nodes.{Live}
+use Rattle.protocol.specs.Machine.Worlds.{World, node_of, IsLive}
+use Rattle.protocol.specs.Machine.Invariant.{NodeOk, Agreed, SettledSays}
 use Rattle.protocol.proofs.Basics.{false_true, either, same_or_other, at_most_itself, effective_stays}
 use Rattle.protocol.proofs.Grows.{Stays, Grows}
 use Rattle.protocol.proofs.Frames.{OnlyRecord, everywhere, HoldOn, live_stays, still_live}

@@ -1,13 +1,13 @@
 -- An initiator decides, once each question is answered: the one step in which the line moves.
 use Rattle.std.proofs.Common.{◌≡◌, ◌⊎◌, inl, inr, ℕ, ◌≤◌, Bool, true, Option, Some, None, refl, sym, ap, ◌∙◌, subst, arith}
 use Rattle.std.specs.Prelude.{◌≢◌}
-use Rattle.protocol.specs.Images.{Image, AtMost, Net, IsCross}
-use Rattle.protocol.specs.Records.{Tentative, Record, Holds, effective}
-use Rattle.protocol.specs.Moves.{Decides}
-use Rattle.protocol.specs.Nodes.{Answer, Awaited, By_took, By_covered, Live, AllAnswered}
-use Rattle.protocol.specs.Worlds.{World, node_of, IsLive}
-use Rattle.protocol.specs.Line.{NotBehind, NoOrphan}
-use Rattle.protocol.specs.Invariant.{NodeOk, Unmet, LiveOk, Agreed}
+use Rattle.protocol.specs.Machine.Images.{Image, AtMost, Net, IsCross}
+use Rattle.protocol.specs.Machine.Records.{Tentative, Record, Holds, effective}
+use Rattle.protocol.specs.Machine.Moves.{Decides}
+use Rattle.protocol.specs.Machine.Nodes.{Answer, Awaited, By_took, By_covered, Live, AllAnswered}
+use Rattle.protocol.specs.Machine.Worlds.{World, node_of, IsLive}
+use Rattle.protocol.specs.Machine.Line.{NotBehind, NoOrphan}
+use Rattle.protocol.specs.Machine.Invariant.{NodeOk, Unmet, LiveOk, Agreed}
 use Rattle.protocol.proofs.Basics.{false_true, either, same_or_other, above_or, at_most_itself, some_not_none, same_initiator, same_number, same_image, effective_free, effective_committed, effective_open, effective_stays}
 use Rattle.protocol.proofs.Grows as grows
 use Rattle.protocol.proofs.Grows.{Fate, Replaced, Grows, WasLive}

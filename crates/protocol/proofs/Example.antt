@@ -2,13 +2,13 @@
 use Rattle.std.proofs.Common.{◌≡◌, ◌⊎◌, inr, ℕ, zero, suc, ◌<◌, ◌≤◌, Bool, true, false, Option, Some, None, [], ◌∷◌, refl, sym, ap, subst, arith}
 use Rattle.std.proofs.Math.Path.{fun_ext}
 use Rattle.std.specs.Prelude.{◌≢◌}
-use Rattle.protocol.specs.Images.{Image, Net, IsCross, IsLocal, blank}
-use Rattle.protocol.specs.Records.{Record, new_record}
-use Rattle.protocol.specs.Moves.{Takes}
-use Rattle.protocol.specs.Nodes.{Answer, Awaited, By_took, Live, Mode, Down, Running, Work, Start, Conclude}
-use Rattle.protocol.specs.Packets.{Packet, Ask, Took}
-use Rattle.protocol.specs.Worlds.{World, InFlight, opening, MaySend, OnlyAt, Step, Acts, Comes, Send}
-use Rattle.protocol.specs.Laws.{ReachesADecision}
+use Rattle.protocol.specs.Machine.Images.{Image, Net, IsCross, IsLocal, blank}
+use Rattle.protocol.specs.Machine.Records.{Record, new_record}
+use Rattle.protocol.specs.Machine.Moves.{Takes}
+use Rattle.protocol.specs.Machine.Nodes.{Answer, Awaited, By_took, Live, Mode, Down, Running, Work, Start, Conclude}
+use Rattle.protocol.specs.Machine.Packets.{Packet, Ask, Took}
+use Rattle.protocol.specs.Machine.Worlds.{World, InFlight, opening, MaySend, OnlyAt, Step, Acts, Comes, Send}
+use Rattle.protocol.specs.Machine.Laws.{ReachesADecision}
 use Rattle.protocol.proofs.Basics.{false_true, some_not_none, one_inside}
 
 -- one channel, from node 1 to node 0

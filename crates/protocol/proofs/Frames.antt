@@ -1,11 +1,11 @@
 -- What stays where one node's record is written, and what a live instance needs of that.
 use Rattle.std.proofs.Common.{◌≡◌, inl, inr, ℕ, Bool, false, refl, ap, arith}
 use Rattle.std.specs.Prelude.{◌≢◌}
-use Rattle.protocol.specs.Images.{Image, AtMost, Net}
-use Rattle.protocol.specs.Records.{Record, Holds, effective}
-use Rattle.protocol.specs.Nodes.{Live}
-use Rattle.protocol.specs.Worlds.{World, IsLive}
-use Rattle.protocol.specs.Invariant.{NeedOf, LiveOk}
+use Rattle.protocol.specs.Machine.Images.{Image, AtMost, Net}
+use Rattle.protocol.specs.Machine.Records.{Record, Holds, effective}
+use Rattle.protocol.specs.Machine.Nodes.{Live}
+use Rattle.protocol.specs.Machine.Worlds.{World, IsLive}
+use Rattle.protocol.specs.Machine.Invariant.{NeedOf, LiveOk}
 use Rattle.protocol.proofs.Basics.{same_or_other, effective_stays}
 use Rattle.protocol.proofs.Grows.{StillLive}
 

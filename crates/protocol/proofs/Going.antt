@@ -1,12 +1,12 @@
 -- A tentative image goes whose instance is neither decided nor live: the line stays.
 use Rattle.std.proofs.Common.{◌≡◌, inl, inr, ℕ, false, sym, ap, ◌∙◌, arith}
 use Rattle.std.specs.Prelude.{◌≢◌}
-use Rattle.protocol.specs.Images.{Image, Net}
-use Rattle.protocol.specs.Records.{Holds, effective}
-use Rattle.protocol.specs.Moves.{Drops}
-use Rattle.protocol.specs.Nodes.{Live}
-use Rattle.protocol.specs.Worlds.{World, IsLive}
-use Rattle.protocol.specs.Invariant.{Agreed}
+use Rattle.protocol.specs.Machine.Images.{Image, Net}
+use Rattle.protocol.specs.Machine.Records.{Holds, effective}
+use Rattle.protocol.specs.Machine.Moves.{Drops}
+use Rattle.protocol.specs.Machine.Nodes.{Live}
+use Rattle.protocol.specs.Machine.Worlds.{World, IsLive}
+use Rattle.protocol.specs.Machine.Invariant.{Agreed}
 use Rattle.protocol.proofs.Basics.{same_or_other, at_most_itself, some_not_none, same_initiator, same_number, effective_free, effective_open}
 use Rattle.protocol.proofs.Grows.{Stays, Goes, Fate, Grows}
 use Rattle.protocol.proofs.Frames.{OnlyRecord, everywhere, effective_at_others, HoldOn, live_stays, still_live}

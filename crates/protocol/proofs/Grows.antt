@@ -1,14 +1,14 @@
 -- What every step leaves true of the world after it: enough for what a packet says to stay true.
 use Rattle.std.proofs.Common.{◌≡◌, ◌⊎◌, inl, inr, ℕ, ◌<◌, ◌≤◌, true, false, Option, Some, None, sym, ◌∙◌, subst, arith}
 use Rattle.std.specs.Prelude.{◌≢◌}
-use Rattle.protocol.specs.Images.{Image, AtMost, Net, IsCross}
-use Rattle.protocol.specs.Records.{Holds}
-use Rattle.protocol.specs.Nodes.{Answer, Live}
-use Rattle.protocol.specs.Packets.{Packet, Kept, Ask, Took, Covered, Query, Commit, Ended, Settled}
-use Rattle.protocol.specs.Worlds.{World, IsLive}
-use Rattle.protocol.specs.Line.{NotBehind, Over}
-use Rattle.protocol.specs.Invariant.{AskSays, CoveredSays, TookWhileLive, TookSays, CommitSays, SettledSays, Says}
-use Rattle.protocol.specs.Laws.{Needed}
+use Rattle.protocol.specs.Machine.Images.{Image, AtMost, Net, IsCross}
+use Rattle.protocol.specs.Machine.Records.{Holds}
+use Rattle.protocol.specs.Machine.Nodes.{Answer, Live}
+use Rattle.protocol.specs.Machine.Packets.{Packet, Kept, Ask, Took, Covered, Query, Commit, Ended, Settled}
+use Rattle.protocol.specs.Machine.Worlds.{World, IsLive}
+use Rattle.protocol.specs.Machine.Line.{NotBehind, Over}
+use Rattle.protocol.specs.Machine.Invariant.{AskSays, CoveredSays, TookWhileLive, TookSays, CommitSays, SettledSays, Says}
+use Rattle.protocol.specs.Machine.Laws.{Needed}
 use Rattle.protocol.proofs.Basics.{false_true, either}
 
 -- The instance was live before it was decided: each question was met by an image or answered by a node

@@ -1,12 +1,12 @@
 -- An answer comes to the initiator of a live instance, which stays in order.
 use Rattle.std.proofs.Common.{◌≡◌, ◌⊎◌, inl, inr, ℕ, ◌<◌, ◌≤◌, Bool, true, Option, Some, sym, ap, ◌∙◌, subst, arith}
 use Rattle.std.specs.Prelude.{◌≢◌}
-use Rattle.protocol.specs.Images.{Image, Net, IsCross}
-use Rattle.protocol.specs.Records.{Holds}
-use Rattle.protocol.specs.Nodes.{Answer, Awaited, By_took, By_covered}
-use Rattle.protocol.specs.Packets.{HearsTook, HearsCovered}
-use Rattle.protocol.specs.Worlds.{World, node_of}
-use Rattle.protocol.specs.Invariant.{NeedOf, LiveOk, TookWhileLive}
+use Rattle.protocol.specs.Machine.Images.{Image, Net, IsCross}
+use Rattle.protocol.specs.Machine.Records.{Holds}
+use Rattle.protocol.specs.Machine.Nodes.{Answer, Awaited, By_took, By_covered}
+use Rattle.protocol.specs.Machine.Packets.{HearsTook, HearsCovered}
+use Rattle.protocol.specs.Machine.Worlds.{World, node_of}
+use Rattle.protocol.specs.Machine.Invariant.{NeedOf, LiveOk, TookWhileLive}
 use Rattle.protocol.proofs.Basics.{same_or_other, one_inside, same_image}
 
 -- the question on this channel of which a count is known

@@ -1,10 +1,10 @@
 -- No log that leads to another node is trimmed further than that node's permanent image got.
 use Rattle.std.proofs.Common.{◌≡◌, inl, inr, ℕ, ◌≤◌, Some, None, refl, sym, ap, ◌∙◌, arith}
-use Rattle.protocol.specs.Images.{Image, Net, IsCross}
-use Rattle.protocol.specs.Nodes.{Running, current_of, Node, Unneeded, Got, Released, NodeStep, Work, Trim, Release, Roll_back, Crash, Restore, Forget, Doubt, Start, Give_up, Conclude}
-use Rattle.protocol.specs.Packets.{Packet, Kept, Ask, Took, Covered, Query, Commit, Ended, Settled, Hears}
-use Rattle.protocol.specs.Worlds.{World, node_of}
-use Rattle.protocol.specs.Invariant.{IsImageOf, Permanent, Held, Current, NodeOk}
+use Rattle.protocol.specs.Machine.Images.{Image, Net, IsCross}
+use Rattle.protocol.specs.Machine.Nodes.{Running, current_of, Node, Unneeded, Got, Released, NodeStep, Work, Trim, Release, Roll_back, Crash, Restore, Forget, Doubt, Start, Give_up, Conclude}
+use Rattle.protocol.specs.Machine.Packets.{Packet, Kept, Ask, Took, Covered, Query, Commit, Ended, Settled, Hears}
+use Rattle.protocol.specs.Machine.Worlds.{World, node_of}
+use Rattle.protocol.specs.Machine.Invariant.{IsImageOf, Permanent, Held, Current, NodeOk}
 use Rattle.protocol.proofs.Basics.{same_or_other, some_not_none, one_inside, current_is}
 use Rattle.protocol.proofs.OneNode.{image_was_there, permanent_was_there, taken_was_there, forget_goes, give_up_goes, start_takes, conclude_permanent}
 use Rattle.protocol.proofs.OneHears.{Free, commit_permanent, ended_goes, ask_takes}

@@ -1,12 +1,12 @@
 -- Each step writes at most one record, and not in the step that appends to an outlet.
 use Rattle.std.proofs.Common.{◌≡◌, ◌⊎◌, inl, inr, ℕ, ap}
-use Rattle.protocol.specs.Images.{Net}
-use Rattle.protocol.specs.Records.{Record}
-use Rattle.protocol.specs.Moves.{Move, Take, Decide, Settle, Drop, Confirm}
-use Rattle.protocol.specs.Nodes.{Node, NodeStep, Work, Trim, Release, Roll_back, Crash, Restore, Forget, Doubt, Start, Give_up, Conclude}
-use Rattle.protocol.specs.Packets.{Packet, Kept, Ask, Took, Covered, Query, Commit, Ended, Settled, Hears}
-use Rattle.protocol.specs.Worlds.{World, node_of, OnlyAt, Step, Acts, Comes, Send}
-use Rattle.protocol.specs.Laws.{AtMostOneMove}
+use Rattle.protocol.specs.Machine.Images.{Net}
+use Rattle.protocol.specs.Machine.Records.{Record}
+use Rattle.protocol.specs.Machine.Moves.{Move, Take, Decide, Settle, Drop, Confirm}
+use Rattle.protocol.specs.Machine.Nodes.{Node, NodeStep, Work, Trim, Release, Roll_back, Crash, Restore, Forget, Doubt, Start, Give_up, Conclude}
+use Rattle.protocol.specs.Machine.Packets.{Packet, Kept, Ask, Took, Covered, Query, Commit, Ended, Settled, Hears}
+use Rattle.protocol.specs.Machine.Worlds.{World, node_of, OnlyAt, Step, Acts, Comes, Send}
+use Rattle.protocol.specs.Machine.Laws.{AtMostOneMove}
 use Rattle.protocol.proofs.Stepping.{records_stay}
 
 -- the record stays, or is written once while the outlets stay

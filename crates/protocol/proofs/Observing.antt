@@ -8,8 +8,8 @@ use Rattle.record.specs.ImageView.{ImageView}
 use Rattle.record.specs.RecordView.{RecordView}
 use Rattle.record.specs.Moves.{last_image, decision_by, decision_or, without_node, confirmed, without_own}
 use Rattle.record.specs.declared.record.Tentative.{Tentative as HeldImage}
-use Rattle.protocol.specs.Moves.{Decides}
-use Rattle.protocol.specs.Observers.{image_seen, tentative_seen, has_node, decisions_of, decides, names, record_seen, TakingMoves, DecidingMoves, SettlingMoves, DroppingMoves, ConfirmingMoves, EpochDropsOwn, EpochIsNotSeen}
+use Rattle.protocol.specs.Machine.Moves.{Decides}
+use Rattle.protocol.specs.Machine.Observers.{image_seen, tentative_seen, has_node, decisions_of, decides, names, record_seen, TakingMoves, DecidingMoves, SettlingMoves, DroppingMoves, ConfirmingMoves, EpochDropsOwn, EpochIsNotSeen}
 
 same_number : (n : ℕ) → (n == n) ≡ true
 same_number n = eq-eqb n n refl

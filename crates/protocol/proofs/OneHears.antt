@@ -1,11 +1,11 @@
 -- What one node keeps when a packet comes to it.
 use Rattle.std.proofs.Common.{◌≡◌, None, ◌⊎◌, inl, inr, ℕ, true, Some, refl, sym, ap, ◌∙◌}
 use Rattle.std.specs.Prelude.{◌≢◌}
-use Rattle.protocol.specs.Images.{Image, Net}
-use Rattle.protocol.specs.Records.{Holds}
-use Rattle.protocol.specs.Nodes.{Live, Mode, Down, In_doubt, Running, current_of, live_of, Node, Unwritten}
-use Rattle.protocol.specs.Packets.{Packet, Kept, Ask, Took, Covered, Query, Commit, Ended, Settled, after_verdict, HearsAsk, HearsCommit, HearsEnded, HearsSettled, Hears, IsByOther}
-use Rattle.protocol.specs.Invariant.{IsImageOf, Permanent, Held, Current, NodeOk}
+use Rattle.protocol.specs.Machine.Images.{Image, Net}
+use Rattle.protocol.specs.Machine.Records.{Holds}
+use Rattle.protocol.specs.Machine.Nodes.{Live, Mode, Down, In_doubt, Running, current_of, live_of, Node, Unwritten}
+use Rattle.protocol.specs.Machine.Packets.{Packet, Kept, Ask, Took, Covered, Query, Commit, Ended, Settled, after_verdict, HearsAsk, HearsCommit, HearsEnded, HearsSettled, Hears, IsByOther}
+use Rattle.protocol.specs.Machine.Invariant.{IsImageOf, Permanent, Held, Current, NodeOk}
 use Rattle.protocol.proofs.Basics.{not_in_doubt, same_or_other, some_not_none, one_inside, same_initiator}
 use Rattle.protocol.proofs.OneNode.{down_not_doubt, images_stay_ok, trims_ok, ImageGoes, image_goes_ok, BecomesPermanent, becomes_permanent_ok, CurrentIsTaken, current_is_taken_ok}
 

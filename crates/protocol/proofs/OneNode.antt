@@ -1,13 +1,13 @@
 -- What one node keeps in each of the steps that it makes by itself.
 use Rattle.std.proofs.Common.{◌≡◌, ◌⊎◌, inl, inr, ℕ, ◌<◌, ◌≤◌, Bool, true, false, Option, Some, None, List, [], ◌∷◌, refl, sym, ap, ◌∙◌, subst, arith}
 use Rattle.std.specs.Prelude.{◌≢◌}
-use Rattle.protocol.specs.Images.{Image, AtMost, Net, IsLocal, IsOutput}
-use Rattle.protocol.specs.Records.{Holds}
-use Rattle.protocol.specs.Moves.{Takes, Drops}
-use Rattle.protocol.specs.Nodes.{Live, Mode, Down, In_doubt, Running, current_of, live_of, Node, Unwritten, Works, Trims, Unneeded, Got, Released, Releases, Forgets, Starts, GivesUp, Concludes, NodeStep, Work, Trim, Release, Roll_back, Crash, Restore, Forget, Doubt, Start, Give_up, Conclude}
-use Rattle.protocol.specs.Worlds.{Alone}
-use Rattle.protocol.specs.Invariant.{IsImageOf, Permanent, Held, Current, NodeOk}
-use Rattle.protocol.specs.Laws.{CanRestart}
+use Rattle.protocol.specs.Machine.Images.{Image, AtMost, Net, IsLocal, IsOutput}
+use Rattle.protocol.specs.Machine.Records.{Holds}
+use Rattle.protocol.specs.Machine.Moves.{Takes, Drops}
+use Rattle.protocol.specs.Machine.Nodes.{Live, Mode, Down, In_doubt, Running, current_of, live_of, Node, Unwritten, Works, Trims, Unneeded, Got, Released, Releases, Forgets, Starts, GivesUp, Concludes, NodeStep, Work, Trim, Release, Roll_back, Crash, Restore, Forget, Doubt, Start, Give_up, Conclude}
+use Rattle.protocol.specs.Machine.Worlds.{Alone}
+use Rattle.protocol.specs.Machine.Invariant.{IsImageOf, Permanent, Held, Current, NodeOk}
+use Rattle.protocol.specs.Machine.Laws.{CanRestart}
 use Rattle.protocol.proofs.Basics.{false_true, not_in_doubt, same_or_other, at_most_itself, at_most_next, some_not_none, one_inside, same_initiator, same_number, same_image, current_is, live_is}
 
 -- the image can be node b's current one, over the record of a

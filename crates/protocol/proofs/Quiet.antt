@@ -1,11 +1,11 @@
 -- A step that writes no record: the line stays, and so does what the records of two nodes agree on.
 use Rattle.std.proofs.Common.{◌≡◌, inl, inr, ℕ, Some, refl, sym, ap, arith}
 use Rattle.std.specs.Prelude.{◌≢◌}
-use Rattle.protocol.specs.Images.{Image, Net}
-use Rattle.protocol.specs.Records.{Record, effective}
-use Rattle.protocol.specs.Nodes.{Answer, Live}
-use Rattle.protocol.specs.Worlds.{World, IsLive}
-use Rattle.protocol.specs.Invariant.{LiveOk, Agreed}
+use Rattle.protocol.specs.Machine.Images.{Image, Net}
+use Rattle.protocol.specs.Machine.Records.{Record, effective}
+use Rattle.protocol.specs.Machine.Nodes.{Answer, Live}
+use Rattle.protocol.specs.Machine.Worlds.{World, IsLive}
+use Rattle.protocol.specs.Machine.Invariant.{LiveOk, Agreed}
 use Rattle.protocol.proofs.Basics.{same_or_other, at_most_itself, one_inside}
 use Rattle.protocol.proofs.Grows.{Stays, Grows, StillLive}
 

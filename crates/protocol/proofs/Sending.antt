@@ -1,11 +1,11 @@
 -- What a node sends is true when it is sent.
 use Rattle.std.proofs.Common.{◌≡◌, inl, inr, ℕ, ◌≤◌, Option, sym, ◌∙◌, arith}
-use Rattle.protocol.specs.Images.{Image, Net, IsCross}
-use Rattle.protocol.specs.Records.{Holds}
-use Rattle.protocol.specs.Nodes.{Awaited}
-use Rattle.protocol.specs.Packets.{Packet, Kept, Ask, Took, Covered, Query, Commit, Ended, Settled}
-use Rattle.protocol.specs.Worlds.{World, SendsKept, SendsAsk, SendsTook, SendsCommit, MaySend}
-use Rattle.protocol.specs.Invariant.{AskSays, TookSays, CommitSays, Says, Consistent}
+use Rattle.protocol.specs.Machine.Images.{Image, Net, IsCross}
+use Rattle.protocol.specs.Machine.Records.{Holds}
+use Rattle.protocol.specs.Machine.Nodes.{Awaited}
+use Rattle.protocol.specs.Machine.Packets.{Packet, Kept, Ask, Took, Covered, Query, Commit, Ended, Settled}
+use Rattle.protocol.specs.Machine.Worlds.{World, SendsKept, SendsAsk, SendsTook, SendsCommit, MaySend}
+use Rattle.protocol.specs.Machine.Invariant.{AskSays, TookSays, CommitSays, Says, Consistent}
 use Rattle.protocol.proofs.Basics.{false_true, same_or_other, one_inside}
 
 module _ (net : Net) (w : World) (ok : Consistent net w) where

@@ -1,11 +1,11 @@
 -- A node makes another's image permanent, whose instance is committed: the line stays.
 use Rattle.std.proofs.Common.{◌≡◌, inl, inr, ℕ, true, sym, ap, ◌∙◌, arith}
-use Rattle.protocol.specs.Images.{Image, AtMost, Net}
-use Rattle.protocol.specs.Records.{Record, Holds, effective}
-use Rattle.protocol.specs.Moves.{Settles}
-use Rattle.protocol.specs.Nodes.{Live}
-use Rattle.protocol.specs.Worlds.{World, IsLive}
-use Rattle.protocol.specs.Invariant.{Agreed}
+use Rattle.protocol.specs.Machine.Images.{Image, AtMost, Net}
+use Rattle.protocol.specs.Machine.Records.{Record, Holds, effective}
+use Rattle.protocol.specs.Machine.Moves.{Settles}
+use Rattle.protocol.specs.Machine.Nodes.{Live}
+use Rattle.protocol.specs.Machine.Worlds.{World, IsLive}
+use Rattle.protocol.specs.Machine.Invariant.{Agreed}
 use Rattle.protocol.proofs.Basics.{false_true, same_or_other, at_most_itself, some_not_none, same_initiator, same_number, same_image, effective_free, effective_committed}
 use Rattle.protocol.proofs.Grows as grows
 use Rattle.protocol.proofs.Grows.{Fate, Replaced, Grows}

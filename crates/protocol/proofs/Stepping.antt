@@ -2,15 +2,15 @@
 use Rattle.std.proofs.Common.{◌≡◌, inl, inr, ℕ, ◌≤◌, Option, Some, None, sym, ap, ◌∙◌, subst, arith}
 use Rattle.std.proofs.Math.Path.{fun_ext}
 use Rattle.std.specs.Prelude.{◌≢◌}
-use Rattle.protocol.specs.Images.{Image, Net, IsCross, IsOutput}
-use Rattle.protocol.specs.Records.{Holds}
-use Rattle.protocol.specs.Moves.{Drops}
-use Rattle.protocol.specs.Nodes.{Awaited, Live, Mode, Running, live_of, Node, NodeStep, Work, Trim, Release, Roll_back, Crash, Restore, Forget, Doubt, Start, Give_up, Conclude}
-use Rattle.protocol.specs.Packets.{Packet, Kept, Ask, Took, Covered, Query, Commit, Ended, Settled, HearsAsk, HearsTook, HearsCovered, HearsCommit, HearsEnded, HearsSettled, Hears}
-use Rattle.protocol.specs.Worlds.{World, node_of, IsLive, InFlight, OnlyAt, Sends, Step, Acts, Comes, Send}
-use Rattle.protocol.specs.Line.{Over}
-use Rattle.protocol.specs.Invariant.{IsImageOf, Permanent, Held, Current, NodeOk, LiveOk, Agreed, AskSays, CoveredSays, TookWhileLive, TookSays, CommitSays, SettledSays, Says, Consistent}
-use Rattle.protocol.specs.Laws.{Wanted, Needed}
+use Rattle.protocol.specs.Machine.Images.{Image, Net, IsCross, IsOutput}
+use Rattle.protocol.specs.Machine.Records.{Holds}
+use Rattle.protocol.specs.Machine.Moves.{Drops}
+use Rattle.protocol.specs.Machine.Nodes.{Awaited, Live, Mode, Running, live_of, Node, NodeStep, Work, Trim, Release, Roll_back, Crash, Restore, Forget, Doubt, Start, Give_up, Conclude}
+use Rattle.protocol.specs.Machine.Packets.{Packet, Kept, Ask, Took, Covered, Query, Commit, Ended, Settled, HearsAsk, HearsTook, HearsCovered, HearsCommit, HearsEnded, HearsSettled, Hears}
+use Rattle.protocol.specs.Machine.Worlds.{World, node_of, IsLive, InFlight, OnlyAt, Sends, Step, Acts, Comes, Send}
+use Rattle.protocol.specs.Machine.Line.{Over}
+use Rattle.protocol.specs.Machine.Invariant.{IsImageOf, Permanent, Held, Current, NodeOk, LiveOk, Agreed, AskSays, CoveredSays, TookWhileLive, TookSays, CommitSays, SettledSays, Says, Consistent}
+use Rattle.protocol.specs.Machine.Laws.{Wanted, Needed}
 use Rattle.protocol.proofs.Basics.{false_true, either, same_or_other, some_not_none, same_initiator, same_number, live_is}
 use Rattle.protocol.proofs.OneNode.{record_stays_ok, current_fits, node_step_ok, node_step_grows, node_step_outlets}
 use Rattle.protocol.proofs.OneHears.{NothingLive, Free, live_after, hears_ok}

@@ -1,13 +1,13 @@
 -- A node takes a tentative image of an instance that isn't decided: the line stays.
 use Rattle.std.proofs.Common.{◌≡◌, ◌⊎◌, inl, inr, ℕ, ◌<◌, ◌≤◌, true, false, refl, sym, ap, ◌∙◌, arith}
 use Rattle.std.specs.Prelude.{◌≢◌}
-use Rattle.protocol.specs.Images.{Image, Net, IsCross}
-use Rattle.protocol.specs.Records.{Record, Holds, effective}
-use Rattle.protocol.specs.Moves.{Takes}
-use Rattle.protocol.specs.Nodes.{Awaited, By_took, By_covered, Live, AsksNeeds}
-use Rattle.protocol.specs.Worlds.{World, node_of, IsLive}
-use Rattle.protocol.specs.Invariant.{NodeOk, Unmet, LiveOk, Agreed, AskSays}
-use Rattle.protocol.specs.Laws.{Needed}
+use Rattle.protocol.specs.Machine.Images.{Image, Net, IsCross}
+use Rattle.protocol.specs.Machine.Records.{Record, Holds, effective}
+use Rattle.protocol.specs.Machine.Moves.{Takes}
+use Rattle.protocol.specs.Machine.Nodes.{Awaited, By_took, By_covered, Live, AsksNeeds}
+use Rattle.protocol.specs.Machine.Worlds.{World, node_of, IsLive}
+use Rattle.protocol.specs.Machine.Invariant.{NodeOk, Unmet, LiveOk, Agreed, AskSays}
+use Rattle.protocol.specs.Machine.Laws.{Needed}
 use Rattle.protocol.proofs.Basics.{false_true, either, same_or_other, at_most_itself, some_not_none, one_inside, same_initiator, same_number, same_image, effective_free, effective_open}
 use Rattle.protocol.proofs.Grows.{Stays, Grows, StillLive}
 use Rattle.protocol.proofs.Frames.{OnlyRecord, everywhere, effective_at_others, HoldOn, live_stays}

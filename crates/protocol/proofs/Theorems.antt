@@ -1,14 +1,14 @@
 -- The theorems of runs, from what every reachable world keeps.
 use Rattle.std.proofs.Common.{◌≡◌, ◌⊎◌, inl, inr, ℕ, zero, suc, ◌<◌, ◌≤◌, Bool, true, false, Option, Some, None, List, [], ◌∷◌, refl, sym, ap, ◌∙◌, subst, arith}
 use Rattle.std.specs.Prelude.{◌≢◌}
-use Rattle.protocol.specs.Images.{Image, blank, Net}
-use Rattle.protocol.specs.Records.{Tentative, Record, Holds, effective}
-use Rattle.protocol.specs.Nodes.{Awaited, Live}
-use Rattle.protocol.specs.Packets.{Packet, Ask, Ended}
-use Rattle.protocol.specs.Worlds.{World, node_of, IsLive, InFlight, opening, MaySend, Step, Acts, Comes, Send, Run, Reachable}
-use Rattle.protocol.specs.Line.{Sound, Covers, NotBehind, Over, AtMoment, line_with, NoOrphan}
-use Rattle.protocol.specs.Invariant.{IsImageOf, Permanent, Held, Current, NeedOf, LiveOk, Says, Consistent}
-use Rattle.protocol.specs.Laws.{AtMostOneMove, Wanted, WantedBefore, Needed}
+use Rattle.protocol.specs.Machine.Images.{Image, blank, Net}
+use Rattle.protocol.specs.Machine.Records.{Tentative, Record, Holds, effective}
+use Rattle.protocol.specs.Machine.Nodes.{Awaited, Live}
+use Rattle.protocol.specs.Machine.Packets.{Packet, Ask, Ended}
+use Rattle.protocol.specs.Machine.Worlds.{World, node_of, IsLive, InFlight, opening, MaySend, Step, Acts, Comes, Send, Run, Reachable}
+use Rattle.protocol.specs.Machine.Line.{Sound, Covers, NotBehind, Over, AtMoment, line_with, NoOrphan}
+use Rattle.protocol.specs.Machine.Invariant.{IsImageOf, Permanent, Held, Current, NeedOf, LiveOk, Says, Consistent}
+use Rattle.protocol.specs.Machine.Laws.{AtMostOneMove, Wanted, WantedBefore, Needed}
 use Rattle.protocol.proofs.Basics.{not_in_doubt, false_true, either, same_or_other, at_most_itself, at_most_next, some_not_none, one_inside, effective_free, effective_committed, effective_open}
 use Rattle.protocol.proofs.OneNode.{node_step_grows}
 use Rattle.protocol.proofs.Grows.{Grows, Fate, Stays, Settles, Goes, over_stays, stays_true}

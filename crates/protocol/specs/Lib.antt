@@ -1,10 +1,5 @@
-pub mod Images
-pub mod Records
-pub mod Moves
-pub mod Observers
-pub mod Nodes
-pub mod Packets
-pub mod Worlds
-pub mod Line
-pub mod Invariant
-pub mod Laws
+pub mod Machine
+pub mod Node
+pub mod NodeLaws
+pub mod World
+pub mod WorldLaws

@@ -6,12 +6,20 @@
 //! Toueg, "Checkpointing and rollback-recovery for distributed systems" (1987).
 #![tactic(auto)]
 
+mod armed_restart;
+mod limits;
 mod one_node;
+mod putting;
 mod records;
+mod round_turns;
 mod runs;
 mod steps;
 
+pub use armed_restart::ArmedRestart;
+pub use limits::{MAX_GRANTS, MAX_JOB_ITEMS};
 pub use one_node::{node_law, node_line_law, node_opening_law, node_packet_law, node_sound_law};
+pub use putting::{Putting, Recovery};
 pub use records::record_law;
+pub use round_turns::RoundTurns;
 pub use runs::{every_run_law, reachable_decision_law};
 pub use steps::{consistency_law, move_law, packet_law};

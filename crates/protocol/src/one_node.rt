@@ -1,7 +1,7 @@
 //! Laws of one node.
 
-ghost use Rattle.protocol.specs.Laws.{NodeOpens, NodeStaysOk, NodeHearsOk};
-ghost use Rattle.protocol.specs.Laws.{NodeIsSound, OwnIsNotEffective, NodeNeverFallsBack};
+ghost use Rattle.protocol.specs.Machine.Laws.{NodeOpens, NodeStaysOk, NodeHearsOk};
+ghost use Rattle.protocol.specs.Machine.Laws.{NodeIsSound, OwnIsNotEffective, NodeNeverFallsBack};
 
 /// A node of the opening world is in order.
 pub fn node_opening_law()

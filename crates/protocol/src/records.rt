@@ -1,6 +1,6 @@
 //! How the records that nodes write are seen here.
 
-ghost use Rattle.protocol.specs.Observers.{TakingMoves, DecidingMoves, SettlingMoves, DroppingMoves, ConfirmingMoves, EpochDropsOwn, EpochIsNotSeen};
+ghost use Rattle.protocol.specs.Machine.Observers.{TakingMoves, DecidingMoves, SettlingMoves, DroppingMoves, ConfirmingMoves, EpochDropsOwn, EpochIsNotSeen};
 
 /// Each change of a record (`record/specs/Moves`) is a move, as it is seen here, or isn't seen at all.
 pub fn record_law()

@@ -1,10 +1,10 @@
 //! Laws of every run of steps from the opening world.
 
-ghost use Rattle.protocol.specs.Laws.{LineIsSound, LineCovers, LineNeverFallsBack};
-ghost use Rattle.protocol.specs.Laws.{CommitsWhileHeld, StaysCommitted, HoldersAreNamed};
-ghost use Rattle.protocol.specs.Laws.{EndedIsOver, StaysOver, OverStaysOut};
-ghost use Rattle.protocol.specs.Laws.{TakersAreNeeded, NoSmallerSet, NoSmallerDecision};
-ghost use Rattle.protocol.specs.Laws.{AsksForNeeds, TakesWhereNeeded, ReachesADecision};
+ghost use Rattle.protocol.specs.Machine.Laws.{LineIsSound, LineCovers, LineNeverFallsBack};
+ghost use Rattle.protocol.specs.Machine.Laws.{CommitsWhileHeld, StaysCommitted, HoldersAreNamed};
+ghost use Rattle.protocol.specs.Machine.Laws.{EndedIsOver, StaysOver, OverStaysOut};
+ghost use Rattle.protocol.specs.Machine.Laws.{TakersAreNeeded, NoSmallerSet, NoSmallerDecision};
+ghost use Rattle.protocol.specs.Machine.Laws.{AsksForNeeds, TakesWhereNeeded, ReachesADecision};
 
 /// After every run of steps, at every moment of the step after it:
 ///

@@ -1,7 +1,7 @@
 //! Laws of each step.
 
-ghost use Rattle.protocol.specs.Laws.{Opens, StaysConsistent, IsConsistent, RunsOn};
-ghost use Rattle.protocol.specs.Laws.{IsTrueWhenSent, StaysTrue, MovesAtMostOnce};
+ghost use Rattle.protocol.specs.Machine.Laws.{Opens, StaysConsistent, IsConsistent, RunsOn};
+ghost use Rattle.protocol.specs.Machine.Laws.{IsTrueWhenSent, StaysTrue, MovesAtMostOnce};
 
 /// The opening world is consistent, and each step keeps it so. Each run leads from a reachable
 /// world to a reachable one, and those are consistent.

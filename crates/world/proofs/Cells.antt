@@ -10,8 +10,8 @@ use Rattle.ckpt_store.specs.StoreView.{cell_in, record_in}
 use Rattle.ckpt_store.specs.declared.store.Store.{Store}
 use Rattle.ckpt_store.proofs.Seen.{spelled_is}
 use Rattle.node.specs.StoredView.{LeavesNext, LeavesAsBefore}
-use Rattle.world.specs.Covered.{LeavesAsMuch, LeavesEither}
-use Rattle.world.specs.Pairs.{LeaveEitherSince}
+use Rattle.protocol.specs.World.Covered.{LeavesAsMuch, LeavesEither}
+use Rattle.protocol.specs.World.Pairs.{LeaveEitherSince}
 
 -- what was left spells one record alone
 one_record : (kept other : RecordView) (left : Option (List ℕ)) → Spells kept left → Spells other left → kept ≡ other

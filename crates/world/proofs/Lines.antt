@@ -7,11 +7,12 @@ use Rattle.gate_cell.specs.declared.cell.StableCell.{Ghosts as CellWords}
 use Rattle.record.specs.RecordView.{RecordView}
 use Rattle.ckpt_store.specs.Spelling.{Spells}
 use Rattle.ckpt_store.specs.StoreView.{record_in}
-use Rattle.node.specs.Starting.{IsBehind}
-use Rattle.world.specs.Invariant.{outputs_of, WorldInvariant}
-use Rattle.world.specs.LineLaws.{line_ahead, line_of, fit_undecided, kept_undecided}
-use Rattle.world.specs.RecoveryLine.{records_of, MayBeLeft, AreLeftSince, KeepsLine, HasOneLine, FitsOutputs, StaysInLine}
-use Rattle.world.specs.StationView.{StationView}
+use Rattle.protocol.specs.Node.Starting.{IsBehind}
+use Rattle.protocol.specs.World.Invariant.{outputs_of, WorldInvariant}
+use Rattle.protocol.specs.WorldLaws.LineLaws.{line_ahead, line_of, fit_undecided, kept_undecided}
+use Rattle.protocol.specs.World.RecoveryLine.{records_of, FitsOutputs}
+use Rattle.world.specs.RecoveryLine.{MayBeLeft, AreLeftSince, KeepsLine, HasOneLine, StaysInLine}
+use Rattle.protocol.specs.World.StationView.{StationView}
 use Rattle.world.specs.WorldView.{station_view}
 use Rattle.world.specs.declared.station.Station.{Station}
 use Rattle.world.proofs.Cells.{own_alone, own_spelled}

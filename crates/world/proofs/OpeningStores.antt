@@ -25,7 +25,7 @@ use Rattle.ckpt_store.specs.declared.fault.StoreFault.TheVariants as store
 use Rattle.ckpt_store.specs.declared.store.Store.{Store}
 use Rattle.ckpt_store.proofs.Seen.{spelled_is}
 use Rattle.world.specs.OpeningWorld.{HasRoom, IsOpeningRefusal}
-use Rattle.world.specs.RoomLaws.{bounded_is_short}
+use Rattle.protocol.specs.WorldLaws.RoomLaws.{bounded_is_short}
 
 answered : (o : Option RecordView) → IsSome o → ¬ (IsErrOf (record_or Reopen o) Device)
 answered None known failed = absurd (cc)

@@ -5,18 +5,20 @@ use Rattle.std.proofs.Math.Seq.{drop-cons}
 use Rattle.kahn_net.specs.declared.program.Channel.{Channel}
 use Rattle.kahn_net.specs.Syntax.{Network, network_of}
 use Rattle.record.specs.RecordView.{RecordView}
-use Rattle.node.specs.NodeView.{NodeView}
-use Rattle.node.specs.Opening.{opening_node, opening_record, running_from}
-use Rattle.world.specs.Turns.{no_turns}
-use Rattle.world.specs.declared.round_turns.RoundTurns.{RoundTurns}
-use Rattle.world.specs.Invariant.{output_of, outputs_of}
-use Rattle.world.specs.OutputView.{OutputView}
-use Rattle.world.specs.Sound.{goes_outside, output_channels}
-use Rattle.world.specs.OpenLaws.{NothingLeft}
+use Rattle.protocol.specs.Node.NodeView.{NodeView}
+use Rattle.protocol.specs.Node.Opening.{opening_node, opening_record, running_from}
+use Rattle.protocol.specs.World.Turns.{no_turns}
+use Rattle.protocol.specs.declared.round_turns.RoundTurns.{RoundTurns}
+use Rattle.protocol.specs.World.Invariant.{output_of, outputs_of}
+use Rattle.protocol.specs.World.OutputView.{OutputView}
+use Rattle.protocol.specs.World.Sound.{goes_outside, output_channels}
+use Rattle.protocol.specs.WorldLaws.OpenLaws.{NothingLeft}
 use Rattle.std.specs.List.{AllByRecursion}
-use Rattle.world.specs.OpeningWorld.{fresh, opening_outlet, opening_station, opening_world, IsUnused}
-use Rattle.world.specs.StationView.{OutletView, StationView, outlet_view, outlet_views}
-use Rattle.world.specs.Steps.{WorldView}
+use Rattle.protocol.specs.World.OpeningWorld.{opening_outlet, opening_station, opening_world}
+use Rattle.world.specs.OpeningWorld.{fresh, IsUnused}
+use Rattle.protocol.specs.World.StationView.{OutletView, StationView}
+use Rattle.world.specs.StationView.{outlet_view, outlet_views}
+use Rattle.protocol.specs.World.Steps.{WorldView}
 use Rattle.net_check.specs.declared.net.Net.{Net}
 use Rattle.world.specs.declared.output.Output.{Output}
 

@@ -8,8 +8,8 @@ use Rattle.kahn_net.specs.Syntax.{Code, code_of, network_of}
 use Rattle.kahn_net.specs.declared.program.Channel.{Channel}
 use Rattle.kahn_net.specs.declared.program.Process.{Process}
 use Rattle.kahn_net.specs.declared.program.Program.{Program}
-use Rattle.node.specs.ImageLaws.{map_got}
-use Rattle.world.specs.Runnable.{CanRun, is_open}
+use Rattle.protocol.specs.NodeLaws.ImageLaws.{map_got}
+use Rattle.protocol.specs.World.Runnable.{CanRun, is_open}
 
 both : (a b : Bool) → (a && b) ≡ true → (a ≡ true) × (b ≡ true)
 both true b h = (refl, h)

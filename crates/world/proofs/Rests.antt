@@ -12,8 +12,8 @@ use Rattle.proc_step.specs.NextView.{next_view}
 use Rattle.proc_step.specs.declared.next.NextAct.{NextAct}
 use Rattle.record.specs.ProcessView.{SavedProcessView}
 use Rattle.record.specs.ImageView.{ImageView}
-use Rattle.node.specs.Choosing.{next_at}
-use Rattle.world.specs.Quiet.{has_got_all, can_rest, is_at_rest}
+use Rattle.protocol.specs.Node.Choosing.{next_at}
+use Rattle.protocol.specs.World.Quiet.{has_got_all, can_rest, is_at_rest}
 
 -- the code of a process, as it was looked up
 pub code_found : (program : Program) (ps : List Process) (m n : ℕ) (p : Process) → ps ≡ program.processes.items → m ≡ n → m < length ps → p ≡ get_or ps m p

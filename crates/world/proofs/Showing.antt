@@ -2,8 +2,8 @@
 use Rattle.std.proofs.Common.{◌≡◌, ℕ, ◌+◌, ◌<◌, List, ℤ, ◌∷◌, map, length, drop, get_or, Option, Some, None, refl, sym, ap, ◌∙◌, Bor}
 use Rattle.std.specs.Prelude.{◌==◌, find, option_copied, option_map}
 use Rattle.std.proofs.lemmas.List.{at_drop_more}
-use Rattle.world.specs.StationView.{OutletView, StationView}
-use Rattle.world.specs.Released.{taken_or, released_of}
+use Rattle.protocol.specs.World.StationView.{OutletView, StationView}
+use Rattle.protocol.specs.World.Released.{taken_or, released_of}
 
 abbrev outlet_of : ℕ → List OutletView → Option OutletView
 outlet_of channel outlets = find (λ (outlet : OutletView). outlet.channel == channel) outlets

@@ -8,25 +8,28 @@ use Rattle.kahn_net.specs.Valid.{IsValid}
 use Rattle.kahn_net.specs.Syntax.{Network}
 use Rattle.record.specs.RecordView.{RecordView}
 use Rattle.ckpt_store.specs.StoreView.{cell_in, record_in, record_spelled}
-use Rattle.node.specs.Starting.{IsBehind}
+use Rattle.protocol.specs.Node.Starting.{IsBehind}
 use Rattle.world.proofs.Cells.{leaves_own, own_left}
 use Rattle.gate_cell.specs.declared.cell.StableCell.{Ghosts as CellWords}
-use Rattle.world.specs.EventView.{EventView}
-use Rattle.world.specs.Growing.{EachBegins}
-use Rattle.world.specs.GrowLaws.{begins_same, step_begins, has_grown, still_grown}
-use Rattle.world.specs.Invariant.{outputs_of, AreSound, StationInvariant}
-use Rattle.world.specs.LineLaws.{next_ahead, step_ahead, either_in_line, same_in_line}
-use Rattle.world.specs.OrderLaws.{behind_itself}
-use Rattle.world.specs.OutputLaws.{map_at}
-use Rattle.world.specs.OutputView.{OutputView, outputs_view}
-use Rattle.world.specs.PairLaws.{pairs_refl, pairs_set}
-use Rattle.world.specs.Covered.{LeavesEither}
-use Rattle.world.specs.Pairs.{HasMoved, HasGrown}
-use Rattle.world.specs.RecoveryLine.{next_kept, LeavesInLine, StaysInLine}
+use Rattle.protocol.specs.World.EventView.{EventView}
+use Rattle.protocol.specs.World.Growing.{EachBegins}
+use Rattle.protocol.specs.WorldLaws.GrowLaws.{begins_same, step_begins, has_grown, still_grown}
+use Rattle.protocol.specs.World.Invariant.{outputs_of, AreSound, StationInvariant}
+use Rattle.protocol.specs.WorldLaws.LineLaws.{next_ahead, step_ahead, either_in_line, same_in_line}
+use Rattle.protocol.specs.WorldLaws.OrderLaws.{behind_itself}
+use Rattle.protocol.specs.WorldLaws.OutputLaws.{map_at}
+use Rattle.protocol.specs.World.OutputView.{OutputView}
+use Rattle.world.specs.OutputView.{outputs_view}
+use Rattle.protocol.specs.WorldLaws.PairLaws.{pairs_refl, pairs_set}
+use Rattle.protocol.specs.World.Covered.{LeavesEither}
+use Rattle.protocol.specs.World.Pairs.{HasMoved, HasGrown}
+use Rattle.protocol.specs.World.RecoveryLine.{next_kept, LeavesInLine}
+use Rattle.world.specs.RecoveryLine.{StaysInLine}
 use Rattle.world.specs.ReplyView.{reply_view}
-use Rattle.world.specs.StationView.{StationView, outlet_views}
-use Rattle.world.specs.StepKeeps.{station_keeps}
-use Rattle.world.specs.Steps.{IsStationStep}
+use Rattle.protocol.specs.World.StationView.{StationView}
+use Rattle.world.specs.StationView.{outlet_views}
+use Rattle.protocol.specs.WorldLaws.StepKeeps.{station_keeps}
+use Rattle.protocol.specs.World.Steps.{IsStationStep}
 use Rattle.world.specs.WorldView.{station_view, IsGrown}
 use Rattle.world.specs.declared.event.Reply.{Reply}
 use Rattle.world.specs.declared.station.Station.{Station}

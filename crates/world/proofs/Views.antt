@@ -5,15 +5,17 @@ use Rattle.std.proofs.lemmas.List.{map-set}
 use Rattle.std.proofs.lemmas.Option.{slice_get_read}
 use Rattle.std.specs.declared.alloc.AllocError.{AllocError}
 use Rattle.kahn_net.specs.Syntax.{Network}
-use Rattle.node.specs.NodeView.{NodeView}
-use Rattle.node.specs.Trimming.{current_log, trimmed_node}
-use Rattle.world.specs.Invariant.{outputs_of}
-use Rattle.world.specs.OutputLaws.{map_at, set_same}
-use Rattle.world.specs.OutputView.{OutputView, output_view, outputs_view}
-use Rattle.world.specs.StationView.{OutletView, StationView, outlet_view, outlet_views}
-use Rattle.world.specs.Steps.{next_release, IsHanded, IsRelease, IsStationStep, IsActOf, IsAct}
+use Rattle.protocol.specs.Node.NodeView.{NodeView}
+use Rattle.protocol.specs.Node.Trimming.{current_log, trimmed_node}
+use Rattle.protocol.specs.World.Invariant.{outputs_of}
+use Rattle.protocol.specs.WorldLaws.OutputLaws.{map_at, set_same}
+use Rattle.protocol.specs.World.OutputView.{OutputView}
+use Rattle.world.specs.OutputView.{output_view, outputs_view}
+use Rattle.protocol.specs.World.StationView.{OutletView, StationView}
+use Rattle.world.specs.StationView.{outlet_view, outlet_views}
+use Rattle.protocol.specs.World.Steps.{next_release, IsHanded, IsRelease, IsStationStep, IsActOf, IsAct}
 use Rattle.world.specs.WorldView.{IsCellUnchanged}
-use Rattle.world.specs.EventView.{EventView}
+use Rattle.protocol.specs.World.EventView.{EventView}
 use Rattle.world.specs.ReplyView.{reply_view}
 use Rattle.world.specs.declared.station.Station.{Station}
 use Rattle.gate_cell.specs.declared.cell.StableCell.{Ghosts as CellWords}

@@ -1,5 +1,5 @@
--- A world before its first event.
-use Rattle.std.specs.Prelude.{◌≡◌, ◌≤◌, ℕ, ℤ, List, [], ◌∷◌, map, Option, None}
+-- What a world is opened with: outputs, and a disk with room for the opening record; and why it isn't opened.
+use Rattle.std.specs.Prelude.{◌≡◌, ◌≤◌, ℕ, ℤ, List, [], Option, None}
 use Rattle.kahn_net.specs.Syntax.{Network}
 use Rattle.gate_cell.specs.Layout.{room_on, HasNoRoom}
 use Rattle.gate_cell.specs.declared.cell.StableCell.{Ghosts as CellWords}
@@ -9,24 +9,9 @@ use Rattle.ckpt_store.specs.Spelling.{Spells}
 use Rattle.ckpt_store.specs.StoreView.{cell_in}
 use Rattle.ckpt_store.specs.declared.fault.StoreFault.{StoreFault}
 use Rattle.ckpt_store.specs.declared.fault.StoreFault.TheVariants.{NoMemory, Device, TooLarge, Reopen, Truncated, Version, Malformed, HoldsOther, PastNumber, NotHeld, Unsettled, Spent}
-use Rattle.node.specs.Opening.{opening_node, opening_record}
-use Rattle.world.specs.StationView.{OutletView, StationView}
-use Rattle.world.specs.Steps.{WorldView}
-use Rattle.world.specs.Turns.{no_turns}
 use Rattle.world.specs.declared.output.Output.{Output}
 use Rattle.world.specs.declared.station.Station.{Station}
-
--- the outlet is as it was given, and has failed in no round
-abbrev pub opening_outlet : OutletView → OutletView
-opening_outlet outlet = record { channel = outlet.channel; taken = outlet.taken; failed = None; failures = outlet.failures }
-
--- the one station of a network on one node, with these outlets; its device has failed so often before
-abbrev pub opening_station : Network → ℕ → List OutletView → StationView
-opening_station net failures outlets = record { number = 0; node = opening_node net 1 0; failures = failures; outlets = outlets; turns = no_turns 0 }
-
--- the world of that station alone, with outlets as they were given
-abbrev pub opening_world : Network → List (List ℤ) → ℕ → List OutletView → WorldView
-opening_world net inputs failures outlets = record { net = net; inputs = inputs; stations = opening_station net failures (map opening_outlet outlets) ∷ []; round = 0 }
+use Rattle.protocol.specs.Node.Opening.{opening_record}
 
 -- an output of which no failure is remembered
 abbrev pub fresh : {O : Type 0} → Output O → Output O

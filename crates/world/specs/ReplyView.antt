@@ -1,26 +1,9 @@
--- Answers without pointers.
-use Rattle.std.specs.Prelude.{ℕ, Option, Some, None, Result, Ok, Err}
-use Rattle.node.specs.JobView.{JobView, job_view}
+-- Answers as data.
+use Rattle.std.specs.Prelude.{Option, Some, None, Result, Ok, Err}
+use Rattle.protocol.specs.World.ReplyView.{ReplyView, Granted, Installed, Discarded, Sent, Started, Decided, Refused, Released, OutletFailed, Crashed, Recovered, InDoubt, Down, Acted, Idled, NotDue}
+use Rattle.node.specs.JobView.{job_view}
 use Rattle.world.specs.declared.event.Reply.{Reply}
 use Rattle.world.specs.declared.event.Reply.TheVariants as reply
-
-pub data ReplyView : Type 0 where
-  Granted : (job : JobView) → ReplyView
-  Installed : ReplyView
-  Discarded : ReplyView
-  Sent : ReplyView
-  Started : ReplyView
-  Decided : ReplyView
-  Refused : (refusal : ℕ) → ReplyView
-  Released : (output number : ℕ) → ReplyView
-  OutletFailed : ReplyView
-  Crashed : ReplyView
-  Recovered : ReplyView
-  InDoubt : ReplyView
-  Down : ReplyView
-  Acted : ReplyView
-  Idled : ReplyView
-  NotDue : ReplyView
 
 abbrev pub reply_view : Reply → ReplyView
 reply_view (reply.Granted job) = Granted (job_view job)

@@ -2,7 +2,7 @@
 use Rattle.std.specs.List.{AllZip}
 use Rattle.gate_cell.specs.declared.cell.StableCell.{Ghosts as CellWords}
 use Rattle.outlet.specs.declared.outlet.Outlet.{Ghosts as OutletWords}
-use Rattle.world.specs.Steps.{WorldView}
+use Rattle.protocol.specs.World.Steps.{WorldView}
 use Rattle.world.specs.WorldView.{world_view, IsGrown}
 use Rattle.world.specs.declared.world.World.{World}
 

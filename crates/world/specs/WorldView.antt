@@ -11,9 +11,10 @@ use Rattle.std.specs.declared.alloc.Global.{Global}
 use Rattle.net_check.specs.declared.net.Net.{Net}
 use Rattle.net_check.specs.declared.inputs.Inputs.{Inputs}
 use Rattle.world.specs.OutputView.{outputs_view}
-use Rattle.world.specs.Pairs.{HasGrown}
-use Rattle.world.specs.StationView.{StationView, outlet_views}
-use Rattle.world.specs.Steps.{WorldView}
+use Rattle.protocol.specs.World.Pairs.{HasGrown}
+use Rattle.protocol.specs.World.StationView.{StationView}
+use Rattle.world.specs.StationView.{outlet_views}
+use Rattle.protocol.specs.World.Steps.{WorldView}
 use Rattle.world.specs.declared.output.Output.{Output}
 use Rattle.world.specs.declared.station.Station.{Station}
 

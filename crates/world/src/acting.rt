@@ -5,48 +5,25 @@ ghost use Rattle.kahn_net.specs.Syntax.{network_of};
 ghost use Rattle.ckpt_store.specs.Spelling.{fits_in};
 ghost use Rattle.ckpt_store.specs.StoreView.{cell_in};
 ghost use Rattle.node.specs.NodeOf.{view_of};
-ghost use Rattle.node.specs.Starting.{is_down};
-ghost use Rattle.node.specs.LikeLaws.{HasOuterChannels};
+ghost use Rattle.protocol.specs.Node.Starting.{is_down};
+ghost use Rattle.protocol.specs.NodeLaws.LikeLaws.{HasOuterChannels};
 ghost use Rattle.world.specs.EventView.{event_view};
-ghost use Rattle.world.specs.Invariant.{StationInvariant};
-ghost use Rattle.world.specs.Pairs.{HasMoved};
-ghost use Rattle.world.specs.RecoveryLine.{next_kept};
-ghost use Rattle.world.specs.Replies.{LeavesCells, TakesMemory};
+ghost use Rattle.protocol.specs.World.Invariant.{StationInvariant};
+ghost use Rattle.protocol.specs.World.Pairs.{HasMoved};
+ghost use Rattle.protocol.specs.World.RecoveryLine.{next_kept};
+ghost use Rattle.protocol.specs.World.Replies.{LeavesCells, TakesMemory};
 ghost use Rattle.world.specs.ReplyView.{answer_view, reply_view};
 ghost use Rattle.world.specs.StationView.{outlet_views};
-ghost use Rattle.world.specs.Turns.{count_send, count_idle};
-ghost use Rattle.world.specs.Steps.{IsSendOf, IsIdle, IsStationStep};
+ghost use Rattle.protocol.specs.World.Steps.{IsSendOf, IsIdle, IsStationStep};
 ghost use Rattle.world.specs.WorldView.{station_view, IsCellUnchanged};
 
 use crate::event::{Event, Reply};
-use crate::round_turns::RoundTurns;
 use crate::station::Station;
 use gate_cell::StableCell;
 use net_check::{Inputs, Net};
 use outlet::Outlet;
 use std::alloc::{AllocError, Global};
 use std::sync::Arc;
-
-impl RoundTurns {
-    // The node has sent, while it held a tentative image or not.
-    fn with_send(self, holding: bool) -> RoundTurns
-        ensures { result ≡ count_send holding self }
-    {
-        let mut turns = self;
-        turns.sent = true;
-        turns.sent_holding = holding;
-        turns
-    }
-
-    // The node let its turn pass.
-    fn with_idle(self) -> RoundTurns
-        ensures { result ≡ count_idle self }
-    {
-        let mut turns = self;
-        turns.idled = true;
-        turns
-    }
-}
 
 impl<C: StableCell, O: Outlet> Station<C, O> {
     // The node sends what is due: nothing, as long as there is no other node.

@@ -3,50 +3,39 @@ ghost use Rattle.std.specs.Prelude.{◌≡◌, ◌≤◌, IfOk, OnErr};
 ghost use Rattle.ckpt_store.specs.Spelling.{fits_in};
 ghost use Rattle.ckpt_store.specs.StoreView.{cell_in};
 ghost use Rattle.node.specs.NodeOf.{view_of};
-ghost use Rattle.node.specs.Starting.{IsLikeNow, decided, with_own_now};
-ghost use Rattle.world.specs.Pairs.{LeaveEitherSince};
-ghost use Rattle.world.specs.Replies.{AnswerLeaves, start_reply, decision_reply};
+ghost use Rattle.protocol.specs.Node.Starting.{IsLikeNow, decided, with_own_now};
+ghost use Rattle.protocol.specs.World.Pairs.{LeaveEitherSince};
+ghost use Rattle.protocol.specs.World.Replies.{AnswerLeaves, start_reply, decision_reply};
 ghost use Rattle.world.specs.ReplyView.{answer_view, reply_view};
 ghost use Rattle.world.specs.StationView.{outlet_views};
-ghost use Rattle.world.specs.Turns.{count_start, turns_started};
-ghost use Rattle.world.specs.Steps.{IsBegun, IsDecided};
+ghost use Rattle.protocol.specs.World.Turns.{turns_started};
+ghost use Rattle.protocol.specs.World.Steps.{IsBegun, IsDecided};
 ghost use Rattle.world.specs.WorldView.{station_view, IsCellUnchanged};
 
 use crate::event::Reply;
-use crate::round_turns::RoundTurns;
 use crate::station::Station;
 use gate_cell::StableCell;
 use node::Putting;
 use outlet::Outlet;
+use protocol::RoundTurns;
 use std::alloc::{AllocError, Global};
 
-impl RoundTurns {
-    // A checkpoint was begun, or its beginning refused.
-    fn with_start(self) -> RoundTurns
-        ensures { result ≡ count_start self }
-    {
-        let mut turns = self;
-        turns.started = true;
-        turns
-    }
-
-    // What is answered to a start, which is noted unless it couldn't happen.
-    fn note_start(&mut self, putting: Putting, round: u64) -> Reply
-        ensures reply { reply_view result ≡ start_reply putting }
-        ensures turns { self.new ≡ turns_started putting round self.old }
-    {
-        match putting {
-            Putting::NotDue => Reply::NotDue,
-            Putting::Stored => {
-                *self = self.of(round).with_start();
-                Reply::Started
-            }
-            Putting::Refused(number) => {
-                *self = self.of(round).with_start();
-                Reply::Refused(number)
-            }
-            Putting::Failed => Reply::Down,
+// What is answered to a start, which is noted unless it couldn't happen.
+fn note_start(turns: &mut RoundTurns, putting: Putting, round: u64) -> Reply
+    ensures reply { reply_view result ≡ start_reply putting }
+    ensures turns { turns.new ≡ turns_started putting round turns.old }
+{
+    match putting {
+        Putting::NotDue => Reply::NotDue,
+        Putting::Stored => {
+            *turns = turns.of(round).with_start();
+            Reply::Started
         }
+        Putting::Refused(number) => {
+            *turns = turns.of(round).with_start();
+            Reply::Refused(number)
+        }
+        Putting::Failed => Reply::Down,
     }
 }
 
@@ -84,7 +73,7 @@ impl<C: StableCell, O: Outlet> Station<C, O> {
             → IsCellUnchanged self.old self.new }
     {
         let putting = self.node.start(alloc, round)?;
-        Ok(self.turns.note_start(putting, round))
+        Ok(note_start(&mut self.turns, putting, round))
     }
 
     /// Makes the station's own tentative image permanent.

@@ -3,7 +3,7 @@
 ghost use Rattle.std.specs.Prelude.{◌≡◌, ◌↔◌, ◌==◌, IsTrue};
 ghost use Rattle.std.specs.List.{list_all};
 ghost use Rattle.kahn_net.specs.Syntax.{network_of};
-ghost use Rattle.world.specs.Runnable.{CanRun, is_open, is_outside};
+ghost use Rattle.protocol.specs.World.Runnable.{CanRun, is_open, is_outside};
 
 use kahn_net::{Channel, Port, Process};
 use net_check::Net;

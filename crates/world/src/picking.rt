@@ -2,24 +2,25 @@
 ghost use Rattle.std.specs.Prelude.{◌≡◌, ◌||◌, ◌&&◌, nat_lt, not, is_some};
 ghost use Rattle.kahn_net.specs.Syntax.{network_of};
 ghost use Rattle.record.specs.Ends.{received_of, sent_of};
-ghost use Rattle.node.specs.Choosing.{node_job};
+ghost use Rattle.protocol.specs.Node.Choosing.{node_job};
 ghost use Rattle.node.specs.NodeOf.{view_of};
-ghost use Rattle.node.specs.NodeView.{node_view, running_of};
-ghost use Rattle.node.specs.Starting.{is_down, is_own, may_decide};
-ghost use Rattle.world.specs.Choice.{counts_rose, has_more, has_sent, has_turn, may_recover, station_choice, wants_checkpoint, choice};
-ghost use Rattle.world.specs.Turns.{turns_of};
+ghost use Rattle.protocol.specs.Node.NodeView.{running_of};
+ghost use Rattle.node.specs.NodeView.{node_view};
+ghost use Rattle.protocol.specs.Node.Starting.{is_down, is_own, may_decide};
+ghost use Rattle.protocol.specs.World.Choice.{counts_rose, has_more, has_sent, has_turn, may_recover, station_choice, wants_checkpoint, choice};
+ghost use Rattle.protocol.specs.World.Turns.{turns_of};
 ghost use Rattle.world.specs.EventView.{event_view};
 ghost use Rattle.world.specs.WholeView.{world_of};
 ghost use Rattle.world.specs.WorldView.{station_view};
 
 use crate::event::Event;
 use crate::station::Station;
-use crate::turning::MAX_GRANTS;
 use crate::world::World;
 use gate_cell::StableCell;
 use net_check::{Inputs, Net};
 use node::{Mode, NodeState};
 use outlet::Outlet;
+use protocol::MAX_GRANTS;
 use record::{Image, Record};
 
 // Whether a node holds its own tentative image.

@@ -3,9 +3,9 @@ ghost use Rattle.std.specs.Prelude.{◌≡◌, ◌≤◌, length, slice_get, IsT
 ghost use Rattle.kahn_net.specs.Streams.{history_of};
 ghost use Rattle.kahn_net.specs.Syntax.{network_of};
 ghost use Rattle.node.specs.NodeOf.{view_of};
-ghost use Rattle.node.specs.NodeView.{running_of};
-ghost use Rattle.world.specs.Invariant.{outputs_of};
-ghost use Rattle.world.specs.Quiet.{has_got_all, is_at_rest, are_at_rest, have_all_left, is_quiet_at, are_quiet, AreWhole};
+ghost use Rattle.protocol.specs.Node.NodeView.{running_of};
+ghost use Rattle.protocol.specs.World.Invariant.{outputs_of};
+ghost use Rattle.protocol.specs.World.Quiet.{has_got_all, is_at_rest, are_at_rest, have_all_left, is_quiet_at, are_quiet, AreWhole};
 ghost use Rattle.world.specs.StationView.{outlet_views};
 ghost use Rattle.world.specs.WholeView.{world_of};
 ghost use Rattle.kahn_net.specs.declared.limits.TheConstants.{MAX_CHANNELS};

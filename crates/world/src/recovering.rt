@@ -4,11 +4,12 @@ ghost use Rattle.ckpt_store.specs.Spelling.{fits_in};
 ghost use Rattle.ckpt_store.specs.StoreView.{cell_in};
 ghost use Rattle.record.specs.Moves.{with_epoch};
 ghost use Rattle.node.specs.NodeOf.{view_of};
-ghost use Rattle.world.specs.Pairs.{LeaveEitherSince};
-ghost use Rattle.world.specs.Replies.{crash_reply, recovery_reply};
-ghost use Rattle.world.specs.ReplyView.{NotDue, reply_view};
+ghost use Rattle.protocol.specs.World.Pairs.{LeaveEitherSince};
+ghost use Rattle.protocol.specs.World.Replies.{crash_reply, recovery_reply};
+ghost use Rattle.protocol.specs.World.ReplyView.{NotDue};
+ghost use Rattle.world.specs.ReplyView.{reply_view};
 ghost use Rattle.world.specs.StationView.{outlet_views};
-ghost use Rattle.world.specs.Steps.{IsArmed, IsBack, IsFallen};
+ghost use Rattle.protocol.specs.World.Steps.{IsArmed, IsBack, IsFallen};
 ghost use Rattle.world.specs.WorldView.{station_view, IsCellUnchanged};
 
 use crate::event::Reply;

@@ -1,7 +1,8 @@
 // What has left the system.
 ghost use Rattle.std.specs.Prelude.{◌≡◌, ◌==◌, find, option_copied, option_map};
-ghost use Rattle.world.specs.StationView.{OutletView, outlet_views};
-ghost use Rattle.world.specs.Released.{released_of};
+ghost use Rattle.protocol.specs.World.StationView.{OutletView};
+ghost use Rattle.world.specs.StationView.{outlet_views};
+ghost use Rattle.protocol.specs.World.Released.{released_of};
 ghost use Rattle.world.specs.WholeView.{world_of};
 
 use crate::output::Output;

@@ -1,10 +1,11 @@
 // A station's outputs: one item leaves the system.
 ghost use Rattle.std.specs.Prelude.{◌≡◌, ◌<◌, ℕ, length, IfSome, IfOk, OnErr, Some, slice_get};
 ghost use Rattle.node.specs.NodeOf.{view_of};
-ghost use Rattle.node.specs.Trimming.{HasNext, current_log, trimmed_node};
+ghost use Rattle.protocol.specs.Node.Trimming.{HasNext, current_log, trimmed_node};
 ghost use Rattle.world.specs.ReplyView.{reply_view};
-ghost use Rattle.world.specs.StationView.{OutletView, outlet_view, outlet_views};
-ghost use Rattle.world.specs.Steps.{has_failed_in, is_waiting, first_waiting, next_release, IsHanded, IsRelease};
+ghost use Rattle.protocol.specs.World.StationView.{OutletView};
+ghost use Rattle.world.specs.StationView.{outlet_view, outlet_views};
+ghost use Rattle.protocol.specs.World.Steps.{has_failed_in, is_waiting, first_waiting, next_release, IsHanded, IsRelease};
 ghost use Rattle.world.specs.WorldView.{station_view};
 
 use crate::event::{Freed, Reply};

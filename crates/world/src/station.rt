@@ -1,10 +1,10 @@
 //! A node with its outputs, and what turn-taking remembers of it.
 
 use crate::output::Output;
-use crate::round_turns::RoundTurns;
 use gate_cell::StableCell;
 use node::Node;
 use outlet::Outlet;
+use protocol::RoundTurns;
 
 /// A node and the outputs on which its processes put.
 #[derive(Drop)]

@@ -3,53 +3,37 @@ ghost use Rattle.std.specs.Prelude.{◌≡◌, true, IfOk, OnErr, Some, option_m
 ghost use Rattle.kahn_net.specs.Syntax.{network_of};
 ghost use Rattle.node.specs.NodeOf.{view_of};
 ghost use Rattle.node.specs.JobView.{job_view};
-ghost use Rattle.node.specs.Choosing.{node_job};
-ghost use Rattle.node.specs.Installing.{IsOut, TakesTurn};
+ghost use Rattle.protocol.specs.Node.Choosing.{node_job};
+ghost use Rattle.protocol.specs.Node.Installing.{IsOut, TakesTurn};
 ghost use Rattle.world.specs.DoneView.{done_view};
-ghost use Rattle.world.specs.Replies.{grant_reply};
+ghost use Rattle.protocol.specs.World.Replies.{grant_reply};
 ghost use Rattle.world.specs.ReplyView.{reply_view};
 ghost use Rattle.world.specs.StationView.{outlet_views};
-ghost use Rattle.world.specs.Turns.{count_grant, turns_granted};
-ghost use Rattle.world.specs.Steps.{IsGrant, IsInstalled};
+ghost use Rattle.protocol.specs.World.Turns.{turns_granted};
+ghost use Rattle.protocol.specs.World.Steps.{IsGrant, IsInstalled};
 ghost use Rattle.world.specs.WorldView.{station_view};
 
 use crate::event::Reply;
-use crate::round_turns::RoundTurns;
 use crate::station::Station;
 use gate_cell::StableCell;
 use net_check::{Inputs, Net};
 use outlet::Outlet;
 use proc_step::{Done, Job};
+use protocol::RoundTurns;
 use std::alloc::{AllocError, Global};
 use std::sync::Arc;
 
-/// The most jobs that are counted in a round.
-pub(crate) const MAX_GRANTS: u8 = 64;
-
-impl RoundTurns {
-    // One job more was granted.
-    fn with_grant(self) -> RoundTurns
-        ensures { result ≡ count_grant self }
-    {
-        let mut turns = self;
-        if turns.granted < MAX_GRANTS {
-            turns.granted += 1;
+// What is answered where a job was granted, or none.
+fn note_grant(turns: &mut RoundTurns, granted: Option<Job>, round: u64) -> Reply
+    ensures reply { reply_view result ≡ grant_reply (option_map job_view granted) }
+    ensures turns { turns.new ≡ turns_granted (option_map job_view granted) round turns.old }
+{
+    match granted {
+        Some(job) => {
+            *turns = turns.of(round).with_grant();
+            Reply::Granted(job)
         }
-        turns
-    }
-
-    // What is answered where a job was granted, or none.
-    fn note_grant(&mut self, granted: Option<Job>, round: u64) -> Reply
-        ensures reply { reply_view result ≡ grant_reply (option_map job_view granted) }
-        ensures turns { self.new ≡ turns_granted (option_map job_view granted) round self.old }
-    {
-        match granted {
-            Some(job) => {
-                *self = self.of(round).with_grant();
-                Reply::Granted(job)
-            }
-            None => Reply::NotDue,
-        }
+        None => Reply::NotDue,
     }
 }
 
@@ -73,7 +57,7 @@ impl<C: StableCell, O: Outlet> Station<C, O> {
             (reply_view reply) (station_view O.taken O.failures self.new)) }
     {
         let granted = self.node.grant(alloc, net, inputs)?;
-        Ok(self.turns.note_grant(granted, round))
+        Ok(note_grant(&mut self.turns, granted, round))
     }
 
     /// Takes in what came of a job, which fits where the job is out.

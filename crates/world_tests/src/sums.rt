@@ -4,9 +4,9 @@ ghost use Rattle.std.specs.Prelude.{◌≡◌, IfOk, [], map};
 ghost use Rattle.std.specs.List.{AllByRecursion};
 ghost use Rattle.kahn_net.specs.Fits.{Fits};
 ghost use Rattle.kahn_net.specs.Syntax.{network_of};
-ghost use Rattle.world.specs.Runnable.{CanRun};
+ghost use Rattle.protocol.specs.World.Runnable.{CanRun};
 ghost use Rattle.world.specs.OpeningWorld.{IsUnused};
-ghost use Rattle.world.specs.Sound.{output_channels};
+ghost use Rattle.protocol.specs.World.Sound.{output_channels};
 
 use crate::asserting::same_at;
 use crate::weak_outlet::WeakOutlet;

@@ -1,7 +1,7 @@
 use Rattle.std.proofs.Common.{refl, sym, subst, ap}
 use Rattle.node.specs.JobView.{job_view}
 use Rattle.world.specs.DoneView.{done_view}
-use Rattle.world.specs.EventView.{Install}
+use Rattle.protocol.specs.World.EventView.{Install}
 use Rattle.world.specs.ReplyView.{reply_view}
 use Rattle.world.specs.declared.event.Reply.{Reply}
 use Rattle.kahn_program.specs.Turning.{Follows}

@@ -1,8 +1,8 @@
 use Rattle.std.proofs.Common.{◌≡◌, ℕ, ℤ, List, drop, length, map}
 use Rattle.std.specs.Prelude.{nat_le}
 use Rattle.std.specs.List.{list_all}
-use Rattle.world.specs.Sound.{output_channels}
-use Rattle.world.specs.Released.{released_of}
+use Rattle.protocol.specs.World.Sound.{output_channels}
+use Rattle.protocol.specs.World.Released.{released_of}
 use Rattle.world.specs.WholeView.{world_of}
 use Rattle.kahn_program.proofs.network_run.have_left.Given as goal
 

@@ -1,13 +1,13 @@
 use Rattle.std.proofs.Common.{refl, ◌≡◌, ℕ, ℤ, List, length, sym, ap, subst, ◌∙◌}
 use Rattle.kahn_net.specs.Syntax.{network_of}
 use Rattle.net_check.specs.declared.net.Net.{Net}
-use Rattle.world.specs.Released.{released_of}
+use Rattle.protocol.specs.World.Released.{released_of}
 use Rattle.world.specs.WholeView.{world_of}
 use Rattle.kahn_program.specs.Report.{output_count, report_text}
 use Rattle.kahn_program.specs.Runs.{first_items}
 use Rattle.kahn_program.proofs.Released.{counted_streams, run_of, reported}
 use Rattle.kahn_program.proofs.Turns.{last_world, opens_first}
-use Rattle.world.specs.Runnable.{CanRun}
+use Rattle.protocol.specs.World.Runnable.{CanRun}
 use Rattle.kahn_net.specs.Syntax.{Network}
 use Rattle.kahn_program.proofs.network_run.report_of_run.Goals as goal
 

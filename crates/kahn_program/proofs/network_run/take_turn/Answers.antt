@@ -1,9 +1,9 @@
 use Rattle.std.proofs.Common.{refl, subst}
 use Rattle.std.proofs.lemmas.Result.{on_ok_weaker}
-use Rattle.world.specs.Choice.{choice}
-use Rattle.world.specs.EventView.{EventView}
+use Rattle.protocol.specs.World.Choice.{choice}
+use Rattle.protocol.specs.World.EventView.{EventView}
 use Rattle.world.specs.ReplyView.{reply_view}
-use Rattle.world.specs.Steps.{IsStep}
+use Rattle.protocol.specs.World.Steps.{IsStep}
 use Rattle.world.specs.WholeView.{world_of}
 use Rattle.world.specs.WorldView.{rooms}
 use Rattle.kahn_program.proofs.Turns.{in_room}

@@ -1,6 +1,6 @@
 use Rattle.std.proofs.Common.{◌≡◌}
 use Rattle.world.specs.WholeView.{world_of}
-use Rattle.world.specs.Sound.{output_channels}
+use Rattle.protocol.specs.World.Sound.{output_channels}
 use Rattle.kahn_program.specs.Runs.{is_over}
 use Rattle.kahn_program.specs.Turning.{CameTo}
 use Rattle.kahn_program.proofs.network_run.take_turns.Given as goal

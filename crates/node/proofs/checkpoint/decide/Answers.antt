@@ -1,6 +1,6 @@
 use Rattle.std.proofs.Common.{ap, sym, ◌∙◌}
 use Rattle.record.specs.RecordView.{RecordView}
-use Rattle.node.specs.Starting.{own_number}
+use Rattle.protocol.specs.Node.Starting.{own_number}
 use Rattle.node.proofs.Starts.{decide_ends, decide_kept, decide_step}
 use Rattle.node.proofs.checkpoint.decide.Goals as goal
 

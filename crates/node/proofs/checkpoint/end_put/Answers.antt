@@ -1,7 +1,7 @@
 use Rattle.std.proofs.Common.{ℕ, ap, ◌∙◌}
-use Rattle.node.specs.ArmedRestarts.{restart_after}
+use Rattle.protocol.specs.Node.ArmedRestarts.{restart_after}
 use Rattle.node.specs.NodeView.{node_view}
-use Rattle.node.specs.Starting.{crashed}
+use Rattle.protocol.specs.Node.Starting.{crashed}
 use Rattle.node.proofs.checkpoint.end_put.Goals as goal
 
 pub returns-clause-failed : goal.returns-clause-failed

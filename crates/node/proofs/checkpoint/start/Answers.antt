@@ -2,7 +2,7 @@ use Rattle.std.proofs.Common.{ap, sym, ◌∙◌}
 use Rattle.record.specs.Moves.{highest_seen}
 use Rattle.record.specs.RecordView.{RecordView}
 use Rattle.node.specs.NodeView.{mode_view, node_view, running_view}
-use Rattle.node.specs.Starting.{may_start}
+use Rattle.protocol.specs.Node.Starting.{may_start}
 use Rattle.node.proofs.Starts.{start_ends, start_kept, start_step}
 use Rattle.node.proofs.checkpoint.start.Goals as goal
 

@@ -1,6 +1,6 @@
 use Rattle.std.proofs.Common.{◌≡◌, drop}
 use Rattle.kahn_net.specs.Syntax.{network_of}
-use Rattle.node.specs.Choosing.{ready_process}
+use Rattle.protocol.specs.Node.Choosing.{ready_process}
 use Rattle.node.proofs.choosing.ready_process.Given as goal
 
 -- the ready one is among those that weren't looked at yet

@@ -4,7 +4,7 @@ use Rattle.std.proofs.lemmas.List.{at_drop_all, length-map}
 use Rattle.kahn_net.specs.Syntax.{network_of, code_of}
 use Rattle.record.specs.ProcessView.{SavedProcessView}
 use Rattle.record.specs.ImageView.{ImageView}
-use Rattle.node.specs.Choosing.{is_ready, ready_process, ready_processes}
+use Rattle.protocol.specs.Node.Choosing.{is_ready, ready_process, ready_processes}
 use Rattle.node.proofs.Choices.{few_processes, goes_there}
 use Rattle.node.proofs.Marking.{all_marked, next_marked, next_passed, none_marked}
 use Rattle.kahn_net.specs.declared.limits.TheConstants.{MAX_PROCESSES}

@@ -1,6 +1,6 @@
 use Rattle.std.proofs.Common.{◌≡◌, ℕ, ◌<◌, ◌||◌, false, is_some, length, get_or, drop}
 use Rattle.kahn_net.specs.Syntax.{network_of}
-use Rattle.node.specs.Choosing.{ready_process}
+use Rattle.protocol.specs.Node.Choosing.{ready_process}
 use Rattle.kahn_net.specs.declared.limits.TheConstants.{MAX_PROCESSES}
 use Rattle.node.proofs.choosing.ready_processes.Given as goal
 

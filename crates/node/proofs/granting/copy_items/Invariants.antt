@@ -1,5 +1,5 @@
 use Rattle.std.proofs.Common.{◌≡◌, ◌++◌, drop}
-use Rattle.node.specs.Granting.{items_from}
+use Rattle.protocol.specs.Node.Granting.{items_from}
 use Rattle.node.proofs.granting.copy_items.Given as goal
 
 -- what is listed, and then what is to come

@@ -1,5 +1,5 @@
 use Rattle.std.proofs.Common.{rules}
-use Rattle.node.specs.Installing.{saved_counted}
+use Rattle.protocol.specs.Node.Installing.{saved_counted}
 use Rattle.record.specs.Laws.Walks.{changed_next}
 use Rattle.node.proofs.Installs.{counted_is}
 use Rattle.node.proofs.installing.count_all.Goals as goal

@@ -2,7 +2,7 @@ use Rattle.std.proofs.Common.{ap, sym, ◌∙◌, rules}
 use Rattle.std.specs.Prelude.{slice_set}
 use Rattle.kahn_net.specs.States.{standing_of}
 use Rattle.record.specs.ProcessView.{SavedProcessView}
-use Rattle.node.specs.Installing.{moved}
+use Rattle.protocol.specs.Node.Installing.{moved}
 use Rattle.node.proofs.Installs.{moved_here, standing_now}
 use Rattle.node.proofs.installing.move_process.Goals as goal
 

@@ -1,6 +1,6 @@
 use Rattle.std.proofs.Common.{◌≡◌, ◌++◌, take, drop}
 use Rattle.kahn_net.specs.States.{standing_of}
-use Rattle.node.specs.Installing.{moved}
+use Rattle.protocol.specs.Node.Installing.{moved}
 use Rattle.node.proofs.installing.move_process.Given as goal
 
 abbrev pub invariant-loop-k : goal.invariant-loop-k

@@ -1,5 +1,5 @@
 use Rattle.std.proofs.Common.{◌≡◌, ◌++◌, drop}
-use Rattle.node.specs.Opening.{opening_ends}
+use Rattle.protocol.specs.Node.Opening.{opening_ends}
 use Rattle.node.proofs.opening.open_ends.Given as goal
 
 abbrev pub invariant-loop-number : goal.invariant-loop-number

@@ -1,6 +1,6 @@
 use Rattle.std.proofs.Common.{◌≡◌, ◌++◌, map, drop}
 use Rattle.kahn_net.specs.Syntax.{code_of}
-use Rattle.node.specs.Opening.{opening_processes}
+use Rattle.protocol.specs.Node.Opening.{opening_processes}
 use Rattle.node.proofs.opening.open_processes.Given as goal
 
 -- what is listed, and then what is to come

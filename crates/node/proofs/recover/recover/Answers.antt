@@ -1,6 +1,6 @@
 use Rattle.std.proofs.Common.{ℕ, refl, sym, ap, ◌∙◌}
 use Rattle.ckpt_store.specs.StoreView.{record_in}
-use Rattle.node.specs.ArmedRestarts.{restart_after}
+use Rattle.protocol.specs.Node.ArmedRestarts.{restart_after}
 use Rattle.node.specs.NodeView.{node_view}
 use Rattle.node.proofs.Recoveries.{came_back, failed_has, failed_step}
 use Rattle.node.proofs.recover.recover.Goals as goal

@@ -1,4 +1,4 @@
-use Rattle.node.specs.SizeLaws.{image_within, current_within, opening_within, own_within, decided_within}
+use Rattle.protocol.specs.NodeLaws.SizeLaws.{image_within, current_within, opening_within, own_within, decided_within}
 use Rattle.node.proofs.sharing.share_law.Goals as goal
 
 pub returns-clause-image : goal.returns-clause-image

@@ -1,6 +1,6 @@
 use Rattle.std.proofs.Common.{◌≡◌, ℕ, Some, take}
 use Rattle.std.specs.Prelude.{slice_get}
-use Rattle.node.specs.Installing.{EndTakes}
+use Rattle.protocol.specs.Node.Installing.{EndTakes}
 use Rattle.record.specs.declared.image.SavedEnd.{SavedEnd}
 use Rattle.node_tests.proofs.taking.image_fits.Given as goal
 

@@ -1,6 +1,6 @@
 use Rattle.std.proofs.Common.{◌≡◌, drop}
 use Rattle.std.specs.List.{list_all}
-use Rattle.world.specs.Runnable.{is_open}
+use Rattle.protocol.specs.World.Runnable.{is_open}
 use Rattle.world.proofs.one_node.are_open.Given as goal
 
 -- as those that weren't looked at yet

@@ -2,7 +2,7 @@ use Rattle.std.proofs.Common.{List, sym, subst}
 use Rattle.outlet.specs.declared.list.ListOutlet.{ListOutlet}
 use Rattle.std.specs.List.{AllByRecursion}
 use Rattle.world.specs.OpeningWorld.{IsUnused}
-use Rattle.world.specs.PairLaws.{every_more}
+use Rattle.protocol.specs.WorldLaws.PairLaws.{every_more}
 use Rattle.world.specs.declared.output.Output.{Output}
 use Rattle.world.proofs.opening.add_output.Goals as goal
 

@@ -1,5 +1,5 @@
 use Rattle.std.proofs.Common.{◌≡◌, ◌++◌, map, drop}
-use Rattle.world.specs.Sound.{output_channels}
+use Rattle.protocol.specs.World.Sound.{output_channels}
 use Rattle.std.specs.List.{AllByRecursion}
 use Rattle.world.specs.OpeningWorld.{IsUnused}
 use Rattle.world.proofs.opening.open_outputs.Given as goal

@@ -1,5 +1,5 @@
 use Rattle.std.proofs.Common.{◌≡◌, drop}
-use Rattle.world.specs.Choice.{counts_rose}
+use Rattle.protocol.specs.World.Choice.{counts_rose}
 use Rattle.world.proofs.picking.has_more.Given as goal
 
 -- what rose is among the channels that weren't looked at yet

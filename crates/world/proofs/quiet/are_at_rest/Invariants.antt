@@ -1,6 +1,6 @@
 use Rattle.std.proofs.Common.{◌≡◌, drop}
 use Rattle.kahn_net.specs.Syntax.{network_of}
-use Rattle.world.specs.Quiet.{are_at_rest}
+use Rattle.protocol.specs.World.Quiet.{are_at_rest}
 use Rattle.world.proofs.quiet.are_at_rest.Given as goal
 
 -- all are at rest where those are that weren't looked at yet

@@ -1,6 +1,6 @@
 use Rattle.std.proofs.Common.{◌≡◌, drop}
-use Rattle.world.specs.Invariant.{outputs_of}
-use Rattle.world.specs.Quiet.{have_all_left}
+use Rattle.protocol.specs.World.Invariant.{outputs_of}
+use Rattle.protocol.specs.World.Quiet.{have_all_left}
 use Rattle.world.specs.StationView.{outlet_views}
 use Rattle.world.proofs.quiet.have_all_left.Given as goal
 

@@ -1,6 +1,6 @@
 use Rattle.std.proofs.Common.{◌≡◌, drop}
 use Rattle.world.specs.StationView.{outlet_views}
-use Rattle.world.specs.Steps.{first_waiting}
+use Rattle.protocol.specs.World.Steps.{first_waiting}
 use Rattle.world.proofs.releasing.next_output.Given as goal
 
 -- what is found from here on is what is found in all

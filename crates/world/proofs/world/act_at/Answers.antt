@@ -4,8 +4,8 @@ use Rattle.kahn_net.specs.Syntax.{network_of}
 use Rattle.ckpt_store.specs.Spelling.{fits_in}
 use Rattle.ckpt_store.specs.StoreView.{cell_in}
 use Rattle.world.specs.EventView.{event_view}
-use Rattle.world.specs.OutputLaws.{set_keeps}
-use Rattle.world.specs.PairLaws.{on_err_map, pairs_refl, pairs_set}
+use Rattle.protocol.specs.WorldLaws.OutputLaws.{set_keeps}
+use Rattle.protocol.specs.WorldLaws.PairLaws.{on_err_map, pairs_refl, pairs_set}
 use Rattle.world.specs.WorldView.{station_view}
 use Rattle.world.specs.declared.station.Station.{Station}
 use Rattle.world.proofs.Stations.{all_still, all_grown, all_still_in_line, all_in_line}

@@ -1,5 +1,5 @@
 use Rattle.std.proofs.Common.{◌≡◌, drop, map}
-use Rattle.world.specs.Steps.{are_done_with}
+use Rattle.protocol.specs.World.Steps.{are_done_with}
 use Rattle.world.specs.WorldView.{station_view}
 use Rattle.world.proofs.world.are_done_with.Given as goal
 

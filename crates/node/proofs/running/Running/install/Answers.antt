@@ -1,5 +1,5 @@
 use Rattle.std.proofs.Common.{List, ℕ, ℤ, sym, subst}
-use Rattle.node.specs.Installing.{ImageTakes}
+use Rattle.protocol.specs.Node.Installing.{ImageTakes}
 use Rattle.node.proofs.running.Running.install.Goals as goal
 
 pub install_turn-requires : goal.install_turn-requires

@@ -1,7 +1,8 @@
 use Rattle.std.proofs.Common.{ap, sym, subst}
-use Rattle.node.specs.Installing.{IsOut, TakesTurn}
+use Rattle.protocol.specs.Node.Installing.{IsOut, TakesTurn}
 use Rattle.node.specs.JobView.{job_view}
-use Rattle.node.specs.NodeView.{ModeView, mode_view}
+use Rattle.protocol.specs.Node.NodeView.{ModeView}
+use Rattle.node.specs.NodeView.{mode_view}
 use Rattle.node.proofs.state.NodeState.install.Goals as goal
 
 pub install-requires : goal.install-requires

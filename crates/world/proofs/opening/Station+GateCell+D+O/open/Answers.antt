@@ -6,11 +6,11 @@ use Rattle.ckpt_store.specs.declared.store.Store.{Store}
 use Rattle.ckpt_codec.specs.RecordText.{IsRecord}
 use Rattle.ckpt_codec.specs.SizeLaws.{IsRecordWithin}
 use Rattle.ckpt_codec.specs.declared.lengths.TheConstants.{MAX_RETAINED_ITEMS}
-use Rattle.node.specs.Opening.{opening_record}
-use Rattle.node.specs.SizeLaws.{opening_within}
+use Rattle.protocol.specs.Node.Opening.{opening_record}
+use Rattle.protocol.specs.NodeLaws.SizeLaws.{opening_within}
 use Rattle.world.proofs.OpeningStores.{leaves_only}
 use Rattle.record.specs.RecordView.{RecordView}
-use Rattle.node.specs.LikeLaws.{opening_allowed}
+use Rattle.protocol.specs.NodeLaws.LikeLaws.{opening_allowed}
 use Rattle.node.specs.NodeOf.{view_of}
 use Rattle.world.specs.StationView.{outlet_views}
 use Rattle.world.proofs.Openings.{opened_station}

@@ -1,12 +1,12 @@
 use Rattle.std.proofs.Common.{◌≡◌, ◌∙◌, ◌++◌, [], ◌∷◌, ap, sym, subst, List, map}
 use Rattle.std.specs.List.{AllByRecursion}
 use Rattle.kahn_net.specs.Syntax.{network_of}
-use Rattle.world.specs.Invariant.{WorldInvariant}
+use Rattle.protocol.specs.World.Invariant.{WorldInvariant}
 use Rattle.net_check.specs.declared.net.Net.{Net}
-use Rattle.node.specs.Opening.{opening_record}
+use Rattle.protocol.specs.Node.Opening.{opening_record}
 use Rattle.world.specs.OpeningWorld.{LeavesOnlyRecord}
-use Rattle.world.specs.OuterLaws.{outer_of}
-use Rattle.world.specs.OpenLaws.{world_opened}
+use Rattle.protocol.specs.WorldLaws.OuterLaws.{outer_of}
+use Rattle.protocol.specs.WorldLaws.OpenLaws.{world_opened}
 use Rattle.world.specs.StationView.{outlet_views}
 use Rattle.world.specs.WorldView.{station_view, HasOutlets}
 use Rattle.world.specs.declared.output.Output.{Output}

@@ -1,10 +1,10 @@
 use Rattle.std.proofs.Common.{sym, subst}
 use Rattle.kahn_net.specs.Syntax.{network_of}
 use Rattle.net_check.specs.declared.net.Net.{Net}
-use Rattle.node.specs.Installing.{TakesTurn}
-use Rattle.world.specs.ActLaws.{takes_turn, like_now}
+use Rattle.protocol.specs.Node.Installing.{TakesTurn}
+use Rattle.protocol.specs.WorldLaws.ActLaws.{takes_turn, like_now}
 use Rattle.world.specs.DoneView.{done_view}
-use Rattle.world.specs.HandedLaws.{next_there}
+use Rattle.protocol.specs.WorldLaws.HandedLaws.{next_there}
 use Rattle.world.specs.WorldView.{station_view}
 use Rattle.world.proofs.station.Station.act.Goals as goal
 

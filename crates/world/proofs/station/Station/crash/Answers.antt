@@ -1,7 +1,7 @@
 use Rattle.std.proofs.Common.{Bool, true, false, ◌≡◌, refl, sym, ap, ◌∙◌}
 use Rattle.ckpt_store.specs.StoreView.{cell_in}
-use Rattle.world.specs.Replies.{crash_reply}
-use Rattle.world.specs.ReplyView.{NotDue}
+use Rattle.protocol.specs.World.Replies.{crash_reply}
+use Rattle.protocol.specs.World.ReplyView.{NotDue}
 use Rattle.world.proofs.Cells.{through_crash}
 use Rattle.world.proofs.station.Station.crash.Goals as goal
 

@@ -1,6 +1,6 @@
 use Rattle.std.proofs.Common.{List, sym, subst}
 use Rattle.kahn_net.specs.declared.program.Channel.{Channel}
-use Rattle.node.specs.Installing.{TakesTurn}
+use Rattle.protocol.specs.Node.Installing.{TakesTurn}
 use Rattle.node.specs.NodeOf.{view_of}
 use Rattle.world.proofs.station.Station.install.Goals as goal
 

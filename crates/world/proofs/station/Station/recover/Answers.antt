@@ -1,9 +1,9 @@
 use Rattle.std.proofs.Common.{◌≡◌, refl, sym, ap, ◌∙◌}
 use Rattle.ckpt_store.specs.StoreView.{cell_in}
-use Rattle.node.specs.declared.putting.Recovery.{Recovery}
-use Rattle.node.specs.declared.putting.Recovery.TheVariants as recovery
-use Rattle.world.specs.Replies.{recovery_reply}
-use Rattle.world.specs.ReplyView.{NotDue}
+use Rattle.protocol.specs.declared.putting.Recovery.{Recovery}
+use Rattle.protocol.specs.declared.putting.Recovery.TheVariants as recovery
+use Rattle.protocol.specs.World.Replies.{recovery_reply}
+use Rattle.protocol.specs.World.ReplyView.{NotDue}
 use Rattle.world.proofs.Cells.{through}
 use Rattle.world.proofs.station.Station.recover.Goals as goal
 

@@ -2,9 +2,9 @@ use Rattle.std.proofs.Common.{ℕ, Option, refl, sym, ap, subst}
 use Rattle.ckpt_store.specs.StoreView.{cell_in}
 use Rattle.ckpt_store.specs.declared.store.Store.{Store}
 use Rattle.node.specs.NodeOf.{view_of}
-use Rattle.world.specs.ReplyView as reply
+use Rattle.protocol.specs.World.ReplyView as reply
 use Rattle.world.specs.StationView.{outlet_view}
-use Rattle.world.specs.Steps.{IsRelease}
+use Rattle.protocol.specs.World.Steps.{IsRelease}
 use Rattle.world.specs.WorldView.{station_view}
 use Rattle.world.proofs.Views.{outlet_at, outlet_set, release_refused, release_step}
 use Rattle.world.proofs.station.Station.release.Goals as goal

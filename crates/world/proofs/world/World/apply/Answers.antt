@@ -3,13 +3,13 @@ use Rattle.kahn_net.specs.Syntax.{network_of}
 use Rattle.ckpt_store.specs.Spelling.{fits_in}
 use Rattle.ckpt_store.specs.StoreView.{cell_in}
 use Rattle.world.specs.EventView.{event_view}
-use Rattle.world.specs.Headline.{released_prefix, AreApproximated}
-use Rattle.world.specs.Invariant.{StationInvariant, WorldInvariant}
+use Rattle.protocol.specs.World.Headline.{released_prefix, AreApproximated}
+use Rattle.protocol.specs.World.Invariant.{StationInvariant, WorldInvariant}
 use Rattle.world.specs.ReplyView.{reply_view}
-use Rattle.world.specs.RoomLaws.{never_too_large, rooms_of}
-use Rattle.world.specs.StationView.{StationView}
-use Rattle.world.specs.Steps.{round_after}
-use Rattle.world.specs.StepKeeps.{act_keeps_world}
+use Rattle.protocol.specs.WorldLaws.RoomLaws.{never_too_large, rooms_of}
+use Rattle.protocol.specs.World.StationView.{StationView}
+use Rattle.protocol.specs.World.Steps.{round_after}
+use Rattle.protocol.specs.WorldLaws.StepKeeps.{act_keeps_world}
 use Rattle.world.specs.WholeView.{world_of}
 use Rattle.world.specs.WorldView.{rooms, station_view, world_view}
 use Rattle.world.specs.declared.station.Station.{Station}

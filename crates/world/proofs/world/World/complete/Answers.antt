@@ -1,7 +1,7 @@
 use Rattle.std.proofs.Common.{List, ap, sym, ◌∙◌}
 use Rattle.std.proofs.lemmas.List.{drop_all}
-use Rattle.world.specs.Quiet.{are_quiet}
-use Rattle.world.specs.QuietLaws.{quiet_is_whole}
+use Rattle.protocol.specs.World.Quiet.{are_quiet}
+use Rattle.protocol.specs.WorldLaws.QuietLaws.{quiet_is_whole}
 use Rattle.world.specs.WholeView.{world_of}
 use Rattle.world.specs.WorldView.{world_view}
 use Rattle.world.specs.declared.station.Station.{Station}

@@ -1,5 +1,5 @@
 use Rattle.std.proofs.Common.{◌≡◌, drop}
-use Rattle.world.specs.Quiet.{are_quiet}
+use Rattle.protocol.specs.World.Quiet.{are_quiet}
 use Rattle.world.specs.WorldView.{world_view}
 use Rattle.world.proofs.world.World.complete.Given as goal
 

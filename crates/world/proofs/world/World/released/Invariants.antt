@@ -1,5 +1,5 @@
 use Rattle.std.proofs.Common.{◌≡◌, drop, map}
-use Rattle.world.specs.Released.{released_of}
+use Rattle.protocol.specs.World.Released.{released_of}
 use Rattle.world.specs.WorldView.{station_view}
 use Rattle.world.proofs.world.World.released.Given as goal
 

@@ -1,0 +1,11 @@
+-- The coordination of checkpoints between several nodes: an abstract machine, and the theorem on it.
+pub mod Images
+pub mod Records
+pub mod Moves
+pub mod Observers
+pub mod Nodes
+pub mod Packets
+pub mod Worlds
+pub mod Line
+pub mod Invariant
+pub mod Laws

@@ -1,0 +1,97 @@
+-- Which process of a node goes on next, and the job that it is given.
+use Rattle.std.specs.Prelude.{ℕ, Bool, true, false, ◌&&◌, ◌==◌, nat_lt, if◌then◌else◌, ℤ, List, length, map, find, is_some, Option, Some, None, slice_get}
+use Rattle.std.specs.List.{range_with_len}
+use Rattle.kahn_net.specs.Streams.{history_of}
+use Rattle.kahn_net.specs.Syntax.{Code, Network}
+use Rattle.kahn_net.specs.Processes.{Standing}
+use Rattle.kahn_net.specs.NextActs.{Next, Begins, Gets, Puts, NoNext, next_of}
+use Rattle.kahn_net.specs.declared.program.Channel.{Channel}
+use Rattle.kahn_net.specs.declared.program.Port.{Port}
+use Rattle.kahn_net.specs.declared.program.Port.TheVariants.{Outside, Process}
+use Rattle.record.specs.ProcessView.{SavedProcessView}
+use Rattle.record.specs.ImageView.{ImageView}
+use Rattle.record.specs.Ends.{received_of}
+use Rattle.turns.specs.Turns.{next_in_turn}
+use Rattle.protocol.specs.Node.JobView.{JobView}
+use Rattle.protocol.specs.Node.NodeView.{NodeView, RunningView, RunningNode, running_of, on_running}
+use Rattle.protocol.specs.Node.Granting.{room_of, job_for}
+use Rattle.protocol.specs.Node.Starting.{is_none}
+use Rattle.kahn_net.specs.declared.limits.TheConstants.{MAX_COUNT}
+
+-- a next item is at hand of a channel whose items come from there
+abbrev pub has_next : List (List ℤ) → ImageView → ℕ → Port → Bool
+has_next inputs image channel Outside = nat_lt (received_of image channel) (length (history_of inputs channel))
+has_next inputs image channel (Process p) = false
+
+abbrev pub has_item : List (List ℤ) → ImageView → ℕ → Option Channel → Bool
+has_item inputs image channel None = false
+has_item inputs image channel (Some ends) = has_next inputs image channel ends.producer
+
+-- there is room on a channel
+abbrev pub has_room : ImageView → ℕ → Option Channel → Bool
+has_room image channel None = false
+has_room image channel (Some ends) = nat_lt 0 (room_of image channel)
+
+-- this can be done: the process hasn't begun, or gets where an item is at hand, or puts where there is room
+abbrev pub can_go : Network → List (List ℤ) → ImageView → Next → Bool
+can_go net inputs image Begins = true
+can_go net inputs image (Gets channel) = has_item inputs image channel (slice_get net.channels channel)
+can_go net inputs image (Puts channel) = has_room image channel (slice_get net.channels channel)
+can_go net inputs image NoNext = false
+
+abbrev pub next_at : Option Code → Standing → Next
+next_at None standing = NoNext
+next_at (Some code) standing = next_of code standing
+
+-- a process is ready
+abbrev pub is_ready : Network → List (List ℤ) → ImageView → SavedProcessView → Bool
+is_ready net inputs image saved = can_go net inputs image (next_at (slice_get net.codes saved.number) saved.standing)
+
+-- the process of this number, if it is here and ready
+abbrev pub ready_process : Network → List (List ℤ) → ImageView → ℕ → Option SavedProcessView
+ready_process net inputs image number = find (λ (saved : SavedProcessView). (saved.number == number) && is_ready net inputs image saved) image.processes
+
+-- whether each of the network's processes is here and ready, in order of their numbers
+unfoldable pub ready_processes : Network → List (List ℤ) → ImageView → List Bool
+ready_processes net inputs image = map (λ (number : ℕ). is_some (ready_process net inputs image number)) (range_with_len 0 (length net.codes))
+
+abbrev pub process_at : Network → List (List ℤ) → ImageView → Option ℕ → Option SavedProcessView
+process_at net inputs image None = None
+process_at net inputs image (Some number) = ready_process net inputs image number
+
+-- the ready process that is next in turn behind the one granted last
+abbrev pub next_process : Network → List (List ℤ) → ImageView → Option ℕ → Option SavedProcessView
+next_process net inputs image last = process_at net inputs image (next_in_turn last (ready_processes net inputs image))
+
+-- a node that runs may grant a job: it holds no tentative image, has no job out, and its version isn't the greatest
+abbrev pub may_grant : RunningNode → Bool
+may_grant node = is_none node.kept.tentative && (is_none node.out && nat_lt node.version MAX_COUNT)
+
+abbrev pub job_of : Network → List (List ℤ) → RunningNode → Option SavedProcessView → Option JobView
+job_of net inputs node None = None
+job_of net inputs node (Some saved) = Some (job_for net inputs node.current saved.number saved.standing node.version)
+
+-- the job that it grants next, if it may grant one and a process is ready
+abbrev pub next_job : Network → List (List ℤ) → RunningNode → Option JobView
+next_job net inputs node = if may_grant node then job_of net inputs node (next_process net inputs node.current node.last) else None
+
+-- and then, where a job was granted
+abbrev pub after_grant : Option JobView → RunningNode → RunningNode
+after_grant None node = node
+after_grant (Some job) node = record node { out = Some job; last = Some job.process }
+
+-- the job that a node grants next, if it runs
+abbrev pub job_at : Network → List (List ℤ) → Option RunningNode → Option JobView
+job_at net inputs None = None
+job_at net inputs (Some node) = next_job net inputs node
+
+abbrev pub node_job : Network → List (List ℤ) → NodeView → Option JobView
+node_job net inputs node = job_at net inputs (running_of node)
+
+-- the node after a job was granted, or as it was
+abbrev pub granted : Option JobView → RunningView → RunningView
+granted None running = running
+granted (Some job) running = record running { out = Some job; last = Some job.process }
+
+abbrev pub with_grant : Option JobView → NodeView → NodeView
+with_grant job node = on_running (granted job) node

@@ -1,0 +1,58 @@
+-- What a job has at hand, and the room that it has.
+use Rattle.std.specs.Prelude.{ℕ, suc, ◌-◌, min, Bool, false, ◌==◌, if◌then◌else◌, ℤ, List, [], ◌∷◌, length, take, drop, Option, Some, None, slice_get}
+use Rattle.kahn_net.specs.Streams.{history_of}
+use Rattle.kahn_net.specs.Syntax.{Network}
+use Rattle.kahn_net.specs.Processes.{Standing}
+use Rattle.kahn_net.specs.declared.program.Channel.{Channel}
+use Rattle.kahn_net.specs.declared.program.Port.{Port}
+use Rattle.kahn_net.specs.declared.program.Port.TheVariants.{Outside, Process}
+use Rattle.retained.specs.LogState.{LogState, log_end}
+use Rattle.record.specs.ImageView.{ImageView}
+use Rattle.record.specs.Ends.{received_of, log_of}
+use Rattle.protocol.specs.Node.JobView.{JobView}
+use Rattle.protocol.specs.Node.Sharing.{log_share}
+use Rattle.kahn_net.specs.declared.limits.TheConstants.{MAX_COUNT}
+use Rattle.protocol.specs.declared.limits.TheConstants.{MAX_JOB_ITEMS}
+
+-- this process stands at an end of a channel
+abbrev pub is_process : ℕ → Port → Bool
+is_process process Outside = false
+is_process process (Process p) = p == process
+
+-- The items of a channel that are at hand, at most 64: those of an input that come next. None of any other channel, since nothing
+-- brings items from a process yet.
+abbrev pub next_items : List (List ℤ) → ImageView → ℕ → Port → List ℤ
+next_items inputs image channel Outside = take MAX_JOB_ITEMS (drop (received_of image channel) (history_of inputs channel))
+next_items inputs image channel (Process p) = []
+
+-- what a process has at hand of each channel, the first one of this number: of those from which it gets
+abbrev pub items_from : List (List ℤ) → ImageView → ℕ → ℕ → List Channel → List (List ℤ)
+items_from inputs image process number [] = []
+items_from inputs image process number (channel ∷ channels) =
+    (if is_process process channel.consumer then next_items inputs image number channel.producer else []) ∷ items_from inputs image process (suc number) channels
+
+-- the places that a log of at most so many items has for a job: at most 64, and no more than fit
+abbrev pub room_in : ℕ → Option LogState → ℕ
+room_in share None = 0
+room_in share (Some log) = min MAX_JOB_ITEMS (min (share - length log.items) (MAX_COUNT - log_end log))
+
+-- the places that the log of a channel has, up to its share
+abbrev pub room_of : ImageView → ℕ → ℕ
+room_of image channel = room_in (log_share image) (log_of image channel)
+
+-- the room that a process has on each channel, the first one of this number: on those on which it puts
+abbrev pub room_from : ImageView → ℕ → ℕ → List Channel → List ℕ
+room_from image process number [] = []
+room_from image process number (channel ∷ channels) =
+    (if is_process process channel.producer then room_of image number else 0) ∷ room_from image process (suc number) channels
+
+-- the job of a process that stands there
+abbrev pub job_for : Network → List (List ℤ) → ImageView → ℕ → Standing → ℕ → JobView
+job_for net inputs image process standing version = record {
+  process = process;
+  code = slice_get net.codes process;
+  version = version;
+  standing = standing;
+  items = items_from inputs image process 0 net.channels;
+  room = room_from image process 0 net.channels;
+}

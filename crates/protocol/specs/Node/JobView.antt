@@ -1,0 +1,12 @@
+-- A job without pointers: two jobs are the same where these are equal.
+use Rattle.std.specs.Prelude.{ℕ, ℤ, List, Option}
+use Rattle.kahn_net.specs.Syntax.{Code}
+use Rattle.kahn_net.specs.Processes.{Standing}
+
+pub record JobView : Type 0 where
+  pub process : ℕ
+  pub code : Option Code
+  pub version : ℕ
+  pub standing : Standing
+  pub items : List (List ℤ)
+  pub room : List ℕ

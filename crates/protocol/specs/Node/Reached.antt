@@ -1,0 +1,114 @@
+-- How far a node has come: its images stand where its processes stand after so many acts, on one approximation of the network's histories.
+use Rattle.std.specs.Prelude.{◌≡◌, ℕ, zero, suc, ◌≤◌, ◌==◌, Bool, true, false, ℤ, List, [], ◌∷◌, map, length, take, find, Option, Some, None, slice_get, slice_index}
+use Rattle.kahn_net.specs.Streams.{history_of}
+use Rattle.kahn_net.specs.Syntax.{Code, Network}
+use Rattle.kahn_net.specs.Statements.{Step}
+use Rattle.kahn_net.specs.Processes.{Standing, StandsAt, process_trace, sent_on, got_on}
+use Rattle.kahn_net.specs.Approximations.{approximation}
+use Rattle.kahn_net.specs.declared.program.Channel.{Channel}
+use Rattle.kahn_net.specs.declared.program.Port.{Port}
+use Rattle.kahn_net.specs.declared.program.Port.TheVariants.{Outside, Process}
+use Rattle.proc_step.specs.Turns.{IsTurn}
+use Rattle.retained.specs.LogState.{LogState, IsLogOf}
+use Rattle.record.specs.ProcessView.{SavedProcessView}
+use Rattle.record.specs.ImageView.{ImageView}
+use Rattle.record.specs.Ends.{received_at, log_at}
+use Rattle.ckpt_codec.specs.RecordText.{role_of}
+use Rattle.protocol.specs.Node.JobView.{JobView}
+use Rattle.protocol.specs.Node.NodeView.{RunningNode}
+use Rattle.protocol.specs.Node.Sharing.{is_logging, log_share, IsWithinShare}
+use Rattle.protocol.specs.Node.Granting.{items_from, room_from}
+use Rattle.record.specs.declared.image.SavedEnd.{SavedEnd}
+use Rattle.record.specs.declared.image.End.{End}
+use Rattle.record.specs.declared.image.End.TheVariants.{Receives, Sends, Both}
+use Rattle.record.specs.declared.record.Tentative.{Tentative}
+
+-- the first m acts of a process on these histories
+abbrev pub first_acts : Option Code → List (List ℤ) → ℕ → List Step
+first_acts None histories m = []
+first_acts (Some code) histories m = take m (process_trace code histories).steps
+
+-- the acts of the process of this number, of which so many of each process were made
+abbrev pub acts_of : Network → List (List ℤ) → (ℕ → ℕ) → ℕ → List Step
+acts_of net histories made process = first_acts (slice_get net.codes process) histories (made process)
+
+-- an end of a channel counts the items that its process got, and retains the last ones that its process put
+pub record EndStands (net : Network) (histories : List (List ℤ)) (made : ℕ → ℕ) (number : ℕ) (channel : Channel) (end : End) : Type 0 where
+  pub received : (p : ℕ) → channel.consumer ≡ Process p → received_at (Some end) ≡ length (got_on number (acts_of net histories made p))
+  pub retained : (p : ℕ) (log : LogState) → channel.producer ≡ Process p → log_at (Some end) ≡ Some log → IsLogOf log (sent_on number (acts_of net histories made p))
+
+-- an image stands where each of its processes has made so many acts
+pub record ImageStands (net : Network) (histories : List (List ℤ)) (made : ℕ → ℕ) (image : ImageView) : Type 0 where
+  pub processes : (k : ℕ) (saved : SavedProcessView) (code : Code) → slice_get image.processes k ≡ Some saved → slice_get net.codes saved.number ≡ Some code
+      → StandsAt code histories (made saved.number) saved.standing
+  pub ends : (k : ℕ) (saved : SavedEnd) (channel : Channel) → slice_get image.ends k ≡ Some saved → slice_get net.channels saved.channel ≡ Some channel
+      → EndStands net histories made saved.channel channel saved.end
+
+-- one has come at least as far as another
+abbrev pub IsAsFar : (ℕ → ℕ) → (ℕ → ℕ) → Type 0
+IsAsFar made later = (p : ℕ) → made p ≤ later p
+
+-- The permanent image, the tentative one if it is held, and what the node has now stand on one approximation, one after another.
+pub record HasReached (net : Network) (inputs : List (List ℤ)) (node : RunningNode) : Type 0 where
+  pub n : ℕ
+  pub permanent_acts : ℕ → ℕ
+  pub held_acts : ℕ → ℕ
+  pub current_acts : ℕ → ℕ
+  pub permanent : ImageStands net (approximation net inputs n) permanent_acts node.kept.permanent
+  pub held : (tentative : Tentative) → node.kept.tentative ≡ Some tentative → ImageStands net (approximation net inputs n) held_acts tentative.image
+  pub current : ImageStands net (approximation net inputs n) current_acts node.current
+  pub held_after : IsAsFar permanent_acts held_acts
+  pub current_after : IsAsFar held_acts current_acts
+
+-- the numbers from this one on, so many
+abbrev pub numbers_from : ℕ → ℕ → List ℕ
+numbers_from first zero = []
+numbers_from first (suc count) = first ∷ numbers_from (suc first) count
+
+-- an end counts what it receives
+abbrev pub is_counting : End → Bool
+is_counting (Receives received) = true
+is_counting (Sends log) = false
+is_counting (Both received log) = true
+
+-- the role of an end of a channel whose items come from there and go there: it receives, sends, or does both
+abbrev pub role_between : Port → Port → ℕ
+role_between Outside consumer = 0
+role_between (Process p) Outside = 1
+role_between (Process p) (Process q) = 2
+
+-- an image of a node that has every process and every channel has one entry for each, in order of their numbers, an end from which a process
+-- gets counts, one on which a process puts has a log, and each has the role of its channel's ports
+pub record IsLaidOut (net : Network) (image : ImageView) : Type 0 where
+  pub processes : map (λ (saved : SavedProcessView). saved.number) image.processes ≡ numbers_from 0 (length net.codes)
+  pub ends : map (λ (saved : SavedEnd). saved.channel) image.ends ≡ numbers_from 0 (length net.channels)
+  pub counting : (k p : ℕ) (saved : SavedEnd) (channel : Channel) → slice_get image.ends k ≡ Some saved → slice_get net.channels saved.channel ≡ Some channel
+      → channel.consumer ≡ Process p → is_counting saved.end ≡ true
+  pub logging : (k p : ℕ) (saved : SavedEnd) (channel : Channel) → slice_get image.ends k ≡ Some saved → slice_get net.channels saved.channel ≡ Some channel
+      → channel.producer ≡ Process p → is_logging saved.end ≡ true
+  pub roles : (k : ℕ) (saved : SavedEnd) (channel : Channel) → slice_get image.ends k ≡ Some saved → slice_get net.channels saved.channel ≡ Some channel
+      → role_of saved.end ≡ role_between channel.producer channel.consumer
+
+-- no more was received than there is
+abbrev pub CountsAreWithin : List (List ℤ) → ImageView → Type 0
+CountsAreWithin inputs image = (k : ℕ) (saved : SavedEnd) → slice_get image.ends k ≡ Some saved → received_at (Some (saved.end)) ≤ length (history_of inputs saved.channel)
+
+-- each log has at most its share, and ends at a count
+abbrev pub LogsAreWithin : ImageView → Type 0
+LogsAreWithin image = (k : ℕ) (saved : SavedEnd) (log : LogState) → slice_get image.ends k ≡ Some saved → log_at (Some (saved.end)) ≡ Some log → IsWithinShare (log_share image) log
+
+-- the job that is out is of where its process stands now: with the items that come next, and no more room than there is
+pub record IsJobOf (net : Network) (inputs : List (List ℤ)) (image : ImageView) (job : JobView) : Type 0 where
+  pub process : find (λ (saved : SavedProcessView). saved.number == job.process) image.processes ≡ Some (record { number = job.process; standing = job.standing })
+  pub code : job.code ≡ slice_get net.codes job.process
+  pub items : job.items ≡ items_from inputs image job.process 0 net.channels
+  pub room : (c : ℕ) → slice_index job.room c ≤ slice_index (room_from image job.process 0 net.channels) c
+
+-- what came back is a turn of the job's process, from where the job says that it stands
+abbrev pub IsTurnOf : Network → JobView → Standing → List ℕ → List (List ℤ) → Type 0
+IsTurnOf net job after taken sent = (code : Code) → slice_get net.codes job.process ≡ Some code → IsTurn code job.standing job.items job.room after taken sent
+
+-- A node has come on: on the same approximation, its processes have made at least the acts of before.
+pub record HasComeOn (net : Network) (inputs : List (List ℤ)) (old new : RunningNode) (before : HasReached net inputs old) (after : HasReached net inputs new) : Type 0 where
+  pub same : after.n ≡ before.n
+  pub further : IsAsFar before.current_acts after.current_acts

@@ -1,0 +1,381 @@
+-- Laws of a turn that fits: what it takes is there, what it puts has room, and what is kept of an image is kept by it.
+use Rattle.std.proofs.Common.{◌≡◌, ◌⊎◌, inl, inr, ℕ, zero, suc, ◌+◌, ◌-◌, ◌<◌, ◌≤◌, Bool, true, false, eqb, cond, ℤ, List, [], ◌∷◌, ◌++◌, length, drop, map, get_or, Option, Some, None, option_map, refl, sym, ap, subst, ◌∙◌, arith}
+use Rattle.std.specs.Prelude.{slice_get, slice_index, find, min}
+use Rattle.std.proofs.Math.Nat.{min-le_left, min-le_right}
+use Rattle.std.proofs.lemmas.List.{length-append, length-take, length-drop, get_or_past}
+use Rattle.std.proofs.lemmas.Option.{slice_get_cases, get_or_from_slice_get}
+use Rattle.kahn_net.specs.Streams.{history_of}
+use Rattle.kahn_net.specs.Fits.{Fits}
+use Rattle.kahn_net.specs.Syntax.{Code, Network}
+use Rattle.kahn_net.specs.Processes.{Standing}
+use Rattle.kahn_net.specs.Approximations.{approximation}
+use Rattle.kahn_net.specs.declared.program.Channel.{Channel}
+use Rattle.kahn_net.specs.declared.program.Port.{Port}
+use Rattle.kahn_net.specs.declared.program.Port.TheVariants.{Outside, Process}
+use Rattle.retained.specs.LogState.{LogState, Overfills, log_end}
+use Rattle.proc_step.specs.Turns.{IsTurn}
+use Rattle.proc_step.specs.TurnLaws.{sent_fits, taken_fits}
+use Rattle.record.specs.ProcessView.{SavedProcessView}
+use Rattle.record.specs.ImageView.{ImageView}
+use Rattle.ckpt_codec.specs.RecordText.{role_of}
+use Rattle.protocol.specs.Node.JobView.{JobView}
+use Rattle.protocol.specs.Node.NodeView.{RunningNode}
+use Rattle.record.specs.Ends.{received_of, received_at, log_of, log_at, sent_in, end_of, base_in, base_of}
+use Rattle.protocol.specs.Node.Sharing.{is_logging, log_share, IsWithinShare}
+use Rattle.protocol.specs.Node.Granting.{is_process, next_items, room_in, room_of, room_from}
+use Rattle.record.specs.Changes.{log_with, pushed, counted, LogTakes}
+use Rattle.protocol.specs.Node.Installing.{is_consumer, is_producer, taken_from, put_on, saved_pushed, saved_counted, moved, installed, ImageTakes}
+use Rattle.protocol.specs.Node.Starting.{IsBehind}
+use Rattle.protocol.specs.Node.Reached.{ImageStands, HasReached, is_counting, role_between, IsLaidOut, CountsAreWithin, LogsAreWithin, IsJobOf, IsTurnOf}
+use Rattle.protocol.specs.NodeLaws.ImageLaws.{channel_at, received_is, log_is, map_got, map_keeps, map_twice, end_of_changed}
+use Rattle.protocol.specs.NodeLaws.ReachedLaws.{items_at_hand, items_of_channel}
+use Rattle.protocol.specs.NodeLaws.SharingLaws.{share_within, share_kept}
+use Rattle.protocol.specs.NodeLaws.InstallLaws.{turn_of_job, job_has_code, log_then}
+use Rattle.record.specs.declared.image.SavedEnd.{SavedEnd}
+use Rattle.record.specs.declared.image.End.{End}
+use Rattle.record.specs.declared.image.End.TheVariants.{Receives, Sends, Both}
+use Rattle.kahn_net.specs.declared.limits.TheConstants.{MAX_COUNT, MAX_HISTORY_ITEMS}
+use Rattle.protocol.specs.declared.limits.TheConstants.{MAX_JOB_ITEMS}
+use Rattle.retained.specs.declared.log.TheConstants.{MAX_LOG_ITEMS}
+
+-- What a turn takes
+
+-- no more is at hand than is left
+at_hand_is_left : (inputs : List (List ℤ)) (image : ImageView) (c : ℕ) (gets : Bool) (port : Port)
+    → length (cond gets (next_items inputs image c port) []) ≤ length (history_of inputs c) - received_of image c
+at_hand_is_left inputs image c false port = omega arith
+at_hand_is_left inputs image c true (Process q) = omega arith
+at_hand_is_left inputs image c true Outside =
+    let some = length-take MAX_JOB_ITEMS (drop (received_of image c) (history_of inputs c)) in
+    let few = min-le_right MAX_JOB_ITEMS (length (drop (received_of image c) (history_of inputs c))) in
+    let left = length-drop (received_of image c) (history_of inputs c) in
+    omega (arith, some, few, left)
+
+-- what a turn takes from a channel is there
+pub taken_is_there : (net : Network) (inputs : List (List ℤ)) (n : ℕ) (made : ℕ → ℕ) (image : ImageView) (job : JobView) (code : Code) (after : Standing) (taken : List ℕ) (sent : List (List ℤ))
+    → ImageStands net (approximation net inputs n) made image → IsLaidOut net image → CountsAreWithin inputs image → IsJobOf net inputs image job → slice_get net.codes job.process ≡ Some code
+    → IsTurn code job.standing job.items job.room after taken sent
+    → (k : ℕ) (saved : SavedEnd) → slice_get image.ends k ≡ Some saved
+    → received_at (Some (saved.end)) + taken_from net.channels job.process taken saved.channel ≤ length (history_of inputs saved.channel)
+taken_is_there net inputs n made image job code after taken sent stands laid counts of there turn k saved is = at (slice_get_cases net.channels saved.channel).1
+  where
+    within : received_at (Some (saved.end)) ≤ length (history_of inputs saved.channel)
+    within = counts k saved is
+
+    same : received_of image saved.channel ≡ received_at (Some (saved.end))
+    same =
+        let number = channel_at net image k saved laid is in
+        ap (received_of image) number ∙ received_is net image k saved laid is
+
+    by_test : (channel : Channel) → slice_get net.channels saved.channel ≡ Some channel → (gets : Bool) → is_process job.process channel.consumer ≡ gets
+        → received_at (Some (saved.end)) + cond gets (slice_index taken saved.channel) 0 ≤ length (history_of inputs saved.channel)
+    by_test channel on false test = omega (arith, within)
+    by_test channel on true test =
+        let done = turn_of_job net inputs n made image job code after taken sent stands laid of there turn in
+        let few = taken_fits code (approximation net inputs n) (made job.process) job.items job.room after taken sent done saved.channel in
+        let items : history_of job.items saved.channel ≡ items_at_hand inputs image job.process saved.channel channel =
+        ap (λ (items : List (List ℤ)). history_of items saved.channel) of.items ∙ items_of_channel net inputs image job.process saved.channel channel on in
+        let left = at_hand_is_left inputs image saved.channel (is_process job.process channel.consumer) channel.producer in
+        let count : length (history_of job.items saved.channel) ≤ length (history_of inputs saved.channel) - received_of image saved.channel = omega (arith, ap (length {A = ℤ}) items, left) in
+        omega (arith, few, count, same, within)
+
+    at : ((x : Channel) × (saved.channel < length net.channels) × (slice_get net.channels saved.channel ≡ Some x) × (get_or net.channels saved.channel x ≡ x)) ⊎ ((length net.channels ≤ saved.channel) × (slice_get net.channels saved.channel ≡ None))
+        → received_at (Some (saved.end)) + taken_from net.channels job.process taken saved.channel ≤ length (history_of inputs saved.channel)
+    at (inl here) =
+        let all = by_test here.0 here.2 (is_process job.process here.0.consumer) refl in
+        let tested : taken_from net.channels job.process taken saved.channel ≡ cond (is_process job.process here.0.consumer) (slice_index taken saved.channel) 0 =
+        ap (λ (o : Option Channel). cond (is_consumer job.process o) (slice_index taken saved.channel) 0) here.2 in
+        omega (arith, all, tested)
+    at (inr past) =
+        let tested : taken_from net.channels job.process taken saved.channel ≡ 0 = ap (λ (o : Option Channel). cond (is_consumer job.process o) (slice_index taken saved.channel) 0) past.1 in
+        omega (arith, within, tested)
+
+-- What a turn puts
+
+-- the room of a channel on which the process puts, and none on any other
+pub room_from-at : (image : ImageView) (process number : ℕ) (channels : List Channel) (c : ℕ) (channel : Channel) → slice_get channels c ≡ Some channel
+    → slice_index (room_from image process number channels) c ≡ cond (is_process process channel.producer) (room_of image (number + c)) 0
+room_from-at image process number [] c channel is = absurd (cc)
+room_from-at image process number (x ∷ channels) zero channel is =
+    let same : x ≡ channel = cc in
+    let here : number ≡ number + 0 = omega arith in
+    ap (λ (y : Channel). cond (is_process process y.producer) (room_of image number) 0) same ∙ ap (λ (n : ℕ). cond (is_process process channel.producer) (room_of image n) 0) here
+room_from-at image process number (x ∷ channels) (suc c) channel is =
+    let there : suc number + c ≡ number + suc c = omega arith in
+    room_from-at image process (suc number) channels c channel is ∙ ap (λ (n : ℕ). cond (is_process process channel.producer) (room_of image n) 0) there
+
+-- what a turn puts on a channel has room in its log
+pub put_has_room : (net : Network) (inputs : List (List ℤ)) (n : ℕ) (made : ℕ → ℕ) (image : ImageView) (job : JobView) (code : Code) (after : Standing) (taken : List ℕ) (sent : List (List ℤ))
+    → ImageStands net (approximation net inputs n) made image → IsLaidOut net image → IsJobOf net inputs image job → slice_get net.codes job.process ≡ Some code
+    → IsTurn code job.standing job.items job.room after taken sent → (c : ℕ) → length (put_on net.channels job.process sent c) ≤ room_of image c
+put_has_room net inputs n made image job code after taken sent stands laid of there turn c = at (slice_get_cases net.channels c).1
+  where
+    by_test : (channel : Channel) → slice_get net.channels c ≡ Some channel → (puts : Bool) → is_process job.process channel.producer ≡ puts → length (cond puts (history_of sent c) []) ≤ room_of image c
+    by_test channel on false test = omega arith
+    by_test channel on true test =
+        let done = turn_of_job net inputs n made image job code after taken sent stands laid of there turn in
+        let few = sent_fits code (approximation net inputs n) (made job.process) job.items job.room after taken sent done c in
+        let sum : 0 + c ≡ c = omega arith in
+        let room : slice_index (room_from image job.process 0 net.channels) c ≡ room_of image c =
+        room_from-at image job.process 0 net.channels c channel on
+        ∙ (ap (λ (b : Bool). cond b (room_of image (0 + c)) 0) test ∙ ap (λ (m : ℕ). room_of image m) sum) in
+        let given = of.room c in
+        omega (arith, few, given, room)
+
+    at : ((x : Channel) × (c < length net.channels) × (slice_get net.channels c ≡ Some x) × (get_or net.channels c x ≡ x)) ⊎ ((length net.channels ≤ c) × (slice_get net.channels c ≡ None))
+        → length (put_on net.channels job.process sent c) ≤ room_of image c
+    at (inl here) =
+        let all = by_test here.0 here.2 (is_process job.process here.0.producer) refl in
+        let tested : put_on net.channels job.process sent c ≡ cond (is_process job.process here.0.producer) (history_of sent c) [] =
+        ap (λ (o : Option Channel). cond (is_producer job.process o) (history_of sent c) []) here.2 in
+        omega (arith, all, ap (length {A = ℤ}) tested)
+    at (inr past) =
+        let tested : put_on net.channels job.process sent c ≡ [] = ap (λ (o : Option Channel). cond (is_producer job.process o) (history_of sent c) []) past.1 in
+        omega (arith, ap (length {A = ℤ}) tested)
+
+-- a log with what it has room for is within its share
+log_with_room : (share : ℕ) (log : LogState) (items : List ℤ) → IsWithinShare share log → length items ≤ room_in share (Some log) → IsWithinShare share (log_with items log)
+log_with_room share log items within room =
+    let sum = length-append log.items items in
+    let all = min-le_right MAX_JOB_ITEMS (min (share - length log.items) (MAX_COUNT - log_end log)) in
+    let few = min-le_left (share - length log.items) (MAX_COUNT - log_end log) in
+    let last = min-le_right (share - length log.items) (MAX_COUNT - log_end log) in
+    let n = within.count in
+    let e = within.last in
+    record { count = omega (arith, sum, room, all, few, n); last = omega (arith, sum, room, all, last, e) }
+
+-- what has room in a log fits it
+fits_log : (share : ℕ) (log : LogState) (items : List ℤ) → share ≤ MAX_LOG_ITEMS → IsWithinShare share log → length items ≤ room_in share (Some log) → Overfills log (length items) → ⊥
+fits_log share log items below within room over = at over
+  where
+    then_within : IsWithinShare share (log_with items log)
+    then_within = log_with_room share log items within room
+
+    sum : length (log.items ++ items) ≡ length log.items + length items
+    sum = length-append log.items items
+
+    at : ((MAX_LOG_ITEMS < length log.items + length items) ⊎ (MAX_COUNT < log_end log + length items)) → ⊥
+    at (inl many) = let n = then_within.count in omega (arith, below, sum, many, n)
+    at (inr far) = let n = then_within.last in omega (arith, sum, far, n)
+
+-- the lists that fit are short
+history_is_short : (net : Network) (inputs : List (List ℤ)) (c : ℕ) → Fits net inputs → length (history_of inputs c) ≤ MAX_HISTORY_ITEMS
+history_is_short net inputs c fits = at (slice_get_cases inputs c).1
+  where
+    at : ((x : List ℤ) × (c < length inputs) × (slice_get inputs c ≡ Some x) × (get_or inputs c x ≡ x)) ⊎ ((length inputs ≤ c) × (slice_get inputs c ≡ None)) → length (history_of inputs c) ≤ MAX_HISTORY_ITEMS
+    at (inl here) = let few = fits.few c here.0 here.2 in omega (arith, few, ap (length {A = ℤ}) (get_or_from_slice_get inputs c here.0 [] here.2))
+    at (inr past) = omega (arith, ap (length {A = ℤ}) (get_or_past inputs c [] past.0))
+
+-- the turn fits the image: no count and no log comes past its limit
+pub image_takes_turn : (net : Network) (inputs : List (List ℤ)) (n : ℕ) (made : ℕ → ℕ) (image : ImageView) (job : JobView) (code : Code) (after : Standing) (taken : List ℕ) (sent : List (List ℤ))
+    → ImageStands net (approximation net inputs n) made image → IsLaidOut net image → CountsAreWithin inputs image → LogsAreWithin image → Fits net inputs
+    → IsJobOf net inputs image job → slice_get net.codes job.process ≡ Some code → IsTurn code job.standing job.items job.room after taken sent
+    → ImageTakes net.channels job.process taken sent image
+image_takes_turn net inputs n made image job code after taken sent stands laid counts logs fits of there turn k saved is = record {
+  received =
+      let sum = taken_is_there net inputs n made image job code after taken sent stands laid counts of there turn k saved is in
+      let short = history_is_short net inputs saved.channel fits in
+      omega (arith, sum, short);
+  put = at (log_at (Some (saved.end))) refl;
+}
+  where
+    at : (o : Option LogState) → log_at (Some (saved.end)) ≡ o → LogTakes (length (put_on net.channels job.process sent saved.channel)) o
+    at None e = tt
+    at (Some log) e =
+        let room = put_has_room net inputs n made image job code after taken sent stands laid of there turn saved.channel in
+        let same : log_of image saved.channel ≡ Some log = ap (log_of image) (channel_at net image k saved laid is) ∙ (log_is net image k saved laid is ∙ e) in
+        let share = share_within image in
+        fits_log (log_share image) log (put_on net.channels job.process sent saved.channel) (omega (arith, share)) (logs k saved log is e)
+        (subst (λ (o : Option LogState). length (put_on net.channels job.process sent saved.channel) ≤ room_in (log_share image) o) same room)
+
+-- What a turn keeps
+
+-- each end after the turn is one of before, with what the turn put and took
+pub end_before : (channels : List Channel) (process : ℕ) (after : Standing) (taken : List ℕ) (sent : List (List ℤ)) (image : ImageView) (k : ℕ) (saved : SavedEnd)
+    → slice_get (installed channels process after taken sent image).ends k ≡ Some saved
+    → (old : SavedEnd) × (slice_get image.ends k ≡ Some old) × (saved_counted channels process taken (saved_pushed channels process sent old) ≡ saved)
+end_before channels process after taken sent image k saved is =
+    let mid = map_got (saved_counted channels process taken) (map (saved_pushed channels process sent) image.ends) k saved is in
+    let old = map_got (saved_pushed channels process sent) image.ends k mid.0 mid.1 in
+    (old.0, old.1, ap (saved_counted channels process taken) old.2 ∙ mid.2)
+
+moved_keeps : (process : ℕ) (standing : Standing) (xs : List SavedProcessView) → map (λ (s : SavedProcessView). s.number) (moved process standing xs) ≡ map (λ (s : SavedProcessView). s.number) xs
+moved_keeps process standing [] = refl
+moved_keeps process standing (y ∷ xs) = at (eqb y.number process) (moved_keeps process standing xs)
+  where
+    at : (b : Bool) → map (λ (s : SavedProcessView). s.number) (moved process standing xs) ≡ map (λ (s : SavedProcessView). s.number) xs
+        → map (λ (s : SavedProcessView). s.number) (cond b (record { number = y.number; standing = standing } ∷ xs) (y ∷ moved process standing xs)) ≡ y.number ∷ map (λ (s : SavedProcessView). s.number) xs
+    at true later = refl
+    at false later = ap (λ (ns : List ℕ). y.number ∷ ns) later
+
+still_counting : (end : End) (items : List ℤ) (count : ℕ) → is_counting (counted count (pushed items end)) ≡ is_counting end
+still_counting (Receives received) items count = refl
+still_counting (Sends log) items count = refl
+still_counting (Both received log) items count = refl
+
+still_logging : (end : End) (items : List ℤ) (count : ℕ) → is_logging (counted count (pushed items end)) ≡ is_logging end
+still_logging (Receives received) items count = refl
+still_logging (Sends log) items count = refl
+still_logging (Both received log) items count = refl
+
+still_its_role : (end : End) (items : List ℤ) (count : ℕ) → role_of (counted count (pushed items end)) ≡ role_of end
+still_its_role (Receives received) items count = refl
+still_its_role (Sends log) items count = refl
+still_its_role (Both received log) items count = refl
+
+pub laid_out_installed : (net : Network) (process : ℕ) (after : Standing) (taken : List ℕ) (sent : List (List ℤ)) (image : ImageView)
+    → IsLaidOut net image → IsLaidOut net (installed net.channels process after taken sent image)
+laid_out_installed net process after taken sent image laid = record {
+  processes = moved_keeps process after image.processes ∙ laid.processes;
+  ends =
+      map_keeps (λ (s : SavedEnd). s.channel) (saved_counted net.channels process taken) (map (saved_pushed net.channels process sent) image.ends) (λ s. refl)
+      ∙ (map_keeps (λ (s : SavedEnd). s.channel) (saved_pushed net.channels process sent) image.ends (λ s. refl) ∙ laid.ends);
+  counting = counting;
+  logging = logging;
+  roles = roles;
+}
+  where
+    counting : (k p : ℕ) (saved : SavedEnd) (channel : Channel) → slice_get (installed net.channels process after taken sent image).ends k ≡ Some saved → slice_get net.channels saved.channel ≡ Some channel
+        → channel.consumer ≡ Process p → is_counting saved.end ≡ true
+    counting k p saved channel is on to =
+        let old = end_before net.channels process after taken sent image k saved is in
+        let number : old.0.channel ≡ saved.channel = ap (λ (s : SavedEnd). s.channel) old.2 in
+        ap (λ (s : SavedEnd). is_counting s.end) (sym old.2)
+        ∙ (still_counting old.0.end (put_on net.channels process sent old.0.channel) (taken_from net.channels process taken old.0.channel)
+        ∙ laid.counting k p old.0 channel old.1 (ap (slice_get net.channels) number ∙ on) to)
+
+    logging : (k p : ℕ) (saved : SavedEnd) (channel : Channel) → slice_get (installed net.channels process after taken sent image).ends k ≡ Some saved → slice_get net.channels saved.channel ≡ Some channel
+        → channel.producer ≡ Process p → is_logging saved.end ≡ true
+    logging k p saved channel is on from =
+        let old = end_before net.channels process after taken sent image k saved is in
+        let number : old.0.channel ≡ saved.channel = ap (λ (s : SavedEnd). s.channel) old.2 in
+        ap (λ (s : SavedEnd). is_logging s.end) (sym old.2)
+        ∙ (still_logging old.0.end (put_on net.channels process sent old.0.channel) (taken_from net.channels process taken old.0.channel)
+        ∙ laid.logging k p old.0 channel old.1 (ap (slice_get net.channels) number ∙ on) from)
+
+    roles : (k : ℕ) (saved : SavedEnd) (channel : Channel) → slice_get (installed net.channels process after taken sent image).ends k ≡ Some saved → slice_get net.channels saved.channel ≡ Some channel
+        → role_of saved.end ≡ role_between channel.producer channel.consumer
+    roles k saved channel is on =
+        let old = end_before net.channels process after taken sent image k saved is in
+        let number : old.0.channel ≡ saved.channel = ap (λ (s : SavedEnd). s.channel) old.2 in
+        ap (λ (s : SavedEnd). role_of s.end) (sym old.2)
+        ∙ (still_its_role old.0.end (put_on net.channels process sent old.0.channel) (taken_from net.channels process taken old.0.channel)
+        ∙ laid.roles k old.0 channel old.1 (ap (slice_get net.channels) number ∙ on))
+
+at_most_counted : (end : End) (items : List ℤ) (count : ℕ) → received_at (Some (counted count (pushed items end))) ≤ received_at (Some end) + count
+at_most_counted (Receives received) items count = omega arith
+at_most_counted (Sends log) items count = omega arith
+at_most_counted (Both received log) items count = omega arith
+
+pub counts_after_turn : (net : Network) (inputs : List (List ℤ)) (n : ℕ) (made : ℕ → ℕ) (image : ImageView) (job : JobView) (code : Code) (after : Standing) (taken : List ℕ) (sent : List (List ℤ))
+    → ImageStands net (approximation net inputs n) made image → IsLaidOut net image → CountsAreWithin inputs image → IsJobOf net inputs image job → slice_get net.codes job.process ≡ Some code
+    → IsTurn code job.standing job.items job.room after taken sent → CountsAreWithin inputs (installed net.channels job.process after taken sent image)
+counts_after_turn net inputs n made image job code after taken sent stands laid counts of there turn k saved is =
+    let old = end_before net.channels job.process after taken sent image k saved is in
+    let most = at_most_counted old.0.end (put_on net.channels job.process sent old.0.channel) (taken_from net.channels job.process taken old.0.channel) in
+    let sum = taken_is_there net inputs n made image job code after taken sent stands laid counts of there turn k old.0 old.1 in
+    let count : received_at (Some (counted (taken_from net.channels job.process taken old.0.channel) (pushed (put_on net.channels job.process sent old.0.channel) old.0.end))) ≤ length (history_of inputs old.0.channel) =
+    omega (arith, most, sum) in
+    subst (λ (s : SavedEnd). received_at (Some (s.end)) ≤ length (history_of inputs s.channel)) old.2 count
+
+-- as many ends have a log as before
+share_installed : (channels : List Channel) (process : ℕ) (after : Standing) (taken : List ℕ) (sent : List (List ℤ)) (image : ImageView)
+    → log_share (installed channels process after taken sent image) ≡ log_share image
+share_installed channels process after taken sent image =
+    share_kept image (installed channels process after taken sent image) (λ (s : SavedEnd). saved_counted channels process taken (saved_pushed channels process sent s))
+    (λ s. still_logging s.end (put_on channels process sent s.channel) (taken_from channels process taken s.channel))
+    (map_twice (saved_pushed channels process sent) (saved_counted channels process taken) image.ends)
+
+logs_after_turn : (net : Network) (inputs : List (List ℤ)) (n : ℕ) (made : ℕ → ℕ) (image : ImageView) (job : JobView) (code : Code) (after : Standing) (taken : List ℕ) (sent : List (List ℤ))
+    → ImageStands net (approximation net inputs n) made image → IsLaidOut net image → LogsAreWithin image → IsJobOf net inputs image job → slice_get net.codes job.process ≡ Some code
+    → IsTurn code job.standing job.items job.room after taken sent → LogsAreWithin (installed net.channels job.process after taken sent image)
+logs_after_turn net inputs n made image job code after taken sent stands laid logs of there turn k saved log is at_end =
+    let old = end_before net.channels job.process after taken sent image k saved is in
+    let put : List ℤ = put_on net.channels job.process sent old.0.channel in
+    let same : log_at (Some (counted (taken_from net.channels job.process taken old.0.channel) (pushed put old.0.end))) ≡ Some log = ap (λ (s : SavedEnd). log_at (Some (s.end))) old.2 ∙ at_end in
+    let before = log_then old.0.end put (taken_from net.channels job.process taken old.0.channel) log same in
+    let room = put_has_room net inputs n made image job code after taken sent stands laid of there turn old.0.channel in
+    let found : log_of image old.0.channel ≡ Some before.0 = ap (log_of image) (channel_at net image k old.0 laid old.1) ∙ (log_is net image k old.0 laid old.1 ∙ before.1) in
+    let within : IsWithinShare (log_share image) (log_with put before.0) =
+    log_with_room (log_share image) before.0 put (logs k old.0 before.0 old.1 before.1)
+    (subst (λ (o : Option LogState). length put ≤ room_in (log_share image) o) found room) in
+    subst (λ (share : ℕ). IsWithinShare share log) (sym (share_installed net.channels job.process after taken sent image)) (subst (IsWithinShare (log_share image)) before.2 within)
+
+more_sent : (end : End) (items : List ℤ) (count : ℕ) → sent_in (log_at (Some end)) ≤ sent_in (log_at (Some (counted count (pushed items end))))
+more_sent (Receives received) items count = omega arith
+more_sent (Sends log) items count = let sum = length-append log.items items in omega (arith, sum)
+more_sent (Both received log) items count = let sum = length-append log.items items in omega (arith, sum)
+
+more_received : (end : End) (items : List ℤ) (count : ℕ) → received_at (Some end) ≤ received_at (Some (counted count (pushed items end)))
+more_received (Receives received) items count = omega arith
+more_received (Sends log) items count = omega arith
+more_received (Both received log) items count = omega arith
+
+same_base : (end : End) (items : List ℤ) (count : ℕ) → base_in (log_at (Some (counted count (pushed items end)))) ≡ base_in (log_at (Some end))
+same_base (Receives received) items count = refl
+same_base (Sends log) items count = refl
+same_base (Both received log) items count = refl
+
+-- no log begins later
+pub base_installed : (channels : List Channel) (process : ℕ) (after : Standing) (taken : List ℕ) (sent : List (List ℤ)) (image : ImageView) (c : ℕ)
+    → base_of (installed channels process after taken sent image) c ≡ base_of image c
+base_installed channels process after taken sent image c =
+    ap (λ (o : Option End). base_in (log_at o))
+    (end_of_changed image (installed channels process after taken sent image) c (λ (s : SavedEnd). saved_counted channels process taken (saved_pushed channels process sent s)) (λ s. refl)
+    (map_twice (saved_pushed channels process sent) (saved_counted channels process taken) image.ends))
+    ∙ at (find (λ (s : SavedEnd). eqb s.channel c) image.ends)
+  where
+    at : (o : Option SavedEnd) → base_in (log_at (option_map (λ (s : SavedEnd). (saved_counted channels process taken (saved_pushed channels process sent s)).end) o))
+        ≡ base_in (log_at (option_map (λ (s : SavedEnd). s.end) o))
+    at None = refl
+    at (Some s) = same_base s.end (put_on channels process sent s.channel) (taken_from channels process taken s.channel)
+
+-- a turn takes back nothing that was received or put
+pub behind_installed : (channels : List Channel) (process : ℕ) (after : Standing) (taken : List ℕ) (sent : List (List ℤ)) (image : ImageView) → IsBehind image (installed channels process after taken sent image)
+behind_installed channels process after taken sent image = record {
+  received = λ c. omega (arith, received_then (find (λ (s : SavedEnd). eqb s.channel c) image.ends), ap received_at (changed c));
+  base = λ c. omega (arith, base_installed channels process after taken sent image c);
+  sent = λ c. omega (arith, sent_then (find (λ (s : SavedEnd). eqb s.channel c) image.ends), ap (λ (o : Option End). sent_in (log_at o)) (changed c));
+}
+  where
+    changed : (c : ℕ)
+        → end_of (installed channels process after taken sent image) c ≡ option_map (λ (s : SavedEnd). (saved_counted channels process taken (saved_pushed channels process sent s)).end) (find (λ (s : SavedEnd). eqb s.channel c) image.ends)
+    changed c =
+        end_of_changed image (installed channels process after taken sent image) c (λ (s : SavedEnd). saved_counted channels process taken (saved_pushed channels process sent s)) (λ s. refl)
+        (map_twice (saved_pushed channels process sent) (saved_counted channels process taken) image.ends)
+
+    received_then : (o : Option SavedEnd) → received_at (option_map (λ (s : SavedEnd). s.end) o)
+        ≤ received_at (option_map (λ (s : SavedEnd). (saved_counted channels process taken (saved_pushed channels process sent s)).end) o)
+    received_then None = omega arith
+    received_then (Some s) = more_received s.end (put_on channels process sent s.channel) (taken_from channels process taken s.channel)
+
+    sent_then : (o : Option SavedEnd) → sent_in (log_at (option_map (λ (s : SavedEnd). s.end) o))
+        ≤ sent_in (log_at (option_map (λ (s : SavedEnd). (saved_counted channels process taken (saved_pushed channels process sent s)).end) o))
+    sent_then None = omega arith
+    sent_then (Some s) = more_sent s.end (put_on channels process sent s.channel) (taken_from channels process taken s.channel)
+
+-- Nodes
+
+-- a turn on the job that was out fits what the node has now
+pub turn_fits : (net : Network) (inputs : List (List ℤ)) (node : RunningNode) (job : JobView) (after : Standing) (taken : List ℕ) (sent : List (List ℤ))
+    → HasReached net inputs node → IsLaidOut net node.current → CountsAreWithin inputs node.current → LogsAreWithin node.current → Fits net inputs
+    → IsJobOf net inputs node.current job → IsTurnOf net job after taken sent → ImageTakes net.channels job.process taken sent node.current
+turn_fits net inputs node job after taken sent reached laid counts logs fits of turn =
+    let code = job_has_code net inputs node.current job laid of in
+    image_takes_turn net inputs reached.n reached.current_acts node.current job code.0 after taken sent reached.current laid counts logs fits of code.1 (turn code.0 code.1)
+
+-- and then no more was received than there is
+pub counts_installed : (net : Network) (inputs : List (List ℤ)) (node : RunningNode) (job : JobView) (after : Standing) (taken : List ℕ) (sent : List (List ℤ))
+    → HasReached net inputs node → IsLaidOut net node.current → CountsAreWithin inputs node.current → IsJobOf net inputs node.current job → IsTurnOf net job after taken sent
+    → CountsAreWithin inputs (installed net.channels job.process after taken sent node.current)
+counts_installed net inputs node job after taken sent reached laid counts of turn =
+    let code = job_has_code net inputs node.current job laid of in
+    counts_after_turn net inputs reached.n reached.current_acts node.current job code.0 after taken sent reached.current laid counts of code.1 (turn code.0 code.1)
+
+-- and each log is within its share
+pub logs_installed : (net : Network) (inputs : List (List ℤ)) (node : RunningNode) (job : JobView) (after : Standing) (taken : List ℕ) (sent : List (List ℤ))
+    → HasReached net inputs node → IsLaidOut net node.current → LogsAreWithin node.current → IsJobOf net inputs node.current job → IsTurnOf net job after taken sent
+    → LogsAreWithin (installed net.channels job.process after taken sent node.current)
+logs_installed net inputs node job after taken sent reached laid logs of turn =
+    let code = job_has_code net inputs node.current job laid of in
+    logs_after_turn net inputs reached.n reached.current_acts node.current job code.0 after taken sent reached.current laid logs of code.1 (turn code.0 code.1)

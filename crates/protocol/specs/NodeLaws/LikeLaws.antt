@@ -1,0 +1,384 @@
+-- Laws of images as a store takes them: what a node has of a valid network may be written, and is of one shape wherever its processes stand.
+use Rattle.std.proofs.Common.{◌≡◌, ◌⊎◌, inl, inr, ℕ, zero, suc, ◌+◌, ◌^◌, ◌<◌, ◌≤◌, ℤ, List, [], ◌∷◌, ◌++◌, length, map, get_or, Some, None, refl, sym, ap, subst, ◌∙◌, arith}
+use Rattle.std.specs.Prelude.{slice_get, ◌&&◌, nat_lt, nat_le, replicate}
+use Rattle.std.proofs.lemmas.Bool.{eq-eqb, le-leb, lt-ltb, and_from}
+use Rattle.std.proofs.lemmas.List.{length-replicate, get_or_past}
+use Rattle.std.proofs.lemmas.List.Elements.{All-nil, All-cons, All-append}
+use Rattle.std.proofs.lemmas.Option.{slice_get_cases, slice_get_within, get_or_from_slice_get}
+use Rattle.kahn_net.specs.Streams.{history_of}
+use Rattle.kahn_net.specs.Syntax.{Code, Network}
+use Rattle.kahn_net.specs.Valid.{IsValid}
+use Rattle.kahn_net.specs.Fits.{AreShort}
+use Rattle.kahn_net.specs.Processes.{Standing}
+use Rattle.kahn_net.specs.Processes.Standing.{NotBegun, At, Done}
+use Rattle.kahn_net.specs.Approximations.{approximation}
+use Rattle.kahn_net.specs.declared.program.Channel.{Channel}
+use Rattle.kahn_net.specs.declared.program.Port.{Port}
+use Rattle.kahn_net.specs.declared.program.Port.TheVariants.{Outside, Process}
+use Rattle.kahn_net.specs.declared.limits.TheConstants.{MAX_COUNT, MAX_NODES, MAX_PROCESSES, MAX_CHANNELS, MAX_VARIABLES}
+use Rattle.retained.specs.LogState.{LogState, IsWithinLimits, IsInLog, log_end}
+use Rattle.retained.specs.declared.log.TheConstants.{MAX_LOG_ITEMS}
+use Rattle.record.specs.ProcessView.{SavedProcessView}
+use Rattle.record.specs.ImageView.{ImageView}
+use Rattle.record.specs.Ends.{received_at, log_at}
+use Rattle.record.specs.declared.image.SavedEnd.{SavedEnd}
+use Rattle.record.specs.declared.image.End.{End}
+use Rattle.record.specs.declared.image.End.TheVariants.{Receives, Sends, Both}
+use Rattle.ckpt_codec.specs.Fields.{Field, IsAllowed, AreAllowed}
+use Rattle.ckpt_codec.specs.RecordText.{any, at_most, exactly, count, item, flag, between, variables_of, mode_fields, process_fields, processes_fields, role_of, retained_count, end_fields, saved_end_fields, ends_fields, image_fields, IsRecord}
+use Rattle.ckpt_codec.specs.ItemLaws.{item_allowed}
+use Rattle.ckpt_store.specs.Shapes.{HasShapeOf}
+use Rattle.ckpt_store.specs.Spelling.{IsLike}
+use Rattle.ckpt_store.proofs.Parts.{whole}
+use Rattle.ckpt_store.proofs.Alike.{like_of}
+use Rattle.protocol.specs.Node.Reached.{ImageStands, numbers_from, role_between, IsLaidOut, CountsAreWithin, LogsAreWithin}
+use Rattle.protocol.specs.Node.Opening.{opening_end, opening_ends, opening_image, opening_record}
+use Rattle.protocol.specs.NodeLaws.OpeningLaws.{reached_opening, laid_out_opening, counts_opening, logs_opening}
+use Rattle.protocol.specs.NodeLaws.ImageLaws.{numbered_mark, numbered_count}
+use Rattle.protocol.specs.NodeLaws.SharingLaws.{share_within}
+use Rattle.protocol.specs.NodeLaws.VariableLaws.{variables_stay}
+use Rattle.protocol.specs.NodeLaws.SiteLaws.{code_sites, StandsBelow, site_of_standing, site_short}
+
+-- ---- fields of one kind
+
+one_field : (field : Field) → IsAllowed field → AreAllowed (field ∷ [])
+one_field field is = All-cons IsAllowed field [] is (All-nil IsAllowed)
+
+items_allowed : (zs : List ℤ) → AreAllowed (map item zs)
+items_allowed [] = All-nil IsAllowed
+items_allowed (z ∷ zs) = All-cons IsAllowed (item z) (map item zs) (item_allowed z) (items_allowed zs)
+
+count_allowed : (n : ℕ) → n ≤ MAX_COUNT → IsAllowed (count n)
+count_allowed n le = (omega (arith, le), le-leb n MAX_COUNT le)
+
+-- a number of a list, ascending from the least that is left
+number_allowed : (width least limit n : ℕ) → limit ≤ 256 ^ width → least ≤ n → n < limit → IsAllowed (between width least limit n)
+number_allowed width least limit n small above below = (omega (arith, small, below), and_from (nat_le least n) (nat_lt n limit) (le-leb least n above) (lt-ltb n limit below))
+
+limited_allowed : (width limit n : ℕ) → limit < 256 ^ width → n ≤ limit → IsAllowed (at_most width limit n)
+limited_allowed width limit n small le = (omega (arith, small, le), le-leb n limit le)
+
+-- ---- processes
+
+-- a point takes 4 bytes, and has no passes left
+abbrev pub HasShortSite : Standing → Type 0
+HasShortSite (NotBegun vars) = Unit {0}
+HasShortSite (At point vars) = (point.site < 256 ^ 4) × (point.left ≡ [])
+HasShortSite (Done vars) = Unit {0}
+
+-- what may be written of a process
+pub record IsShortStanding (standing : Standing) : Type 0 where
+  pub site : HasShortSite standing
+  pub variables : length (variables_of standing) ≤ MAX_VARIABLES
+
+mode_allowed : (standing : Standing) → HasShortSite standing → AreAllowed (mode_fields standing)
+mode_allowed (NotBegun vars) short = one_field (at_most 1 2 0) (limited_allowed 1 2 0 (omega arith) (omega arith))
+mode_allowed (At point vars) short =
+    let none : length point.left ≡ 0 = ap (length {A = ℕ}) short.1 in
+    All-cons IsAllowed (at_most 1 2 1) (any 4 point.site ∷ exactly 1 0 (length point.left) ∷ []) (limited_allowed 1 2 1 (omega arith) (omega arith))
+    (All-cons IsAllowed (any 4 point.site) (exactly 1 0 (length point.left) ∷ []) (short.0, refl)
+    (one_field (exactly 1 0 (length point.left)) (omega (arith, none), eq-eqb (length point.left) 0 none)))
+mode_allowed (Done vars) short = one_field (at_most 1 2 2) (limited_allowed 1 2 2 (omega arith) (omega arith))
+
+process_allowed : (least : ℕ) (p : SavedProcessView) → least ≤ p.number → p.number < MAX_PROCESSES → IsShortStanding p.standing → AreAllowed (process_fields None least p)
+process_allowed least p above below short =
+    let number : Field = between 1 least MAX_PROCESSES p.number in
+    let counted : Field = at_most 1 MAX_VARIABLES (length (variables_of p.standing)) in
+    let values : List Field = map item (variables_of p.standing) in
+    All-cons IsAllowed number (mode_fields p.standing ++ counted ∷ values) (number_allowed 1 least MAX_PROCESSES p.number (omega arith) above below)
+    (All-append IsAllowed (mode_fields p.standing) (counted ∷ values) (mode_allowed p.standing short.site)
+    (All-cons IsAllowed counted values (limited_allowed 1 MAX_VARIABLES (length (variables_of p.standing)) (omega arith) short.variables) (items_allowed (variables_of p.standing))))
+
+processes_allowed : (least many : ℕ) (ps : List SavedProcessView) → map (λ (p : SavedProcessView). p.number) ps ≡ numbers_from least many → least + many ≤ MAX_PROCESSES
+    → ((k : ℕ) (p : SavedProcessView) → slice_get ps k ≡ Some p → IsShortStanding p.standing) → AreAllowed (processes_fields None least ps)
+processes_allowed least many [] numbers few short = All-nil IsAllowed
+processes_allowed least zero (p ∷ ps) numbers few short = absurd (cc)
+processes_allowed least (suc many) (p ∷ ps) numbers few short =
+    let here : p.number ≡ least = cc in
+    let later : map (λ (q : SavedProcessView). q.number) ps ≡ numbers_from (suc least) many = cc in
+    let from : map (λ (q : SavedProcessView). q.number) ps ≡ numbers_from (suc p.number) many = later ∙ ap (λ (n : ℕ). numbers_from (suc n) many) (sym here) in
+    All-append IsAllowed (process_fields None least p) (processes_fields None (suc p.number) ps)
+    (process_allowed least p (omega (arith, here)) (omega (arith, here, few)) (short 0 p refl))
+    (processes_allowed (suc p.number) many ps from (omega (arith, here, few)) (λ k q is. short (suc k) q is))
+
+-- ---- ends
+
+-- what may be written of an end
+abbrev pub IsShortEnd : End → Type 0
+IsShortEnd (Receives received) = received ≤ MAX_COUNT
+IsShortEnd (Sends log) = IsWithinLimits log
+IsShortEnd (Both received log) = IsWithinLimits log × IsInLog log received
+
+retained_allowed : (base from n : ℕ) → n ≤ MAX_LOG_ITEMS → base + n ≤ MAX_COUNT → from ≤ base + n → IsAllowed (retained_count base from n)
+retained_allowed base from n few last above = (
+  omega (arith, few),
+  and_from (nat_le n MAX_LOG_ITEMS) (nat_le (base + n) MAX_COUNT && nat_le from (base + n)) (le-leb n MAX_LOG_ITEMS few)
+      (and_from (nat_le (base + n) MAX_COUNT) (nat_le from (base + n)) (le-leb (base + n) MAX_COUNT last) (le-leb from (base + n) above)),
+)
+
+log_allowed : (limit from : ℕ) (log : LogState) → limit ≤ MAX_COUNT → log.base ≤ limit → from ≤ log_end log → IsWithinLimits log
+    → AreAllowed (at_most 8 limit log.base ∷ retained_count log.base from (length log.items) ∷ map item log.items)
+log_allowed limit from log small below above within =
+    let last : log.base + length log.items ≤ MAX_COUNT = within.last in
+    let many : Field = retained_count log.base from (length log.items) in
+    All-cons IsAllowed (at_most 8 limit log.base) (many ∷ map item log.items) (omega (arith, small, below), le-leb log.base limit below)
+    (All-cons IsAllowed many (map item log.items) (retained_allowed log.base from (length log.items) within.count last above) (items_allowed log.items))
+
+end_allowed : (end : End) → IsShortEnd end → AreAllowed (end_fields end)
+end_allowed (Receives received) short = one_field (count received) (count_allowed received short)
+end_allowed (Sends log) short =
+    let last : log.base + length log.items ≤ MAX_COUNT = short.last in
+    log_allowed MAX_COUNT 0 log (omega arith) (omega (arith, last)) (omega arith) short
+end_allowed (Both received log) short =
+    let last : log.base + length log.items ≤ MAX_COUNT = short.0.last in
+    let below : log.base ≤ received = short.1.from_base in
+    let above : received ≤ log.base + length log.items = short.1.to_end in
+    let few : received ≤ MAX_COUNT = omega (arith, last, above) in
+    All-cons IsAllowed (count received) (at_most 8 received log.base ∷ retained_count log.base received (length log.items) ∷ map item log.items) (count_allowed received few)
+    (log_allowed received received log few below above short.0)
+
+role_short : (end : End) → role_of end ≤ 2
+role_short (Receives received) = omega arith
+role_short (Sends log) = omega arith
+role_short (Both received log) = omega arith
+
+saved_end_allowed : (least : ℕ) (e : SavedEnd) → least ≤ e.channel → e.channel < MAX_CHANNELS → IsShortEnd e.end → AreAllowed (saved_end_fields None least e)
+saved_end_allowed least e above below short =
+    let role : Field = at_most 1 2 (role_of e.end) in
+    All-cons IsAllowed (between 2 least MAX_CHANNELS e.channel) (role ∷ end_fields e.end) (number_allowed 2 least MAX_CHANNELS e.channel (omega arith) above below)
+    (All-cons IsAllowed role (end_fields e.end) (limited_allowed 1 2 (role_of e.end) (omega arith) (role_short e.end)) (end_allowed e.end short))
+
+ends_allowed : (least many : ℕ) (es : List SavedEnd) → map (λ (e : SavedEnd). e.channel) es ≡ numbers_from least many → least + many ≤ MAX_CHANNELS
+    → ((k : ℕ) (e : SavedEnd) → slice_get es k ≡ Some e → IsShortEnd e.end) → AreAllowed (ends_fields None least es)
+ends_allowed least many [] numbers few short = All-nil IsAllowed
+ends_allowed least zero (e ∷ es) numbers few short = absurd (cc)
+ends_allowed least (suc many) (e ∷ es) numbers few short =
+    let here : e.channel ≡ least = cc in
+    let later : map (λ (f : SavedEnd). f.channel) es ≡ numbers_from (suc least) many = cc in
+    let from : map (λ (f : SavedEnd). f.channel) es ≡ numbers_from (suc e.channel) many = later ∙ ap (λ (n : ℕ). numbers_from (suc n) many) (sym here) in
+    All-append IsAllowed (saved_end_fields None least e) (ends_fields None (suc e.channel) es)
+    (saved_end_allowed least e (omega (arith, here)) (omega (arith, here, few)) (short 0 e refl))
+    (ends_allowed (suc e.channel) many es from (omega (arith, here, few)) (λ k f is. short (suc k) f is))
+
+-- ---- images
+
+-- the code of a process of an image
+pub code_of_entry : (net : Network) (image : ImageView) (k : ℕ) (saved : SavedProcessView) → IsLaidOut net image → slice_get image.processes k ≡ Some saved
+    → (code : Code) × (slice_get net.codes saved.number ≡ Some code)
+code_of_entry net image k saved laid is = at (slice_get_cases net.codes saved.number).1
+  where
+    number : saved.number ≡ 0 + k
+    number = numbered_mark (λ (s : SavedProcessView). s.number) image.processes 0 (length net.codes) k saved laid.processes is
+
+    many : length image.processes ≡ length net.codes
+    many = numbered_count (λ (s : SavedProcessView). s.number) image.processes 0 (length net.codes) laid.processes
+
+    within : k < length image.processes
+    within = slice_get_within image.processes k saved is
+
+    at : ((x : Code) × (saved.number < length net.codes) × (slice_get net.codes saved.number ≡ Some x) × (get_or net.codes saved.number x ≡ x)) ⊎ ((length net.codes ≤ saved.number) × (slice_get net.codes saved.number ≡ None))
+        → (code : Code) × (slice_get net.codes saved.number ≡ Some code)
+    at (inl here) = (here.0, here.2)
+    at (inr past) = absurd (omega (arith, number, many, within, past.0))
+
+site_written : (net : Network) (p : ℕ) (code : Code) (standing : Standing) → IsValid net → slice_get net.codes p ≡ Some code → StandsBelow (code_sites code) standing → HasShortSite standing
+site_written net p code (NotBegun vars) valid here below = tt
+site_written net p code (At point vars) valid here below = (site_short net p code point valid here below, below.left)
+site_written net p code (Done vars) valid here below = tt
+
+-- each process of an image that stands there may be written
+pub standing_short : (net : Network) (histories : List (List ℤ)) (made : ℕ → ℕ) (image : ImageView) → IsValid net → IsLaidOut net image → ImageStands net histories made image
+    → (k : ℕ) (saved : SavedProcessView) → slice_get image.processes k ≡ Some saved → IsShortStanding saved.standing
+standing_short net histories made image valid laid stands k saved is =
+    let code = code_of_entry net image k saved laid is in
+    let here = stands.processes k saved code.0 is code.1 in
+    let same = variables_stay code.0 histories (made saved.number) saved.standing here in
+    let few = (valid.codes saved.number code.0 code.1).variables in
+    record {
+      site = site_written net saved.number code.0 saved.standing valid code.1 (site_of_standing code.0 histories (made saved.number) saved.standing here);
+      variables = omega (arith, same, few);
+    }
+
+-- an end that receives what it sends has received up to a position of its log
+abbrev pub ReceivedAreInLogs : ImageView → Type 0
+ReceivedAreInLogs image = (k received : ℕ) (saved : SavedEnd) (log : LogState) → slice_get image.ends k ≡ Some saved → saved.end ≡ Both received log → IsInLog log received
+
+-- no count of items received is above the greatest
+abbrev pub CountsAreSmall : ImageView → Type 0
+CountsAreSmall image = (k : ℕ) (saved : SavedEnd) → slice_get image.ends k ≡ Some saved → received_at (Some (saved.end)) ≤ MAX_COUNT
+
+-- so it is where no more was received than there is
+pub counts_small : (inputs : List (List ℤ)) (image : ImageView) → AreShort inputs → CountsAreWithin inputs image → CountsAreSmall image
+counts_small inputs image short counts k saved is = at (slice_get_cases inputs saved.channel).1
+  where
+    within : received_at (Some (saved.end)) ≤ length (history_of inputs saved.channel)
+    within = counts k saved is
+
+    at : ((x : List ℤ) × (saved.channel < length inputs) × (slice_get inputs saved.channel ≡ Some x) × (get_or inputs saved.channel x ≡ x)) ⊎ ((length inputs ≤ saved.channel) × (slice_get inputs saved.channel ≡ None))
+        → received_at (Some (saved.end)) ≤ MAX_COUNT
+    at (inl here) =
+        let few = short saved.channel here.0 here.2 in
+        let same = ap (length {A = ℤ}) (get_or_from_slice_get inputs saved.channel here.0 [] here.2) in
+        omega (arith, within, few, same)
+    at (inr past) = let none = ap (length {A = ℤ}) (get_or_past inputs saved.channel [] past.0) in omega (arith, within, none)
+
+-- each end may be written
+end_short : (image : ImageView) → CountsAreSmall image → LogsAreWithin image → ReceivedAreInLogs image → (k : ℕ) (saved : SavedEnd) → slice_get image.ends k ≡ Some saved → IsShortEnd saved.end
+end_short image counts logs inner k saved is = at saved.end refl
+  where
+    limits : (log : LogState) → log_at (Some (saved.end)) ≡ Some log → IsWithinLimits log
+    limits log has =
+        let within = logs k saved log is has in
+        let share = share_within image in
+        let many = within.count in
+        record { count = omega (arith, share, many); last = within.last }
+
+    at : (end : End) → saved.end ≡ end → IsShortEnd end
+    at (Receives received) e = subst (λ (x : End). received_at (Some x) ≤ MAX_COUNT) e (counts k saved is)
+    at (Sends log) e = limits log (ap (λ (x : End). log_at (Some x)) e)
+    at (Both received log) e = (limits log (ap (λ (x : End). log_at (Some x)) e), inner k received saved log is e)
+
+-- What a node has of a valid network may be written alone.
+pub image_allowed : (net : Network) (histories : List (List ℤ)) (made : ℕ → ℕ) (image : ImageView) → IsValid net → IsLaidOut net image → ImageStands net histories made image
+    → CountsAreSmall image → LogsAreWithin image → ReceivedAreInLogs image → AreAllowed (image_fields None image)
+image_allowed net histories made image valid laid stands counts logs inner =
+    let processes = numbered_count (λ (s : SavedProcessView). s.number) image.processes 0 (length net.codes) laid.processes in
+    let ends = numbered_count (λ (s : SavedEnd). s.channel) image.ends 0 (length net.channels) laid.ends in
+    let codes = valid.process_count in
+    let channels = valid.channel_count in
+    let one : Field = at_most 1 MAX_PROCESSES (length image.processes) in
+    let other : Field = at_most 2 MAX_CHANNELS (length image.ends) in
+    All-append IsAllowed (one ∷ processes_fields None 0 image.processes) (other ∷ ends_fields None 0 image.ends)
+    (All-cons IsAllowed one (processes_fields None 0 image.processes) (limited_allowed 1 MAX_PROCESSES (length image.processes) (omega arith) (omega (arith, processes, codes)))
+    (processes_allowed 0 (length net.codes) image.processes laid.processes (omega (arith, codes)) (standing_short net histories made image valid laid stands)))
+    (All-cons IsAllowed other (ends_fields None 0 image.ends) (limited_allowed 2 MAX_CHANNELS (length image.ends) (omega arith) (omega (arith, ends, channels)))
+    (ends_allowed 0 (length net.channels) image.ends laid.ends (omega (arith, channels)) (end_short image counts logs inner)))
+
+-- ---- shapes
+
+-- two lists that agree at each place
+same_maps : {A B : Type 0} (f : A → ℕ) (g : B → ℕ) (xs : List A) (ys : List B) → length xs ≡ length ys → ((k : ℕ) (x : A) (y : B) → slice_get xs k ≡ Some x → slice_get ys k ≡ Some y → f x ≡ g y) → map f xs ≡ map g ys
+same_maps f g [] [] many same = refl
+same_maps f g [] (y ∷ ys) many same = absurd (cc)
+same_maps f g (x ∷ xs) [] many same = absurd (cc)
+same_maps f g (x ∷ xs) (y ∷ ys) many same =
+    let rest : length xs ≡ length ys = cc in
+    ap (λ (n : ℕ). n ∷ map f xs) (same 0 x y refl refl) ∙ ap (λ (ns : List ℕ). g y ∷ ns) (same_maps f g xs ys rest (λ k. same (suc k)))
+
+-- each process of an image that stands there has as many variables as its code
+pub variables_as_codes : (net : Network) (histories : List (List ℤ)) (made : ℕ → ℕ) (image : ImageView) → IsLaidOut net image → ImageStands net histories made image
+    → map (λ (p : SavedProcessView). length (variables_of p.standing)) image.processes ≡ map (λ (code : Code). length code.vars) net.codes
+variables_as_codes net histories made image laid stands =
+    same_maps (λ (p : SavedProcessView). length (variables_of p.standing)) (λ (code : Code). length code.vars) image.processes net.codes
+    (numbered_count (λ (s : SavedProcessView). s.number) image.processes 0 (length net.codes) laid.processes) at
+  where
+    at : (k : ℕ) (saved : SavedProcessView) (code : Code) → slice_get image.processes k ≡ Some saved → slice_get net.codes k ≡ Some code → length (variables_of saved.standing) ≡ length code.vars
+    at k saved code is there =
+        let sum : 0 + k ≡ k = omega arith in
+        let number : saved.number ≡ k = numbered_mark (λ (s : SavedProcessView). s.number) image.processes 0 (length net.codes) k saved laid.processes is ∙ sum in
+        variables_stay code histories (made saved.number) saved.standing (stands.processes k saved code is (ap (slice_get net.codes) number ∙ there))
+
+-- and each end has the role of its channel
+pub roles_as_channels : (net : Network) (image : ImageView) → IsLaidOut net image
+    → map (λ (e : SavedEnd). role_of e.end) image.ends ≡ map (λ (channel : Channel). role_between channel.producer channel.consumer) net.channels
+roles_as_channels net image laid =
+    same_maps (λ (e : SavedEnd). role_of e.end) (λ (channel : Channel). role_between channel.producer channel.consumer) image.ends net.channels
+    (numbered_count (λ (s : SavedEnd). s.channel) image.ends 0 (length net.channels) laid.ends) at
+  where
+    at : (k : ℕ) (saved : SavedEnd) (channel : Channel) → slice_get image.ends k ≡ Some saved → slice_get net.channels k ≡ Some channel → role_of saved.end ≡ role_between channel.producer channel.consumer
+    at k saved channel is there =
+        let sum : 0 + k ≡ k = omega arith in
+        let number : saved.channel ≡ k = numbered_mark (λ (s : SavedEnd). s.channel) image.ends 0 (length net.channels) k saved laid.ends is ∙ sum in
+        laid.roles k saved channel is (ap (slice_get net.channels) number ∙ there)
+
+-- two images of a network have the same shape, wherever their processes stand
+pub same_shape : (net : Network) (histories later : List (List ℤ)) (made come : ℕ → ℕ) (permanent image : ImageView)
+    → IsLaidOut net permanent → ImageStands net histories made permanent → IsLaidOut net image → ImageStands net later come image → HasShapeOf permanent image
+same_shape net histories later made come permanent image first stands second goes = record {
+  numbers = second.processes ∙ sym first.processes;
+  variables = variables_as_codes net later come image second goes ∙ sym (variables_as_codes net histories made permanent first stands);
+  channels = second.ends ∙ sym first.ends;
+  roles = roles_as_channels net image second ∙ sym (roles_as_channels net permanent first);
+}
+
+-- So one that may be written alone may be written beside another.
+pub image_like : (net : Network) (histories later : List (List ℤ)) (made come : ℕ → ℕ) (permanent image : ImageView)
+    → IsValid net → IsLaidOut net permanent → ImageStands net histories made permanent → IsLaidOut net image → ImageStands net later come image
+    → CountsAreSmall image → LogsAreWithin image → ReceivedAreInLogs image → IsLike permanent image
+image_like net histories later made come permanent image valid first stands second goes counts logs inner =
+    like_of permanent image (image_allowed net later come image valid second goes counts logs inner) (same_shape net histories later made come permanent image first stands second goes)
+
+-- ---- channels with an end outside
+
+-- no channel has both of its ends at processes, so that each has one outside
+abbrev pub HasOuterChannels : Network → Type 0
+HasOuterChannels net = (c : ℕ) (channel : Channel) → slice_get net.channels c ≡ Some channel → ¬ (role_between channel.producer channel.consumer ≡ 2)
+
+-- then no end receives what it sends
+pub outer_in_logs : (net : Network) (image : ImageView) → HasOuterChannels net → IsLaidOut net image → ReceivedAreInLogs image
+outer_in_logs net image outer laid k received saved log is e = at (slice_get_cases net.channels saved.channel).1
+  where
+    number : saved.channel ≡ 0 + k
+    number = numbered_mark (λ (s : SavedEnd). s.channel) image.ends 0 (length net.channels) k saved laid.ends is
+
+    many : length image.ends ≡ length net.channels
+    many = numbered_count (λ (s : SavedEnd). s.channel) image.ends 0 (length net.channels) laid.ends
+
+    within : k < length image.ends
+    within = slice_get_within image.ends k saved is
+
+    at : ((x : Channel) × (saved.channel < length net.channels) × (slice_get net.channels saved.channel ≡ Some x) × (get_or net.channels saved.channel x ≡ x)) ⊎ ((length net.channels ≤ saved.channel) × (slice_get net.channels saved.channel ≡ None))
+        → IsInLog log received
+    at (inl here) = absurd (outer saved.channel here.0 here.2 (sym (laid.roles k saved here.0 is here.2) ∙ ap role_of e))
+    at (inr past) = absurd (omega (arith, number, many, within, past.0))
+
+-- ---- before the first event
+
+end_opening : (producer consumer : Port) (received : ℕ) (log : LogState) → opening_end producer consumer ≡ Both received log → IsInLog log received
+end_opening Outside consumer received log e = absurd (cc)
+end_opening (Process p) Outside received log e = absurd (cc)
+end_opening (Process p) (Process q) received log e =
+    let none : received ≡ 0 = ap (λ (end : End). received_at (Some end)) (sym e) in
+    let same : Some log ≡ Some (record { base = 0; items = [] }) = ap (λ (end : End). log_at (Some end)) (sym e) in
+    let empty : ◌≡◌ {A = LogState} log (record { base = 0; items = [] }) = cc in
+    let base : log.base ≡ 0 = ap (λ (l : LogState). l.base) empty in
+    record { from_base = omega (arith, none, base); to_end = omega (arith, none) }
+
+opening_in_logs : (number : ℕ) (channels : List Channel) (k received : ℕ) (saved : SavedEnd) (log : LogState) → slice_get (opening_ends number channels) k ≡ Some saved → saved.end ≡ Both received log → IsInLog log received
+opening_in_logs number [] k received saved log is e = absurd (cc)
+opening_in_logs number (channel ∷ channels) zero received saved log is e =
+    let same : ◌≡◌ {A = SavedEnd} saved (record { channel = number; end = opening_end channel.producer channel.consumer }) = cc in
+    end_opening channel.producer channel.consumer received log (ap (λ (s : SavedEnd). s.end) (sym same) ∙ e)
+opening_in_logs number (channel ∷ channels) (suc k) received saved log is e = opening_in_logs (suc number) channels k received saved log is e
+
+-- the image of a node before its first event may be written
+pub opening_image_allowed : (net : Network) → IsValid net → AreAllowed (image_fields None (opening_image net))
+opening_image_allowed net valid =
+    let reached = reached_opening net [] 0 0 in
+    image_allowed net (approximation net [] reached.n) reached.permanent_acts (opening_image net) valid (laid_out_opening net) reached.permanent
+    (counts_small [] (opening_image net) (λ c items is. absurd (cc)) (counts_opening net [])) (logs_opening net) (opening_in_logs 0 net.channels)
+
+entries_opening : (nodes : ℕ) → AreAllowed (map count (replicate nodes 0))
+entries_opening zero = All-nil IsAllowed
+entries_opening (suc nodes) = All-cons IsAllowed (count 0) (map count (replicate nodes 0)) (count_allowed 0 (omega arith)) (entries_opening nodes)
+
+-- and so is its record
+pub opening_allowed : (net : Network) (nodes number : ℕ) → IsValid net → number < nodes → nodes ≤ MAX_NODES → IsRecord (opening_record net nodes number)
+opening_allowed net nodes number valid below few =
+    let highest : List ℕ = replicate nodes 0 in
+    let many : length highest ≡ nodes = length-replicate nodes 0 in
+    let last : Field = record { width = 1; allows = λ v. nat_lt number v && nat_le v MAX_NODES; value = length highest } in
+    let above : number < length highest = omega (arith, many, below) in
+    let small : length highest ≤ MAX_NODES = omega (arith, many, few) in
+    let none : IsAllowed (flag 0) = limited_allowed 1 1 0 (omega arith) (omega arith) in
+    whole (opening_record net nodes number) (record {
+      head =
+          All-cons IsAllowed (exactly 1 1 1) (any 1 number ∷ count 0 ∷ last ∷ []) (omega arith, refl)
+          (All-cons IsAllowed (any 1 number) (count 0 ∷ last ∷ []) (omega (arith, below, few), refl)
+          (All-cons IsAllowed (count 0) (last ∷ []) (count_allowed 0 (omega arith))
+          (one_field last (omega (arith, small), and_from (nat_lt number (length highest)) (nat_le (length highest) MAX_NODES) (lt-ltb number (length highest) above) (le-leb (length highest) MAX_NODES small)))));
+      entries = entries_opening nodes;
+      decision = one_field (flag 0) none;
+      permanent = opening_image_allowed net valid;
+      tentative = one_field (flag 0) none;
+    })

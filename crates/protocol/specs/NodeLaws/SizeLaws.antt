@@ -1,0 +1,102 @@
+-- Laws of sizes: an image of a valid network whose logs keep to their share is within bounds, so that a record of two such images fits.
+use Rattle.std.proofs.Common.{◌≡◌, ℕ, ◌+◌, ◌<◌, ◌≤◌, ℤ, List, [], length, get_or, Some, None, ◌⊎◌, inl, inr, arith}
+use Rattle.std.specs.Prelude.{slice_get}
+use Rattle.std.proofs.Math.Logic.{∥∥₁_elim}
+use Rattle.std.proofs.Math.Bridge.{le_prop}
+use Rattle.std.proofs.lemmas.List.{length-replicate}
+use Rattle.std.proofs.lemmas.Option.{slice_get_cases, slice_get_within}
+use Rattle.kahn_net.specs.Syntax.{Code, Network}
+use Rattle.kahn_net.specs.Valid.{IsValid}
+use Rattle.kahn_net.specs.Approximations.{approximation}
+use Rattle.kahn_net.specs.declared.limits.TheConstants.{MAX_NODES, MAX_VARIABLES}
+use Rattle.record.specs.ProcessView.{SavedProcessView}
+use Rattle.record.specs.ImageView.{ImageView}
+use Rattle.record.specs.RecordView.{RecordView}
+use Rattle.record.specs.declared.image.SavedEnd.{SavedEnd}
+use Rattle.ckpt_codec.specs.RecordText.{variables_of}
+use Rattle.record.specs.Moves.{highest_seen}
+use Rattle.ckpt_codec.specs.SizeLaws.{IsImageWithin, IsRecordWithin, within_tentative, within_decision}
+use Rattle.ckpt_codec.specs.declared.lengths.TheConstants.{MAX_RETAINED_ITEMS}
+use Rattle.protocol.specs.Node.NodeView.{RunningNode}
+use Rattle.protocol.specs.Node.Reached.{HasReached, ImageStands, IsLaidOut, LogsAreWithin}
+use Rattle.protocol.specs.Node.Starting.{with_own, held_number, decided}
+use Rattle.protocol.specs.Node.Opening.{opening_image, opening_record}
+use Rattle.protocol.specs.NodeLaws.OpeningLaws.{reached_opening, laid_out_opening, logs_opening}
+use Rattle.protocol.specs.NodeLaws.ImageLaws.{numbered_mark, numbered_count}
+use Rattle.protocol.specs.NodeLaws.SharingLaws.{items_fit}
+use Rattle.protocol.specs.NodeLaws.VariableLaws.{variables_stay}
+
+-- each process of an image that stands there has no more variables than a network allows
+variables_few : (net : Network) (histories : List (List ℤ)) (made : ℕ → ℕ) (image : ImageView) → IsValid net → IsLaidOut net image → ImageStands net histories made image
+    → (k : ℕ) (saved : SavedProcessView) → slice_get image.processes k ≡ Some saved → length (variables_of saved.standing) ≤ MAX_VARIABLES
+variables_few net histories made image valid laid stands k saved is = at (slice_get_cases net.codes saved.number).1
+  where
+    number : saved.number ≡ 0 + k
+    number = numbered_mark (λ (s : SavedProcessView). s.number) image.processes 0 (length net.codes) k saved laid.processes is
+
+    count : length image.processes ≡ length net.codes
+    count = numbered_count (λ (s : SavedProcessView). s.number) image.processes 0 (length net.codes) laid.processes
+
+    within : k < length image.processes
+    within = slice_get_within image.processes k saved is
+
+    at : ((x : Code) × (saved.number < length net.codes) × (slice_get net.codes saved.number ≡ Some x) × (get_or net.codes saved.number x ≡ x)) ⊎ ((length net.codes ≤ saved.number) × (slice_get net.codes saved.number ≡ None))
+        → length (variables_of saved.standing) ≤ MAX_VARIABLES
+    at (inl here) =
+        let same = variables_stay here.0 histories (made saved.number) saved.standing (stands.processes k saved here.0 is here.2) in
+        let few = (valid.codes saved.number here.0 here.2).variables in
+        omega (arith, same, few)
+    at (inr past) = absurd (omega (arith, number, count, within, past.0))
+
+-- an image of a valid network, whose logs keep to their share, is within the bounds of which a record holds two
+pub image_within : (net : Network) (histories : List (List ℤ)) (made : ℕ → ℕ) (image : ImageView) → IsValid net → IsLaidOut net image → ImageStands net histories made image → LogsAreWithin image
+    → IsImageWithin MAX_RETAINED_ITEMS image
+image_within net histories made image valid laid stands logs =
+    let processes = numbered_count (λ (s : SavedProcessView). s.number) image.processes 0 (length net.codes) laid.processes in
+    let ends = numbered_count (λ (s : SavedEnd). s.channel) image.ends 0 (length net.channels) laid.ends in
+    let codes = valid.process_count in
+    let channels = valid.channel_count in
+    record {
+      processes = omega (arith, processes, codes);
+      variables = variables_few net histories made image valid laid stands;
+      ends = omega (arith, ends, channels);
+      items = items_fit image (λ k saved log is has. (logs k saved log is has).count);
+    }
+
+-- and so is a node's current image, however far it has come
+pub current_within : (net : Network) (inputs : List (List ℤ)) (node : RunningNode) → IsValid net → IsLaidOut net node.current → LogsAreWithin node.current → ∥ HasReached net inputs node ∥₁
+    → IsImageWithin MAX_RETAINED_ITEMS node.current
+current_within net inputs node valid laid logs reached = record {
+  processes =
+      (let count = numbered_count (λ (s : SavedProcessView). s.number) node.current.processes 0 (length net.codes) laid.processes in
+      let few = valid.process_count in
+      omega (arith, count, few));
+  variables = λ k saved is.
+      ∥∥₁_elim reached le_prop (λ come. variables_few net (approximation net inputs come.n) come.current_acts node.current valid laid come.current k saved is);
+  ends =
+      (let count = numbered_count (λ (s : SavedEnd). s.channel) node.current.ends 0 (length net.channels) laid.ends in
+      let few = valid.channel_count in
+      omega (arith, count, few));
+  items = items_fit node.current (λ k saved log is has. (logs k saved log is has).count);
+}
+
+-- The node's records
+
+-- the record of a node before its first event
+pub opening_within : (net : Network) (nodes number : ℕ) → IsValid net → nodes ≤ MAX_NODES → IsRecordWithin MAX_RETAINED_ITEMS (opening_record net nodes number)
+opening_within net nodes number valid few =
+    let reached = reached_opening net [] nodes number in
+    record {
+      nodes = (let same : length (opening_record net nodes number).highest ≡ nodes = length-replicate nodes 0 in omega (arith, same, few));
+      decision = λ d is. absurd (cc);
+      permanent = image_within net (approximation net [] reached.n) reached.permanent_acts (opening_image net) valid (laid_out_opening net) reached.permanent (logs_opening net);
+      tentative = λ t is. absurd (cc);
+    }
+
+-- the record of a start
+pub own_within : (node : ℕ) (image : ImageView) (kept : RecordView) → IsImageWithin MAX_RETAINED_ITEMS image → IsRecordWithin MAX_RETAINED_ITEMS kept → IsRecordWithin MAX_RETAINED_ITEMS (with_own node image kept)
+own_within node image kept here within = within_tentative MAX_RETAINED_ITEMS kept within node (highest_seen node kept + 1) image here
+
+-- the record of a decision
+pub decided_within : (kept : RecordView) → IsRecordWithin MAX_RETAINED_ITEMS kept → IsRecordWithin MAX_RETAINED_ITEMS (decided kept)
+decided_within kept within = within_decision MAX_RETAINED_ITEMS kept within (held_number kept.tentative) [] (omega arith)

@@ -1,0 +1,90 @@
+-- Laws of how far a node has come: what it keeps changes, and what it has now doesn't.
+use Rattle.std.proofs.Common.{◌≡◌, ℕ, ℤ, List, Option, Some, None, refl, subst, arith}
+use Rattle.kahn_net.specs.Syntax.{Network}
+use Rattle.kahn_net.specs.Approximations.{approximation}
+use Rattle.record.specs.ImageView.{ImageView}
+use Rattle.protocol.specs.Node.JobView.{JobView}
+use Rattle.protocol.specs.Node.NodeView.{RunningNode}
+use Rattle.protocol.specs.Node.Choosing.{after_grant}
+use Rattle.record.specs.Moves.{last_image}
+use Rattle.protocol.specs.Node.Starting.{with_own, decided, keeping}
+use Rattle.protocol.specs.Node.Reached.{ImageStands, IsAsFar, HasReached, HasComeOn}
+use Rattle.record.specs.declared.record.Tentative.{Tentative}
+
+-- a node that takes a tentative image of what it has now
+pub reached_start : (net : Network) (inputs : List (List ℤ)) (number : ℕ) (node : RunningNode) → HasReached net inputs node → HasReached net inputs (keeping (with_own number node.current node.kept) node)
+reached_start net inputs number node reached = record {
+  n = reached.n;
+  permanent_acts = reached.permanent_acts;
+  held_acts = reached.current_acts;
+  current_acts = reached.current_acts;
+  permanent = reached.permanent;
+  held = held;
+  current = reached.current;
+  held_after = λ p. (let a = reached.held_after p in let b = reached.current_after p in omega (arith, a, b));
+  current_after = λ p. omega arith;
+}
+  where
+    held : (tentative : Tentative) → (with_own number node.current node.kept).tentative ≡ Some tentative → ImageStands net (approximation net inputs reached.n) reached.current_acts tentative.image
+    held tentative is =
+        let image : node.current ≡ tentative.image = cc in
+        subst (λ (x : ImageView). ImageStands net (approximation net inputs reached.n) reached.current_acts x) image reached.current
+
+-- a node whose tentative image becomes permanent, where one is held
+pub reached_decide : (net : Network) (inputs : List (List ℤ)) (node : RunningNode) → HasReached net inputs node → HasReached net inputs (keeping (decided node.kept) node)
+reached_decide net inputs node reached = record {
+  n = reached.n;
+  permanent_acts = permanent_then node.kept.tentative;
+  held_acts = reached.held_acts;
+  current_acts = reached.current_acts;
+  permanent = permanent node.kept.tentative refl;
+  held = λ tentative is. absurd (cc);
+  held_after = held_after node.kept.tentative;
+  current = reached.current;
+  current_after = reached.current_after;
+}
+  where
+    permanent_then : Option Tentative → ℕ → ℕ
+    permanent_then None = reached.permanent_acts
+    permanent_then (Some tentative) = reached.held_acts
+
+    held_after : (o : Option Tentative) → IsAsFar (permanent_then o) reached.held_acts
+    held_after None = reached.held_after
+    held_after (Some tentative) = λ p. omega arith
+
+    permanent : (o : Option Tentative) → node.kept.tentative ≡ o → ImageStands net (approximation net inputs reached.n) (permanent_then o) (last_image node.kept.permanent o)
+    permanent None is = reached.permanent
+    permanent (Some tentative) is = reached.held tentative is
+
+-- a node that granted a job, or none
+pub reached_grant : (net : Network) (inputs : List (List ℤ)) (job : Option JobView) (node : RunningNode) → HasReached net inputs node → HasReached net inputs (after_grant job node)
+reached_grant net inputs None node reached = reached
+reached_grant net inputs (Some job) node reached = record {
+  n = reached.n;
+  permanent_acts = reached.permanent_acts;
+  held_acts = reached.held_acts;
+  current_acts = reached.current_acts;
+  permanent = reached.permanent;
+  held = reached.held;
+  current = reached.current;
+  held_after = reached.held_after;
+  current_after = reached.current_after;
+}
+
+-- Each leaves the approximation and the acts as they were
+
+pub on_start : (net : Network) (inputs : List (List ℤ)) (number : ℕ) (node : RunningNode) (reached : HasReached net inputs node)
+    → HasComeOn net inputs node (keeping (with_own number node.current node.kept) node) reached (reached_start net inputs number node reached)
+unfolding reached_start
+on_start net inputs number node reached = record { same = refl; further = λ p. omega arith }
+
+pub on_decide : (net : Network) (inputs : List (List ℤ)) (node : RunningNode) (reached : HasReached net inputs node)
+    → HasComeOn net inputs node (keeping (decided node.kept) node) reached (reached_decide net inputs node reached)
+unfolding reached_decide
+on_decide net inputs node reached = record { same = refl; further = λ p. omega arith }
+
+pub on_grant : (net : Network) (inputs : List (List ℤ)) (job : Option JobView) (node : RunningNode) (reached : HasReached net inputs node)
+    → HasComeOn net inputs node (after_grant job node) reached (reached_grant net inputs job node reached)
+unfolding reached_grant
+on_grant net inputs None node reached = record { same = refl; further = λ p. omega arith }
+on_grant net inputs (Some job) node reached = record { same = refl; further = λ p. omega arith }

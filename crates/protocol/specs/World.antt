@@ -1,0 +1,23 @@
+-- A world as data, its events, steps and answers, and what is true of it.
+pub mod OutputView
+pub mod DoneView
+pub mod EventView
+pub mod ReplyView
+pub mod Sound
+pub mod RecordSound
+pub mod Covered
+pub mod Replies
+pub mod Growing
+pub mod Invariant
+pub mod Roomy
+pub mod Headline
+pub mod Pairs
+pub mod StationView
+pub mod Turns
+pub mod Steps
+pub mod Choice
+pub mod Quiet
+pub mod RecoveryLine
+pub mod Released
+pub mod OpeningWorld
+pub mod Runnable

@@ -1,0 +1,61 @@
+-- Which event is next for a node: the first one of a list that is due.
+use Rattle.std.specs.Prelude.{◌==◌, ℕ, ◌%◌, nat_le, nat_lt, Bool, false, ◌&&◌, ◌||◌, not, if◌then◌else◌, List, [], ◌∷◌, length, Option, Some, None, is_some, slice_get, ℤ}
+use Rattle.kahn_net.specs.Syntax.{Network}
+use Rattle.record.specs.ImageView.{ImageView}
+use Rattle.record.specs.Ends.{received_of, sent_of}
+use Rattle.protocol.specs.Node.Choosing.{node_job}
+use Rattle.protocol.specs.Node.NodeView.{RunningNode, running_of}
+use Rattle.protocol.specs.Node.Starting.{is_none, is_down, may_start, may_decide}
+use Rattle.record.specs.declared.image.SavedEnd.{SavedEnd}
+use Rattle.protocol.specs.World.Turns.{turns_of}
+use Rattle.protocol.specs.World.StationView.{StationView}
+use Rattle.protocol.specs.World.Steps.{WorldView, next_release}
+use Rattle.protocol.specs.World.EventView.{EventView, Grant, Send, Start, Decide, Release, Recover, Idle}
+use Rattle.protocol.specs.declared.limits.TheConstants.{MAX_GRANTS}
+
+-- a count of one of these channels is above what it is in an earlier image
+abbrev pub counts_rose : ImageView → ImageView → List SavedEnd → Bool
+counts_rose now before [] = false
+counts_rose now before (saved ∷ ends) =
+    (nat_lt (received_of before saved.channel) (received_of now saved.channel) || nat_lt (sent_of before saved.channel) (sent_of now saved.channel)) || counts_rose now before ends
+
+-- a count of what a node has now is above what it is in its permanent image
+abbrev pub has_more : Option RunningNode → Bool
+has_more None = false
+has_more (Some node) = counts_rose node.current node.kept.permanent node.current.ends
+
+-- the turn to begin a checkpoint goes round: in each round it is one node's
+abbrev pub has_turn : ℕ → ℕ → ℕ → Bool
+has_turn nodes round number = nat_lt 0 nodes && (round % nodes == number)
+
+-- it is this node's turn to begin a checkpoint, it hasn't yet in this round, and has something new to keep
+abbrev pub wants_checkpoint : ℕ → ℕ → StationView → Bool
+wants_checkpoint nodes round station =
+    has_turn nodes round station.number && (not (turns_of round station.turns).started && (may_start station.node && has_more (running_of station.node)))
+
+-- it has sent in this round; what it sent while it held a tentative image doesn't count afterwards
+abbrev pub has_sent : ℕ → StationView → Bool
+has_sent round station = (turns_of round station.turns).sent && not ((turns_of round station.turns).sent_holding && is_none station.node.kept.tentative)
+
+-- it is down, and may be recovered by now
+abbrev pub may_recover : ℕ → StationView → Bool
+may_recover round station = is_down station.node.mode && nat_le station.node.restart round
+
+-- the first that is due: it is recovered, an item leaves, a job is granted (64 at most a round), a checkpoint is decided or begun, the node sends, or its turn passes
+abbrev pub station_choice : Network → List (List ℤ) → ℕ → ℕ → StationView → EventView
+station_choice net inputs nodes round station =
+    if may_recover round station then Recover station.number
+    else (if is_some (next_release round station) then Release station.number
+    else (if nat_lt (turns_of round station.turns).granted MAX_GRANTS && is_some (node_job net inputs station.node) then Grant station.number
+    else (if may_decide station.number station.node then Decide station.number
+    else (if wants_checkpoint nodes round station then Start station.number
+    else (if not (is_down station.node.mode) && not (has_sent round station) then Send station.number
+    else Idle station.number)))))
+
+abbrev pub choice_of : WorldView → ℕ → Option StationView → EventView
+choice_of world node None = Idle node
+choice_of world node (Some station) = station_choice world.net world.inputs (length world.stations) world.round station
+
+-- the event that is next for this node
+abbrev pub choice : WorldView → ℕ → EventView
+choice world node = choice_of world node (slice_get world.stations node)

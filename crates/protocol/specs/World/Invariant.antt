@@ -1,0 +1,46 @@
+-- What is true of a world, whatever events came before.
+use Rattle.std.specs.Prelude.{◌≡◌, ◌<◌, ℕ, ℤ, List, length, map, Some, slice_get}
+use Rattle.kahn_net.specs.Fits.{Fits}
+use Rattle.kahn_net.specs.Nodes.{IsOnOneNode}
+use Rattle.kahn_net.specs.Syntax.{Network}
+use Rattle.kahn_net.specs.Valid.{IsValid}
+use Rattle.protocol.specs.Node.NodeView.{RunningNode, running_of}
+use Rattle.protocol.specs.NodeLaws.LikeLaws.{HasOuterChannels}
+use Rattle.protocol.specs.Node.Starting.{AreInOrder}
+use Rattle.protocol.specs.World.OutputView.{OutputView}
+use Rattle.protocol.specs.World.RecordSound.{RecordIsSound}
+use Rattle.protocol.specs.World.Sound.{IsSound}
+use Rattle.protocol.specs.World.StationView.{OutletView, StationView}
+use Rattle.protocol.specs.World.Steps.{WorldView}
+
+-- what has left by an outlet
+abbrev pub output_of : OutletView → OutputView
+output_of outlet = record { channel = outlet.channel; taken = outlet.taken }
+
+abbrev pub outputs_of : List OutletView → List OutputView
+outputs_of outlets = map output_of outlets
+
+-- A node that runs: its images are one after another, and stand on one approximation of the histories; what has left is a beginning of what
+-- was put there, and its permanent image covers it.
+pub record RunsSoundly (net : Network) (inputs : List (List ℤ)) (node : RunningNode) (outputs : List OutputView) : Type 0 where
+  pub order : AreInOrder node.kept node.current
+  pub sound : IsSound net inputs node outputs
+
+-- A station of a network that runs on these inputs: its node can start again from its record, and is sound while it runs.
+pub record StationInvariant (net : Network) (inputs : List (List ℤ)) (station : StationView) : Type 0 where
+  pub kept : RecordIsSound net inputs station.node.kept (outputs_of station.outlets)
+  pub runs : (node : RunningNode) → running_of station.node ≡ Some node → RunsSoundly net inputs node (outputs_of station.outlets)
+
+-- the same of each of these stations
+abbrev pub AreSound : Network → List (List ℤ) → List StationView → Type 0
+AreSound net inputs stations = (i : ℕ) (station : StationView) → slice_get stations i ≡ Some station → StationInvariant net inputs station
+
+-- A world: its network is valid, the inputs fit it, each channel has an end outside, each process is on the first node, there is a station,
+-- and each one is sound.
+pub record WorldInvariant (world : WorldView) : Type 0 where
+  pub valid : IsValid world.net
+  pub fits : Fits world.net world.inputs
+  pub outer : HasOuterChannels world.net
+  pub alone : IsOnOneNode world.net
+  pub inhabited : 0 < length world.stations
+  pub stations : AreSound world.net world.inputs world.stations

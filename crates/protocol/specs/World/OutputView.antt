@@ -1,0 +1,6 @@
+-- Outputs without pointers: each one's channel, and the items that left there.
+use Rattle.std.specs.Prelude.{ℕ, ℤ, List}
+
+pub record OutputView : Type 0 where
+  pub channel : ℕ
+  pub taken : List ℤ

@@ -1,0 +1,55 @@
+-- What is true of a node's record with its outputs, in whatever mode the node is: it can start again from it.
+use Rattle.std.specs.Prelude.{◌≡◌, ℕ, ◌≤◌, ℤ, List, map, length, Some, None, slice_get}
+use Rattle.kahn_net.specs.Streams.{IsPrefix}
+use Rattle.kahn_net.specs.Syntax.{Network}
+use Rattle.kahn_net.specs.Processes.{sent_on}
+use Rattle.kahn_net.specs.Approximations.{approximation}
+use Rattle.kahn_net.specs.declared.program.Channel.{Channel}
+use Rattle.kahn_net.specs.declared.program.Port.TheVariants.{Process}
+use Rattle.record.specs.Ends.{base_of, sent_of}
+use Rattle.record.specs.ImageView.{ImageView}
+use Rattle.record.specs.RecordView.{RecordView}
+use Rattle.record.specs.declared.record.Tentative.{Tentative}
+use Rattle.ckpt_codec.specs.SizeLaws.{IsRecordWithin}
+use Rattle.ckpt_codec.specs.declared.lengths.TheConstants.{MAX_RETAINED_ITEMS}
+use Rattle.protocol.specs.Node.Reached.{ImageStands, IsAsFar, IsLaidOut, CountsAreWithin, LogsAreWithin, acts_of}
+use Rattle.protocol.specs.Node.Starting.{IsBehind}
+use Rattle.protocol.specs.World.OutputView.{OutputView}
+use Rattle.protocol.specs.World.Sound.{output_channels}
+
+-- an image has every process and channel, no more was received than there is, its logs are within their limits, and those of outputs go back to
+-- what has left
+pub record ImageIsSound (net : Network) (inputs : List (List ℤ)) (image : ImageView) (outputs : List OutputView) : Type 0 where
+  pub laid_out : IsLaidOut net image
+  pub counts : CountsAreWithin inputs image
+  pub logs : LogsAreWithin image
+  pub no_gap : (j : ℕ) (output : OutputView) → slice_get outputs j ≡ Some output → base_of image output.channel ≤ length output.taken
+
+-- an image has put all that has left
+abbrev pub CoversAll : ImageView → List OutputView → Type 0
+CoversAll image outputs = (j : ℕ) (output : OutputView) → slice_get outputs j ≡ Some output → length output.taken ≤ sent_of image output.channel
+
+-- The images of a record stand on one approximation of the histories, the tentative one behind the permanent one, and what has left is a
+-- beginning of what was put up to the permanent one.
+pub record RecordHasCome (net : Network) (inputs : List (List ℤ)) (kept : RecordView) (outputs : List OutputView) : Type 0 where
+  pub n : ℕ
+  pub permanent_acts : ℕ → ℕ
+  pub held_acts : ℕ → ℕ
+  pub permanent : ImageStands net (approximation net inputs n) permanent_acts kept.permanent
+  pub held : (tentative : Tentative) → kept.tentative ≡ Some tentative → ImageStands net (approximation net inputs n) held_acts tentative.image
+  pub held_after : IsAsFar permanent_acts held_acts
+  pub released : (j p : ℕ) (output : OutputView) (channel : Channel) → slice_get outputs j ≡ Some output → slice_get net.channels output.channel ≡ Some channel → channel.producer ≡ Process p
+      → IsPrefix output.taken (sent_on output.channel (acts_of net (approximation net inputs n) permanent_acts p))
+
+-- All of it: there is an outlet for each output of the network, the permanent image covers what has left, the tentative one isn't behind it, no
+-- decision waits to be confirmed, since a node alone asks nobody, the record is within the bounds in which it fits `MAX_RECORD_BYTES`, and what
+-- is said above.
+pub record RecordIsSound (net : Network) (inputs : List (List ℤ)) (kept : RecordView) (outputs : List OutputView) : Type 0 where
+  pub listed : map (λ (output : OutputView). output.channel) outputs ≡ output_channels 0 net.channels
+  pub permanent : ImageIsSound net inputs kept.permanent outputs
+  pub held : (tentative : Tentative) → kept.tentative ≡ Some tentative → ImageIsSound net inputs tentative.image outputs
+  pub ahead : (tentative : Tentative) → kept.tentative ≡ Some tentative → IsBehind kept.permanent tentative.image
+  pub covered : CoversAll kept.permanent outputs
+  pub undecided : kept.decision ≡ None
+  pub bounded : IsRecordWithin MAX_RETAINED_ITEMS kept
+  pub come : ∥ RecordHasCome net inputs kept outputs ∥₁

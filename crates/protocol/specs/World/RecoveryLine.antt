@@ -1,0 +1,110 @@
+-- The recovery line of a world: what all nodes restart from, if they crash together. The words of the line are those of the abstract machine
+-- (specs/Machine); here stands how a world is seen there, and what it is for a line to be in order.
+use Rattle.std.specs.Prelude.{◌≡◌, ℕ, ◌≤◌, List, map, length, Option, Some, None, option_map, slice_get}
+use Rattle.kahn_net.specs.Syntax.{Code, Network}
+use Rattle.kahn_net.specs.declared.program.Channel.{Channel}
+use Rattle.kahn_net.specs.declared.program.Port.{Port}
+use Rattle.kahn_net.specs.declared.program.Port.TheVariants.{Outside, Process}
+use Rattle.record.specs.Ends.{base_of}
+use Rattle.record.specs.Moves.{with_epoch}
+use Rattle.record.specs.RecordView.{RecordView}
+use Rattle.ckpt_store.specs.Spelling.{Spells, SpellsSome}
+use Rattle.protocol.specs.Node.Starting.{IsBehind, with_own_now, decided}
+use Rattle.protocol.specs.Machine.Images.{Net}
+use Rattle.protocol.specs.Machine.Line.{Sound, Covers, NotBehind}
+use Rattle.protocol.specs.Machine.Observers.{record_seen}
+use Rattle.protocol.specs.Machine.Records.{Record, new_record, effective}
+use Rattle.protocol.specs.World.EventView.{EventView}
+use Rattle.protocol.specs.World.EventView as event
+use Rattle.protocol.specs.World.Invariant.{outputs_of}
+use Rattle.protocol.specs.World.OutputView.{OutputView}
+use Rattle.protocol.specs.World.RecordSound.{CoversAll}
+use Rattle.protocol.specs.World.Released.{released_of}
+use Rattle.protocol.specs.World.StationView.{StationView}
+
+-- ---- the record that an event puts
+
+-- The record that an event puts at a station, where it puts one: a start adds a tentative image, a decision makes it permanent, and a recovery
+-- begins an epoch. No other event puts a record; with those it is the one that is kept.
+abbrev pub next_kept : EventView → StationView → RecordView
+next_kept (event.Grant k) station = station.node.kept
+next_kept (event.Install done) station = station.node.kept
+next_kept (event.Send k) station = station.node.kept
+next_kept (event.Start k) station = with_own_now station.number station.node
+next_kept (event.Decide k) station = decided station.node.kept
+next_kept (event.Release k) station = station.node.kept
+next_kept (event.Crash k fill rounds) station = station.node.kept
+next_kept (event.Recover k) station = with_epoch station.node.kept
+next_kept (event.Arm k fault rounds) station = station.node.kept
+next_kept (event.Idle k) station = station.node.kept
+
+-- ---- a world as the abstract machine sees it
+
+-- the node of the process at this end of a channel; none where the items come from outside or go there
+abbrev pub node_at : Network → Port → Option ℕ
+node_at net Outside = None
+node_at net (Process p) = option_map (λ (code : Code). code.node) (slice_get net.codes p)
+
+abbrev pub producer_of : Network → Option Channel → Option ℕ
+producer_of net None = None
+producer_of net (Some channel) = node_at net channel.producer
+
+abbrev pub consumer_of : Network → Option Channel → Option ℕ
+consumer_of net None = None
+consumer_of net (Some channel) = node_at net channel.consumer
+
+-- the nodes at the two ends of each channel
+abbrev pub net_seen : Network → Net
+net_seen net = record { producer = λ c. producer_of net (slice_get net.channels c); consumer = λ c. consumer_of net (slice_get net.channels c) }
+
+abbrev pub record_or_new : Option RecordView → Record
+record_or_new None = new_record
+record_or_new (Some kept) = record_seen kept
+
+-- the record of each node, by its number; a new one where there is no such node
+abbrev pub records_seen : List RecordView → ℕ → Record
+records_seen records node = record_or_new (slice_get records node)
+
+-- how many items have left by each channel
+abbrev pub outlets_seen : List StationView → ℕ → ℕ
+outlets_seen stations c = length (released_of c stations)
+
+-- the records that the nodes keep
+abbrev pub records_of : List StationView → List RecordView
+records_of stations = map (λ (station : StationView). station.node.kept) stations
+
+-- ---- lines in order
+
+-- The line that follows from these records is sound, and covers what has left these stations: no node has received what another would have to
+-- put again, nothing is lost that is still to be received or to leave, and nothing has left that the line hasn't put.
+pub record IsLineOf (net : Network) (stations : List StationView) (records : List RecordView) : Type 0 where
+  pub sound : Sound (net_seen net) (effective (records_seen records)) (outlets_seen stations)
+  pub covers : Covers (net_seen net) (records_seen records) (outlets_seen stations)
+
+-- What a crash in an event left is in line: the line of these records is sound and covers what had left before the event, and what has left by
+-- its end; and it isn't behind the line before the event.
+pub record AreInLine (net : Network) (before after : List StationView) (records : List RecordView) : Type 0 where
+  pub at_first : IsLineOf net before records
+  pub at_last : IsLineOf net after records
+  pub not_behind : NotBehind (records_seen (records_of before)) (records_seen records)
+
+-- Lines that follow one another: one that isn't behind a second isn't behind what the second isn't behind.
+abbrev pub LinesFollow : Type 0
+LinesFollow = (first second third : ℕ → Record) → NotBehind first second → NotBehind second third → NotBehind first third
+
+-- ---- the same of one station
+
+-- With this record a station's part of the line is sound and covers what has left: no decision stands, so that its permanent image is the
+-- effective one, the log of each output begins no later than the outlet ends, and that image has put all that has left.
+pub record FitsOutputs (outputs : List OutputView) (kept : RecordView) : Type 0 where
+  pub undecided : kept.decision ≡ None
+  pub no_gap : (j : ℕ) (output : OutputView) → slice_get outputs j ≡ Some output → base_of kept.permanent output.channel ≤ length output.taken
+  pub covered : CoversAll kept.permanent outputs
+
+-- A crash leaves a record of a station with an event: it fits what had left before and what has left by the end, and its permanent image isn't
+-- behind the one of before.
+pub record LeavesInLine (old new : StationView) (left : Option (List ℕ)) : Type 0 where
+  pub something : SpellsSome left
+  pub at_first : (kept : RecordView) → Spells kept left → FitsOutputs (outputs_of old.outlets) kept
+  pub at_last : (kept : RecordView) → Spells kept left → FitsOutputs (outputs_of new.outlets) kept
+  pub not_behind : (kept : RecordView) → Spells kept left → IsBehind old.node.kept.permanent kept.permanent

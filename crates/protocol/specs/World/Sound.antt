@@ -1,0 +1,54 @@
+-- What is true of a node with its outputs, whatever events came before.
+use Rattle.std.specs.Prelude.{◌≡◌, ℕ, suc, ◌≤◌, Bool, true, false, if◌then◌else◌, ℤ, List, [], ◌∷◌, map, length, Some, slice_get}
+use Rattle.kahn_net.specs.Syntax.{Network}
+use Rattle.kahn_net.specs.Processes.{sent_on}
+use Rattle.kahn_net.specs.Approximations.{approximation}
+use Rattle.kahn_net.specs.declared.program.Channel.{Channel}
+use Rattle.kahn_net.specs.declared.program.Port.{Port}
+use Rattle.kahn_net.specs.declared.program.Port.TheVariants.{Outside, Process}
+use Rattle.protocol.specs.Node.JobView.{JobView}
+use Rattle.protocol.specs.Node.NodeView.{RunningNode}
+use Rattle.record.specs.Ends.{base_of, sent_of}
+use Rattle.protocol.specs.Node.Reached.{HasReached, IsLaidOut, CountsAreWithin, LogsAreWithin, IsJobOf, acts_of}
+use Rattle.protocol.specs.World.OutputView.{OutputView}
+use Rattle.kahn_net.specs.Streams.{IsPrefix}
+
+-- items go outside there
+abbrev pub goes_outside : Port → Bool
+goes_outside Outside = true
+goes_outside (Process p) = false
+
+-- its image has every process and channel, no more was received than there is, and its logs are within their limits (a view of a node
+-- doesn't say so, and without it a turn might not fit)
+pub record NodeIsSound (net : Network) (inputs : List (List ℤ)) (node : RunningNode) : Type 0 where
+  pub laid_out : IsLaidOut net node.current
+  pub counts : CountsAreWithin inputs node.current
+  pub logs : LogsAreWithin node.current
+
+-- the log of an output goes back to what its outlet has, and the permanent image covers all of that
+pub record OutputIsSound (node : RunningNode) (output : OutputView) : Type 0 where
+  pub no_gap : base_of node.current output.channel ≤ length output.taken
+  pub covered : length output.taken ≤ sent_of node.kept.permanent output.channel
+
+abbrev pub OutputsAreSound : RunningNode → List OutputView → Type 0
+OutputsAreSound node outputs = (j : ℕ) (output : OutputView) → slice_get outputs j ≡ Some output → OutputIsSound node output
+
+-- The node's images stand on one approximation of the histories; the job that is out is of where its process stands now; and what has left
+-- of each output is, on that same approximation, a beginning of what its process has put by now.
+pub record HasCome (net : Network) (inputs : List (List ℤ)) (node : RunningNode) (outputs : List OutputView) : Type 0 where
+  pub reached : HasReached net inputs node
+  pub out : (job : JobView) → node.out ≡ Some job → IsJobOf net inputs node.current job
+  pub released : (j p : ℕ) (output : OutputView) (channel : Channel) → slice_get outputs j ≡ Some output → slice_get net.channels output.channel ≡ Some channel → channel.producer ≡ Process p
+      → IsPrefix output.taken (sent_on output.channel (acts_of net (approximation net inputs reached.n) reached.current_acts p))
+
+-- the channels whose items go outside, the first one of this number
+abbrev pub output_channels : ℕ → List Channel → List ℕ
+output_channels number [] = []
+output_channels number (channel ∷ channels) = if goes_outside channel.consumer then number ∷ output_channels (suc number) channels else output_channels (suc number) channels
+
+-- All of it: there is an outlet for each output of the network, in order, and what is said above.
+pub record IsSound (net : Network) (inputs : List (List ℤ)) (node : RunningNode) (outputs : List OutputView) : Type 0 where
+  pub listed : map (λ (output : OutputView). output.channel) outputs ≡ output_channels 0 net.channels
+  pub kept : NodeIsSound net inputs node
+  pub covered : OutputsAreSound node outputs
+  pub come : ∥ HasCome net inputs node outputs ∥₁

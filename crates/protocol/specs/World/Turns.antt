@@ -1,0 +1,40 @@
+-- What turn-taking remembers of a node's round.
+use Rattle.std.specs.Prelude.{◌==◌, ℕ, ◌+◌, nat_lt, Bool, true, false, if◌then◌else◌, Option, Some, None}
+use Rattle.protocol.specs.Node.JobView.{JobView}
+use Rattle.protocol.specs.declared.putting.Putting.{Putting}
+use Rattle.protocol.specs.declared.putting.Putting.TheVariants as putting
+use Rattle.protocol.specs.declared.round_turns.RoundTurns.{RoundTurns}
+use Rattle.protocol.specs.declared.limits.TheConstants.{MAX_GRANTS}
+
+-- nothing yet in this round
+abbrev pub no_turns : ℕ → RoundTurns
+no_turns round = record { round = round; granted = 0; started = false; sent = false; sent_holding = false; idled = false }
+
+-- what is remembered of this round: nothing, where it is of another one
+abbrev pub turns_of : ℕ → RoundTurns → RoundTurns
+turns_of round turns = if turns.round == round then turns else no_turns round
+
+-- 64 jobs at most are counted
+abbrev pub count_grant : RoundTurns → RoundTurns
+count_grant turns = record { round = turns.round; granted = if nat_lt turns.granted MAX_GRANTS then turns.granted + 1 else turns.granted; started = turns.started; sent = turns.sent; sent_holding = turns.sent_holding; idled = turns.idled }
+
+abbrev pub count_start : RoundTurns → RoundTurns
+count_start turns = record { round = turns.round; granted = turns.granted; started = true; sent = turns.sent; sent_holding = turns.sent_holding; idled = turns.idled }
+
+abbrev pub count_send : Bool → RoundTurns → RoundTurns
+count_send holding turns = record { round = turns.round; granted = turns.granted; started = turns.started; sent = true; sent_holding = holding; idled = turns.idled }
+
+abbrev pub count_idle : RoundTurns → RoundTurns
+count_idle turns = record { round = turns.round; granted = turns.granted; started = turns.started; sent = turns.sent; sent_holding = turns.sent_holding; idled = true }
+
+-- where a job was granted, or none
+abbrev pub turns_granted : Option JobView → ℕ → RoundTurns → RoundTurns
+turns_granted None round turns = turns
+turns_granted (Some job) round turns = count_grant (turns_of round turns)
+
+-- a start counts as that of the round unless it couldn't happen, or the node went down in it
+abbrev pub turns_started : Putting → ℕ → RoundTurns → RoundTurns
+turns_started putting.NotDue round turns = turns
+turns_started putting.Stored round turns = count_start (turns_of round turns)
+turns_started (putting.Refused refusal) round turns = count_start (turns_of round turns)
+turns_started putting.Failed round turns = turns

@@ -1,0 +1,197 @@
+-- What is true of a record stays so: as images are taken and become permanent, as items leave, and over a crash.
+use Rattle.std.proofs.Common.{◌≡◌, ℕ, ◌≤◌, Bool, true, false, cond, eqb, ℤ, List, length, take, Option, Some, None, refl, sym, ap, subst, ◌∙◌, arith}
+use Rattle.std.specs.Prelude.{slice_get}
+use Rattle.std.proofs.Math.Logic.{∥∥₁_map}
+use Rattle.std.proofs.lemmas.List.{take-take}
+use Rattle.kahn_net.specs.Streams.{IsPrefix}
+use Rattle.kahn_net.specs.Syntax.{Network}
+use Rattle.kahn_net.specs.Processes.{sent_on}
+use Rattle.kahn_net.specs.Approximations.{approximation}
+use Rattle.kahn_net.specs.Laws.Prefixes.{prefix_trans}
+use Rattle.record.specs.Ends.{sent_of}
+use Rattle.record.specs.ImageView.{ImageView}
+use Rattle.record.specs.RecordView.{RecordView}
+use Rattle.record.specs.Moves.{last_image, with_epoch, without_own}
+use Rattle.record.specs.declared.record.Tentative.{Tentative}
+use Rattle.ckpt_codec.specs.SizeLaws.{IsRecordWithin, within_epoch}
+use Rattle.ckpt_codec.specs.declared.lengths.TheConstants.{MAX_RETAINED_ITEMS}
+use Rattle.protocol.specs.Node.NodeView.{RunningNode}
+use Rattle.protocol.specs.Node.Reached.{ImageStands, acts_of}
+use Rattle.protocol.specs.NodeLaws.ReleaseLaws.{acts_grow}
+use Rattle.protocol.specs.NodeLaws.SentLaws.{sent_stands}
+use Rattle.protocol.specs.NodeLaws.SizeLaws.{decided_within}
+use Rattle.protocol.specs.Node.Starting.{AreInOrder, IsBehind, with_own, decided}
+use Rattle.protocol.specs.WorldLaws.OrderLaws.{behind_itself}
+use Rattle.protocol.specs.World.OutputView.{OutputView}
+use Rattle.protocol.specs.World.RecordSound.{ImageIsSound, RecordHasCome, RecordIsSound}
+use Rattle.protocol.specs.World.Sound.{HasCome, IsSound}
+
+-- of two beginnings of one list, the shorter is a beginning of the longer
+prefix_within : (xs ys zs : List ℤ) → IsPrefix xs zs → IsPrefix ys zs → length xs ≤ length ys → IsPrefix xs ys
+prefix_within xs ys zs a b shorter = a ∙ (sym (take-take (length xs) (length ys) zs shorter) ∙ ap (take (length xs)) (sym b))
+
+module _ (net : Network) (inputs : List (List ℤ)) (outputs : List OutputView) where
+  -- what a node that runs has now may be taken
+  pub current_sound : (node : RunningNode) → IsSound net inputs node outputs → ImageIsSound net inputs node.current outputs
+  current_sound node sound = record {
+    laid_out = sound.kept.laid_out;
+    counts = sound.kept.counts;
+    logs = sound.kept.logs;
+    no_gap = λ j output is. (sound.covered j output is).no_gap;
+  }
+
+  -- what has left a node that runs is a beginning of what was put up to its permanent image
+  come_of : (node : RunningNode) → ImageIsSound net inputs node.kept.permanent outputs → ((j : ℕ) (output : OutputView) → slice_get outputs j ≡ Some output → length output.taken ≤ sent_of node.kept.permanent output.channel)
+      → HasCome net inputs node outputs → RecordHasCome net inputs node.kept outputs
+  come_of node image covered come = record {
+    n = come.reached.n;
+    permanent_acts = come.reached.permanent_acts;
+    held_acts = come.reached.held_acts;
+    permanent = come.reached.permanent;
+    held = come.reached.held;
+    held_after = come.reached.held_after;
+    released = λ j p output channel is on from. (
+        let histories = approximation net inputs come.reached.n in
+        let before = sent_on output.channel (acts_of net histories come.reached.permanent_acts p) in
+        let now = sent_on output.channel (acts_of net histories come.reached.current_acts p) in
+        let count : sent_of node.kept.permanent output.channel ≡ length before = sent_stands net histories come.reached.permanent_acts node.kept.permanent output.channel p channel come.reached.permanent image.laid_out on from in
+        let few = covered j output is in
+        let far : come.reached.permanent_acts p ≤ come.reached.current_acts p = (let a = come.reached.held_after p in let b = come.reached.current_after p in omega (arith, a, b)) in
+        prefix_within output.taken before now (come.released j p output channel is on from) (acts_grow net histories come.reached.permanent_acts come.reached.current_acts output.channel p far) (omega (arith, few, count)));
+  }
+
+  -- so the record of a node that runs is sound where its images are, no decision stands in it, and it is within bounds
+  pub record_of : (node : RunningNode) → node.kept.decision ≡ None → IsRecordWithin MAX_RETAINED_ITEMS node.kept → ImageIsSound net inputs node.kept.permanent outputs
+      → ((tentative : Tentative) → node.kept.tentative ≡ Some tentative → ImageIsSound net inputs tentative.image outputs) → AreInOrder node.kept node.current → IsSound net inputs node outputs → RecordIsSound net inputs node.kept outputs
+  record_of node undecided bounded permanent held order sound = record {
+    listed = sound.listed;
+    permanent = permanent;
+    held = held;
+    ahead = order.held_ahead;
+    covered = λ j output is. (sound.covered j output is).covered;
+    undecided = undecided;
+    bounded = bounded;
+    come = ∥∥₁_map sound.come (come_of node permanent (λ j output is. (sound.covered j output is).covered));
+  }
+
+  -- a start
+  pub record_own : (number : ℕ) (kept : RecordView) (image : ImageView) → ImageIsSound net inputs image outputs → RecordIsSound net inputs kept outputs
+      → (tentative : Tentative) → (with_own number image kept).tentative ≡ Some tentative → ImageIsSound net inputs tentative.image outputs
+  record_own number kept image sound record_sound tentative is = let same : image ≡ tentative.image = cc in subst (λ (i : ImageView). ImageIsSound net inputs i outputs) same sound
+
+  -- the last image of a record
+  last_sound : (kept : RecordView) → RecordIsSound net inputs kept outputs → (o : Option Tentative) → kept.tentative ≡ o → ImageIsSound net inputs (last_image kept.permanent o) outputs
+  last_sound kept sound None is = sound.permanent
+  last_sound kept sound (Some held) is = sound.held held is
+
+  pub last_more : (kept : RecordView) → RecordIsSound net inputs kept outputs → (o : Option Tentative) → kept.tentative ≡ o → IsBehind kept.permanent (last_image kept.permanent o)
+  last_more kept sound None is = behind_itself kept.permanent
+  last_more kept sound (Some held) is = sound.ahead held is
+
+  come_decided : (kept : RecordView) → (o : Option Tentative) → kept.tentative ≡ o → RecordHasCome net inputs kept outputs → RecordHasCome net inputs (decided kept) outputs
+  come_decided kept None is come = record {
+    n = come.n;
+    permanent_acts = come.permanent_acts;
+    held_acts = come.permanent_acts;
+    permanent = subst (λ (t : Option Tentative). ImageStands net (approximation net inputs come.n) come.permanent_acts (last_image kept.permanent t)) (sym is) come.permanent;
+    held = λ tentative e. absurd (cc);
+    held_after = λ p. omega arith;
+    released = come.released;
+  }
+  come_decided kept (Some held) is come = record {
+    n = come.n;
+    permanent_acts = come.held_acts;
+    held_acts = come.held_acts;
+    permanent = subst (λ (t : Option Tentative). ImageStands net (approximation net inputs come.n) come.held_acts (last_image kept.permanent t)) (sym is) (come.held held is);
+    held = λ tentative e. absurd (cc);
+    held_after = λ p. omega arith;
+    released = λ j p output channel there on from.
+        prefix_trans output.taken (sent_on output.channel (acts_of net (approximation net inputs come.n) come.permanent_acts p)) (sent_on output.channel (acts_of net (approximation net inputs come.n) come.held_acts p))
+        (come.released j p output channel there on from) (acts_grow net (approximation net inputs come.n) come.permanent_acts come.held_acts output.channel p (come.held_after p));
+  }
+
+  -- a decision
+  pub record_decided : (kept : RecordView) → RecordIsSound net inputs kept outputs → RecordIsSound net inputs (decided kept) outputs
+  record_decided kept sound = record {
+    listed = sound.listed;
+    permanent = last_sound kept sound kept.tentative refl;
+    held = λ tentative e. absurd (cc);
+    ahead = λ tentative e. absurd (cc);
+    covered = λ j output is. (let few = sound.covered j output is in let more = (last_more kept sound kept.tentative refl).sent output.channel in omega (arith, few, more));
+    undecided = sound.undecided;
+    bounded = decided_within kept sound.bounded;
+    come = ∥∥₁_map sound.come (come_decided kept kept.tentative refl);
+  }
+
+  -- a new epoch
+  still_held : (node : ℕ) (o : Option Tentative) (tentative : Tentative) → without_own node o ≡ Some tentative → o ≡ Some tentative
+  still_held node None tentative is = is
+  still_held node (Some held) tentative is = at (eqb held.initiator node) is
+    where
+      at : (b : Bool) → cond b None (Some held) ≡ Some tentative → Some held ≡ Some tentative
+      at true e = absurd (cc)
+      at false e = e
+
+  come_epoch : (kept : RecordView) → RecordHasCome net inputs kept outputs → RecordHasCome net inputs (with_epoch kept) outputs
+  come_epoch kept come = record {
+    n = come.n;
+    permanent_acts = come.permanent_acts;
+    held_acts = come.held_acts;
+    permanent = come.permanent;
+    held = λ tentative is. come.held tentative (still_held kept.node kept.tentative tentative is);
+    held_after = come.held_after;
+    released = come.released;
+  }
+
+  pub record_epoch : (kept : RecordView) → RecordIsSound net inputs kept outputs → RecordIsSound net inputs (with_epoch kept) outputs
+  record_epoch kept sound = record {
+    listed = sound.listed;
+    permanent = sound.permanent;
+    held = λ tentative is. sound.held tentative (still_held kept.node kept.tentative tentative is);
+    ahead = λ tentative is. sound.ahead tentative (still_held kept.node kept.tentative tentative is);
+    covered = sound.covered;
+    undecided = sound.undecided;
+    bounded = within_epoch MAX_RETAINED_ITEMS kept sound.bounded;
+    come = ∥∥₁_map sound.come (come_epoch kept);
+  }
+
+  -- ---- a node that starts again
+
+  not_some : (o : Option Tentative) (held : Tentative) → o ≡ None → o ≡ Some held → ⊥
+  not_some None held free is = cc
+  not_some (Some t) held free is = cc
+
+  abbrev pub restarted : RecordView → ℕ → RunningNode
+  restarted kept version = record { kept = kept; version = version; current = kept.permanent; out = None; last = None }
+
+  come_restarted : (kept : RecordView) (version : ℕ) → kept.tentative ≡ None → RecordHasCome net inputs kept outputs → HasCome net inputs (restarted kept version) outputs
+  come_restarted kept version free come = record {
+    reached = record {
+      n = come.n;
+      permanent_acts = come.permanent_acts;
+      held_acts = come.permanent_acts;
+      current_acts = come.permanent_acts;
+      permanent = come.permanent;
+      held = λ tentative is. absurd (not_some kept.tentative tentative free is);
+      current = come.permanent;
+      held_after = λ p. omega arith;
+      current_after = λ p. omega arith;
+    };
+    out = λ job is. absurd (cc);
+    released = come.released;
+  }
+
+  pub restarted_sound : (kept : RecordView) (version : ℕ) → kept.tentative ≡ None → RecordIsSound net inputs kept outputs → IsSound net inputs (restarted kept version) outputs
+  restarted_sound kept version free sound = record {
+    listed = sound.listed;
+    kept = record { laid_out = sound.permanent.laid_out; counts = sound.permanent.counts; logs = sound.permanent.logs };
+    covered = λ j output is. record { no_gap = sound.permanent.no_gap j output is; covered = sound.covered j output is };
+    come = ∥∥₁_map sound.come (come_restarted kept version free);
+  }
+
+  pub restarted_order : (kept : RecordView) → kept.tentative ≡ None → AreInOrder kept kept.permanent
+  restarted_order kept free = record {
+    current_ahead = behind_itself kept.permanent;
+    held_ahead = λ held is. absurd (not_some kept.tentative held free is);
+    held_behind = λ held is. absurd (not_some kept.tentative held free is);
+  }

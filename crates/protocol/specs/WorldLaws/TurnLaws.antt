@@ -1,0 +1,104 @@
+-- A turn that comes back fits what the node has now, and what is true of a station stays so.
+use Rattle.std.proofs.Common.{◌≡◌, ℕ, List, ℤ, length, Option, Some, None, ◌∙◌, arith}
+use Rattle.std.proofs.Math.Logic.{∥∥₁_elim, ∥∥₁_map₂}
+use Rattle.std.proofs.Math.Bridge.{le_prop}
+use mathlib.Core.HLevel.{⊥_prop}
+use Rattle.kahn_net.specs.Fits.{Fits}
+use Rattle.kahn_net.specs.Syntax.{Network}
+use Rattle.kahn_net.specs.Processes.{Standing}
+use Rattle.retained.specs.LogState.{LogState}
+use Rattle.protocol.specs.Node.JobView.{JobView}
+use Rattle.protocol.specs.Node.NodeView.{RunningNode}
+use Rattle.record.specs.Ends.{log_at, base_of}
+use Rattle.record.specs.Changes.{LogTakes}
+use Rattle.protocol.specs.Node.Installing.{put_on, installed, with_turn, ImageTakes}
+use Rattle.protocol.specs.Node.Sharing.{log_share, IsWithinShare}
+use Rattle.protocol.specs.Node.Reached.{IsJobOf, IsTurnOf, CountsAreWithin, LogsAreWithin}
+use Rattle.protocol.specs.NodeLaws.InstallLaws.{reached_install, on_install}
+use Rattle.protocol.specs.NodeLaws.FitLaws.{turn_fits, counts_installed, laid_out_installed, logs_installed, base_installed}
+use Rattle.protocol.specs.NodeLaws.ReleaseLaws.{beginning_stays}
+use Rattle.protocol.specs.World.OutputView.{OutputView}
+use Rattle.protocol.specs.World.DoneView.{IsTurnOfJob}
+use Rattle.protocol.specs.World.Sound.{OutputsAreSound, HasCome, IsSound}
+
+module _ (net : Network) (inputs : List (List ℤ)) (node : RunningNode) (outputs : List OutputView) (job : JobView) (after : Standing) (taken : List ℕ) (sent : List (List ℤ)) where
+  -- the job that is out is of this network, so a turn of its own code is one of the network's
+  turn_of_done : IsJobOf net inputs node.current job → IsTurnOfJob job after taken sent → IsTurnOf net job after taken sent
+  turn_of_done of turn code there = turn code (of.code ∙ there)
+
+  turn_of_sound : IsSound net inputs node outputs → node.out ≡ Some job → ∥ IsTurnOfJob job after taken sent ∥₁ → ∥ IsTurnOf net job after taken sent ∥₁
+  turn_of_sound sound out turn = ∥∥₁_map₂ sound.come turn (λ come t. turn_of_done (come.out job out) t)
+
+  -- The turn fits
+
+  fits_by : Fits net inputs → IsSound net inputs node outputs → node.out ≡ Some job → HasCome net inputs node outputs → IsTurnOf net job after taken sent → ImageTakes net.channels job.process taken sent node.current
+  fits_by fits sound out come turn =
+      turn_fits net inputs node job after taken sent come.reached sound.kept.laid_out sound.kept.counts sound.kept.logs fits (come.out job out) turn
+
+  takes : Fits net inputs → IsSound net inputs node outputs → node.out ≡ Some job → ∥ IsTurnOf net job after taken sent ∥₁ → ImageTakes net.channels job.process taken sent node.current
+  takes fits sound out turn k saved is = record {
+    received = ∥∥₁_elim sound.come le_prop (λ come. ∥∥₁_elim turn le_prop (λ t. (fits_by fits sound out come t k saved is).received));
+    put = at (log_at (Some (saved.end))) (λ come t. (fits_by fits sound out come t k saved is).put);
+  }
+    where
+      at : (o : Option LogState) → (HasCome net inputs node outputs → IsTurnOf net job after taken sent → LogTakes (length (put_on net.channels job.process sent saved.channel)) o)
+          → LogTakes (length (put_on net.channels job.process sent saved.channel)) o
+      at None by = tt
+      at (Some log) by = λ over. ∥∥₁_elim sound.come ⊥_prop (λ come. ∥∥₁_elim turn ⊥_prop (λ t. by come t over))
+
+  -- What is true stays so
+
+  counts_then : IsSound net inputs node outputs → node.out ≡ Some job → ∥ IsTurnOf net job after taken sent ∥₁ → CountsAreWithin inputs (installed net.channels job.process after taken sent node.current)
+  counts_then sound out turn k saved is =
+      ∥∥₁_elim sound.come le_prop (λ come. ∥∥₁_elim turn le_prop
+      (λ t. counts_installed net inputs node job after taken sent come.reached sound.kept.laid_out sound.kept.counts (come.out job out) t k saved is))
+
+  logs_then : IsSound net inputs node outputs → node.out ≡ Some job → ∥ IsTurnOf net job after taken sent ∥₁ → LogsAreWithin (installed net.channels job.process after taken sent node.current)
+  logs_then sound out turn k saved log is there = record {
+    count = ∥∥₁_elim sound.come le_prop (λ come. ∥∥₁_elim turn le_prop (λ t. (within come t).count));
+    last = ∥∥₁_elim sound.come le_prop (λ come. ∥∥₁_elim turn le_prop (λ t. (within come t).last));
+  }
+    where
+      within : HasCome net inputs node outputs → IsTurnOf net job after taken sent → IsWithinShare (log_share (installed net.channels job.process after taken sent node.current)) log
+      within come t =
+          logs_installed net inputs node job after taken sent come.reached sound.kept.laid_out sound.kept.logs (come.out job out) t k saved log is there
+
+  come_then : IsSound net inputs node outputs → node.out ≡ Some job → HasCome net inputs node outputs → IsTurnOf net job after taken sent
+      → HasCome net inputs (with_turn net.channels job.process after taken sent node) outputs
+  come_then sound out come turn = record {
+    reached = reached_install net inputs node job after taken sent come.reached sound.kept.laid_out (come.out job out) turn;
+    out = λ other is. absurd (cc);
+    released = λ j p output channel is on from.
+        beginning_stays net inputs node (with_turn net.channels job.process after taken sent node) come.reached
+        (reached_install net inputs node job after taken sent come.reached sound.kept.laid_out (come.out job out) turn) output.channel p output.taken
+        (on_install net inputs node job after taken sent come.reached sound.kept.laid_out (come.out job out) turn) (come.released j p output channel is on from);
+  }
+
+  covered_then : OutputsAreSound node outputs → OutputsAreSound (with_turn net.channels job.process after taken sent node) outputs
+  covered_then covered j output is =
+      let before = covered j output is in
+      let base : base_of (installed net.channels job.process after taken sent node.current) output.channel ≡ base_of node.current output.channel =
+      base_installed net.channels job.process after taken sent node.current output.channel in
+      let gap = before.no_gap in
+      record { no_gap = omega (arith, base, gap); covered = before.covered }
+
+  stays : Fits net inputs → IsSound net inputs node outputs → node.out ≡ Some job → ∥ IsTurnOf net job after taken sent ∥₁ → IsSound net inputs (with_turn net.channels job.process after taken sent node) outputs
+  stays fits sound out turn = record {
+    listed = sound.listed;
+    kept = record {
+      laid_out = laid_out_installed net job.process after taken sent node.current sound.kept.laid_out;
+      counts = counts_then sound out turn;
+      logs = logs_then sound out turn;
+    };
+    covered = covered_then sound.covered;
+    come = ∥∥₁_map₂ sound.come turn (λ come t. come_then sound out come t);
+  }
+
+  -- The same of what a job that was run says of itself
+
+  pub takes_done : Fits net inputs → IsSound net inputs node outputs → node.out ≡ Some job → ∥ IsTurnOfJob job after taken sent ∥₁ → ImageTakes net.channels job.process taken sent node.current
+  takes_done fits sound out turn = takes fits sound out (turn_of_sound sound out turn)
+
+  pub sound_done : Fits net inputs → IsSound net inputs node outputs → node.out ≡ Some job → ∥ IsTurnOfJob job after taken sent ∥₁
+      → IsSound net inputs (with_turn net.channels job.process after taken sent node) outputs
+  sound_done fits sound out turn = stays fits sound out (turn_of_sound sound out turn)
