@@ -9,7 +9,7 @@ use Rattle.kahn_net.specs.declared.program.Channel.{Channel}
 use Rattle.kahn_net.specs.declared.program.Port.{Port}
 use Rattle.kahn_net.specs.declared.program.Port.TheVariants.{Outside, Process}
 use Rattle.proc_step.specs.Turns.{IsTurn}
-use Rattle.retained.specs.LogState.{LogState, IsLogOf}
+use Rattle.retained.specs.LogState.{LogState, IsLogOf, IsInLog}
 use Rattle.record.specs.ProcessView.{SavedProcessView}
 use Rattle.record.specs.ImageView.{ImageView}
 use Rattle.record.specs.Ends.{received_at, log_at}
@@ -89,9 +89,15 @@ pub record IsLaidOut (net : Network) (image : ImageView) : Type 0 where
   pub roles : (k : ℕ) (saved : SavedEnd) (channel : Channel) → slice_get image.ends k ≡ Some saved → slice_get net.channels saved.channel ≡ Some channel
       → role_of saved.end ≡ role_between channel.producer channel.consumer
 
--- no more was received than there is
+-- no more was received of a channel than there is: of an input than it has, and of a channel that stays on the node than was put, and so
+-- much that its log has what comes next
+abbrev pub CountIsWithin : List (List ℤ) → ℕ → End → Type 0
+CountIsWithin inputs channel (Receives received) = received ≤ length (history_of inputs channel)
+CountIsWithin inputs channel (Sends log) = Unit {0}
+CountIsWithin inputs channel (Both received log) = IsInLog log received
+
 abbrev pub CountsAreWithin : List (List ℤ) → ImageView → Type 0
-CountsAreWithin inputs image = (k : ℕ) (saved : SavedEnd) → slice_get image.ends k ≡ Some saved → received_at (Some (saved.end)) ≤ length (history_of inputs saved.channel)
+CountsAreWithin inputs image = (k : ℕ) (saved : SavedEnd) → slice_get image.ends k ≡ Some saved → CountIsWithin inputs saved.channel saved.end
 
 -- each log has at most its share, and ends at a count
 abbrev pub LogsAreWithin : ImageView → Type 0

@@ -1,7 +1,8 @@
 -- Laws of images that are laid out: an end is found at its channel's number, and what a step changes of an end is found there.
-use Rattle.std.proofs.Common.{◌≡◌, ℕ, zero, suc, ◌+◌, ◌<◌, Bool, true, false, eqb, cond, List, [], ◌∷◌, length, map, Option, Some, None, option_map, refl, sym, ap, ◌∙◌, arith}
+use Rattle.std.proofs.Common.{◌≡◌, ◌≢◌, ◌⊎◌, inl, inr, ℕ, zero, suc, ◌+◌, ◌<◌, Bool, true, false, eqb, cond, List, [], ◌∷◌, length, map, Option, Some, None, option_map, refl, sym, ap, ◌∙◌, arith}
 use Rattle.std.specs.Prelude.{slice_get, find}
 use Rattle.std.proofs.lemmas.Bool.{eq-eqb, ne_eqb}
+use Rattle.std.proofs.lemmas.Bool.Decides.{eqb_tells}
 use Rattle.kahn_net.specs.Syntax.{Network}
 use Rattle.record.specs.ImageView.{ImageView}
 use Rattle.record.specs.Ends.{end_of, received_of, received_at, log_of, log_at}
@@ -72,6 +73,19 @@ find_within {A} test (y ∷ xs) x h = at (test y) (λ e. find_within test xs x e
     at : (b : Bool) → (find test xs ≡ Some x → (k : ℕ) × (slice_get xs k ≡ Some x)) → cond b (Some y) (find test xs) ≡ Some x → (k : ℕ) × (slice_get (y ∷ xs) k ≡ Some x)
     at true later e = (0, e)
     at false later e = let r = later e in (suc r.0, r.1)
+
+-- what is found has the number
+pub found_is : {A : Type 0} (f : A → ℕ) (xs : List A) (n : ℕ) (x : A) → find (λ (z : A). eqb (f z) n) xs ≡ Some x → f x ≡ n
+found_is f [] n x h = absurd (cc)
+found_is {A} f (y ∷ xs) n x h = at (eqb_tells (f y) n) (λ e. found_is f xs n x e) h
+  where
+    at : ((eqb (f y) n ≡ true) × (f y ≡ n)) ⊎ ((eqb (f y) n ≡ false) × (f y ≢ n)) → (find (λ (z : A). eqb (f z) n) xs ≡ Some x → f x ≡ n)
+        → cond (eqb (f y) n) (Some y) (find (λ (z : A). eqb (f z) n) xs) ≡ Some x → f x ≡ n
+    at (inl same) later e =
+        let it : Some y ≡ Some x = sym (ap (λ (b : Bool). cond b (Some y) (find (λ (z : A). eqb (f z) n) xs)) same.0) ∙ e in
+        let is : y ≡ x = cc in
+        ap f (sym is) ∙ same.1
+    at (inr other) later e = later (sym (ap (λ (b : Bool). cond b (Some y) (find (λ (z : A). eqb (f z) n) xs)) other.0) ∙ e)
 
 -- what is found in a list that keeps each number
 pub find_map : {A : Type 0} (f : A → ℕ) (g : A → A) (xs : List A) (n : ℕ) → ((x : A) → f (g x) ≡ f x) → find (λ (z : A). eqb (f z) n) (map g xs) ≡ option_map g (find (λ (z : A). eqb (f z) n) xs)

@@ -23,11 +23,12 @@ use Rattle.protocol.specs.Node.JobView.{JobView}
 use Rattle.protocol.specs.Node.NodeView.{RunningNode}
 use Rattle.record.specs.Ends.{received_at, log_at}
 use Rattle.protocol.specs.Node.Granting.{is_process, items_from}
-use Rattle.record.specs.Changes.{log_with, pushed, counted}
+use Rattle.record.specs.Changes.{log_with, trimmed_log, pushed, counted}
 use Rattle.protocol.specs.Node.Installing.{is_consumer, is_producer, taken_from, put_on, saved_pushed, saved_counted, moved, installed, with_turn}
 use Rattle.protocol.specs.Node.Reached.{first_acts, acts_of, EndStands, ImageStands, HasReached, numbers_from, is_counting, IsLaidOut, IsJobOf, IsTurnOf, HasComeOn}
 use Rattle.protocol.specs.NodeLaws.ImageLaws.{numbered_mark, numbered_count, find_within, map_got}
-use Rattle.protocol.specs.NodeLaws.ReachedLaws.{next_are_at_hand}
+use Rattle.protocol.specs.NodeLaws.LiftLaws.{IsAtHand}
+use Rattle.protocol.specs.NodeLaws.LogLaws.{trimmed_is_log_of}
 use Rattle.record.specs.declared.image.SavedEnd.{SavedEnd}
 use Rattle.record.specs.declared.image.End.{End}
 use Rattle.record.specs.declared.image.End.TheVariants.{Receives, Sends, Both}
@@ -115,13 +116,12 @@ as_far_then process acts made q = at (eqb q process)
 
 -- the turn on a job of an image that stands there
 pub turn_of_job : (net : Network) (inputs : List (List ℤ)) (n : ℕ) (made : ℕ → ℕ) (image : ImageView) (job : JobView) (code : Code) (after : Standing) (taken : List ℕ) (sent : List (List ℤ))
-    → ImageStands net (approximation net inputs n) made image → IsLaidOut net image → IsJobOf net inputs image job → slice_get net.codes job.process ≡ Some code
+    → ImageStands net (approximation net inputs n) made image → IsAtHand net inputs (approximation net inputs n) made image → IsJobOf net inputs image job → slice_get net.codes job.process ≡ Some code
     → IsTurn code job.standing job.items job.room after taken sent → Turn code (approximation net inputs n) (made job.process) job.items job.room after taken sent
-turn_of_job net inputs n made image job code after taken sent stands laid of there turn =
+turn_of_job net inputs n made image job code after taken sent stands hand of there turn =
     let found = find_within (λ (saved : SavedProcessView). eqb saved.number job.process) image.processes (record { number = job.process; standing = job.standing }) of.process in
     let before : StandsAt code (approximation net inputs n) (made job.process) job.standing = stands.processes found.0 (record { number = job.process; standing = job.standing }) code found.1 there in
-    let next : AreNext (items_from inputs image job.process 0 net.channels) (approximation net inputs n) (acts_of net (approximation net inputs n) made job.process) =
-    next_are_at_hand net inputs n made image job.process stands laid in
+    let next : AreNext (items_from inputs image job.process 0 net.channels) (approximation net inputs n) (acts_of net (approximation net inputs n) made job.process) = hand job.process in
     let next_here : AreNext job.items (approximation net inputs n) (take (made job.process) (process_trace code (approximation net inputs n)).steps) =
     subst (λ (items : List (List ℤ)). AreNext items (approximation net inputs n) (take (made job.process) (process_trace code (approximation net inputs n)).steps)) (sym of.items)
     (subst (λ (o : Option Code). AreNext (items_from inputs image job.process 0 net.channels) (approximation net inputs n) (first_acts o (approximation net inputs n) (made job.process))) there next) in
@@ -173,11 +173,17 @@ received_then (Receives received) items count h = refl
 received_then (Sends log) items count h = absurd (cc)
 received_then (Both received log) items count h = refl
 
--- and its log has what is put
-pub log_then : (end : End) (items : List ℤ) (count : ℕ) (log : LogState) → log_at (Some (counted count (pushed items end))) ≡ Some log → (before : LogState) × (log_at (Some end) ≡ Some before) × (log_with items before ≡ log)
+-- and its log has what is put, but for what it let go of
+pub log_then : (end : End) (items : List ℤ) (count : ℕ) (log : LogState) → log_at (Some (counted count (pushed items end))) ≡ Some log
+    → (before : LogState) × (position : ℕ) × (log_at (Some end) ≡ Some before) × ((log_with items before ≡ log) ⊎ (trimmed_log position (log_with items before) ≡ log))
 log_then (Receives received) items count log h = absurd (cc)
-log_then (Sends before) items count log h = (before, refl, cc)
-log_then (Both received before) items count log h = (before, refl, cc)
+log_then (Sends before) items count log h = (before, 0, refl, inl (cc))
+log_then (Both received before) items count log h = (before, received + count, refl, inr (cc))
+
+-- and stays a log of the history
+of_log : (position : ℕ) (one log : LogState) (history : List ℤ) → (one ≡ log) ⊎ (trimmed_log position one ≡ log) → IsLogOf one history → IsLogOf log history
+of_log position one log history (inl same) is = subst (λ (l : LogState). IsLogOf l history) same is
+of_log position one log history (inr same) is = subst (λ (l : LogState). IsLogOf l history) same (trimmed_is_log_of position one history is)
 
 -- an image after a turn stands where the process has made the turn's acts too
 pub image_installed : (net : Network) (histories : List (List ℤ)) (made : ℕ → ℕ) (image : ImageView) (process : ℕ) (code : Code) (items : List (List ℤ)) (room : List ℕ) (after : Standing) (taken : List ℕ) (sent : List (List ℤ))
@@ -248,8 +254,8 @@ image_installed net histories made image process code items room after taken sen
                 ∙ (sent_on-append s.channel (acts_of net histories made q) (more_of process acts q)
                 ∙ ap (λ (x : List ℤ). sent_on s.channel (acts_of net histories made q) ++ x) (sym new)) in
                 subst (IsLogOf log) (sym all)
-                (subst (λ (l : LogState). IsLogOf l (sent_on s.channel (acts_of net histories made q) ++ put_on net.channels process sent s.channel)) old.2
-                (log_with_more old.0 (sent_on s.channel (acts_of net histories made q)) (put_on net.channels process sent s.channel) (before.retained q old.0 from old.1)))
+                (of_log old.1 (log_with (put_on net.channels process sent s.channel) old.0) log (sent_on s.channel (acts_of net histories made q) ++ put_on net.channels process sent s.channel) old.3
+                (log_with_more old.0 (sent_on s.channel (acts_of net histories made q)) (put_on net.channels process sent s.channel) (before.retained q old.0 from old.2)))
 
 -- the process of the job that is out is one of the network
 pub job_has_code : (net : Network) (inputs : List (List ℤ)) (image : ImageView) (job : JobView) → IsLaidOut net image → IsJobOf net inputs image job → (code : Code) × (slice_get net.codes job.process ≡ Some code)
@@ -272,13 +278,13 @@ job_has_code net inputs image job laid of = at (slice_get_cases net.codes job.pr
 
 -- a node has come further by the turn on the job that was out
 pub reached_install : (net : Network) (inputs : List (List ℤ)) (node : RunningNode) (job : JobView) (after : Standing) (taken : List ℕ) (sent : List (List ℤ))
-    → HasReached net inputs node → IsLaidOut net node.current → IsJobOf net inputs node.current job → IsTurnOf net job after taken sent
+    → (reached : HasReached net inputs node) → IsLaidOut net node.current → IsAtHand net inputs (approximation net inputs reached.n) reached.current_acts node.current → IsJobOf net inputs node.current job → IsTurnOf net job after taken sent
     → HasReached net inputs (with_turn net.channels job.process after taken sent node)
-reached_install net inputs node job after taken sent reached laid of turn =
+reached_install net inputs node job after taken sent reached laid hand of turn =
     let code = job_has_code net inputs node.current job laid of in
     let found = find_within (λ (saved : SavedProcessView). eqb saved.number job.process) node.current.processes (record { number = job.process; standing = job.standing }) of.process in
     let before = reached.current.processes found.0 (record { number = job.process; standing = job.standing }) code.0 found.1 code.1 in
-    let done = turn_of_job net inputs reached.n reached.current_acts node.current job code.0 after taken sent reached.current laid of code.1 (turn code.0 code.1) in
+    let done = turn_of_job net inputs reached.n reached.current_acts node.current job code.0 after taken sent reached.current hand of code.1 (turn code.0 code.1) in
     record {
       n = reached.n;
       permanent_acts = reached.permanent_acts;
@@ -292,10 +298,11 @@ reached_install net inputs node job after taken sent reached laid of turn =
     }
 
 pub on_install : (net : Network) (inputs : List (List ℤ)) (node : RunningNode) (job : JobView) (after : Standing) (taken : List ℕ) (sent : List (List ℤ))
-    → (reached : HasReached net inputs node) (laid : IsLaidOut net node.current) (of : IsJobOf net inputs node.current job) (turn : IsTurnOf net job after taken sent)
-    → HasComeOn net inputs node (with_turn net.channels job.process after taken sent node) reached (reached_install net inputs node job after taken sent reached laid of turn)
+    → (reached : HasReached net inputs node) (laid : IsLaidOut net node.current) (hand : IsAtHand net inputs (approximation net inputs reached.n) reached.current_acts node.current)
+    → (of : IsJobOf net inputs node.current job) (turn : IsTurnOf net job after taken sent)
+    → HasComeOn net inputs node (with_turn net.channels job.process after taken sent node) reached (reached_install net inputs node job after taken sent reached laid hand of turn)
 unfolding reached_install
-on_install net inputs node job after taken sent reached laid of turn =
+on_install net inputs node job after taken sent reached laid hand of turn =
     let code = job_has_code net inputs node.current job laid of in
-    let done = turn_of_job net inputs reached.n reached.current_acts node.current job code.0 after taken sent reached.current laid of code.1 (turn code.0 code.1) in
+    let done = turn_of_job net inputs reached.n reached.current_acts node.current job code.0 after taken sent reached.current hand of code.1 (turn code.0 code.1) in
     record { same = refl; further = as_far_then job.process done.acts reached.current_acts }

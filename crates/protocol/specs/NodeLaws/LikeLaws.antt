@@ -31,7 +31,7 @@ use Rattle.ckpt_store.specs.Shapes.{HasShapeOf}
 use Rattle.ckpt_store.specs.Spelling.{IsLike}
 use Rattle.ckpt_store.proofs.Parts.{whole}
 use Rattle.ckpt_store.proofs.Alike.{like_of}
-use Rattle.protocol.specs.Node.Reached.{ImageStands, numbers_from, role_between, IsLaidOut, CountsAreWithin, LogsAreWithin}
+use Rattle.protocol.specs.Node.Reached.{ImageStands, numbers_from, role_between, IsLaidOut, CountIsWithin, CountsAreWithin, LogsAreWithin}
 use Rattle.protocol.specs.Node.Opening.{opening_end, opening_ends, opening_image, opening_record}
 use Rattle.protocol.specs.NodeLaws.OpeningLaws.{reached_opening, laid_out_opening, counts_opening, logs_opening}
 use Rattle.protocol.specs.NodeLaws.ImageLaws.{numbered_mark, numbered_count}
@@ -199,32 +199,20 @@ standing_short net histories made image valid laid stands k saved is =
       variables = omega (arith, same, few);
     }
 
--- an end that receives what it sends has received up to a position of its log
-abbrev pub ReceivedAreInLogs : ImageView → Type 0
-ReceivedAreInLogs image = (k received : ℕ) (saved : SavedEnd) (log : LogState) → slice_get image.ends k ≡ Some saved → saved.end ≡ Both received log → IsInLog log received
-
--- no count of items received is above the greatest
-abbrev pub CountsAreSmall : ImageView → Type 0
-CountsAreSmall image = (k : ℕ) (saved : SavedEnd) → slice_get image.ends k ≡ Some saved → received_at (Some (saved.end)) ≤ MAX_COUNT
-
--- so it is where no more was received than there is
-pub counts_small : (inputs : List (List ℤ)) (image : ImageView) → AreShort inputs → CountsAreWithin inputs image → CountsAreSmall image
-counts_small inputs image short counts k saved is = at (slice_get_cases inputs saved.channel).1
+-- no input is longer than the greatest count
+input_short : (inputs : List (List ℤ)) (c : ℕ) → AreShort inputs → length (history_of inputs c) ≤ MAX_COUNT
+input_short inputs c short = at (slice_get_cases inputs c).1
   where
-    within : received_at (Some (saved.end)) ≤ length (history_of inputs saved.channel)
-    within = counts k saved is
-
-    at : ((x : List ℤ) × (saved.channel < length inputs) × (slice_get inputs saved.channel ≡ Some x) × (get_or inputs saved.channel x ≡ x)) ⊎ ((length inputs ≤ saved.channel) × (slice_get inputs saved.channel ≡ None))
-        → received_at (Some (saved.end)) ≤ MAX_COUNT
+    at : ((x : List ℤ) × (c < length inputs) × (slice_get inputs c ≡ Some x) × (get_or inputs c x ≡ x)) ⊎ ((length inputs ≤ c) × (slice_get inputs c ≡ None)) → length (history_of inputs c) ≤ MAX_COUNT
     at (inl here) =
-        let few = short saved.channel here.0 here.2 in
-        let same = ap (length {A = ℤ}) (get_or_from_slice_get inputs saved.channel here.0 [] here.2) in
-        omega (arith, within, few, same)
-    at (inr past) = let none = ap (length {A = ℤ}) (get_or_past inputs saved.channel [] past.0) in omega (arith, within, none)
+        let few = short c here.0 here.2 in
+        let same = ap (length {A = ℤ}) (get_or_from_slice_get inputs c here.0 [] here.2) in
+        omega (arith, few, same)
+    at (inr past) = let none = ap (length {A = ℤ}) (get_or_past inputs c [] past.0) in omega (arith, none)
 
 -- each end may be written
-end_short : (image : ImageView) → CountsAreSmall image → LogsAreWithin image → ReceivedAreInLogs image → (k : ℕ) (saved : SavedEnd) → slice_get image.ends k ≡ Some saved → IsShortEnd saved.end
-end_short image counts logs inner k saved is = at saved.end refl
+end_short : (inputs : List (List ℤ)) (image : ImageView) → AreShort inputs → CountsAreWithin inputs image → LogsAreWithin image → (k : ℕ) (saved : SavedEnd) → slice_get image.ends k ≡ Some saved → IsShortEnd saved.end
+end_short inputs image short counts logs k saved is = at saved.end (counts k saved is) (λ log has. limits log has)
   where
     limits : (log : LogState) → log_at (Some (saved.end)) ≡ Some log → IsWithinLimits log
     limits log has =
@@ -233,15 +221,15 @@ end_short image counts logs inner k saved is = at saved.end refl
         let many = within.count in
         record { count = omega (arith, share, many); last = within.last }
 
-    at : (end : End) → saved.end ≡ end → IsShortEnd end
-    at (Receives received) e = subst (λ (x : End). received_at (Some x) ≤ MAX_COUNT) e (counts k saved is)
-    at (Sends log) e = limits log (ap (λ (x : End). log_at (Some x)) e)
-    at (Both received log) e = (limits log (ap (λ (x : End). log_at (Some x)) e), inner k received saved log is e)
+    at : (end : End) → CountIsWithin inputs saved.channel end → ((log : LogState) → log_at (Some end) ≡ Some log → IsWithinLimits log) → IsShortEnd end
+    at (Receives received) within of = let few = input_short inputs saved.channel short in omega (arith, few, within)
+    at (Sends log) within of = of log refl
+    at (Both received log) within of = (of log refl, within)
 
 -- What a node has of a valid network may be written alone.
-pub image_allowed : (net : Network) (histories : List (List ℤ)) (made : ℕ → ℕ) (image : ImageView) → IsValid net → IsLaidOut net image → ImageStands net histories made image
-    → CountsAreSmall image → LogsAreWithin image → ReceivedAreInLogs image → AreAllowed (image_fields None image)
-image_allowed net histories made image valid laid stands counts logs inner =
+pub image_allowed : (net : Network) (inputs histories : List (List ℤ)) (made : ℕ → ℕ) (image : ImageView) → IsValid net → AreShort inputs → IsLaidOut net image → ImageStands net histories made image
+    → CountsAreWithin inputs image → LogsAreWithin image → AreAllowed (image_fields None image)
+image_allowed net inputs histories made image valid short laid stands counts logs =
     let processes = numbered_count (λ (s : SavedProcessView). s.number) image.processes 0 (length net.codes) laid.processes in
     let ends = numbered_count (λ (s : SavedEnd). s.channel) image.ends 0 (length net.channels) laid.ends in
     let codes = valid.process_count in
@@ -252,7 +240,7 @@ image_allowed net histories made image valid laid stands counts logs inner =
     (All-cons IsAllowed one (processes_fields None 0 image.processes) (limited_allowed 1 MAX_PROCESSES (length image.processes) (omega arith) (omega (arith, processes, codes)))
     (processes_allowed 0 (length net.codes) image.processes laid.processes (omega (arith, codes)) (standing_short net histories made image valid laid stands)))
     (All-cons IsAllowed other (ends_fields None 0 image.ends) (limited_allowed 2 MAX_CHANNELS (length image.ends) (omega arith) (omega (arith, ends, channels)))
-    (ends_allowed 0 (length net.channels) image.ends laid.ends (omega (arith, channels)) (end_short image counts logs inner)))
+    (ends_allowed 0 (length net.channels) image.ends laid.ends (omega (arith, channels)) (end_short inputs image short counts logs)))
 
 -- ---- shapes
 
@@ -302,61 +290,20 @@ same_shape net histories later made come permanent image first stands second goe
 }
 
 -- So one that may be written alone may be written beside another.
-pub image_like : (net : Network) (histories later : List (List ℤ)) (made come : ℕ → ℕ) (permanent image : ImageView)
-    → IsValid net → IsLaidOut net permanent → ImageStands net histories made permanent → IsLaidOut net image → ImageStands net later come image
-    → CountsAreSmall image → LogsAreWithin image → ReceivedAreInLogs image → IsLike permanent image
-image_like net histories later made come permanent image valid first stands second goes counts logs inner =
-    like_of permanent image (image_allowed net later come image valid second goes counts logs inner) (same_shape net histories later made come permanent image first stands second goes)
-
--- ---- channels with an end outside
-
--- no channel has both of its ends at processes, so that each has one outside
-abbrev pub HasOuterChannels : Network → Type 0
-HasOuterChannels net = (c : ℕ) (channel : Channel) → slice_get net.channels c ≡ Some channel → ¬ (role_between channel.producer channel.consumer ≡ 2)
-
--- then no end receives what it sends
-pub outer_in_logs : (net : Network) (image : ImageView) → HasOuterChannels net → IsLaidOut net image → ReceivedAreInLogs image
-outer_in_logs net image outer laid k received saved log is e = at (slice_get_cases net.channels saved.channel).1
-  where
-    number : saved.channel ≡ 0 + k
-    number = numbered_mark (λ (s : SavedEnd). s.channel) image.ends 0 (length net.channels) k saved laid.ends is
-
-    many : length image.ends ≡ length net.channels
-    many = numbered_count (λ (s : SavedEnd). s.channel) image.ends 0 (length net.channels) laid.ends
-
-    within : k < length image.ends
-    within = slice_get_within image.ends k saved is
-
-    at : ((x : Channel) × (saved.channel < length net.channels) × (slice_get net.channels saved.channel ≡ Some x) × (get_or net.channels saved.channel x ≡ x)) ⊎ ((length net.channels ≤ saved.channel) × (slice_get net.channels saved.channel ≡ None))
-        → IsInLog log received
-    at (inl here) = absurd (outer saved.channel here.0 here.2 (sym (laid.roles k saved here.0 is here.2) ∙ ap role_of e))
-    at (inr past) = absurd (omega (arith, number, many, within, past.0))
+pub image_like : (net : Network) (inputs histories later : List (List ℤ)) (made come : ℕ → ℕ) (permanent image : ImageView)
+    → IsValid net → AreShort inputs → IsLaidOut net permanent → ImageStands net histories made permanent → IsLaidOut net image → ImageStands net later come image
+    → CountsAreWithin inputs image → LogsAreWithin image → IsLike permanent image
+image_like net inputs histories later made come permanent image valid short first stands second goes counts logs =
+    like_of permanent image (image_allowed net inputs later come image valid short second goes counts logs) (same_shape net histories later made come permanent image first stands second goes)
 
 -- ---- before the first event
-
-end_opening : (producer consumer : Port) (received : ℕ) (log : LogState) → opening_end producer consumer ≡ Both received log → IsInLog log received
-end_opening Outside consumer received log e = absurd (cc)
-end_opening (Process p) Outside received log e = absurd (cc)
-end_opening (Process p) (Process q) received log e =
-    let none : received ≡ 0 = ap (λ (end : End). received_at (Some end)) (sym e) in
-    let same : Some log ≡ Some (record { base = 0; items = [] }) = ap (λ (end : End). log_at (Some end)) (sym e) in
-    let empty : ◌≡◌ {A = LogState} log (record { base = 0; items = [] }) = cc in
-    let base : log.base ≡ 0 = ap (λ (l : LogState). l.base) empty in
-    record { from_base = omega (arith, none, base); to_end = omega (arith, none) }
-
-opening_in_logs : (number : ℕ) (channels : List Channel) (k received : ℕ) (saved : SavedEnd) (log : LogState) → slice_get (opening_ends number channels) k ≡ Some saved → saved.end ≡ Both received log → IsInLog log received
-opening_in_logs number [] k received saved log is e = absurd (cc)
-opening_in_logs number (channel ∷ channels) zero received saved log is e =
-    let same : ◌≡◌ {A = SavedEnd} saved (record { channel = number; end = opening_end channel.producer channel.consumer }) = cc in
-    end_opening channel.producer channel.consumer received log (ap (λ (s : SavedEnd). s.end) (sym same) ∙ e)
-opening_in_logs number (channel ∷ channels) (suc k) received saved log is e = opening_in_logs (suc number) channels k received saved log is e
 
 -- the image of a node before its first event may be written
 pub opening_image_allowed : (net : Network) → IsValid net → AreAllowed (image_fields None (opening_image net))
 opening_image_allowed net valid =
     let reached = reached_opening net [] 0 0 in
-    image_allowed net (approximation net [] reached.n) reached.permanent_acts (opening_image net) valid (laid_out_opening net) reached.permanent
-    (counts_small [] (opening_image net) (λ c items is. absurd (cc)) (counts_opening net [])) (logs_opening net) (opening_in_logs 0 net.channels)
+    image_allowed net [] (approximation net [] reached.n) reached.permanent_acts (opening_image net) valid (λ c items is. absurd (cc)) (laid_out_opening net) reached.permanent
+    (counts_opening net []) (logs_opening net)
 
 entries_opening : (nodes : ℕ) → AreAllowed (map count (replicate nodes 0))
 entries_opening zero = All-nil IsAllowed

@@ -12,7 +12,7 @@ use Rattle.record.specs.Ends.{received_at, log_at}
 use Rattle.ckpt_codec.specs.RecordText.{role_of}
 use Rattle.protocol.specs.Node.Opening.{opening_processes, opening_end, opening_ends, opening_image, opening_running}
 use Rattle.protocol.specs.Node.Sharing.{is_logging}
-use Rattle.protocol.specs.Node.Reached.{first_acts, EndStands, ImageStands, HasReached, numbers_from, is_counting, role_between, IsLaidOut, CountsAreWithin, LogsAreWithin}
+use Rattle.protocol.specs.Node.Reached.{first_acts, EndStands, ImageStands, HasReached, numbers_from, is_counting, role_between, IsLaidOut, CountIsWithin, CountsAreWithin, LogsAreWithin}
 use Rattle.record.specs.declared.image.SavedEnd.{SavedEnd}
 use Rattle.record.specs.declared.image.End.{End}
 
@@ -151,8 +151,12 @@ laid_out_opening net = record {
 pub counts_opening : (net : Network) (inputs : List (List ℤ)) → CountsAreWithin inputs (opening_image net)
 counts_opening net inputs k saved is =
     let entry = end_of_number 0 net.channels k saved is in
-    let none : received_at (Some (saved.end)) ≡ 0 = ap (λ (e : End). received_at (Some e)) entry.3 ∙ none_received entry.0.producer entry.0.consumer in
-    omega (arith, none)
+    subst (CountIsWithin inputs saved.channel) (sym entry.3) (at entry.0.producer entry.0.consumer)
+  where
+    at : (producer consumer : Port) → CountIsWithin inputs saved.channel (opening_end producer consumer)
+    at Outside consumer = omega arith
+    at (Process p) Outside = tt
+    at (Process p) (Process q) = record { from_base = omega arith; to_end = omega arith }
 
 pub logs_opening : (net : Network) → LogsAreWithin (opening_image net)
 logs_opening net k saved log is has =

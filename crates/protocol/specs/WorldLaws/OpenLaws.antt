@@ -13,7 +13,6 @@ use Rattle.protocol.specs.Node.Opening.{opening_end, opening_ends, opening_image
 use Rattle.protocol.specs.NodeLaws.SizeLaws.{opening_within}
 use Rattle.protocol.specs.NodeLaws.OpeningLaws.{reached_opening, laid_out_opening, counts_opening, logs_opening}
 use Rattle.record.specs.declared.image.SavedEnd.{SavedEnd}
-use Rattle.protocol.specs.NodeLaws.LikeLaws.{HasOuterChannels}
 use Rattle.protocol.specs.Node.Starting.{AreInOrder}
 use Rattle.protocol.specs.World.Invariant.{outputs_of, RunsSoundly, StationInvariant, WorldInvariant}
 use Rattle.protocol.specs.WorldLaws.OrderLaws.{behind_itself}
@@ -99,10 +98,10 @@ station_opened net inputs failures outlets valid listed none = record {
     runs = opens_soundly net inputs (outputs_of outlets) valid listed none
 
 -- what is true of a world is true of an opening one, of which nothing has left
-pub world_opened : (net : Network) (inputs : List (List ℤ)) (failures : ℕ) (outlets : List OutletView) → IsValid net → Fits net inputs → HasOuterChannels net → IsOnOneNode net
+pub world_opened : (net : Network) (inputs : List (List ℤ)) (failures : ℕ) (outlets : List OutletView) → IsValid net → Fits net inputs → IsOnOneNode net
     → map (λ (output : OutputView). output.channel) (outputs_of (map opening_outlet outlets)) ≡ output_channels 0 net.channels → NothingLeft (outputs_of (map opening_outlet outlets))
     → WorldInvariant (opening_world net inputs failures outlets)
-world_opened net inputs failures outlets valid fits outer alone listed none = record { valid = valid; fits = fits; outer = outer; alone = alone; inhabited = omega arith; stations = λ i station is. at i station is }
+world_opened net inputs failures outlets valid fits alone listed none = record { valid = valid; fits = fits; alone = alone; inhabited = omega arith; stations = λ i station is. at i station is }
   where
     at : (i : ℕ) (station : StationView) → slice_get (opening_station net failures (map opening_outlet outlets) ∷ []) i ≡ Some station → StationInvariant net inputs station
     at zero station is =

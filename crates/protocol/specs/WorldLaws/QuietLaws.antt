@@ -13,7 +13,7 @@ use Rattle.kahn_net.specs.Statements.{Step}
 use Rattle.kahn_net.specs.Processes.{Standing, StandsAt, HasPassingLoop, process_trace, sent_on, got_on}
 use Rattle.kahn_net.specs.Resuming.{left_after}
 use Rattle.kahn_net.specs.Approximations.{approximation, IsReached}
-use Rattle.kahn_net.specs.Laws.Approximations.{next_histories_past, inner_empty, approximation_grows, agreement}
+use Rattle.kahn_net.specs.Laws.Approximations.{next_histories_past, approximation_grows, agreement}
 use Rattle.kahn_net.specs.Laws.Prefixes.{prefix_refl, prefix_nil, prefix_along}
 use Rattle.kahn_net.specs.Laws.Streams.{longer_process, stands_on}
 use Rattle.kahn_net.specs.Laws.Got.{reads}
@@ -26,15 +26,17 @@ use Rattle.kahn_net.specs.declared.program.Port.TheVariants.{Outside, Process}
 use Rattle.record.specs.ProcessView.{SavedProcessView}
 use Rattle.record.specs.ImageView.{ImageView}
 use Rattle.protocol.specs.Node.NodeView.{RunningNode, running_of}
-use Rattle.record.specs.Ends.{received_at, received_of, sent_of}
+use Rattle.record.specs.Ends.{received_at, received_of, log_at, sent_in, sent_of}
+use Rattle.record.specs.declared.image.End.{End}
+use Rattle.retained.specs.LogState.{log_end}
 use Rattle.protocol.specs.Node.Choosing.{next_at}
 use Rattle.protocol.specs.Node.Starting.{is_none}
-use Rattle.protocol.specs.Node.Reached.{first_acts, acts_of, IsLaidOut, CountsAreWithin}
-use Rattle.protocol.specs.NodeLaws.ImageLaws.{numbered_mark, numbered_there, channel_at, received_is}
+use Rattle.protocol.specs.Node.Reached.{first_acts, acts_of}
+use Rattle.protocol.specs.NodeLaws.ImageLaws.{numbered_mark, numbered_there}
+use Rattle.protocol.specs.NodeLaws.InnerLaws.{outer_within, inner_there}
 use Rattle.protocol.specs.NodeLaws.ReachedLaws.{input_stays, received_stands}
 use Rattle.protocol.specs.NodeLaws.ReleaseLaws.{acts_put_prefix}
 use Rattle.protocol.specs.NodeLaws.SentLaws.{sent_stands}
-use Rattle.record.specs.declared.image.SavedEnd.{SavedEnd}
 use Rattle.std.specs.List.{list_all}
 use Rattle.protocol.specs.World.Invariant.{outputs_of, AreSound, WorldInvariant}
 use Rattle.protocol.specs.World.OutputView.{OutputView}
@@ -74,16 +76,6 @@ rest_of net inputs node outputs quiet =
     let rest = are_at_rest net inputs node.current node.current.processes in
     let left = have_all_left node.current outputs in
     and_parts rest left (and_parts (is_none node.out) (rest && left) quiet).1
-
--- no more was received of a channel than came from outside
-received_within : (net : Network) (inputs : List (List ℤ)) (image : ImageView) (c : ℕ) (channel : Channel) → IsLaidOut net image → CountsAreWithin inputs image → slice_get net.channels c ≡ Some channel
-    → received_of image c ≤ length (history_of inputs c)
-received_within net inputs image c channel laid counts is =
-    let there = numbered_there (λ (s : SavedEnd). s.channel) image.ends 0 (length net.channels) c laid.ends (slice_get_within net.channels c channel is) in
-    let here : there.0.channel ≡ c = channel_at net image c there.0 laid there.1 in
-    let count = received_is net image c there.0 laid there.1 in
-    let few = subst (λ (d : ℕ). received_at (Some (there.0.end)) ≤ length (history_of inputs d)) here (counts c there.0 there.1) in
-    omega (arith, count, few)
 
 module _ (net : Network) (inputs : List (List ℤ)) (node : RunningNode) (outputs : List OutputView) (valid : IsValid net) (fits : Fits net inputs) (sound : IsSound net inputs node outputs)
     (come : HasCome net inputs node outputs) where
@@ -145,16 +137,19 @@ module _ (net : Network) (inputs : List (List ℤ)) (node : RunningNode) (output
     got_there c channel is gets =
         received_stands net base come.reached.current_acts node.current c p channel come.reached.current sound.kept.laid_out is ((valid.consumer c p channel code is there).0 gets)
 
-    -- and no more than is there (of a channel that joins two processes it got nothing, since nothing brings items from a process yet)
+    -- and no more than is there
     got_few : (c : ℕ) → IsTrue (code_gets c code) → length (got_on c (made p)) ≤ length (history_of now c)
     got_few c gets = at (slice_get_cases net.channels c).1
       where
         by_port : (channel : Channel) → slice_get net.channels c ≡ Some channel → (port : Port) → channel.producer ≡ port → received_of node.current c ≤ length (put_so_far inputs made c port)
-        by_port channel is Outside from = received_within net inputs node.current c channel sound.kept.laid_out sound.kept.counts is
+        by_port channel is Outside from = outer_within net inputs node.current c channel sound.kept.laid_out sound.kept.counts is from
         by_port channel is (Process q) from =
-            let few = received_within net inputs node.current c channel sound.kept.laid_out sound.kept.counts is in
-            let none : length (history_of inputs c) ≡ 0 = ap (length {A = ℤ}) (inner_empty net valid inputs fits c q channel is from) in
-            omega (arith, few, none)
+            let here = inner_there net inputs node.current c q p channel sound.kept.laid_out sound.kept.counts is from ((valid.consumer c p channel code is there).0 gets) in
+            let received : received_of node.current c ≡ here.received = ap received_at here.there in
+            let sent : sent_of node.current c ≡ log_end here.log = ap (λ (o : Option End). sent_in (log_at o)) here.there in
+            let put = sent_stands net base come.reached.current_acts node.current c q channel come.reached.current sound.kept.laid_out is from in
+            let few = here.within.to_end in
+            omega (arith, received, sent, put, few)
 
         -- of a channel that isn't there nothing is got
         no_channel : length net.channels ≤ c → length (got_on c (made p)) ≡ 0

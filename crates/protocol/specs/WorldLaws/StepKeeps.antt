@@ -18,7 +18,6 @@ use Rattle.record.specs.declared.record.Tentative.{Tentative}
 use Rattle.protocol.specs.Node.JobView.{JobView}
 use Rattle.protocol.specs.Node.NodeView.{NodeView, ModeView, Down, InDoubt, Runs, RunningView, RunningNode, running_node, running_in, running_of, on_mode, on_running}
 use Rattle.protocol.specs.Node.ArmedRestarts.{restart_after, round_later, with_armed}
-use Rattle.protocol.specs.NodeLaws.LikeLaws.{HasOuterChannels}
 use Rattle.protocol.specs.Node.Choosing.{next_job, after_grant, job_at, node_job, granted, with_grant}
 use Rattle.protocol.specs.Node.Installing.{turned, IsOut, IsInstall}
 use Rattle.protocol.specs.NodeLaws.FitLaws.{behind_installed}
@@ -123,7 +122,7 @@ module _ (net : Network) (inputs : List (List ℤ)) where
           subst (λ (n : RunningNode). RunsSoundly net inputs n (outputs_of old.outlets)) before.2
           (record {
             order = order_ahead now.kept now.current _ (behind_installed net.channels done.job.process done.after done.taken done.sent now.current) sound.order;
-            sound = sound_done net inputs now (outputs_of old.outlets) done.job done.after done.taken done.sent fits sound.sound out turn;
+            sound = sound_done net inputs valid now (outputs_of old.outlets) done.job done.after done.taken done.sent fits sound.sound out turn;
           })
 
   -- A checkpoint
@@ -408,7 +407,6 @@ step_keeps rooms e old answer new inv step =
     record {
       valid = subst IsValid (sym step.net) inv.valid;
       fits = subst (λ (n : Network). Fits n new.inputs) (sym step.net) (subst (Fits old.net) (sym step.inputs) inv.fits);
-      outer = subst HasOuterChannels (sym step.net) inv.outer;
       alone = subst IsOnOneNode (sym step.net) inv.alone;
       inhabited = omega (arith, count, inv.inhabited);
       stations = subst (λ (n : Network). AreSound n new.inputs new.stations) (sym step.net) (subst (λ (i : List (List ℤ)). AreSound old.net i new.stations) (sym step.inputs) stations);

@@ -15,7 +15,6 @@ use Rattle.world.proofs.world.act_at.Goals as goal
 pub act-requires : goal.act-requires
 act-requires g c = record {
   fits = c.requires.fits;
-  outer = c.requires.outer;
   sound = c.requires.sound c.args.number (station_view g.O.Outlet.taken g.O.Outlet.failures c.index_mut.result.now) (seen_at (station_view g.O.Outlet.taken g.O.Outlet.failures) c.args.stations.now.items c.args.number c.index_mut.result.now (search rules) c.index_mut.ensures.value);
 }
 
