@@ -142,7 +142,7 @@ fn record_bytes(alloc: Global, world: SumWorld) -> anyhow::Result<u64> {
 }
 
 fn measure(rt: &(impl Print + CpuClock), alloc: Global, items: usize) -> anyhow::Result<()> {
-    let times = 200_000 / (items as u64 + 100) + 20;
+    let times = 200_000 / (items as u64).saturating_add(100) + 20;
     let mut world = world_of(alloc, items)?;
     start(alloc, &mut world)?;
     decide(alloc, &mut world)?;

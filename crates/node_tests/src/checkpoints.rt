@@ -9,11 +9,12 @@ use crate::nodes::{
     LATER, NONE_HELD, NOTHING, OPENING, TestNode, failing_node, held, is_later, is_opening, kept,
     node_of, record_of, standing,
 };
-use crate::taking::{done_by, grants_nothing, items_in, sum_net, take_in};
+use crate::taking::{Feed, come_back, grants_nothing, sum_feed, take_turn};
 use kahn_net::MAX_COUNT;
-use node::{Mode, Putting, Recovery};
+use node::{Mode, Putting};
 use record::Image;
 use std::alloc::Global;
+use std::process::Abort;
 use std::test::Fail;
 
 // The record of node 0 of three, which has no process and no channel: nodes 1 and 2 have to confirm its decision of
@@ -57,43 +58,42 @@ fn empty_node(alloc: Global, entry: u64) -> Result<TestNode, Fail> {
     node_of(alloc, &record_of(alloc, 0, &[entry], &NOTHING, &NONE_HELD)?)
 }
 
+// A start and its decision, and a second start.
+fn takes_checkpoints(rt: &impl Abort, alloc: Global, node: &mut TestNode) -> Result<(), Fail> {
+    let not_due = Putting::NotDue;
+    let stored = Putting::Stored;
+    same(rt, &node.decide(alloc, 0)?, &not_due, "nothing is held");
+    same(rt, &start(alloc, node, 0)?, &stored, "a start");
+    same(rt, &kept(node)?, &(0, 1, 1), "image 1 is held");
+    same(rt, &start(alloc, node, 0)?, &not_due, "one is held");
+    same(rt, &node.decide(alloc, 0)?, &stored, "a decision");
+    same(rt, &kept(node)?, &(0, 1, 0), "it is permanent");
+    same(rt, &start(alloc, node, 0)?, &stored, "a second start");
+    same(rt, &kept(node)?, &(0, 2, 2), "image 2 is held");
+    same(rt, &standing(node), &("runs", 0, 0), "it never went down");
+    Ok(())
+}
+
+fn drops_the_second(rt: &impl Abort, alloc: Global, node: &mut TestNode) -> Result<(), Fail> {
+    assert!(rt; node.crash(None, 1));
+    same(rt, &start(alloc, node, 1)?, &Putting::NotDue, "down");
+    come_back(alloc, node, 1)?;
+    same(rt, &kept(node)?, &(1, 2, 0), "image 2 is dropped");
+    Ok(())
+}
+
 #[test]
 fn checkpoints_one_after_another(rt: HostRuntime) -> Result<(), Fail> {
     let alloc = rt.alloc();
     let mut node = empty_node(alloc, 0)?;
-    same(
-        &rt,
-        &node.decide(alloc, 0)?,
-        &Putting::NotDue,
-        "nothing is held",
-    );
-    same(
-        &rt,
-        &start(alloc, &mut node, 0)?,
-        &Putting::Stored,
-        "a start",
-    );
-    same(&rt, &kept(&node)?, &(0, 1, 1), "image 1 is held");
-    same(
-        &rt,
-        &start(alloc, &mut node, 0)?,
-        &Putting::NotDue,
-        "one is held",
-    );
-    same(&rt, &node.decide(alloc, 0)?, &Putting::Stored, "a decision");
-    same(&rt, &kept(&node)?, &(0, 1, 0), "it is permanent");
-    same(
-        &rt,
-        &start(alloc, &mut node, 0)?,
-        &Putting::Stored,
-        "a second start",
-    );
-    same(&rt, &kept(&node)?, &(0, 2, 2), "image 2 is held");
-    same(&rt, &standing(&node), &("runs", 0, 0), "it never went down");
-    assert!(rt; node.crash(None, 1));
-    same(&rt, &start(alloc, &mut node, 1)?, &Putting::NotDue, "down");
-    same(&rt, &node.recover(alloc, 1)?, &Recovery::Recovered, "back");
-    same(&rt, &kept(&node)?, &(1, 2, 0), "image 2 is dropped");
+    takes_checkpoints(&rt, alloc, &mut node)?;
+    drops_the_second(&rt, alloc, &mut node)
+}
+
+fn is_spent(rt: &impl Abort, alloc: Global, node: &mut TestNode) -> Result<(), Fail> {
+    same(rt, &start(alloc, node, 0)?, &Putting::Refused(44), "spent");
+    same(rt, &kept(node)?, &(0, MAX_COUNT, 0), "as it was");
+    same(rt, &standing(node), &("runs", 0, 0), "it runs on");
     Ok(())
 }
 
@@ -101,57 +101,48 @@ fn checkpoints_one_after_another(rt: HostRuntime) -> Result<(), Fail> {
 fn there_is_no_number_after_the_last(rt: HostRuntime) -> Result<(), Fail> {
     let alloc = rt.alloc();
     let mut node = empty_node(alloc, MAX_COUNT)?;
-    same(
-        &rt,
-        &start(alloc, &mut node, 0)?,
-        &Putting::Refused(44),
-        "spent",
-    );
-    same(&rt, &kept(&node)?, &(0, MAX_COUNT, 0), "as it was");
-    same(&rt, &standing(&node), &("runs", 0, 0), "it runs on");
-    let mut node = empty_node(alloc, MAX_COUNT - 1)?;
-    same(
-        &rt,
-        &start(alloc, &mut node, 0)?,
-        &Putting::Stored,
-        "the last",
-    );
-    same(&rt, &kept(&node)?, &(0, MAX_COUNT, MAX_COUNT), "it is held");
+    is_spent(&rt, alloc, &mut node)
+}
+
+fn takes_the_last(rt: &impl Abort, alloc: Global, node: &mut TestNode) -> Result<(), Fail> {
+    same(rt, &start(alloc, node, 0)?, &Putting::Stored, "the last");
+    same(rt, &kept(node)?, &(0, MAX_COUNT, MAX_COUNT), "it is held");
     Ok(())
 }
 
 #[test]
-fn where_no_checkpoint_is_due(rt: HostRuntime) -> Result<(), Fail> {
+fn there_is_a_number_before_the_last(rt: HostRuntime) -> Result<(), Fail> {
+    let alloc = rt.alloc();
+    let mut node = empty_node(alloc, MAX_COUNT - 1)?;
+    takes_the_last(&rt, alloc, &mut node)
+}
+
+// A node of nothing that holds an image for node 1.
+fn holds_for_another(alloc: Global) -> Result<TestNode, Fail> {
+    let behind = held(alloc, 1, 4, &NOTHING)?;
+    node_of(alloc, &record_of(alloc, 0, &[2, 4], &NOTHING, &behind)?)
+}
+
+fn nothing_is_due(rt: &impl Abort, alloc: Global, node: &mut TestNode) -> Result<(), Fail> {
+    let before = kept(node)?;
+    same(rt, &start(alloc, node, 0)?, &Putting::NotDue, "a start");
+    same(rt, &node.decide(alloc, 0)?, &Putting::NotDue, "a decision");
+    same(rt, &kept(node)?, &before, "as it was");
+    Ok(())
+}
+
+#[test]
+fn nothing_is_due_while_a_decision_is_unsettled(rt: HostRuntime) -> Result<(), Fail> {
     let alloc = rt.alloc();
     let mut node = node_of(alloc, &DECIDED)?;
-    same(
-        &rt,
-        &start(alloc, &mut node, 0)?,
-        &Putting::NotDue,
-        "unsettled",
-    );
-    same(
-        &rt,
-        &node.decide(alloc, 0)?,
-        &Putting::NotDue,
-        "nothing is held",
-    );
-    let behind = held(alloc, 1, 4, &NOTHING)?;
-    let mut node = node_of(alloc, &record_of(alloc, 0, &[2, 4], &NOTHING, &behind)?)?;
-    same(
-        &rt,
-        &start(alloc, &mut node, 0)?,
-        &Putting::NotDue,
-        "another's is held",
-    );
-    same(
-        &rt,
-        &node.decide(alloc, 0)?,
-        &Putting::NotDue,
-        "it isn't its own",
-    );
-    same(&rt, &kept(&node)?, &(0, 2, 4), "as it was");
-    Ok(())
+    nothing_is_due(&rt, alloc, &mut node)
+}
+
+#[test]
+fn nothing_is_due_while_anothers_image_is_held(rt: HostRuntime) -> Result<(), Fail> {
+    let alloc = rt.alloc();
+    let mut node = holds_for_another(alloc)?;
+    nothing_is_due(&rt, alloc, &mut node)
 }
 
 // The running sum, whose own later image is held.
@@ -160,24 +151,47 @@ fn holding(alloc: Global) -> Result<Vec<u8>, Fail> {
     record_of(alloc, 0, &[1], &OPENING, &behind)
 }
 
+fn grants_after_a_decision(
+    rt: &impl Abort,
+    alloc: Global,
+    feed: &Feed,
+    node: &mut TestNode,
+) -> Result<(), Fail> {
+    assert!(rt; grants_nothing(alloc, node, feed)?);
+    same(rt, &node.decide(alloc, 0)?, &Putting::Stored, "a decision");
+    same(rt, &kept(node)?, &(0, 1, 0), "it is permanent");
+    take_turn(alloc, node, feed)?;
+    assert!(rt; node.crash(None, 0));
+    come_back(alloc, node, 0)?;
+    is_later(rt, alloc, node)
+}
+
 #[test]
 fn nothing_is_granted_while_an_image_is_held(rt: HostRuntime) -> Result<(), Fail> {
     let alloc = rt.alloc();
-    let net = sum_net(alloc)?;
-    let inputs = items_in(alloc, &net, "i: 5 -2 4")?;
+    let feed = sum_feed(alloc, "i: 5 -2 4")?;
     let mut node = node_of(alloc, &holding(alloc)?)?;
-    assert!(rt; grants_nothing(alloc, &mut node, &net, &inputs)?);
-    same(&rt, &node.decide(alloc, 0)?, &Putting::Stored, "a decision");
-    same(&rt, &kept(&node)?, &(0, 1, 0), "it is permanent");
-    let done = done_by(alloc, &mut node, &net, &inputs)?;
-    assert!(rt; take_in(alloc, &mut node, &net, &done)?);
-    assert!(rt; node.crash(None, 0));
-    same(&rt, &node.recover(alloc, 0)?, &Recovery::Recovered, "back");
-    is_later(&rt, alloc, &node)?;
-    Ok(())
+    grants_after_a_decision(&rt, alloc, &feed, &mut node)
 }
 
-// The entry of a node that comes back after its device failed at this call of a start: 1 where the start was stored.
+// The entry of a node that comes back after its device failed in a start, and where the node stood between.
+fn entry_of(alloc: Global, node: &mut TestNode) -> Result<(u64, (&'static str, u64, u64)), Fail> {
+    if start(alloc, node, 7)? != Putting::Failed {
+        return Err("the device didn't fail".into());
+    }
+    let failed = standing(node);
+    if node.crash(None, 9) {
+        return Err("it was up".into());
+    }
+    come_back(alloc, node, 8)?;
+    let (epoch, entry, number) = kept(node)?;
+    if (epoch, number) != (1, 0) {
+        return Err("not the next epoch without an image".into());
+    }
+    Ok((entry, failed))
+}
+
+// The same of a device that fails at this call: 1 where the start was stored.
 fn entry_after(
     alloc: Global,
     call: u64,
@@ -185,18 +199,7 @@ fn entry_after(
 ) -> Result<(u64, (&'static str, u64, u64)), Fail> {
     let bytes = record_of(alloc, 0, &[0], &NOTHING, &NONE_HELD)?;
     let mut node = failing_node(alloc, &bytes, call, fill)?;
-    if start(alloc, &mut node, 7)? != Putting::Failed {
-        return Err("the device didn't fail".into());
-    }
-    let failed = standing(&node);
-    if node.crash(None, 9) || node.recover(alloc, 8)? != Recovery::Recovered {
-        return Err("not recovered".into());
-    }
-    let (epoch, entry, number) = kept(&node)?;
-    if (epoch, number) != (1, 0) {
-        return Err("not the next epoch without an image".into());
-    }
-    Ok((entry, failed))
+    entry_of(alloc, &mut node)
 }
 
 // Of a put's four calls the third writes the gate: stopped there or at the last, the new record was stored where the fill
@@ -225,15 +228,33 @@ fn a_device_that_fails_in_a_start(rt: HostRuntime) -> Result<(), Fail> {
     Ok(())
 }
 
-// The running sum, which came back after its device failed at this call of a decision.
-fn back_after_a_decision(alloc: Global, call: u64, fill: u8) -> Result<TestNode, Fail> {
-    let mut node = failing_node(alloc, &holding(alloc)?, call, fill)?;
-    if node.decide(alloc, 7)? != Putting::Failed || standing(&node) != ("down", 1, 8) {
+// The running sum comes back after its device failed in a decision.
+fn fails_in_a_decision(alloc: Global, node: &mut TestNode) -> Result<(), Fail> {
+    if node.decide(alloc, 7)? != Putting::Failed || standing(node) != ("down", 1, 8) {
         return Err("the device didn't fail".into());
     }
-    match node.recover(alloc, 8)? {
-        Recovery::Recovered => Ok(node),
-        _ => Err("not recovered".into()),
+    come_back(alloc, node, 8)
+}
+
+fn failing(alloc: Global, call: u64, fill: u8) -> Result<TestNode, Fail> {
+    failing_node(alloc, &holding(alloc)?, call, fill)
+}
+
+// Asserts where a node comes back whose device fails at this call of a decision.
+fn comes_back_from(
+    rt: &impl Abort,
+    alloc: Global,
+    call: u64,
+    fill: u8,
+    is_decided: bool,
+) -> Result<(), Fail> {
+    let mut node = failing(alloc, call, fill)?;
+    fails_in_a_decision(alloc, &mut node)?;
+    same_at(rt, &kept(&node)?, &(1, 1, 0), &(call, fill));
+    if is_decided {
+        is_later(rt, alloc, &node)
+    } else {
+        is_opening(rt, alloc, &node)
     }
 }
 
@@ -241,14 +262,10 @@ fn back_after_a_decision(alloc: Global, call: u64, fill: u8) -> Result<TestNode,
 fn a_device_that_fails_in_a_decision(rt: HostRuntime) -> Result<(), Fail> {
     let alloc = rt.alloc();
     for (call, fill) in [(1, 0), (1, 1), (2, 0), (2, 1), (3, 0), (4, 0)] {
-        let node = back_after_a_decision(alloc, call, fill)?;
-        same_at(&rt, &kept(&node)?, &(1, 1, 0), &(call, fill));
-        is_opening(&rt, alloc, &node)?;
+        comes_back_from(&rt, alloc, call, fill, false)?;
     }
     for (call, fill) in [(3, 1), (4, 1)] {
-        let node = back_after_a_decision(alloc, call, fill)?;
-        same_at(&rt, &kept(&node)?, &(1, 1, 0), &(call, fill));
-        is_later(&rt, alloc, &node)?;
+        comes_back_from(&rt, alloc, call, fill, true)?;
     }
     Ok(())
 }

@@ -12,7 +12,7 @@ use crate::nodes::TestNode;
 use kahn_net::{Channel, History, MAX_COUNT, Port};
 use net_check::{Inputs, Net, bind, check};
 use net_text::{parse, parse_inputs};
-use node::Mode;
+use node::{Mode, Recovery};
 use proc_step::{Done, Job};
 use record::{End, Image, SavedEnd};
 use retained::{Log, MAX_LOG_ITEMS};
@@ -33,17 +33,37 @@ fn net_of(alloc: Global, text: &str) -> Result<Arc<Net>, Fail> {
     Ok(Arc::new(alloc, net)?)
 }
 
-pub(crate) fn sum_net(alloc: Global) -> Result<Arc<Net>, Fail> {
+fn sum_net(alloc: Global) -> Result<Arc<Net>, Fail> {
     net_of(alloc, SUM)
 }
 
-pub(crate) fn pair_net(alloc: Global) -> Result<Arc<Net>, Fail> {
+fn pair_net(alloc: Global) -> Result<Arc<Net>, Fail> {
     net_of(alloc, PAIR)
 }
 
-pub(crate) fn items_in(alloc: Global, net: &Net, text: &str) -> Result<Inputs, Fail> {
-    Ok(bind(alloc, net, parse_inputs(alloc, text)?)?)
+/// A network and the items that come in. A test's node isn't among them: what a function owns is let go of at each of its `?`,
+/// so a test makes its node in one function and is handed it in another.
+#[derive(Drop)]
+pub(crate) struct Feed {
+    pub(crate) net: Arc<Net>,
+    pub(crate) inputs: Inputs,
 }
+
+fn feed_of(alloc: Global, net: Arc<Net>, text: &str) -> Result<Feed, Fail> {
+    let inputs = bind(alloc, &net, parse_inputs(alloc, text)?)?;
+    Ok(Feed { net, inputs })
+}
+
+/// The pair, which has no input.
+pub(crate) fn pair_feed(alloc: Global) -> Result<Feed, Fail> {
+    feed_of(alloc, pair_net(alloc)?, "")
+}
+
+/// These items for the running sum.
+pub(crate) fn sum_feed(alloc: Global, text: &str) -> Result<Feed, Fail> {
+    feed_of(alloc, sum_net(alloc)?, text)
+}
+
 // Whether this process stands at an end of a channel.
 fn is_at(port: Port, process: usize) -> bool
     ensures { result ≡ is_process process port }
@@ -144,49 +164,69 @@ fn mode_fits(channels: &[Channel], done: &Done, mode: &Mode) -> bool
     }
 }
 
+// Takes in what came of a job, if it fits.
+fn install(
+    alloc: Global,
+    node: &mut TestNode,
+    channels: &[Channel],
+    done: &Done,
+) -> Result<bool, Fail> {
+    let state = &node.state;
+    if !mode_fits(channels, done, &state.mode) {
+        return Err("the turn doesn't fit".into());
+    }
+    Ok(node.install(alloc, channels, done)?)
+}
+
 /// Takes in what came of a job; says whether it was taken in.
 pub(crate) fn take_in(
     alloc: Global,
     node: &mut TestNode,
-    net: &Net,
+    feed: &Feed,
     done: &Done,
 ) -> Result<bool, Fail> {
-    let state = &node.state;
-    if !mode_fits(&net.program.channels, done, &state.mode) {
-        return Err("the turn doesn't fit".into());
-    }
-    Ok(node.install(alloc, &net.program.channels, done)?)
+    install(alloc, node, &feed.net.program.channels, done)
 }
 
 /// The job that a node grants.
-pub(crate) fn granted(
-    alloc: Global,
-    node: &mut TestNode,
-    net: &Arc<Net>,
-    inputs: &Inputs,
-) -> Result<Job, Fail> {
-    match node.grant(alloc, net, inputs)? {
+pub(crate) fn granted(alloc: Global, node: &mut TestNode, feed: &Feed) -> Result<Job, Fail> {
+    match node.grant(alloc, &feed.net, &feed.inputs)? {
         Some(job) => Ok(job),
         None => Err("no job".into()),
     }
 }
 
 /// What came of the job that a node grants.
-pub(crate) fn done_by(
-    alloc: Global,
-    node: &mut TestNode,
-    net: &Arc<Net>,
-    inputs: &Inputs,
-) -> Result<Done, Fail> {
-    Ok(granted(alloc, node, net, inputs)?.run(alloc)?)
+pub(crate) fn done_by(alloc: Global, node: &mut TestNode, feed: &Feed) -> Result<Done, Fail> {
+    Ok(granted(alloc, node, feed)?.run(alloc)?)
+}
+
+/// Takes in what comes of the job that a node grants.
+pub(crate) fn take_turn(alloc: Global, node: &mut TestNode, feed: &Feed) -> Result<(), Fail> {
+    let done = done_by(alloc, node, feed)?;
+    if take_in(alloc, node, feed, &done)? {
+        Ok(())
+    } else {
+        Err("not taken in".into())
+    }
 }
 
 /// Whether nothing is granted, nor said to be.
 pub(crate) fn grants_nothing(
     alloc: Global,
     node: &mut TestNode,
-    net: &Arc<Net>,
-    inputs: &Inputs,
+    feed: &Feed,
 ) -> Result<bool, Fail> {
-    Ok(!node.has_job(net, inputs) && node.grant(alloc, net, inputs)?.is_none())
+    Ok(
+        !node.has_job(&feed.net, &feed.inputs)
+            && node.grant(alloc, &feed.net, &feed.inputs)?.is_none(),
+    )
+}
+
+/// Brings a node back that is down.
+pub(crate) fn come_back(alloc: Global, node: &mut TestNode, round: u64) -> Result<(), Fail> {
+    match node.recover(alloc, round)? {
+        Recovery::Recovered => Ok(()),
+        _ => Err("not recovered".into()),
+    }
 }
