@@ -67,7 +67,7 @@ fn main(rt: HostRuntime) -> anyhow::Result<()> {
     let net = check(alloc, parse(alloc, NET)?)?;
     anyhow::ensure!(
         can_run(&net),
-        "several nodes, or channels between processes"
+        "several nodes"
     );
     let inputs = bind(alloc, &net, parse_inputs(alloc, "i: 1 2 3")?)?;
     let outputs = list_outputs(alloc, &net)?;

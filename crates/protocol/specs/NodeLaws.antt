@@ -2,6 +2,7 @@
 pub mod ImageLaws
 pub mod ReachedLaws
 pub mod LogLaws
+pub mod CountLaws
 pub mod InnerLaws
 pub mod LiftLaws
 pub mod InstallLaws

@@ -91,10 +91,9 @@ pub record IsLaidOut (net : Network) (image : ImageView) : Type 0 where
 
 -- no more was received of a channel than there is: of an input than it has, and of a channel that stays on the node than was put, and so
 -- much that its log has what comes next
-abbrev pub CountIsWithin : List (List ℤ) → ℕ → End → Type 0
-CountIsWithin inputs channel (Receives received) = received ≤ length (history_of inputs channel)
-CountIsWithin inputs channel (Sends log) = Unit {0}
-CountIsWithin inputs channel (Both received log) = IsInLog log received
+pub record CountIsWithin (inputs : List (List ℤ)) (channel : ℕ) (end : End) : Type 0 where
+  pub of_input : (received : ℕ) → end ≡ Receives received → received ≤ length (history_of inputs channel)
+  pub in_log : (received : ℕ) (log : LogState) → end ≡ Both received log → IsInLog log received
 
 abbrev pub CountsAreWithin : List (List ℤ) → ImageView → Type 0
 CountsAreWithin inputs image = (k : ℕ) (saved : SavedEnd) → slice_get image.ends k ≡ Some saved → CountIsWithin inputs saved.channel saved.end

@@ -28,6 +28,7 @@ use Rattle.protocol.specs.Node.Installing.{is_consumer, is_producer, taken_from,
 use Rattle.protocol.specs.Node.Starting.{IsBehind}
 use Rattle.protocol.specs.Node.Reached.{ImageStands, HasReached, is_counting, role_between, IsLaidOut, CountIsWithin, CountsAreWithin, LogsAreWithin, IsJobOf, IsTurnOf}
 use Rattle.protocol.specs.NodeLaws.ImageLaws.{channel_at, received_is, log_is, map_got, map_keeps, map_twice, end_of_changed}
+use Rattle.protocol.specs.NodeLaws.CountLaws.{receives_within, sends_within, both_within}
 use Rattle.protocol.specs.NodeLaws.LiftLaws.{IsAtHand}
 use Rattle.protocol.specs.NodeLaws.LogLaws.{trimmed_end_stays, base_after, in_trimmed}
 use Rattle.protocol.specs.NodeLaws.ReachedLaws.{items_of_channel}
@@ -49,9 +50,9 @@ count_limit inputs c (Sends log) = MAX_JOB_ITEMS
 count_limit inputs c (Both received log) = log_end log
 
 count_below : (inputs : List (List ℤ)) (c : ℕ) (end : End) → CountIsWithin inputs c end → received_at (Some end) ≤ count_limit inputs c end
-count_below inputs c (Receives received) within = within
+count_below inputs c (Receives received) within = within.of_input received refl
 count_below inputs c (Sends log) within = omega arith
-count_below inputs c (Both received log) within = within.to_end
+count_below inputs c (Both received log) within = (within.in_log received log refl).to_end
 
 -- no more is at hand than is left
 input_left : (input : List ℤ) (received : ℕ) → received ≤ length input → received + length (take MAX_JOB_ITEMS (drop received input)) ≤ length input
@@ -78,12 +79,12 @@ few_taken items =
 
 left_by_end : (inputs : List (List ℤ)) (c : ℕ) (end : End) (producer consumer : Port) → CountIsWithin inputs c end → role_of end ≡ role_between producer consumer
     → received_at (Some end) + length (items_by inputs c producer (received_at (Some end)) (log_at (Some end))) ≤ count_limit inputs c end
-left_by_end inputs c (Receives received) Outside consumer within role = input_left (history_of inputs c) received within
-left_by_end inputs c (Receives received) (Process q) consumer within role = omega (arith, within)
+left_by_end inputs c (Receives received) Outside consumer within role = input_left (history_of inputs c) received (within.of_input received refl)
+left_by_end inputs c (Receives received) (Process q) consumer within role = let few = within.of_input received refl in omega (arith, few)
 left_by_end inputs c (Sends log) Outside consumer within role = let few = few_taken (drop 0 (history_of inputs c)) in omega (arith, few)
 left_by_end inputs c (Sends log) (Process q) consumer within role = let few = few_taken (items_since log 0) in omega (arith, few)
 left_by_end inputs c (Both received log) Outside consumer within role = absurd (cc)
-left_by_end inputs c (Both received log) (Process q) consumer within role = log_left received log within
+left_by_end inputs c (Both received log) (Process q) consumer within role = log_left received log (within.in_log received log refl)
 
 -- what a turn takes from a channel is there
 pub taken_is_there : (net : Network) (inputs : List (List ℤ)) (n : ℕ) (made : ℕ → ℕ) (image : ImageView) (job : JobView) (code : Code) (after : Standing) (taken : List ℕ) (sent : List (List ℤ))
@@ -309,12 +310,13 @@ laid_out_installed net process after taken sent image laid = record {
 -- a count that goes no further than its limit is within what there is
 counted_within : (inputs : List (List ℤ)) (c : ℕ) (end : End) (items : List ℤ) (count : ℕ) → CountIsWithin inputs c end → received_at (Some end) + count ≤ count_limit inputs c end
     → CountIsWithin inputs c (counted count (pushed items end))
-counted_within inputs c (Receives received) items count within few = few
-counted_within inputs c (Sends log) items count within few = tt
+counted_within inputs c (Receives received) items count within few = receives_within inputs c (received + count) few
+counted_within inputs c (Sends log) items count within few = sends_within inputs c (log_with items log)
 counted_within inputs c (Both received log) items count within few =
     let sum = length-append log.items items in
-    let low = within.from_base in
-    in_trimmed (received + count) (log_with items log) (record { from_base = omega (arith, low); to_end = omega (arith, few, sum) })
+    let low = (within.in_log received log refl).from_base in
+    both_within inputs c (received + count) (trimmed_log (received + count) (log_with items log))
+    (in_trimmed (received + count) (log_with items log) (record { from_base = omega (arith, low); to_end = omega (arith, few, sum) }))
 
 pub counts_after_turn : (net : Network) (inputs : List (List ℤ)) (n : ℕ) (made : ℕ → ℕ) (image : ImageView) (job : JobView) (code : Code) (after : Standing) (taken : List ℕ) (sent : List (List ℤ))
     → ImageStands net (approximation net inputs n) made image → IsLaidOut net image → IsAtHand net inputs (approximation net inputs n) made image → CountsAreWithin inputs image → IsJobOf net inputs image job

@@ -50,7 +50,7 @@ count_there net inputs image c channel counts of =
 
 -- no more was received of an input than it has
 outer_count : (inputs : List (List ℤ)) (c : ℕ) (consumer : Port) (end : End) → role_of end ≡ role_between Outside consumer → CountIsWithin inputs c end → received_at (Some end) ≤ length (history_of inputs c)
-outer_count inputs c consumer (Receives received) role within = within
+outer_count inputs c consumer (Receives received) role within = within.of_input received refl
 outer_count inputs c consumer (Sends log) role within = absurd (cc)
 outer_count inputs c consumer (Both received log) role within = absurd (cc)
 
@@ -73,7 +73,7 @@ pub record StaysHere (image : ImageView) (c : ℕ) : Type 0 where
 both_there : (inputs : List (List ℤ)) (image : ImageView) (c p q : ℕ) (end : End) → end_of image c ≡ Some end → role_of end ≡ role_between (Process p) (Process q) → CountIsWithin inputs c end → StaysHere image c
 both_there inputs image c p q (Receives received) there role within = absurd (cc)
 both_there inputs image c p q (Sends log) there role within = absurd (cc)
-both_there inputs image c p q (Both received log) there role within = record { received = received; log = log; there = there; within = within }
+both_there inputs image c p q (Both received log) there role within = record { received = received; log = log; there = there; within = within.in_log received log refl }
 
 pub inner_there : (net : Network) (inputs : List (List ℤ)) (image : ImageView) (c p q : ℕ) (channel : Channel) → IsLaidOut net image → CountsAreWithin inputs image → slice_get net.channels c ≡ Some channel
     → channel.producer ≡ Process p → channel.consumer ≡ Process q → StaysHere image c

@@ -222,9 +222,9 @@ end_short inputs image short counts logs k saved is = at saved.end (counts k sav
         record { count = omega (arith, share, many); last = within.last }
 
     at : (end : End) → CountIsWithin inputs saved.channel end → ((log : LogState) → log_at (Some end) ≡ Some log → IsWithinLimits log) → IsShortEnd end
-    at (Receives received) within of = let few = input_short inputs saved.channel short in omega (arith, few, within)
+    at (Receives received) within of = let few = input_short inputs saved.channel short in let count = within.of_input received refl in omega (arith, few, count)
     at (Sends log) within of = of log refl
-    at (Both received log) within of = (of log refl, within)
+    at (Both received log) within of = (of log refl, within.in_log received log refl)
 
 -- What a node has of a valid network may be written alone.
 pub image_allowed : (net : Network) (inputs histories : List (List ℤ)) (made : ℕ → ℕ) (image : ImageView) → IsValid net → AreShort inputs → IsLaidOut net image → ImageStands net histories made image

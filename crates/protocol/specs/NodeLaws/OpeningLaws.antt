@@ -12,6 +12,7 @@ use Rattle.record.specs.Ends.{received_at, log_at}
 use Rattle.ckpt_codec.specs.RecordText.{role_of}
 use Rattle.protocol.specs.Node.Opening.{opening_processes, opening_end, opening_ends, opening_image, opening_running}
 use Rattle.protocol.specs.Node.Sharing.{is_logging}
+use Rattle.protocol.specs.NodeLaws.CountLaws.{receives_within, sends_within, both_within}
 use Rattle.protocol.specs.Node.Reached.{first_acts, EndStands, ImageStands, HasReached, numbers_from, is_counting, role_between, IsLaidOut, CountIsWithin, CountsAreWithin, LogsAreWithin}
 use Rattle.record.specs.declared.image.SavedEnd.{SavedEnd}
 use Rattle.record.specs.declared.image.End.{End}
@@ -154,9 +155,9 @@ counts_opening net inputs k saved is =
     subst (CountIsWithin inputs saved.channel) (sym entry.3) (at entry.0.producer entry.0.consumer)
   where
     at : (producer consumer : Port) → CountIsWithin inputs saved.channel (opening_end producer consumer)
-    at Outside consumer = omega arith
-    at (Process p) Outside = tt
-    at (Process p) (Process q) = record { from_base = omega arith; to_end = omega arith }
+    at Outside consumer = receives_within inputs saved.channel 0 (omega arith)
+    at (Process p) Outside = sends_within inputs saved.channel (record { base = 0; items = [] })
+    at (Process p) (Process q) = both_within inputs saved.channel 0 (record { base = 0; items = [] }) (record { from_base = omega arith; to_end = omega arith })
 
 pub logs_opening : (net : Network) → LogsAreWithin (opening_image net)
 logs_opening net k saved log is has =

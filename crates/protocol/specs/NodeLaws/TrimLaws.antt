@@ -19,6 +19,7 @@ use Rattle.protocol.specs.Node.Sharing.{is_logging, log_share, IsWithinShare}
 use Rattle.protocol.specs.Node.Granting.{is_process, items_by, next_items, items_from, room_in, room_of, room_from}
 use Rattle.record.specs.Changes.{trimmed_log, trimmed_end, trimmed_saved, trimmed_image}
 use Rattle.protocol.specs.Node.Reached.{acts_of, EndStands, ImageStands, is_counting, role_between, IsLaidOut, CountIsWithin, CountsAreWithin, LogsAreWithin, IsJobOf}
+use Rattle.protocol.specs.NodeLaws.CountLaws.{sends_within}
 use Rattle.protocol.specs.NodeLaws.LogLaws.{trimmed_end_stays, trimmed_is_log_of, base_at, base_after}
 use Rattle.protocol.specs.NodeLaws.ImageLaws.{map_got, map_keeps, channel_at, end_at, end_of_changed, found_is}
 use Rattle.protocol.specs.NodeLaws.InnerLaws.{output_apart}
@@ -200,7 +201,7 @@ count_trimmed inputs c position saved apart within = at (eqb_tells saved.channel
   where
     by_end : (end : End) → ((received : ℕ) (log : LogState) → ¬ (end ≡ Both received log)) → CountIsWithin inputs saved.channel end → CountIsWithin inputs saved.channel (trimmed_end position end)
     by_end (Receives received) apart within = within
-    by_end (Sends log) apart within = tt
+    by_end (Sends log) apart within = sends_within inputs saved.channel (trimmed_log position log)
     by_end (Both received log) apart within = absurd (apart received log refl)
 
     at : ((eqb saved.channel c ≡ true) × (saved.channel ≡ c)) ⊎ ((eqb saved.channel c ≡ false) × (saved.channel ≢ c))

@@ -25,7 +25,8 @@ use Rattle.protocol.specs.World.StationView.{StationView}
 -- ---- the record that an event puts
 
 -- The record that an event puts at a station, where it puts one: a start adds a tentative image, a decision makes it permanent, and a recovery
--- begins an epoch. No other event puts a record; with those it is the one that is kept.
+-- begins an epoch. No other event puts a record; with those it is the one that is kept. It is said of every station, also of one where the event
+-- isn't due or is refused, so that it is all that such an event may leave, and no more than that.
 abbrev pub next_kept : EventView → StationView → RecordView
 next_kept (event.Grant k) station = station.node.kept
 next_kept (event.Install done) station = station.node.kept

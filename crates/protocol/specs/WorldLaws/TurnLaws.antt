@@ -18,8 +18,6 @@ use Rattle.record.specs.Changes.{LogTakes}
 use Rattle.protocol.specs.Node.Installing.{put_on, installed, with_turn, ImageTakes}
 use Rattle.protocol.specs.Node.Sharing.{log_share, IsWithinShare}
 use Rattle.protocol.specs.Node.Reached.{IsJobOf, IsTurnOf, CountIsWithin, CountsAreWithin, LogsAreWithin}
-use Rattle.record.specs.declared.image.End.{End}
-use Rattle.record.specs.declared.image.End.TheVariants.{Receives, Sends, Both}
 use Rattle.protocol.specs.NodeLaws.InnerLaws.{output_apart}
 use Rattle.protocol.specs.NodeLaws.InstallLaws.{reached_install, on_install}
 use Rattle.protocol.specs.NodeLaws.LiftLaws.{on_next, IsAtHand, acts_on_next, next_are_at_hand, reached_on_next}
@@ -72,19 +70,17 @@ module _ (net : Network) (inputs : List (List ℤ)) (valid : IsValid net) (node 
   -- What is true stays so
 
   counts_then : Fits net inputs → IsSound net inputs node outputs → node.out ≡ Some job → ∥ IsTurnOf net job after taken sent ∥₁ → CountsAreWithin inputs (installed net.channels job.process after taken sent node.current)
-  counts_then fits sound out turn k saved is = at saved.end within
+  counts_then fits sound out turn k saved is = record {
+    of_input = λ received end. ∥∥₁_elim sound.come le_prop (λ come. ∥∥₁_elim turn le_prop (λ t. (within come t).of_input received end));
+    in_log = λ received log end. record {
+      from_base = ∥∥₁_elim sound.come le_prop (λ come. ∥∥₁_elim turn le_prop (λ t. ((within come t).in_log received log end).from_base));
+      to_end = ∥∥₁_elim sound.come le_prop (λ come. ∥∥₁_elim turn le_prop (λ t. ((within come t).in_log received log end).to_end));
+    };
+  }
     where
       within : HasCome net inputs node outputs → IsTurnOf net job after taken sent → CountIsWithin inputs saved.channel saved.end
       within come t =
           counts_installed net inputs node job after taken sent (reached_on_next net inputs node valid fits come.reached) sound.kept.laid_out (hand_of fits sound come) sound.kept.counts (come.out job out) t k saved is
-
-      at : (end : End) → (HasCome net inputs node outputs → IsTurnOf net job after taken sent → CountIsWithin inputs saved.channel end) → CountIsWithin inputs saved.channel end
-      at (Receives received) by = ∥∥₁_elim sound.come le_prop (λ come. ∥∥₁_elim turn le_prop (λ t. by come t))
-      at (Sends log) by = tt
-      at (Both received log) by = record {
-        from_base = ∥∥₁_elim sound.come le_prop (λ come. ∥∥₁_elim turn le_prop (λ t. (by come t).from_base));
-        to_end = ∥∥₁_elim sound.come le_prop (λ come. ∥∥₁_elim turn le_prop (λ t. (by come t).to_end));
-      }
 
   logs_then : Fits net inputs → IsSound net inputs node outputs → node.out ≡ Some job → ∥ IsTurnOf net job after taken sent ∥₁ → LogsAreWithin (installed net.channels job.process after taken sent node.current)
   logs_then fits sound out turn k saved log is there = record {
