@@ -1,5 +1,6 @@
 -- What follows for a node from the definitions of its events.
 pub mod ImageLaws
+pub mod NumberedLaws
 pub mod ReachedLaws
 pub mod LogLaws
 pub mod CountLaws
