@@ -26,8 +26,9 @@ use Rattle.protocol.specs.Node.Granting.{is_process, items_by, next_items, room_
 use Rattle.record.specs.Changes.{log_with, trimmed_log, pushed, counted, LogTakes}
 use Rattle.protocol.specs.Node.Installing.{is_consumer, is_producer, taken_from, put_on, saved_pushed, saved_counted, moved, installed, ImageTakes}
 use Rattle.protocol.specs.Node.Starting.{IsBehind}
-use Rattle.protocol.specs.Node.Reached.{ImageStands, HasReached, is_counting, role_between, IsLaidOut, CountIsWithin, CountsAreWithin, LogsAreWithin, IsJobOf, IsTurnOf}
-use Rattle.protocol.specs.NodeLaws.ImageLaws.{channel_at, received_is, log_is, map_got, map_keeps, map_twice, end_of_changed}
+use Rattle.protocol.specs.Node.Layout.{port_on, role_by, role_here}
+use Rattle.protocol.specs.Node.Reached.{ImageStands, HasReached, IsLaidOut, CountIsWithin, CountsAreWithin, LogsAreWithin, IsJobOf, IsTurnOf}
+use Rattle.protocol.specs.NodeLaws.ImageLaws.{received_is, log_is, map_got, map_keeps, map_twice, end_of_changed}
 use Rattle.protocol.specs.NodeLaws.CountLaws.{receives_within, sends_within, both_within}
 use Rattle.protocol.specs.NodeLaws.LiftLaws.{IsAtHand}
 use Rattle.protocol.specs.NodeLaws.LogLaws.{trimmed_end_stays, base_after, in_trimmed}
@@ -77,31 +78,31 @@ few_taken items =
     let few = min-le_left MAX_JOB_ITEMS (length items) in
     omega (arith, some, few)
 
-left_by_end : (inputs : List (List ℤ)) (c : ℕ) (end : End) (producer consumer : Port) → CountIsWithin inputs c end → role_of end ≡ role_between producer consumer
+left_by_end : (net : Network) (home : ℕ) (inputs : List (List ℤ)) (c : ℕ) (end : End) (producer consumer : Port) → CountIsWithin inputs c end → role_of end ≡ role_by (port_on net home producer) (port_on net home consumer)
     → received_at (Some end) + length (items_by inputs c producer (received_at (Some end)) (log_at (Some end))) ≤ count_limit inputs c end
-left_by_end inputs c (Receives received) Outside consumer within role = input_left (history_of inputs c) received (within.of_input received refl)
-left_by_end inputs c (Receives received) (Process q) consumer within role = let few = within.of_input received refl in omega (arith, few)
-left_by_end inputs c (Sends log) Outside consumer within role = let few = few_taken (drop 0 (history_of inputs c)) in omega (arith, few)
-left_by_end inputs c (Sends log) (Process q) consumer within role = let few = few_taken (items_since log 0) in omega (arith, few)
-left_by_end inputs c (Both received log) Outside consumer within role = absurd (cc)
-left_by_end inputs c (Both received log) (Process q) consumer within role = log_left received log (within.in_log received log refl)
+left_by_end net home inputs c (Receives received) Outside consumer within role = input_left (history_of inputs c) received (within.of_input received refl)
+left_by_end net home inputs c (Receives received) (Process q) consumer within role = let few = within.of_input received refl in omega (arith, few)
+left_by_end net home inputs c (Sends log) Outside consumer within role = let few = few_taken (drop 0 (history_of inputs c)) in omega (arith, few)
+left_by_end net home inputs c (Sends log) (Process q) consumer within role = let few = few_taken (items_since log 0) in omega (arith, few)
+left_by_end net home inputs c (Both received log) Outside consumer within role = absurd (cc)
+left_by_end net home inputs c (Both received log) (Process q) consumer within role = log_left received log (within.in_log received log refl)
 
 -- what a turn takes from a channel is there
-pub taken_is_there : (net : Network) (inputs : List (List ℤ)) (n : ℕ) (made : ℕ → ℕ) (image : ImageView) (job : JobView) (code : Code) (after : Standing) (taken : List ℕ) (sent : List (List ℤ))
-    → ImageStands net (approximation net inputs n) made image → IsLaidOut net image → IsAtHand net inputs (approximation net inputs n) made image → CountsAreWithin inputs image → IsJobOf net inputs image job
+pub taken_is_there : (net : Network) (home : ℕ) (inputs : List (List ℤ)) (n : ℕ) (made : ℕ → ℕ) (image : ImageView) (job : JobView) (code : Code) (after : Standing) (taken : List ℕ) (sent : List (List ℤ))
+    → ImageStands net (approximation net inputs n) made image → IsLaidOut net home image → IsAtHand net inputs (approximation net inputs n) made image job.process → CountsAreWithin inputs image → IsJobOf net inputs image job
     → slice_get net.codes job.process ≡ Some code → IsTurn code job.standing job.items job.room after taken sent
     → (k : ℕ) (saved : SavedEnd) → slice_get image.ends k ≡ Some saved
     → received_at (Some (saved.end)) + taken_from net.channels job.process taken saved.channel ≤ count_limit inputs saved.channel saved.end
-taken_is_there net inputs n made image job code after taken sent stands laid hand counts of there turn k saved is = at (slice_get_cases net.channels saved.channel).1
+taken_is_there net home inputs n made image job code after taken sent stands laid hand counts of there turn k saved is = at (slice_get_cases net.channels saved.channel).1
   where
     below : received_at (Some (saved.end)) ≤ count_limit inputs saved.channel saved.end
     below = count_below inputs saved.channel saved.end (counts k saved is)
 
     same : received_of image saved.channel ≡ received_at (Some (saved.end))
-    same = ap (received_of image) (channel_at net image k saved laid is) ∙ received_is net image k saved laid is
+    same = received_is net home image k saved laid is
 
     same_log : log_of image saved.channel ≡ log_at (Some (saved.end))
-    same_log = ap (log_of image) (channel_at net image k saved laid is) ∙ log_is net image k saved laid is
+    same_log = log_is net home image k saved laid is
 
     by_test : (channel : Channel) → slice_get net.channels saved.channel ≡ Some channel → (gets : Bool) → is_process job.process channel.consumer ≡ gets
         → received_at (Some (saved.end)) + cond gets (slice_index taken saved.channel) 0 ≤ count_limit inputs saved.channel saved.end
@@ -116,7 +117,7 @@ taken_is_there net inputs n made image job code after taken sent stands laid han
         let by_end : next_items inputs image saved.channel channel.producer ≡ items_by inputs saved.channel channel.producer (received_at (Some (saved.end))) (log_at (Some (saved.end))) =
         ap (λ (r : ℕ). items_by inputs saved.channel channel.producer r (log_of image saved.channel)) same
         ∙ ap (items_by inputs saved.channel channel.producer (received_at (Some (saved.end)))) same_log in
-        let left = left_by_end inputs saved.channel saved.end channel.producer channel.consumer (counts k saved is) (laid.roles k saved channel is on) in
+        let left = left_by_end net home inputs saved.channel saved.end channel.producer channel.consumer (counts k saved is) (laid.roles k saved channel is on) in
         omega (arith, few, ap (length {A = ℤ}) items, ap (length {A = ℤ}) by_end, left)
 
     at : ((x : Channel) × (saved.channel < length net.channels) × (slice_get net.channels saved.channel ≡ Some x) × (get_or net.channels saved.channel x ≡ x)) ⊎ ((length net.channels ≤ saved.channel) × (slice_get net.channels saved.channel ≡ None))
@@ -146,7 +147,7 @@ room_from-at image process number (x ∷ channels) (suc c) channel is =
 
 -- what a turn puts on a channel has room in its log
 pub put_has_room : (net : Network) (inputs : List (List ℤ)) (n : ℕ) (made : ℕ → ℕ) (image : ImageView) (job : JobView) (code : Code) (after : Standing) (taken : List ℕ) (sent : List (List ℤ))
-    → ImageStands net (approximation net inputs n) made image → IsAtHand net inputs (approximation net inputs n) made image → IsJobOf net inputs image job → slice_get net.codes job.process ≡ Some code
+    → ImageStands net (approximation net inputs n) made image → IsAtHand net inputs (approximation net inputs n) made image job.process → IsJobOf net inputs image job → slice_get net.codes job.process ≡ Some code
     → IsTurn code job.standing job.items job.room after taken sent → (c : ℕ) → length (put_on net.channels job.process sent c) ≤ room_of image c
 put_has_room net inputs n made image job code after taken sent stands hand of there turn c = at (slice_get_cases net.channels c).1
   where
@@ -207,13 +208,13 @@ history_is_short net inputs c fits = at (slice_get_cases inputs c).1
     at (inr past) = omega (arith, ap (length {A = ℤ}) (get_or_past inputs c [] past.0))
 
 -- the turn fits the image: no count and no log comes past its limit
-pub image_takes_turn : (net : Network) (inputs : List (List ℤ)) (n : ℕ) (made : ℕ → ℕ) (image : ImageView) (job : JobView) (code : Code) (after : Standing) (taken : List ℕ) (sent : List (List ℤ))
-    → ImageStands net (approximation net inputs n) made image → IsLaidOut net image → IsAtHand net inputs (approximation net inputs n) made image → CountsAreWithin inputs image → LogsAreWithin image → Fits net inputs
+pub image_takes_turn : (net : Network) (home : ℕ) (inputs : List (List ℤ)) (n : ℕ) (made : ℕ → ℕ) (image : ImageView) (job : JobView) (code : Code) (after : Standing) (taken : List ℕ) (sent : List (List ℤ))
+    → ImageStands net (approximation net inputs n) made image → IsLaidOut net home image → IsAtHand net inputs (approximation net inputs n) made image job.process → CountsAreWithin inputs image → LogsAreWithin image → Fits net inputs
     → IsJobOf net inputs image job → slice_get net.codes job.process ≡ Some code → IsTurn code job.standing job.items job.room after taken sent
     → ImageTakes net.channels job.process taken sent image
-image_takes_turn net inputs n made image job code after taken sent stands laid hand counts logs fits of there turn k saved is = record {
+image_takes_turn net home inputs n made image job code after taken sent stands laid hand counts logs fits of there turn k saved is = record {
   received =
-      let sum = taken_is_there net inputs n made image job code after taken sent stands laid hand counts of there turn k saved is in
+      let sum = taken_is_there net home inputs n made image job code after taken sent stands laid hand counts of there turn k saved is in
       let most = limit_is_count saved.end (logs k saved) in
       omega (arith, sum, most);
   put = at (log_at (Some (saved.end))) refl;
@@ -228,7 +229,7 @@ image_takes_turn net inputs n made image job code after taken sent stands laid h
     at None e = tt
     at (Some log) e =
         let room = put_has_room net inputs n made image job code after taken sent stands hand of there turn saved.channel in
-        let same : log_of image saved.channel ≡ Some log = ap (log_of image) (channel_at net image k saved laid is) ∙ (log_is net image k saved laid is ∙ e) in
+        let same : log_of image saved.channel ≡ Some log = log_is net home image k saved laid is ∙ e in
         let share = share_within image in
         fits_log (log_share image) log (put_on net.channels job.process sent saved.channel) (omega (arith, share)) (logs k saved log is e)
         (subst (λ (o : Option LogState). length (put_on net.channels job.process sent saved.channel) ≤ room_in (log_share image) o) same room)
@@ -253,11 +254,6 @@ moved_keeps process standing (y ∷ xs) = at (eqb y.number process) (moved_keeps
     at true later = refl
     at false later = ap (λ (ns : List ℕ). y.number ∷ ns) later
 
-still_counting : (end : End) (items : List ℤ) (count : ℕ) → is_counting (counted count (pushed items end)) ≡ is_counting end
-still_counting (Receives received) items count = refl
-still_counting (Sends log) items count = refl
-still_counting (Both received log) items count = refl
-
 still_logging : (end : End) (items : List ℤ) (count : ℕ) → is_logging (counted count (pushed items end)) ≡ is_logging end
 still_logging (Receives received) items count = refl
 still_logging (Sends log) items count = refl
@@ -268,38 +264,18 @@ still_its_role (Receives received) items count = refl
 still_its_role (Sends log) items count = refl
 still_its_role (Both received log) items count = refl
 
-pub laid_out_installed : (net : Network) (process : ℕ) (after : Standing) (taken : List ℕ) (sent : List (List ℤ)) (image : ImageView)
-    → IsLaidOut net image → IsLaidOut net (installed net.channels process after taken sent image)
-laid_out_installed net process after taken sent image laid = record {
+pub laid_out_installed : (net : Network) (home process : ℕ) (after : Standing) (taken : List ℕ) (sent : List (List ℤ)) (image : ImageView)
+    → IsLaidOut net home image → IsLaidOut net home (installed net.channels process after taken sent image)
+laid_out_installed net home process after taken sent image laid = record {
   processes = moved_keeps process after image.processes ∙ laid.processes;
   ends =
       map_keeps (λ (s : SavedEnd). s.channel) (saved_counted net.channels process taken) (map (saved_pushed net.channels process sent) image.ends) (λ s. refl)
       ∙ (map_keeps (λ (s : SavedEnd). s.channel) (saved_pushed net.channels process sent) image.ends (λ s. refl) ∙ laid.ends);
-  counting = counting;
-  logging = logging;
   roles = roles;
 }
   where
-    counting : (k p : ℕ) (saved : SavedEnd) (channel : Channel) → slice_get (installed net.channels process after taken sent image).ends k ≡ Some saved → slice_get net.channels saved.channel ≡ Some channel
-        → channel.consumer ≡ Process p → is_counting saved.end ≡ true
-    counting k p saved channel is on to =
-        let old = end_before net.channels process after taken sent image k saved is in
-        let number : old.0.channel ≡ saved.channel = ap (λ (s : SavedEnd). s.channel) old.2 in
-        ap (λ (s : SavedEnd). is_counting s.end) (sym old.2)
-        ∙ (still_counting old.0.end (put_on net.channels process sent old.0.channel) (taken_from net.channels process taken old.0.channel)
-        ∙ laid.counting k p old.0 channel old.1 (ap (slice_get net.channels) number ∙ on) to)
-
-    logging : (k p : ℕ) (saved : SavedEnd) (channel : Channel) → slice_get (installed net.channels process after taken sent image).ends k ≡ Some saved → slice_get net.channels saved.channel ≡ Some channel
-        → channel.producer ≡ Process p → is_logging saved.end ≡ true
-    logging k p saved channel is on from =
-        let old = end_before net.channels process after taken sent image k saved is in
-        let number : old.0.channel ≡ saved.channel = ap (λ (s : SavedEnd). s.channel) old.2 in
-        ap (λ (s : SavedEnd). is_logging s.end) (sym old.2)
-        ∙ (still_logging old.0.end (put_on net.channels process sent old.0.channel) (taken_from net.channels process taken old.0.channel)
-        ∙ laid.logging k p old.0 channel old.1 (ap (slice_get net.channels) number ∙ on) from)
-
     roles : (k : ℕ) (saved : SavedEnd) (channel : Channel) → slice_get (installed net.channels process after taken sent image).ends k ≡ Some saved → slice_get net.channels saved.channel ≡ Some channel
-        → role_of saved.end ≡ role_between channel.producer channel.consumer
+        → role_of saved.end ≡ role_here net home channel
     roles k saved channel is on =
         let old = end_before net.channels process after taken sent image k saved is in
         let number : old.0.channel ≡ saved.channel = ap (λ (s : SavedEnd). s.channel) old.2 in
@@ -318,12 +294,12 @@ counted_within inputs c (Both received log) items count within few =
     both_within inputs c (received + count) (trimmed_log (received + count) (log_with items log))
     (in_trimmed (received + count) (log_with items log) (record { from_base = omega (arith, low); to_end = omega (arith, few, sum) }))
 
-pub counts_after_turn : (net : Network) (inputs : List (List ℤ)) (n : ℕ) (made : ℕ → ℕ) (image : ImageView) (job : JobView) (code : Code) (after : Standing) (taken : List ℕ) (sent : List (List ℤ))
-    → ImageStands net (approximation net inputs n) made image → IsLaidOut net image → IsAtHand net inputs (approximation net inputs n) made image → CountsAreWithin inputs image → IsJobOf net inputs image job
+pub counts_after_turn : (net : Network) (home : ℕ) (inputs : List (List ℤ)) (n : ℕ) (made : ℕ → ℕ) (image : ImageView) (job : JobView) (code : Code) (after : Standing) (taken : List ℕ) (sent : List (List ℤ))
+    → ImageStands net (approximation net inputs n) made image → IsLaidOut net home image → IsAtHand net inputs (approximation net inputs n) made image job.process → CountsAreWithin inputs image → IsJobOf net inputs image job
     → slice_get net.codes job.process ≡ Some code → IsTurn code job.standing job.items job.room after taken sent → CountsAreWithin inputs (installed net.channels job.process after taken sent image)
-counts_after_turn net inputs n made image job code after taken sent stands laid hand counts of there turn k saved is =
+counts_after_turn net home inputs n made image job code after taken sent stands laid hand counts of there turn k saved is =
     let old = end_before net.channels job.process after taken sent image k saved is in
-    let sum = taken_is_there net inputs n made image job code after taken sent stands laid hand counts of there turn k old.0 old.1 in
+    let sum = taken_is_there net home inputs n made image job code after taken sent stands laid hand counts of there turn k old.0 old.1 in
     subst (λ (s : SavedEnd). CountIsWithin inputs s.channel s.end) old.2
     (counted_within inputs old.0.channel old.0.end (put_on net.channels job.process sent old.0.channel) (taken_from net.channels job.process taken old.0.channel) (counts k old.0 old.1) sum)
 
@@ -343,16 +319,16 @@ share_of_log share position one log (inr same) within =
     let last = within.last in
     subst (IsWithinShare share) same (record { count = omega (arith, stays.1, many); last = omega (arith, stays.0, last) })
 
-logs_after_turn : (net : Network) (inputs : List (List ℤ)) (n : ℕ) (made : ℕ → ℕ) (image : ImageView) (job : JobView) (code : Code) (after : Standing) (taken : List ℕ) (sent : List (List ℤ))
-    → ImageStands net (approximation net inputs n) made image → IsLaidOut net image → IsAtHand net inputs (approximation net inputs n) made image → LogsAreWithin image → IsJobOf net inputs image job
+logs_after_turn : (net : Network) (home : ℕ) (inputs : List (List ℤ)) (n : ℕ) (made : ℕ → ℕ) (image : ImageView) (job : JobView) (code : Code) (after : Standing) (taken : List ℕ) (sent : List (List ℤ))
+    → ImageStands net (approximation net inputs n) made image → IsLaidOut net home image → IsAtHand net inputs (approximation net inputs n) made image job.process → LogsAreWithin image → IsJobOf net inputs image job
     → slice_get net.codes job.process ≡ Some code → IsTurn code job.standing job.items job.room after taken sent → LogsAreWithin (installed net.channels job.process after taken sent image)
-logs_after_turn net inputs n made image job code after taken sent stands laid hand logs of there turn k saved log is at_end =
+logs_after_turn net home inputs n made image job code after taken sent stands laid hand logs of there turn k saved log is at_end =
     let old = end_before net.channels job.process after taken sent image k saved is in
     let put : List ℤ = put_on net.channels job.process sent old.0.channel in
     let same : log_at (Some (counted (taken_from net.channels job.process taken old.0.channel) (pushed put old.0.end))) ≡ Some log = ap (λ (s : SavedEnd). log_at (Some (s.end))) old.2 ∙ at_end in
     let before = log_then old.0.end put (taken_from net.channels job.process taken old.0.channel) log same in
     let room = put_has_room net inputs n made image job code after taken sent stands hand of there turn old.0.channel in
-    let found : log_of image old.0.channel ≡ Some before.0 = ap (log_of image) (channel_at net image k old.0 laid old.1) ∙ (log_is net image k old.0 laid old.1 ∙ before.2) in
+    let found : log_of image old.0.channel ≡ Some before.0 = log_is net home image k old.0 laid old.1 ∙ before.2 in
     let within : IsWithinShare (log_share image) (log_with put before.0) =
     log_with_room (log_share image) before.0 put (logs k old.0 before.0 old.1 before.2)
     (subst (λ (o : Option LogState). length put ≤ room_in (log_share image) o) found room) in
@@ -442,27 +418,27 @@ behind_installed channels process after taken sent image = record {
 -- Nodes
 
 -- a turn on the job that was out fits what the node has now
-pub turn_fits : (net : Network) (inputs : List (List ℤ)) (node : RunningNode) (job : JobView) (after : Standing) (taken : List ℕ) (sent : List (List ℤ))
-    → (reached : HasReached net inputs node) → IsLaidOut net node.current → IsAtHand net inputs (approximation net inputs reached.n) reached.current_acts node.current → CountsAreWithin inputs node.current → LogsAreWithin node.current
+pub turn_fits : (net : Network) (home : ℕ) (inputs : List (List ℤ)) (node : RunningNode) (job : JobView) (after : Standing) (taken : List ℕ) (sent : List (List ℤ))
+    → (reached : HasReached net inputs node) → IsLaidOut net home node.current → IsAtHand net inputs (approximation net inputs reached.n) reached.current_acts node.current job.process → CountsAreWithin inputs node.current → LogsAreWithin node.current
     → Fits net inputs → IsJobOf net inputs node.current job → IsTurnOf net job after taken sent → ImageTakes net.channels job.process taken sent node.current
-turn_fits net inputs node job after taken sent reached laid hand counts logs fits of turn =
-    let code = job_has_code net inputs node.current job laid of in
-    image_takes_turn net inputs reached.n reached.current_acts node.current job code.0 after taken sent reached.current laid hand counts logs fits of code.1 (turn code.0 code.1)
+turn_fits net home inputs node job after taken sent reached laid hand counts logs fits of turn =
+    let code = job_has_code net home inputs node.current job laid of in
+    image_takes_turn net home inputs reached.n reached.current_acts node.current job code.0 after taken sent reached.current laid hand counts logs fits of code.1 (turn code.0 code.1)
 
 -- and then no more was received than there is
-pub counts_installed : (net : Network) (inputs : List (List ℤ)) (node : RunningNode) (job : JobView) (after : Standing) (taken : List ℕ) (sent : List (List ℤ))
-    → (reached : HasReached net inputs node) → IsLaidOut net node.current → IsAtHand net inputs (approximation net inputs reached.n) reached.current_acts node.current → CountsAreWithin inputs node.current
+pub counts_installed : (net : Network) (home : ℕ) (inputs : List (List ℤ)) (node : RunningNode) (job : JobView) (after : Standing) (taken : List ℕ) (sent : List (List ℤ))
+    → (reached : HasReached net inputs node) → IsLaidOut net home node.current → IsAtHand net inputs (approximation net inputs reached.n) reached.current_acts node.current job.process → CountsAreWithin inputs node.current
     → IsJobOf net inputs node.current job → IsTurnOf net job after taken sent
     → CountsAreWithin inputs (installed net.channels job.process after taken sent node.current)
-counts_installed net inputs node job after taken sent reached laid hand counts of turn =
-    let code = job_has_code net inputs node.current job laid of in
-    counts_after_turn net inputs reached.n reached.current_acts node.current job code.0 after taken sent reached.current laid hand counts of code.1 (turn code.0 code.1)
+counts_installed net home inputs node job after taken sent reached laid hand counts of turn =
+    let code = job_has_code net home inputs node.current job laid of in
+    counts_after_turn net home inputs reached.n reached.current_acts node.current job code.0 after taken sent reached.current laid hand counts of code.1 (turn code.0 code.1)
 
 -- and each log is within its share
-pub logs_installed : (net : Network) (inputs : List (List ℤ)) (node : RunningNode) (job : JobView) (after : Standing) (taken : List ℕ) (sent : List (List ℤ))
-    → (reached : HasReached net inputs node) → IsLaidOut net node.current → IsAtHand net inputs (approximation net inputs reached.n) reached.current_acts node.current → LogsAreWithin node.current
+pub logs_installed : (net : Network) (home : ℕ) (inputs : List (List ℤ)) (node : RunningNode) (job : JobView) (after : Standing) (taken : List ℕ) (sent : List (List ℤ))
+    → (reached : HasReached net inputs node) → IsLaidOut net home node.current → IsAtHand net inputs (approximation net inputs reached.n) reached.current_acts node.current job.process → LogsAreWithin node.current
     → IsJobOf net inputs node.current job → IsTurnOf net job after taken sent
     → LogsAreWithin (installed net.channels job.process after taken sent node.current)
-logs_installed net inputs node job after taken sent reached laid hand logs of turn =
-    let code = job_has_code net inputs node.current job laid of in
-    logs_after_turn net inputs reached.n reached.current_acts node.current job code.0 after taken sent reached.current laid hand logs of code.1 (turn code.0 code.1)
+logs_installed net home inputs node job after taken sent reached laid hand logs of turn =
+    let code = job_has_code net home inputs node.current job laid of in
+    logs_after_turn net home inputs reached.n reached.current_acts node.current job code.0 after taken sent reached.current laid hand logs of code.1 (turn code.0 code.1)

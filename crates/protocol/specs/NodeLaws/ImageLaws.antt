@@ -6,8 +6,11 @@ use Rattle.std.proofs.lemmas.Bool.Decides.{eqb_tells}
 use Rattle.kahn_net.specs.Syntax.{Network}
 use Rattle.record.specs.ImageView.{ImageView}
 use Rattle.record.specs.Ends.{end_of, received_of, received_at, log_of, log_at}
+use Rattle.protocol.specs.Node.Layout.{has_end}
 use Rattle.protocol.specs.Node.Reached.{numbers_from, IsLaidOut}
+use Rattle.protocol.specs.NodeLaws.NumberedLaws.{where_find}
 use Rattle.record.specs.declared.image.SavedEnd.{SavedEnd}
+use Rattle.record.specs.declared.image.End.{End}
 
 -- Lists whose elements are numbered in order
 
@@ -115,25 +118,33 @@ map_twice {A} f g (x ∷ xs) = ap (λ (ys : List A). g (f x) ∷ ys) (map_twice 
 
 -- Ends
 
--- an entry of a channel is at the channel's number
-pub channel_at : (net : Network) (image : ImageView) (k : ℕ) (saved : SavedEnd) → IsLaidOut net image → slice_get image.ends k ≡ Some saved → saved.channel ≡ k
-channel_at net image k saved laid is =
-    let sum : 0 + k ≡ k = omega arith in
-    numbered_mark (λ (s : SavedEnd). s.channel) image.ends 0 (length net.channels) k saved laid.ends is ∙ sum
+-- what the image says of an entry's channel is what that entry says
+pub end_at : (net : Network) (home : ℕ) (image : ImageView) (k : ℕ) (saved : SavedEnd) → IsLaidOut net home image → slice_get image.ends k ≡ Some saved → end_of image saved.channel ≡ Some (saved.end)
+end_at net home image k saved laid is =
+    ap (option_map (λ (s : SavedEnd). s.end)) (where_find (λ (s : SavedEnd). s.channel) (has_end net home) 0 (length net.channels) image.ends k saved laid.ends is)
 
--- what the image says of the channel is what that entry says
-pub end_at : (net : Network) (image : ImageView) (k : ℕ) (saved : SavedEnd) → IsLaidOut net image → slice_get image.ends k ≡ Some saved → end_of image k ≡ Some (saved.end)
-end_at net image k saved laid is =
-    let sum : k ≡ 0 + k = omega arith in
-    ap (option_map (λ (s : SavedEnd). s.end))
-    (ap (λ (n : ℕ). find (λ (s : SavedEnd). eqb s.channel n) image.ends) sum
-    ∙ numbered_find (λ (s : SavedEnd). s.channel) image.ends 0 (length net.channels) k saved laid.ends is)
+pub received_is : (net : Network) (home : ℕ) (image : ImageView) (k : ℕ) (saved : SavedEnd) → IsLaidOut net home image → slice_get image.ends k ≡ Some saved → received_of image saved.channel ≡ received_at (Some (saved.end))
+received_is net home image k saved laid is = ap received_at (end_at net home image k saved laid is)
 
-pub received_is : (net : Network) (image : ImageView) (k : ℕ) (saved : SavedEnd) → IsLaidOut net image → slice_get image.ends k ≡ Some saved → received_of image k ≡ received_at (Some (saved.end))
-received_is net image k saved laid is = ap received_at (end_at net image k saved laid is)
+pub log_is : (net : Network) (home : ℕ) (image : ImageView) (k : ℕ) (saved : SavedEnd) → IsLaidOut net home image → slice_get image.ends k ≡ Some saved → log_of image saved.channel ≡ log_at (Some (saved.end))
+log_is net home image k saved laid is = ap log_at (end_at net home image k saved laid is)
 
-pub log_is : (net : Network) (image : ImageView) (k : ℕ) (saved : SavedEnd) → IsLaidOut net image → slice_get image.ends k ≡ Some saved → log_of image k ≡ log_at (Some (saved.end))
-log_is net image k saved laid is = ap log_at (end_at net image k saved laid is)
+-- what an image says of a channel is what one of its entries says
+pub record Entry (image : ImageView) (c : ℕ) (end : End) : Type 0 where
+  pub place : ℕ
+  pub saved : SavedEnd
+  pub is : slice_get image.ends place ≡ Some saved
+  pub channel : saved.channel ≡ c
+  pub is_end : saved.end ≡ end
+
+pub entry_of : (image : ImageView) (c : ℕ) (end : End) → end_of image c ≡ Some end → Entry image c end
+entry_of image c end h = at (find (λ (s : SavedEnd). eqb s.channel c) image.ends) refl h
+  where
+    at : (o : Option SavedEnd) → find (λ (s : SavedEnd). eqb s.channel c) image.ends ≡ o → option_map (λ (s : SavedEnd). s.end) o ≡ Some end → Entry image c end
+    at None found e = absurd (cc)
+    at (Some saved) found e =
+        let there = find_within (λ (s : SavedEnd). eqb s.channel c) image.ends saved found in
+        record { place = there.0; saved = saved; is = there.1; channel = found_is (λ (s : SavedEnd). s.channel) image.ends c saved found; is_end = cc }
 
 -- what an image says of a channel, where each entry changed and none its number
 pub end_of_changed : (image later : ImageView) (c : ℕ) (f : SavedEnd → SavedEnd) → ((saved : SavedEnd) → (f saved).channel ≡ saved.channel) → later.ends ≡ map f image.ends

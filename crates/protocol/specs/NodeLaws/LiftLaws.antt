@@ -1,6 +1,6 @@
 -- Laws of a later approximation: a node that stands on one stands on the next, and what it has at hand comes next there.
 use Rattle.std.proofs.Common.{◌≡◌, ◌≢◌, ◌⊎◌, inl, inr, ℕ, suc, ◌+◌, ◌-◌, ◌<◌, ◌≤◌, Bool, true, false, eqb, cond, ℤ, List, [], ◌∷◌, ◌++◌, length, take, drop, get_or, Option, Some, None, refl, sym, ap, subst, ◌∙◌, arith}
-use Rattle.std.specs.Prelude.{slice_get, min}
+use Rattle.std.specs.Prelude.{slice_get, min, IsTrue}
 use Rattle.std.proofs.Math.Nat.{min-le_left, min-le_right, min-eq_left, le-min}
 use Rattle.std.proofs.lemmas.Bool.Decides.{eqb_tells}
 use Rattle.std.proofs.lemmas.List.{get_or_past, take-append-drop, take-append-le, take_min, drop-drop, drop-append-le}
@@ -28,7 +28,11 @@ use Rattle.record.specs.declared.record.Tentative.{Tentative}
 use Rattle.protocol.specs.Node.Granting.{is_process, next_in_log, next_items, items_from}
 use Rattle.protocol.specs.Node.NodeView.{RunningNode}
 use Rattle.protocol.specs.Node.Reached.{first_acts, acts_of, ImageStands, HasReached, IsAsFar, IsLaidOut, CountsAreWithin}
-use Rattle.protocol.specs.NodeLaws.InnerLaws.{StaysHere, inner_there}
+use Rattle.protocol.specs.Node.Layout.{has_process, port_on, role_by}
+use Rattle.protocol.specs.NodeLaws.InnerLaws.{StaysHere, end_there, consumer_on, inner_there}
+use Rattle.ckpt_codec.specs.RecordText.{role_of}
+use Rattle.record.specs.declared.image.End.{End}
+use Rattle.record.specs.declared.image.End.TheVariants.{Receives, Sends, Both}
 use Rattle.protocol.specs.NodeLaws.ReachedLaws.{input_stays, items_of_channel, length-items_from, received_stands}
 use Rattle.protocol.specs.NodeLaws.ReleaseLaws.{acts_put_prefix, log_stands}
 use Rattle.protocol.specs.declared.limits.TheConstants.{MAX_JOB_ITEMS}
@@ -42,9 +46,9 @@ act_count (Some code) histories = length (process_trace code histories).steps
 abbrev pub on_next : Network → List (List ℤ) → (ℕ → ℕ) → ℕ → ℕ
 on_next net histories made p = min (made p) (act_count (slice_get net.codes p) histories)
 
--- on these histories, what each process has at hand comes next
-abbrev pub IsAtHand : Network → List (List ℤ) → List (List ℤ) → (ℕ → ℕ) → ImageView → Type 0
-IsAtHand net inputs histories made image = (p : ℕ) → AreNext (items_from inputs image p 0 net.channels) histories (acts_of net histories made p)
+-- on these histories, what a process has at hand comes next
+abbrev pub IsAtHand : Network → List (List ℤ) → List (List ℤ) → (ℕ → ℕ) → ImageView → ℕ → Type 0
+IsAtHand net inputs histories made image p = AreNext (items_from inputs image p 0 net.channels) histories (acts_of net histories made p)
 
 module _ (net : Network) (inputs : List (List ℤ)) (valid : IsValid net) (fits : Fits net inputs) (n : ℕ) where
   -- the acts are the same on the next approximation
@@ -78,15 +82,15 @@ module _ (net : Network) (inputs : List (List ℤ)) (valid : IsValid net) (fits 
     ends = λ k saved channel is on. (
         let end = stands.ends k saved channel is on in
         record {
-          received = λ p to. end.received p to ∙ ap (λ (steps : List Step). length (got_on saved.channel steps)) (sym (acts_on_next made p));
+          received = λ p to counting. end.received p to counting ∙ ap (λ (steps : List Step). length (got_on saved.channel steps)) (sym (acts_on_next made p));
           retained = λ p log from has. subst (λ (steps : List Step). IsLogOf log (sent_on saved.channel steps)) (sym (acts_on_next made p)) (end.retained p log from has);
         });
   }
 
-  -- what a process has at hand comes next, once it has made its acts
-  pub next_are_at_hand : (made : ℕ → ℕ) (image : ImageView) → ImageStands net (approximation net inputs n) made image → IsLaidOut net image → CountsAreWithin inputs image
-      → IsAtHand net inputs (approximation net inputs (suc n)) (on_next net (approximation net inputs n) made) image
-  next_are_at_hand made image stands laid counts p c = at (slice_get_cases net.channels c).1
+  -- what a process of the node has at hand comes next, once it has made its acts
+  pub next_are_at_hand : (home : ℕ) (made : ℕ → ℕ) (image : ImageView) → ImageStands net (approximation net inputs n) made image → IsLaidOut net home image → CountsAreWithin inputs image
+      → (p : ℕ) → IsTrue (has_process net home p) → IsAtHand net inputs (approximation net inputs (suc n)) (on_next net (approximation net inputs n) made) image p
+  next_are_at_hand home made image stands laid counts p here c = at (slice_get_cases net.channels c).1
     where
       whole : List ℤ
       whole = history_of (approximation net inputs (suc n)) c
@@ -101,7 +105,7 @@ module _ (net : Network) (inputs : List (List ℤ)) (valid : IsValid net) (fits 
       left_is : (channel : Channel) → slice_get net.channels c ≡ Some channel → channel.consumer ≡ Process p → left ≡ drop (received_of image c) whole
       left_is channel is to =
           ap (λ (k : ℕ). drop k whole)
-          (ap (λ (steps : List Step). length (got_on c steps)) (acts_on_next made p) ∙ sym (received_stands net (approximation net inputs n) made image c p channel stands laid is to))
+          (ap (λ (steps : List Step). length (got_on c steps)) (acts_on_next made p) ∙ sym (received_stands net home (approximation net inputs n) made image c p channel stands laid is to here))
 
       -- an input
       of_input : (channel : Channel) → slice_get net.channels c ≡ Some channel → channel.consumer ≡ Process p → channel.producer ≡ Outside → IsPrefix (next_items inputs image c Outside) left
@@ -110,13 +114,12 @@ module _ (net : Network) (inputs : List (List ℤ)) (valid : IsValid net) (fits 
           (front MAX_JOB_ITEMS (drop (received_of image c) (history_of inputs c)))
 
       -- what a process of the node put
-      of_process : (channel : Channel) → slice_get net.channels c ≡ Some channel → channel.consumer ≡ Process p → (q : ℕ) → channel.producer ≡ Process q → IsPrefix (next_items inputs image c (Process q)) left
-      of_process channel is to q from =
-          let here = inner_there net inputs image c q p channel laid counts is from to in
+      of_process : (channel : Channel) → slice_get net.channels c ≡ Some channel → channel.consumer ≡ Process p → (q : ℕ) → channel.producer ≡ Process q → StaysHere image c → IsPrefix (next_items inputs image c (Process q)) left
+      of_process channel is to q from here =
           let put : List ℤ = sent_on c (acts_of net (approximation net inputs n) made q) in
           let received : received_of image c ≡ here.received = ap received_at here.there in
           let log : log_of image c ≡ Some (here.log) = ap log_at here.there in
-          let of = log_stands net (approximation net inputs n) made image c q channel here.log stands laid is from log in
+          let of = log_stands net (approximation net inputs n) made image c q channel here.log stands is from log in
           let sum : here.log.base + (here.received - here.log.base) ≡ here.received = (let low = here.within.from_base in omega (arith, low)) in
           let since : items_since here.log here.received ≡ drop here.received put =
           ap (drop (here.received - here.log.base)) of.items ∙ (drop-drop (here.received - here.log.base) here.log.base put ∙ ap (λ (k : ℕ). drop k put) sum) in
@@ -131,7 +134,20 @@ module _ (net : Network) (inputs : List (List ℤ)) (valid : IsValid net) (fits 
       by_producer : (channel : Channel) → slice_get net.channels c ≡ Some channel → channel.consumer ≡ Process p → (port : Port) → channel.producer ≡ port
           → IsPrefix (next_items inputs image c port) left
       by_producer channel is to Outside from = of_input channel is to from
-      by_producer channel is to (Process q) from = of_process channel is to q from
+      by_producer channel is to (Process q) from = by_home (has_process net home q) refl
+        where
+          no_log : (end : End) → role_of end ≡ 0 → log_at (Some end) ≡ None
+          no_log (Receives received) role = refl
+          no_log (Sends log) role = absurd (cc)
+          no_log (Both received log) role = absurd (cc)
+
+          -- nothing is at hand of what a process of another node put
+          by_home : (b : Bool) → has_process net home q ≡ b → IsPrefix (next_items inputs image c (Process q)) left
+          by_home true puts = of_process channel is to q from (inner_there net home inputs image c q p channel laid counts is from puts to here)
+          by_home false puts =
+              let of = end_there net home image c channel laid is (consumer_on net home p channel to here) in
+              let role : role_of of.end ≡ 0 = of.role ∙ ap (λ (b : Bool). role_by b (port_on net home channel.consumer)) (ap (port_on net home) from ∙ puts) in
+              prefix_nil _ left (ap (next_in_log (received_of image c)) (ap log_at of.there ∙ no_log of.end role))
 
       by_number : (channel : Channel) → slice_get net.channels c ≡ Some channel → (q : ℕ) → channel.consumer ≡ Process q
           → ((eqb q p ≡ true) × (q ≡ p)) ⊎ ((eqb q p ≡ false) × (q ≢ p)) → IsPrefix (cond (eqb q p) (next_items inputs image c channel.producer) []) left

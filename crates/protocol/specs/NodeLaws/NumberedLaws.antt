@@ -89,3 +89,43 @@ where_all test first zero all = refl
 where_all test first (suc count) all =
     ap (λ (b : Bool). cond b (first ∷ numbers_where test (suc first) count) (numbers_where test (suc first) count)) (all first (omega arith) (omega arith))
     ∙ ap (λ (ns : List ℕ). first ∷ ns) (where_all test (suc first) count (λ n from below. all n (omega (arith, from)) (omega (arith, below))))
+
+-- no two elements have the same number
+abbrev pub StandOnce : {A : Type 0} → (A → ℕ) → List A → Type 0
+StandOnce {A} f xs = (j k : ℕ) (x y : A) → slice_get xs j ≡ Some x → slice_get xs k ≡ Some y → f x ≡ f y → j ≡ k
+
+pub where_once : {A : Type 0} (f : A → ℕ) (test : ℕ → Bool) (first count : ℕ) (xs : List A) → map f xs ≡ numbers_where test first count → StandOnce f xs
+where_once f test first zero [] h j k x y is there same = absurd (cc)
+where_once f test first zero (z ∷ xs) h j k x y is there same = absurd (cc)
+where_once {A} f test first (suc count) xs h j k x y is there same = at (test first) xs h j k is there (λ ys e. where_once f test (suc first) count ys e)
+  where
+    at : (b : Bool) → (ys : List A) → map f ys ≡ cond b (first ∷ numbers_where test (suc first) count) (numbers_where test (suc first) count) → (j k : ℕ) → slice_get ys j ≡ Some x → slice_get ys k ≡ Some y
+        → ((zs : List A) → map f zs ≡ numbers_where test (suc first) count → StandOnce f zs) → j ≡ k
+    at false ys h j k is there further = further ys h j k x y is there same
+    at true [] h j k is there further = absurd (cc)
+    at true (z ∷ ys) h zero zero is there further = refl
+    at true (z ∷ ys) h zero (suc k) is there further =
+        let rest : map f ys ≡ numbers_where test (suc first) count = cc in
+        let here : f z ≡ first = cc in
+        let it : z ≡ x = cc in
+        let mark = where_mark f test (suc first) count ys k y rest there in
+        absurd (omega (arith, here, ap f it, same, mark.1))
+    at true (z ∷ ys) h (suc j) zero is there further =
+        let rest : map f ys ≡ numbers_where test (suc first) count = cc in
+        let here : f z ≡ first = cc in
+        let it : z ≡ y = cc in
+        let mark = where_mark f test (suc first) count ys j x rest is in
+        absurd (omega (arith, here, ap f it, same, mark.1))
+    at true (z ∷ ys) h (suc j) (suc k) is there further = (let rest : map f ys ≡ numbers_where test (suc first) count = cc in ap suc (further ys rest j k x y is there same))
+
+-- no more of them than were gone through
+pub where_count : {A : Type 0} (f : A → ℕ) (test : ℕ → Bool) (first count : ℕ) (xs : List A) → map f xs ≡ numbers_where test first count → length xs ≤ count
+where_count f test first zero [] h = omega arith
+where_count f test first zero (x ∷ xs) h = absurd (cc)
+where_count {A} f test first (suc count) xs h = at (test first) xs h (λ ys e. where_count f test (suc first) count ys e)
+  where
+    at : (b : Bool) → (ys : List A) → map f ys ≡ cond b (first ∷ numbers_where test (suc first) count) (numbers_where test (suc first) count)
+        → ((zs : List A) → map f zs ≡ numbers_where test (suc first) count → length zs ≤ count) → length ys ≤ suc count
+    at false ys h further = let few = further ys h in omega (arith, few)
+    at true [] h further = omega arith
+    at true (y ∷ ys) h further = (let rest : map f ys ≡ numbers_where test (suc first) count = cc in let few = further ys rest in omega (arith, few))

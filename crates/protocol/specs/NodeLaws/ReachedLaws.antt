@@ -1,7 +1,6 @@
 -- Laws of how far a node has come: what a process has at hand of each channel, and what it got there.
-use Rattle.std.proofs.Common.{◌≡◌, ℕ, zero, suc, ◌+◌, cond, ℤ, List, [], ◌∷◌, length, Some, refl, ap, ◌∙◌, arith}
-use Rattle.std.specs.Prelude.{slice_get}
-use Rattle.std.proofs.lemmas.Option.{slice_get_within}
+use Rattle.std.proofs.Common.{◌≡◌, ℕ, zero, suc, ◌+◌, true, cond, ℤ, List, [], ◌∷◌, length, Some, refl, sym, ap, ◌∙◌, arith}
+use Rattle.std.specs.Prelude.{slice_get, IsTrue}
 use Rattle.kahn_net.specs.Streams.{history_of}
 use Rattle.kahn_net.specs.Syntax.{Network}
 use Rattle.kahn_net.specs.Processes.{got_on}
@@ -11,11 +10,12 @@ use Rattle.kahn_net.specs.declared.program.Channel.{Channel}
 use Rattle.kahn_net.specs.declared.program.Port.{Port}
 use Rattle.kahn_net.specs.declared.program.Port.TheVariants.{Outside, Process}
 use Rattle.record.specs.ImageView.{ImageView}
-use Rattle.record.specs.Ends.{received_of}
+use Rattle.record.specs.Ends.{received_at, received_of}
 use Rattle.protocol.specs.Node.Granting.{is_process, next_items, items_from}
-use Rattle.protocol.specs.Node.Reached.{acts_of, ImageStands, IsLaidOut}
-use Rattle.protocol.specs.NodeLaws.ImageLaws.{numbered_there, channel_at, received_is}
-use Rattle.record.specs.declared.image.SavedEnd.{SavedEnd}
+use Rattle.protocol.specs.Node.Layout.{has_process}
+use Rattle.protocol.specs.Node.Reached.{acts_of, is_counting, ImageStands, IsLaidOut}
+use Rattle.protocol.specs.NodeLaws.InnerLaws.{end_there, consumer_on, counts_there}
+use Rattle.record.specs.declared.image.End.{End}
 
 -- an input is the same in each approximation
 pub input_stays : (net : Network) (inputs : List (List ℤ)) (n c : ℕ) (channel : Channel) → slice_get net.channels c ≡ Some channel → channel.producer ≡ Outside
@@ -49,12 +49,13 @@ items_of_channel net inputs image process c channel is =
     let sum : 0 + c ≡ c = omega arith in
     items_from-at inputs image process 0 net.channels c channel is ∙ ap (λ (n : ℕ). items_at_hand inputs image process n channel) sum
 
--- where the image's count is that of the items that a process got
-pub received_stands : (net : Network) (histories : List (List ℤ)) (made : ℕ → ℕ) (image : ImageView) (c p : ℕ) (channel : Channel) → ImageStands net histories made image → IsLaidOut net image
-    → slice_get net.channels c ≡ Some channel → channel.consumer ≡ Process p → received_of image c ≡ length (got_on c (acts_of net histories made p))
-received_stands net histories made image c p channel stands laid is to =
-    let there = numbered_there (λ (s : SavedEnd). s.channel) image.ends 0 (length net.channels) c laid.ends (slice_get_within net.channels c channel is) in
-    let here : there.0.channel ≡ c = channel_at net image c there.0 laid there.1 in
-    let end = stands.ends c there.0 channel there.1 (ap (slice_get net.channels) here ∙ is) in
-    received_is net image c there.0 laid there.1
-    ∙ (end.received p to ∙ ap (λ (n : ℕ). length (got_on n (acts_of net histories made p))) here)
+-- where the image's count is that of the items that a process of its node got
+pub received_stands : (net : Network) (home : ℕ) (histories : List (List ℤ)) (made : ℕ → ℕ) (image : ImageView) (c p : ℕ) (channel : Channel) → ImageStands net histories made image → IsLaidOut net home image
+    → slice_get net.channels c ≡ Some channel → channel.consumer ≡ Process p → IsTrue (has_process net home p) → received_of image c ≡ length (got_on c (acts_of net histories made p))
+received_stands net home histories made image c p channel stands laid is to here =
+    let of = end_there net home image c channel laid is (consumer_on net home p channel to here) in
+    let end = stands.ends of.at of.saved channel of.entry (ap (slice_get net.channels) of.is_channel ∙ is) in
+    let counting : is_counting of.saved.end ≡ true = ap is_counting of.is_end ∙ counts_there net home p channel of.end to here of.role in
+    ap received_at of.there
+    ∙ (ap (λ (e : End). received_at (Some e)) (sym of.is_end)
+    ∙ (end.received p to counting ∙ ap (λ (n : ℕ). length (got_on n (acts_of net histories made p))) of.is_channel))

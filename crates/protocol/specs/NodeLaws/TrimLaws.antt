@@ -18,10 +18,11 @@ use Rattle.record.specs.Ends.{received_of, received_at, log_of, log_at, sent_in,
 use Rattle.protocol.specs.Node.Sharing.{is_logging, log_share, IsWithinShare}
 use Rattle.protocol.specs.Node.Granting.{is_process, items_by, next_items, items_from, room_in, room_of, room_from}
 use Rattle.record.specs.Changes.{trimmed_log, trimmed_end, trimmed_saved, trimmed_image}
-use Rattle.protocol.specs.Node.Reached.{acts_of, EndStands, ImageStands, is_counting, role_between, IsLaidOut, CountIsWithin, CountsAreWithin, LogsAreWithin, IsJobOf}
+use Rattle.protocol.specs.Node.Layout.{role_here}
+use Rattle.protocol.specs.Node.Reached.{acts_of, EndStands, ImageStands, is_counting, IsLaidOut, CountIsWithin, CountsAreWithin, LogsAreWithin, IsJobOf}
 use Rattle.protocol.specs.NodeLaws.CountLaws.{sends_within}
 use Rattle.protocol.specs.NodeLaws.LogLaws.{trimmed_end_stays, trimmed_is_log_of, base_at, base_after}
-use Rattle.protocol.specs.NodeLaws.ImageLaws.{map_got, map_keeps, channel_at, end_at, end_of_changed, found_is}
+use Rattle.protocol.specs.NodeLaws.ImageLaws.{map_got, map_keeps, end_at, end_of_changed, found_is}
 use Rattle.protocol.specs.NodeLaws.InnerLaws.{output_apart}
 use Rattle.protocol.specs.NodeLaws.SharingLaws.{share_kept}
 use Rattle.protocol.specs.Node.Starting.{IsBehind}
@@ -161,33 +162,15 @@ room_trimmed c position image d =
     at None = omega arith
     at (Some s) = room_stays (log_share image) position (eqb s.channel c) s.end
 
-pub laid_out_trimmed : (net : Network) (c position : ℕ) (image : ImageView) → IsLaidOut net image → IsLaidOut net (trimmed_image c position image)
-laid_out_trimmed net c position image laid = record {
+pub laid_out_trimmed : (net : Network) (home c position : ℕ) (image : ImageView) → IsLaidOut net home image → IsLaidOut net home (trimmed_image c position image)
+laid_out_trimmed net home c position image laid = record {
   processes = laid.processes;
   ends = map_keeps (λ (s : SavedEnd). s.channel) (trimmed_saved c position) image.ends (λ s. refl) ∙ laid.ends;
-  counting = counting;
-  logging = logging;
   roles = roles;
 }
   where
-    counting : (k p : ℕ) (saved : SavedEnd) (channel : Channel) → slice_get (map (trimmed_saved c position) image.ends) k ≡ Some saved → slice_get net.channels saved.channel ≡ Some channel
-        → channel.consumer ≡ Process p → is_counting saved.end ≡ true
-    counting k p saved channel is on to =
-        let old = map_got (trimmed_saved c position) image.ends k saved is in
-        let number : old.0.channel ≡ saved.channel = ap (λ (s : SavedEnd). s.channel) old.2 in
-        ap (λ (s : SavedEnd). is_counting s.end) (sym old.2)
-        ∙ (still_counting position (eqb old.0.channel c) old.0.end ∙ laid.counting k p old.0 channel old.1 (ap (slice_get net.channels) number ∙ on) to)
-
-    logging : (k p : ℕ) (saved : SavedEnd) (channel : Channel) → slice_get (map (trimmed_saved c position) image.ends) k ≡ Some saved → slice_get net.channels saved.channel ≡ Some channel
-        → channel.producer ≡ Process p → is_logging saved.end ≡ true
-    logging k p saved channel is on from =
-        let old = map_got (trimmed_saved c position) image.ends k saved is in
-        let number : old.0.channel ≡ saved.channel = ap (λ (s : SavedEnd). s.channel) old.2 in
-        ap (λ (s : SavedEnd). is_logging s.end) (sym old.2)
-        ∙ (still_logging position (eqb old.0.channel c) old.0.end ∙ laid.logging k p old.0 channel old.1 (ap (slice_get net.channels) number ∙ on) from)
-
     roles : (k : ℕ) (saved : SavedEnd) (channel : Channel) → slice_get (map (trimmed_saved c position) image.ends) k ≡ Some saved → slice_get net.channels saved.channel ≡ Some channel
-        → role_of saved.end ≡ role_between channel.producer channel.consumer
+        → role_of saved.end ≡ role_here net home channel
     roles k saved channel is on =
         let old = map_got (trimmed_saved c position) image.ends k saved is in
         let number : old.0.channel ≡ saved.channel = ap (λ (s : SavedEnd). s.channel) old.2 in
@@ -211,17 +194,15 @@ count_trimmed inputs c position saved apart within = at (eqb_tells saved.channel
         subst (λ (b : Bool). CountIsWithin inputs saved.channel (cond b (trimmed_end position saved.end) saved.end)) (sym same.0)
         (by_end saved.end (λ received log. apart received log same.1) within)
 
-pub counts_trimmed : (net : Network) (inputs : List (List ℤ)) (c position : ℕ) (channel : Channel) (image : ImageView) → IsLaidOut net image → slice_get net.channels c ≡ Some channel → channel.consumer ≡ Outside
+pub counts_trimmed : (net : Network) (home : ℕ) (inputs : List (List ℤ)) (c position : ℕ) (channel : Channel) (image : ImageView) → IsLaidOut net home image → slice_get net.channels c ≡ Some channel → channel.consumer ≡ Outside
     → CountsAreWithin inputs image → CountsAreWithin inputs (trimmed_image c position image)
-counts_trimmed net inputs c position channel image laid on to counts k saved is =
+counts_trimmed net home inputs c position channel image laid on to counts k saved is =
     let old = map_got (trimmed_saved c position) image.ends k saved is in
     subst (λ (s : SavedEnd). CountIsWithin inputs s.channel s.end) old.2
-    (count_trimmed inputs c position old.0 (λ received log here both. output_apart net image c received channel log laid on to (found old.0 old.1 here ∙ ap Some both)) (counts k old.0 old.1))
+    (count_trimmed inputs c position old.0 (λ received log here both. output_apart net home image c received channel log laid on to (found old.0 old.1 here ∙ ap Some both)) (counts k old.0 old.1))
   where
     found : (s : SavedEnd) → slice_get image.ends k ≡ Some s → s.channel ≡ c → end_of image c ≡ Some (s.end)
-    found s there here =
-        let place : c ≡ k = sym here ∙ channel_at net image k s laid there in
-        ap (end_of image) place ∙ end_at net image k s laid there
+    found s there here = ap (end_of image) (sym here) ∙ end_at net home image k s laid there
 
 pub logs_trimmed : (c position : ℕ) (image : ImageView) → LogsAreWithin image → LogsAreWithin (trimmed_image c position image)
 logs_trimmed c position image logs k saved log is at_end =
@@ -318,7 +299,7 @@ image_trimmed net histories made c position image stands = record { processes = 
   where
     of_old : (s : SavedEnd) (channel : Channel) → EndStands net histories made s.channel channel s.end
         → EndStands net histories made s.channel channel (cond (eqb s.channel c) (trimmed_end position s.end) s.end)
-    of_old s channel before = record { received = λ p to. still_received position (eqb s.channel c) s.end ∙ before.received p to; retained = retained }
+    of_old s channel before = record { received = λ p to counting. still_received position (eqb s.channel c) s.end ∙ before.received p to (sym (still_counting position (eqb s.channel c) s.end) ∙ counting); retained = retained }
       where
         retained : (p : ℕ) (log : LogState) → channel.producer ≡ Process p → log_at (Some (cond (eqb s.channel c) (trimmed_end position s.end) s.end)) ≡ Some log → IsLogOf log (sent_on s.channel (acts_of net histories made p))
         retained p log from is =

@@ -21,7 +21,7 @@ goes_outside (Process p) = false
 -- its image has every process and channel, no more was received than there is, and its logs are within their limits (a view of a node
 -- doesn't say so, and without it a turn might not fit)
 pub record NodeIsSound (net : Network) (inputs : List (List ℤ)) (node : RunningNode) : Type 0 where
-  pub laid_out : IsLaidOut net node.current
+  pub laid_out : IsLaidOut net node.kept.node node.current
   pub counts : CountsAreWithin inputs node.current
   pub logs : LogsAreWithin node.current
 
