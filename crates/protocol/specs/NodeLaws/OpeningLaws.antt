@@ -149,36 +149,31 @@ process_numbers : (net : Network) (home number : ℕ) (codes : List Code) → ((
     → map (λ (s : SavedProcessView). s.number) (opening_processes home number codes) ≡ numbers_where (has_process net home) number (length codes)
 process_numbers net home number [] all = refl
 process_numbers net home number (code ∷ codes) all =
-    at (code.node == home) ∙ ap (λ (b : Bool). cond b (number ∷ numbers_where (has_process net home) (suc number) (length codes)) (numbers_where (has_process net home) (suc number) (length codes))) (sym test)
+    at (code.node == home) (process_numbers net home (suc number) codes (λ j. (let sum : suc number + j ≡ number + suc j = omega arith in ap (slice_get net.codes) sum ∙ all (suc j)))) ∙ ap (λ (b : Bool). cond b (number ∷ numbers_where (has_process net home) (suc number) (length codes)) (numbers_where (has_process net home) (suc number) (length codes))) (sym test)
   where
-    rest : map (λ (s : SavedProcessView). s.number) (opening_processes home (suc number) codes) ≡ numbers_where (has_process net home) (suc number) (length codes)
-    rest = process_numbers net home (suc number) codes (λ j. (let sum : suc number + j ≡ number + suc j = omega arith in ap (slice_get net.codes) sum ∙ all (suc j)))
-
     test : has_process net home number ≡ (code.node == home)
     test = (let sum : number ≡ number + 0 = omega arith in ap (is_on home) (ap (slice_get net.codes) sum ∙ all 0))
 
-    at : (b : Bool) → map (λ (s : SavedProcessView). s.number) (cond b (record { number = number; standing = NotBegun code.vars } ∷ opening_processes home (suc number) codes) (opening_processes home (suc number) codes))
+    at : (b : Bool) → map (λ (s : SavedProcessView). s.number) (opening_processes home (suc number) codes) ≡ numbers_where (has_process net home) (suc number) (length codes)
+        → map (λ (s : SavedProcessView). s.number) (cond b (record { number = number; standing = NotBegun code.vars } ∷ opening_processes home (suc number) codes) (opening_processes home (suc number) codes))
         ≡ cond b (number ∷ numbers_where (has_process net home) (suc number) (length codes)) (numbers_where (has_process net home) (suc number) (length codes))
-    at true = ap (λ (ns : List ℕ). number ∷ ns) rest
-    at false = rest
+    at true rest = ap (λ (ns : List ℕ). number ∷ ns) rest
+    at false rest = rest
 
 channel_numbers : (net : Network) (home number : ℕ) (channels : List Channel) → ((j : ℕ) → slice_get net.channels (number + j) ≡ slice_get channels j)
     → map (λ (s : SavedEnd). s.channel) (opening_ends net home number channels) ≡ numbers_where (has_end net home) number (length channels)
 channel_numbers net home number [] all = refl
 channel_numbers net home number (channel ∷ channels) all =
-    at (channel_on net home (Some channel)) ∙ ap (λ (b : Bool). cond b (number ∷ numbers_where (has_end net home) (suc number) (length channels)) (numbers_where (has_end net home) (suc number) (length channels))) (sym test)
+    at (channel_on net home (Some channel)) (channel_numbers net home (suc number) channels (λ j. (let sum : suc number + j ≡ number + suc j = omega arith in ap (slice_get net.channels) sum ∙ all (suc j)))) ∙ ap (λ (b : Bool). cond b (number ∷ numbers_where (has_end net home) (suc number) (length channels)) (numbers_where (has_end net home) (suc number) (length channels))) (sym test)
   where
-    rest : map (λ (s : SavedEnd). s.channel) (opening_ends net home (suc number) channels) ≡ numbers_where (has_end net home) (suc number) (length channels)
-    rest = channel_numbers net home (suc number) channels (λ j. (let sum : suc number + j ≡ number + suc j = omega arith in ap (slice_get net.channels) sum ∙ all (suc j)))
-
     test : has_end net home number ≡ channel_on net home (Some channel)
     test = (let sum : number ≡ number + 0 = omega arith in ap (channel_on net home) (ap (slice_get net.channels) sum ∙ all 0))
 
-    at : (b : Bool)
+    at : (b : Bool) → map (λ (s : SavedEnd). s.channel) (opening_ends net home (suc number) channels) ≡ numbers_where (has_end net home) (suc number) (length channels)
         → map (λ (s : SavedEnd). s.channel) (cond b (record { channel = number; end = opening_end (port_on net home channel.producer) (port_on net home channel.consumer) } ∷ opening_ends net home (suc number) channels) (opening_ends net home (suc number) channels))
         ≡ cond b (number ∷ numbers_where (has_end net home) (suc number) (length channels)) (numbers_where (has_end net home) (suc number) (length channels))
-    at true = ap (λ (ns : List ℕ). number ∷ ns) rest
-    at false = rest
+    at true rest = ap (λ (ns : List ℕ). number ∷ ns) rest
+    at false rest = rest
 
 pub laid_out_opening : (net : Network) (home : ℕ) → IsLaidOut net home (opening_image net home)
 laid_out_opening net home = record {

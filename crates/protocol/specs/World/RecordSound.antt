@@ -17,10 +17,10 @@ use Rattle.protocol.specs.Node.Starting.{IsBehind}
 use Rattle.protocol.specs.World.OutputView.{OutputView}
 use Rattle.protocol.specs.World.Sound.{output_channels}
 
--- an image has every process and channel, no more was received than there is, its logs are within their limits, and those of outputs go back to
+-- an image has the processes and ends of its node, no more was received than there is, its logs are within their limits, and those of outputs go back to
 -- what has left
-pub record ImageIsSound (net : Network) (inputs : List (List ℤ)) (image : ImageView) (outputs : List OutputView) : Type 0 where
-  pub laid_out : IsLaidOut net image
+pub record ImageIsSound (net : Network) (home : ℕ) (inputs : List (List ℤ)) (image : ImageView) (outputs : List OutputView) : Type 0 where
+  pub laid_out : IsLaidOut net home image
   pub counts : CountsAreWithin inputs image
   pub logs : LogsAreWithin image
   pub no_gap : (j : ℕ) (output : OutputView) → slice_get outputs j ≡ Some output → base_of image output.channel ≤ length output.taken
@@ -46,8 +46,8 @@ pub record RecordHasCome (net : Network) (inputs : List (List ℤ)) (kept : Reco
 -- is said above.
 pub record RecordIsSound (net : Network) (inputs : List (List ℤ)) (kept : RecordView) (outputs : List OutputView) : Type 0 where
   pub listed : map (λ (output : OutputView). output.channel) outputs ≡ output_channels 0 net.channels
-  pub permanent : ImageIsSound net inputs kept.permanent outputs
-  pub held : (tentative : Tentative) → kept.tentative ≡ Some tentative → ImageIsSound net inputs tentative.image outputs
+  pub permanent : ImageIsSound net kept.node inputs kept.permanent outputs
+  pub held : (tentative : Tentative) → kept.tentative ≡ Some tentative → ImageIsSound net kept.node inputs tentative.image outputs
   pub ahead : (tentative : Tentative) → kept.tentative ≡ Some tentative → IsBehind kept.permanent tentative.image
   pub covered : CoversAll kept.permanent outputs
   pub undecided : kept.decision ≡ None

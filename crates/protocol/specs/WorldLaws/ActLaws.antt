@@ -50,7 +50,7 @@ module _ (net : Network) (inputs : List (List ℤ)) (valid : IsValid net) (fits 
       all = ∥∥₁_elim inv.kept.come (AllByRecursion-prop IsAllowed allowed_once (image_fields (Some (station.node.kept.permanent)) node.current)) (λ kept.
           ∥∥₁_elim runs.sound.come (AllByRecursion-prop IsAllowed allowed_once (image_fields (Some (station.node.kept.permanent)) node.current)) (λ come.
           recursion_from_All IsAllowed (image_fields (Some (station.node.kept.permanent)) node.current)
-          (image_like net inputs (approximation net inputs kept.n) (approximation net inputs come.reached.n) kept.permanent_acts come.reached.current_acts station.node.kept.permanent node.current valid fits.few
+          (image_like net station.node.kept.node inputs (approximation net inputs kept.n) (approximation net inputs come.reached.n) kept.permanent_acts come.reached.current_acts station.node.kept.permanent node.current valid fits.few
           inv.kept.permanent.laid_out kept.permanent runs.sound.kept.laid_out come.reached.current runs.sound.kept.counts runs.sound.kept.logs).allowed))
 
   pub like_now : IsLikeNow station.node

@@ -90,7 +90,7 @@ module _ (net : Network) (inputs : List (List ℤ)) (node : RunningNode) (output
         by_log None has on' = absurd (logged has)
         by_log (Some log) has on' =
             goes_on log (sent_on output.channel (acts_of net (approximation net inputs come.reached.n) come.reached.current_acts p)) has
-            (log_stands net (approximation net inputs come.reached.n) come.reached.current_acts node.current output.channel p channel log come.reached.current sound.kept.laid_out on' from has)
+            (log_stands net (approximation net inputs come.reached.n) come.reached.current_acts node.current output.channel p channel log come.reached.current on' from has)
             (come.released j p output channel is on' from)
 
         at : ((i ≡ j) × (◌≡◌ {A = OutputView} (record { channel = output.channel; taken = taken }) one)) ⊎ ((i ≢ j) × (slice_get outputs i ≡ Some one))
@@ -127,8 +127,8 @@ module _ (net : Network) (inputs : List (List ℤ)) (node : RunningNode) (output
     sound_released = record {
       listed = set_keeps (λ (o : OutputView). o.channel) outputs j output (record { channel = output.channel; taken = taken }) is refl ∙ sound.listed;
       kept = record {
-        laid_out = laid_out_trimmed net output.channel (length taken) node.current sound.kept.laid_out;
-        counts = counts_trimmed net inputs output.channel (length taken) there.0 node.current sound.kept.laid_out there.1 there.2 sound.kept.counts;
+        laid_out = laid_out_trimmed net node.kept.node output.channel (length taken) node.current sound.kept.laid_out;
+        counts = counts_trimmed net node.kept.node inputs output.channel (length taken) there.0 node.current sound.kept.laid_out there.1 there.2 sound.kept.counts;
         logs = logs_trimmed output.channel (length taken) node.current sound.kept.logs;
       };
       covered = covered_then;

@@ -30,7 +30,7 @@ module _ (net : Network) (inputs : List (List ℤ)) (outputs : List OutputView) 
   come_grant None old is sound come = come
   come_grant (Some job) old is sound come = record {
     reached = reached_grant net inputs (Some job) old come.reached;
-    out = λ other h. subst (IsJobOf net inputs old.current) (same job other h) (job_granted net inputs old job sound.kept.laid_out is);
+    out = λ other h. subst (IsJobOf net inputs old.current) (same job other h) (job_granted net old.kept.node inputs old job sound.kept.laid_out is);
     released = λ j p output channel h at from. beginning_stays net inputs old _ come.reached _ output.channel p output.taken (on_grant net inputs (Some job) old come.reached) (come.released j p output channel h at from);
   }
     where

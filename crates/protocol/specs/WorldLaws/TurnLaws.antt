@@ -19,7 +19,7 @@ use Rattle.protocol.specs.Node.Installing.{put_on, installed, with_turn, ImageTa
 use Rattle.protocol.specs.Node.Sharing.{log_share, IsWithinShare}
 use Rattle.protocol.specs.Node.Reached.{IsJobOf, IsTurnOf, CountIsWithin, CountsAreWithin, LogsAreWithin}
 use Rattle.protocol.specs.NodeLaws.InnerLaws.{output_apart}
-use Rattle.protocol.specs.NodeLaws.InstallLaws.{reached_install, on_install}
+use Rattle.protocol.specs.NodeLaws.InstallLaws.{job_here, reached_install, on_install}
 use Rattle.protocol.specs.NodeLaws.LiftLaws.{on_next, IsAtHand, acts_on_next, next_are_at_hand, reached_on_next}
 use Rattle.protocol.specs.WorldLaws.OutputLaws.{output_channel}
 use Rattle.protocol.specs.NodeLaws.FitLaws.{turn_fits, counts_installed, laid_out_installed, logs_installed, base_installed}
@@ -39,9 +39,11 @@ come_on_next net inputs node outputs valid fits come = record {
 
 module _ (net : Network) (inputs : List (List ℤ)) (valid : IsValid net) (node : RunningNode) (outputs : List OutputView) (job : JobView) (after : Standing) (taken : List ℕ) (sent : List (List ℤ)) where
   -- what it has at hand comes next there
-  hand_of : (fits : Fits net inputs) → IsSound net inputs node outputs → (come : HasCome net inputs node outputs)
-      → IsAtHand net inputs (approximation net inputs (suc come.reached.n)) (on_next net (approximation net inputs come.reached.n) come.reached.current_acts) node.current
-  hand_of fits sound come = next_are_at_hand net inputs valid fits come.reached.n come.reached.current_acts node.current come.reached.current sound.kept.laid_out sound.kept.counts
+  hand_of : (fits : Fits net inputs) → IsSound net inputs node outputs → (come : HasCome net inputs node outputs) → node.out ≡ Some job
+      → IsAtHand net inputs (approximation net inputs (suc come.reached.n)) (on_next net (approximation net inputs come.reached.n) come.reached.current_acts) node.current job.process
+  hand_of fits sound come out =
+      next_are_at_hand net inputs valid fits come.reached.n node.kept.node come.reached.current_acts node.current come.reached.current sound.kept.laid_out sound.kept.counts
+      job.process (job_here net node.kept.node inputs node.current job sound.kept.laid_out (come.out job out))
 
   -- the job that is out is of this network, so a turn of its own code is one of the network's
   turn_of_done : IsJobOf net inputs node.current job → IsTurnOfJob job after taken sent → IsTurnOf net job after taken sent
@@ -54,7 +56,7 @@ module _ (net : Network) (inputs : List (List ℤ)) (valid : IsValid net) (node 
 
   fits_by : Fits net inputs → IsSound net inputs node outputs → node.out ≡ Some job → HasCome net inputs node outputs → IsTurnOf net job after taken sent → ImageTakes net.channels job.process taken sent node.current
   fits_by fits sound out come turn =
-      turn_fits net inputs node job after taken sent (reached_on_next net inputs node valid fits come.reached) sound.kept.laid_out (hand_of fits sound come) sound.kept.counts sound.kept.logs fits (come.out job out) turn
+      turn_fits net node.kept.node inputs node job after taken sent (reached_on_next net inputs node valid fits come.reached) sound.kept.laid_out (hand_of fits sound come out) sound.kept.counts sound.kept.logs fits (come.out job out) turn
 
   takes : Fits net inputs → IsSound net inputs node outputs → node.out ≡ Some job → ∥ IsTurnOf net job after taken sent ∥₁ → ImageTakes net.channels job.process taken sent node.current
   takes fits sound out turn k saved is = record {
@@ -80,7 +82,7 @@ module _ (net : Network) (inputs : List (List ℤ)) (valid : IsValid net) (node 
     where
       within : HasCome net inputs node outputs → IsTurnOf net job after taken sent → CountIsWithin inputs saved.channel saved.end
       within come t =
-          counts_installed net inputs node job after taken sent (reached_on_next net inputs node valid fits come.reached) sound.kept.laid_out (hand_of fits sound come) sound.kept.counts (come.out job out) t k saved is
+          counts_installed net node.kept.node inputs node job after taken sent (reached_on_next net inputs node valid fits come.reached) sound.kept.laid_out (hand_of fits sound come out) sound.kept.counts (come.out job out) t k saved is
 
   logs_then : Fits net inputs → IsSound net inputs node outputs → node.out ≡ Some job → ∥ IsTurnOf net job after taken sent ∥₁ → LogsAreWithin (installed net.channels job.process after taken sent node.current)
   logs_then fits sound out turn k saved log is there = record {
@@ -90,17 +92,17 @@ module _ (net : Network) (inputs : List (List ℤ)) (valid : IsValid net) (node 
     where
       within : HasCome net inputs node outputs → IsTurnOf net job after taken sent → IsWithinShare (log_share (installed net.channels job.process after taken sent node.current)) log
       within come t =
-          logs_installed net inputs node job after taken sent (reached_on_next net inputs node valid fits come.reached) sound.kept.laid_out (hand_of fits sound come) sound.kept.logs (come.out job out) t k saved log is there
+          logs_installed net node.kept.node inputs node job after taken sent (reached_on_next net inputs node valid fits come.reached) sound.kept.laid_out (hand_of fits sound come out) sound.kept.logs (come.out job out) t k saved log is there
 
   come_then : Fits net inputs → IsSound net inputs node outputs → node.out ≡ Some job → HasCome net inputs node outputs → IsTurnOf net job after taken sent
       → HasCome net inputs (with_turn net.channels job.process after taken sent node) outputs
   come_then fits sound out come turn = record {
-    reached = reached_install net inputs node job after taken sent (reached_on_next net inputs node valid fits come.reached) sound.kept.laid_out (hand_of fits sound come) (come.out job out) turn;
+    reached = reached_install net node.kept.node inputs node job after taken sent (reached_on_next net inputs node valid fits come.reached) sound.kept.laid_out (hand_of fits sound come out) (come.out job out) turn;
     out = λ other is. absurd (cc);
     released = λ j p output channel is on from.
         beginning_stays net inputs node (with_turn net.channels job.process after taken sent node) (reached_on_next net inputs node valid fits come.reached)
-        (reached_install net inputs node job after taken sent (reached_on_next net inputs node valid fits come.reached) sound.kept.laid_out (hand_of fits sound come) (come.out job out) turn) output.channel p output.taken
-        (on_install net inputs node job after taken sent (reached_on_next net inputs node valid fits come.reached) sound.kept.laid_out (hand_of fits sound come) (come.out job out) turn)
+        (reached_install net node.kept.node inputs node job after taken sent (reached_on_next net inputs node valid fits come.reached) sound.kept.laid_out (hand_of fits sound come out) (come.out job out) turn) output.channel p output.taken
+        (on_install net node.kept.node inputs node job after taken sent (reached_on_next net inputs node valid fits come.reached) sound.kept.laid_out (hand_of fits sound come out) (come.out job out) turn)
         ((come_on_next net inputs node outputs valid fits come).released j p output channel is on from);
   }
 
@@ -110,7 +112,7 @@ module _ (net : Network) (inputs : List (List ℤ)) (valid : IsValid net) (node 
       let there = output_channel net outputs sound.listed j output is in
       let base : base_of (installed net.channels job.process after taken sent node.current) output.channel ≡ base_of node.current output.channel =
       base_installed net.channels job.process after taken sent node.current output.channel
-      (λ received log. output_apart net node.current output.channel received there.0 log sound.kept.laid_out there.1 there.2) in
+      (λ received log. output_apart net node.kept.node node.current output.channel received there.0 log sound.kept.laid_out there.1 there.2) in
       let gap = before.no_gap in
       record { no_gap = omega (arith, base, gap); covered = before.covered }
 
@@ -118,7 +120,7 @@ module _ (net : Network) (inputs : List (List ℤ)) (valid : IsValid net) (node 
   stays fits sound out turn = record {
     listed = sound.listed;
     kept = record {
-      laid_out = laid_out_installed net job.process after taken sent node.current sound.kept.laid_out;
+      laid_out = laid_out_installed net node.kept.node job.process after taken sent node.current sound.kept.laid_out;
       counts = counts_then fits sound out turn;
       logs = logs_then fits sound out turn;
     };
