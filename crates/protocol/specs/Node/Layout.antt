@@ -1,5 +1,5 @@
 -- What of a network lies on a node: its processes, and its ends of channels.
-use Rattle.std.specs.Prelude.{ℕ, zero, suc, Bool, true, false, ◌==◌, ◌||◌, if◌then◌else◌, List, [], ◌∷◌, length, Option, Some, None, slice_get}
+use Rattle.std.specs.Prelude.{◌≡◌, ℕ, zero, suc, Bool, true, false, ◌==◌, ◌||◌, if◌then◌else◌, List, [], ◌∷◌, length, Option, Some, None, slice_get, IsTrue}
 use Rattle.kahn_net.specs.Syntax.{Code, Network}
 use Rattle.kahn_net.specs.declared.program.Channel.{Channel}
 use Rattle.kahn_net.specs.declared.program.Port.{Port}
@@ -46,3 +46,7 @@ processes_on net node = numbers_where (has_process net node) 0 (length net.codes
 
 abbrev pub ends_on : Network → ℕ → List ℕ
 ends_on net node = numbers_where (has_end net node) 0 (length net.channels)
+
+-- each process of the network is on the node
+abbrev pub AllHere : Network → ℕ → Type 0
+AllHere net node = (p : ℕ) (code : Code) → slice_get net.codes p ≡ Some code → IsTrue (has_process net node p)

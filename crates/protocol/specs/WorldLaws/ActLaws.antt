@@ -1,5 +1,5 @@
 -- What a node's events ask for, of a station that is sound.
-use Rattle.std.proofs.Common.{◌≡◌, ◌^◌, ◌<◌, List, ℤ, Option, Some, None, refl, sym, ap, ◌∙◌}
+use Rattle.std.proofs.Common.{subst, ◌≡◌, ◌^◌, ◌<◌, List, ℤ, Option, Some, None, refl, sym, ap, ◌∙◌}
 use Rattle.std.specs.Prelude.{IsTrue}
 use Rattle.std.specs.List.{AllByRecursion, AllByRecursion-prop}
 use Rattle.std.proofs.Math.Logic.{∥∥₁_elim}
@@ -14,6 +14,8 @@ use Rattle.ckpt_codec.specs.Fields.{Field, IsAllowed}
 use Rattle.ckpt_codec.specs.RecordText.{image_fields}
 use Rattle.ckpt_store.specs.Spelling.{IsLike}
 use Rattle.protocol.specs.Node.Installing.{IsOut, TakesTurn}
+use Rattle.protocol.specs.Node.Reached.{IsLaidOut}
+use Rattle.record.specs.RecordView.{RecordView}
 use Rattle.protocol.specs.NodeLaws.LikeLaws.{image_like}
 use Rattle.protocol.specs.Node.NodeView.{ModeView, Down, InDoubt, Runs, RunningNode, running_node, running_in, running_of}
 use Rattle.protocol.specs.Node.Starting.{IsLikeAt, IsLikeNow}
@@ -51,7 +53,7 @@ module _ (net : Network) (inputs : List (List ℤ)) (valid : IsValid net) (fits 
           ∥∥₁_elim runs.sound.come (AllByRecursion-prop IsAllowed allowed_once (image_fields (Some (station.node.kept.permanent)) node.current)) (λ come.
           recursion_from_All IsAllowed (image_fields (Some (station.node.kept.permanent)) node.current)
           (image_like net station.node.kept.node inputs (approximation net inputs kept.n) (approximation net inputs come.reached.n) kept.permanent_acts come.reached.current_acts station.node.kept.permanent node.current valid fits.few
-          inv.kept.permanent.laid_out kept.permanent runs.sound.kept.laid_out come.reached.current runs.sound.kept.counts runs.sound.kept.logs).allowed))
+          inv.kept.permanent.laid_out kept.permanent (subst (λ (k : RecordView). IsLaidOut net k.node node.current) same runs.sound.kept.laid_out) come.reached.current runs.sound.kept.counts runs.sound.kept.logs).allowed))
 
   pub like_now : IsLikeNow station.node
   like_now = at (running_of station.node) refl

@@ -125,6 +125,7 @@ module _ (net : Network) (inputs : List (List ℤ)) (node : RunningNode) (output
     -- what has left stays a beginning, and is covered; and no log begins behind it
     pub sound_released : IsSound net inputs (with_current (trimmed_image output.channel (length taken) node.current) node) (slice_set outputs j (record { channel = output.channel; taken = taken }))
     sound_released = record {
+      here = sound.here;
       listed = set_keeps (λ (o : OutputView). o.channel) outputs j output (record { channel = output.channel; taken = taken }) is refl ∙ sound.listed;
       kept = record {
         laid_out = laid_out_trimmed net node.kept.node output.channel (length taken) node.current sound.kept.laid_out;

@@ -38,7 +38,7 @@ use Rattle.protocol.specs.World.Invariant.{output_of, outputs_of, AreSound, Stat
 use Rattle.protocol.specs.WorldLaws.OrderLaws.{behind_itself}
 use Rattle.protocol.specs.WorldLaws.OutputLaws.{map_at}
 use Rattle.protocol.specs.World.OutputView.{OutputView}
-use Rattle.protocol.specs.WorldLaws.RecordLaws.{last_more, record_decided, record_epoch}
+use Rattle.protocol.specs.WorldLaws.RecordLaws.{producer_here, consumer_here, last_more, record_decided, record_epoch}
 use Rattle.protocol.specs.World.RecordSound.{RecordIsSound}
 use Rattle.protocol.specs.World.RecoveryLine.{next_kept, node_at, producer_of, consumer_of, net_seen, record_or_new, records_seen, outlets_seen, records_of, IsLineOf, FitsOutputs, LeavesInLine, LinesFollow}
 use Rattle.protocol.specs.World.Released.{taken_or, released_of}
@@ -84,8 +84,8 @@ module _ (net : Network) (inputs : List (List ℤ)) where
   next_ahead (event.Arm k fault rounds) old inv = behind_itself old.node.kept.permanent
   next_ahead (event.Idle k) old inv = behind_itself old.node.kept.permanent
 
-  fits_outputs : (kept : RecordView) (outputs : List OutputView) → RecordIsSound net inputs kept outputs → FitsOutputs net outputs kept
-  fits_outputs kept outputs sound = record { undecided = sound.undecided; inside = inside; no_gap = sound.permanent.no_gap; covered = sound.covered }
+  fits_outputs : (kept : RecordView) (outputs : List OutputView) → IsValid net → RecordIsSound net inputs kept outputs → FitsOutputs net outputs kept
+  fits_outputs kept outputs valid sound = record { undecided = sound.undecided; inside = inside; no_gap = sound.permanent.no_gap; covered = sound.covered }
     where
       -- a channel with nodes at both its ends goes from process to process
       between_processes : (p q : ℕ) (producer consumer : Port) → node_at net producer ≡ Some p → node_at net consumer ≡ Some q → (a : ℕ) × (b : ℕ) × (producer ≡ Process a) × (consumer ≡ Process b)
@@ -102,7 +102,8 @@ module _ (net : Network) (inputs : List (List ℤ)) where
           at None on from to = absurd (cc)
           at (Some channel) on from to =
               let ends = between_processes p q channel.producer channel.consumer from to in
-              let here = inner_there net inputs kept.permanent c ends.0 ends.1 channel sound.permanent.laid_out sound.permanent.counts on ends.2 ends.3 in
+              let here = inner_there net kept.node inputs kept.permanent c ends.0 ends.1 channel sound.permanent.laid_out sound.permanent.counts on
+              ends.2 (producer_here net kept.node c ends.0 channel valid sound.here on ends.2) ends.3 (consumer_here net kept.node c ends.1 channel valid sound.here on ends.3) in
               let received : received_of kept.permanent c ≡ here.received = ap received_at here.there in
               let base : base_of kept.permanent c ≡ here.log.base = ap (λ (o : Option End). base_in (log_at o)) here.there in
               let sent : sent_of kept.permanent c ≡ log_end here.log = ap (λ (o : Option End). sent_in (log_at o)) here.there in
@@ -120,19 +121,19 @@ module _ (net : Network) (inputs : List (List ℤ)) where
   }
     where
       fits : (kept : RecordView) → (kept ≡ old.node.kept) ⊎ (kept ≡ next_kept e old) → FitsOutputs net (outputs_of old.outlets) kept
-      fits kept (inl it) = subst (FitsOutputs net (outputs_of old.outlets)) (sym it) (fits_outputs old.node.kept (outputs_of old.outlets) inv.kept)
-      fits kept (inr it) = subst (FitsOutputs net (outputs_of old.outlets)) (sym it) (fits_outputs (next_kept e old) (outputs_of old.outlets) (next_sound e old valid inv))
+      fits kept (inl it) = subst (FitsOutputs net (outputs_of old.outlets)) (sym it) (fits_outputs old.node.kept (outputs_of old.outlets) valid inv.kept)
+      fits kept (inr it) = subst (FitsOutputs net (outputs_of old.outlets)) (sym it) (fits_outputs (next_kept e old) (outputs_of old.outlets) valid (next_sound e old valid inv))
 
       ahead : (kept : RecordView) → (kept ≡ old.node.kept) ⊎ (kept ≡ next_kept e old) → IsBehind old.node.kept.permanent kept.permanent
       ahead kept (inl it) = subst (λ (r : RecordView). IsBehind old.node.kept.permanent r.permanent) (sym it) (behind_itself old.node.kept.permanent)
       ahead kept (inr it) = subst (λ (r : RecordView). IsBehind old.node.kept.permanent r.permanent) (sym it) (next_ahead e old inv)
 
   -- where the record of before is left, and kept by the end
-  pub same_in_line : (old new : StationView) (left : Option (List ℕ)) → StationInvariant net inputs old → StationInvariant net inputs new → new.node.kept ≡ old.node.kept → LeavesEither old.node.kept old.node.kept left → LeavesInLine net old new left
-  same_in_line old new left inv later stays leaves = record {
+  pub same_in_line : (old new : StationView) (left : Option (List ℕ)) → IsValid net → StationInvariant net inputs old → StationInvariant net inputs new → new.node.kept ≡ old.node.kept → LeavesEither old.node.kept old.node.kept left → LeavesInLine net old new left
+  same_in_line old new left valid inv later stays leaves = record {
     something = leaves.something;
-    at_first = λ kept is. subst (FitsOutputs net (outputs_of old.outlets)) (sym (it kept (leaves.one_of kept is))) (fits_outputs old.node.kept (outputs_of old.outlets) inv.kept);
-    at_last = λ kept is. subst (FitsOutputs net (outputs_of new.outlets)) (stays ∙ sym (it kept (leaves.one_of kept is))) (fits_outputs new.node.kept (outputs_of new.outlets) later.kept);
+    at_first = λ kept is. subst (FitsOutputs net (outputs_of old.outlets)) (sym (it kept (leaves.one_of kept is))) (fits_outputs old.node.kept (outputs_of old.outlets) valid inv.kept);
+    at_last = λ kept is. subst (FitsOutputs net (outputs_of new.outlets)) (stays ∙ sym (it kept (leaves.one_of kept is))) (fits_outputs new.node.kept (outputs_of new.outlets) valid later.kept);
     not_behind = λ kept is. subst (λ (r : RecordView). IsBehind old.node.kept.permanent r.permanent) (sym (it kept (leaves.one_of kept is))) (behind_itself old.node.kept.permanent);
   }
     where

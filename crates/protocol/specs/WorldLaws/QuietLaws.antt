@@ -32,7 +32,9 @@ use Rattle.retained.specs.LogState.{log_end}
 use Rattle.protocol.specs.Node.Choosing.{next_at}
 use Rattle.protocol.specs.Node.Starting.{is_none}
 use Rattle.protocol.specs.Node.Reached.{first_acts, acts_of}
-use Rattle.protocol.specs.NodeLaws.ImageLaws.{numbered_mark, numbered_there}
+use Rattle.protocol.specs.Node.Layout.{has_process}
+use Rattle.protocol.specs.NodeLaws.NumberedLaws.{where_there}
+use Rattle.protocol.specs.WorldLaws.RecordLaws.{producer_here}
 use Rattle.protocol.specs.NodeLaws.InnerLaws.{outer_within, inner_there}
 use Rattle.protocol.specs.NodeLaws.ReachedLaws.{input_stays, received_stands}
 use Rattle.protocol.specs.NodeLaws.ReleaseLaws.{acts_put_prefix}
@@ -112,16 +114,18 @@ module _ (net : Network) (inputs : List (List ℤ)) (node : RunningNode) (output
     passing = (valid.codes p code there).passes
 
     -- where it stands
-    saved_there : (saved : SavedProcessView) × (slice_get node.current.processes p ≡ Some saved) × (saved.number ≡ p)
-    saved_there =
-        let found = numbered_there (λ (s : SavedProcessView). s.number) node.current.processes 0 (length net.codes) p sound.kept.laid_out.processes (slice_get_within net.codes p code there) in
-        let sum : 0 + p ≡ p = omega arith in
-        (found.0, found.1, numbered_mark (λ (s : SavedProcessView). s.number) node.current.processes 0 (length net.codes) p found.0 sound.kept.laid_out.processes found.1 ∙ sum)
+    own : IsTrue (has_process net node.kept.node p)
+    own = sound.here p code there
 
-    stands : (saved : SavedProcessView) → slice_get node.current.processes p ≡ Some saved → saved.number ≡ p → StandsAt code base (come.reached.current_acts p) saved.standing
-    stands saved is number =
+    saved_there : (k : ℕ) × (saved : SavedProcessView) × (slice_get node.current.processes k ≡ Some saved) × (saved.number ≡ p)
+    saved_there =
+        let within = slice_get_within net.codes p code there in
+        where_there (λ (s : SavedProcessView). s.number) (has_process net node.kept.node) 0 (length net.codes) p node.current.processes sound.kept.laid_out.processes own (omega arith) (omega (arith, within))
+
+    stands : (k : ℕ) (saved : SavedProcessView) → slice_get node.current.processes k ≡ Some saved → saved.number ≡ p → StandsAt code base (come.reached.current_acts p) saved.standing
+    stands k saved is number =
         subst (λ (q : ℕ). StandsAt code base (come.reached.current_acts q) saved.standing) number
-        (come.reached.current.processes p saved code is (ap (slice_get net.codes) number ∙ there))
+        (come.reached.current.processes k saved code is (ap (slice_get net.codes) number ∙ there))
 
     -- its acts are the same on the next approximation
     made_there : (standing : Standing) → StandsAt code base (come.reached.current_acts p) standing
@@ -135,19 +139,19 @@ module _ (net : Network) (inputs : List (List ℤ)) (node : RunningNode) (output
     -- it got of a channel as many items as its image counts
     got_there : (c : ℕ) (channel : Channel) → slice_get net.channels c ≡ Some channel → IsTrue (code_gets c code) → received_of node.current c ≡ length (got_on c (made p))
     got_there c channel is gets =
-        received_stands net base come.reached.current_acts node.current c p channel come.reached.current sound.kept.laid_out is ((valid.consumer c p channel code is there).0 gets)
+        received_stands net node.kept.node base come.reached.current_acts node.current c p channel come.reached.current sound.kept.laid_out is ((valid.consumer c p channel code is there).0 gets) own
 
     -- and no more than is there
     got_few : (c : ℕ) → IsTrue (code_gets c code) → length (got_on c (made p)) ≤ length (history_of now c)
     got_few c gets = at (slice_get_cases net.channels c).1
       where
         by_port : (channel : Channel) → slice_get net.channels c ≡ Some channel → (port : Port) → channel.producer ≡ port → received_of node.current c ≤ length (put_so_far inputs made c port)
-        by_port channel is Outside from = outer_within net inputs node.current c channel sound.kept.laid_out sound.kept.counts is from
+        by_port channel is Outside from = outer_within net node.kept.node inputs node.current c p channel sound.kept.laid_out sound.kept.counts is from ((valid.consumer c p channel code is there).0 gets) own
         by_port channel is (Process q) from =
-            let here = inner_there net inputs node.current c q p channel sound.kept.laid_out sound.kept.counts is from ((valid.consumer c p channel code is there).0 gets) in
+            let here = inner_there net node.kept.node inputs node.current c q p channel sound.kept.laid_out sound.kept.counts is from (producer_here net node.kept.node c q channel valid sound.here is from) ((valid.consumer c p channel code is there).0 gets) own in
             let received : received_of node.current c ≡ here.received = ap received_at here.there in
             let sent : sent_of node.current c ≡ log_end here.log = ap (λ (o : Option End). sent_in (log_at o)) here.there in
-            let put = sent_stands net base come.reached.current_acts node.current c q channel come.reached.current sound.kept.laid_out is from in
+            let put = sent_stands net node.kept.node base come.reached.current_acts node.current c q channel come.reached.current sound.kept.laid_out is from (producer_here net node.kept.node c q channel valid sound.here is from) in
             let few = here.within.to_end in
             omega (arith, received, sent, put, few)
 
@@ -155,7 +159,7 @@ module _ (net : Network) (inputs : List (List ℤ)) (node : RunningNode) (output
         no_channel : length net.channels ≤ c → length (got_on c (made p)) ≡ 0
         no_channel past =
             let s = saved_there in
-            let same = made_there s.0.standing (stands s.0 s.1 s.2) in
+            let same = made_there s.1.standing (stands s.0 s.1 s.2 s.3) in
             let steps = take (come.reached.current_acts p) (process_trace code (approximation net inputs (suc come.reached.n))).steps in
             let left = history_of (left_after steps (approximation net inputs (suc come.reached.n))) c in
             let front : [] ≡ got_on c steps ++ left = sym (next_histories_past net inputs base c past) ∙ reads code (approximation net inputs (suc come.reached.n)) (come.reached.current_acts p) c in
@@ -185,7 +189,7 @@ module _ (net : Network) (inputs : List (List ℤ)) (node : RunningNode) (output
         by_port channel is Outside from all = eqb-true (received_of node.current c) (length (history_of inputs c)) all
         by_port channel is (Process q) from all =
             eqb-true (received_of node.current c) (sent_of node.current c) all
-            ∙ sent_stands net base come.reached.current_acts node.current c q channel come.reached.current sound.kept.laid_out is from
+            ∙ sent_stands net node.kept.node base come.reached.current_acts node.current c q channel come.reached.current sound.kept.laid_out is from (producer_here net node.kept.node c q channel valid sound.here is from)
 
         by_channel : (o : Option Channel) → slice_get net.channels c ≡ o → IsTrue (has_got_all inputs node.current c o) → IsTrue (code_gets c code) → length (history_of now c) ≤ length (got_on c (made p))
         by_channel None is all gets = absurd (cc)
@@ -199,15 +203,15 @@ module _ (net : Network) (inputs : List (List ℤ)) (node : RunningNode) (output
     all_made : IsTrue (are_at_rest net inputs node.current node.current.processes) → (process_trace code now).steps ≡ made p
     all_made rest =
         let s = saved_there in
-        let here = stands s.0 s.1 s.2 in
-        let same = made_there s.0.standing here in
-        let can : IsTrue (can_rest net inputs node.current (next_of code s.0.standing)) =
-        sym (ap (λ (o : Option Code). can_rest net inputs node.current (next_at o s.0.standing)) (ap (slice_get net.codes) s.2 ∙ there))
-        ∙ rests_at net inputs node.current node.current.processes p s.0 rest s.1 in
-        acts_at_rest code now (approximation net inputs (suc come.reached.n)) (come.reached.current_acts p) s.0.standing passing now_within
-        (stands_on code base (approximation net inputs (suc come.reached.n)) (come.reached.current_acts p) s.0.standing passing (approximation_grows net valid inputs fits come.reached.n) here)
+        let here = stands s.0 s.1 s.2 s.3 in
+        let same = made_there s.1.standing here in
+        let can : IsTrue (can_rest net inputs node.current (next_of code s.1.standing)) =
+        sym (ap (λ (o : Option Code). can_rest net inputs node.current (next_at o s.1.standing)) (ap (slice_get net.codes) s.3 ∙ there))
+        ∙ rests_at net inputs node.current node.current.processes s.0 s.1 rest s.2 in
+        acts_at_rest code now (approximation net inputs (suc come.reached.n)) (come.reached.current_acts p) s.1.standing passing now_within
+        (stands_on code base (approximation net inputs (suc come.reached.n)) (come.reached.current_acts p) s.1.standing passing (approximation_grows net valid inputs fits come.reached.n) here)
         (λ c gets. subst (λ (steps : List Step). length (got_on c steps) ≤ length (history_of now c)) (sym same) (got_few c gets))
-        (subst (λ (steps : List Step). IsStuck code now steps (next_of code s.0.standing)) (sym same) (stuck (next_of code s.0.standing) can))
+        (subst (λ (steps : List Step). IsStuck code now steps (next_of code s.1.standing)) (sym same) (stuck (next_of code s.1.standing) can))
         ∙ same
 
   -- The network
@@ -231,7 +235,7 @@ module _ (net : Network) (inputs : List (List ℤ)) (node : RunningNode) (output
       let there = output_channel net outputs sound.listed j output is in
       let from = producer_of output.channel there.0 there.1 there.2 in
       let count = left_at node.current outputs j output left is in
-      let put = sent_stands net base come.reached.current_acts node.current output.channel from.0 there.0 come.reached.current sound.kept.laid_out there.1 from.1 in
+      let put = sent_stands net node.kept.node base come.reached.current_acts node.current output.channel from.0 there.0 come.reached.current sound.kept.laid_out there.1 from.1 (producer_here net node.kept.node output.channel from.0 there.0 valid sound.here there.1 from.1) in
       prefix_whole output.taken (sent_on output.channel (made from.0)) ((come.released j from.0 output there.0 is there.1 from.1)) (omega (arith, count, put))
       ∙ sym (ap (λ (all : List (List ℤ)). history_of all output.channel) (settled rest) ∙ (put_by_now-at net inputs made output.channel there.0 there.1 ∙ ap (put_so_far inputs made output.channel) from.1))
 

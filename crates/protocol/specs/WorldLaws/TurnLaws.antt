@@ -118,6 +118,7 @@ module _ (net : Network) (inputs : List (List ℤ)) (valid : IsValid net) (node 
 
   stays : Fits net inputs → IsSound net inputs node outputs → node.out ≡ Some job → ∥ IsTurnOf net job after taken sent ∥₁ → IsSound net inputs (with_turn net.channels job.process after taken sent node) outputs
   stays fits sound out turn = record {
+    here = sound.here;
     listed = sound.listed;
     kept = record {
       laid_out = laid_out_installed net node.kept.node job.process after taken sent node.current sound.kept.laid_out;
