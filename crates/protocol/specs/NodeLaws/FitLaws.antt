@@ -369,7 +369,7 @@ base_later : (channels : List Channel) (process : ℕ) (after : Standing) (taken
 base_later channels process after taken sent image c =
     let then = at (find (λ (s : SavedEnd). eqb s.channel c) image.ends) in
     let is : base_of (installed channels process after taken sent image) c
-        ≡ base_in (log_at (option_map (λ (s : SavedEnd). (saved_counted channels process taken (saved_pushed channels process sent s)).end) (find (λ (s : SavedEnd). eqb s.channel c) image.ends))) =
+    ≡ base_in (log_at (option_map (λ (s : SavedEnd). (saved_counted channels process taken (saved_pushed channels process sent s)).end) (find (λ (s : SavedEnd). eqb s.channel c) image.ends))) =
     ap (λ (o : Option End). base_in (log_at o)) (end_installed channels process after taken sent image c) in
     omega (arith, then, is)
   where
