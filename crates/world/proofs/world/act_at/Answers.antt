@@ -24,7 +24,7 @@ returns-then-number-len-clause-grown g c =
 
 pub returns-then-number-len-clause-line : goal.returns-then-number-len-clause-line
 returns-then-number-len-clause-line g c =
-    all_still_in_line {cell = g.C.StableCell} g.O.Outlet.taken g.O.Outlet.failures g.met.C.StableCell.only_now (network_of c.args.net.now.value.program) c.args.inputs.now c.args.stations.now.items c.requires.sound
+    all_still_in_line {cell = g.C.StableCell} g.O.Outlet.taken g.O.Outlet.failures g.met.C.StableCell.only_now (network_of c.args.net.now.value.program) c.args.inputs.now c.args.stations.now.items c.args.net.now.value.valid c.requires.sound
 
 pub returns-then-number-len-clause-unchanged : goal.returns-then-number-len-clause-unchanged
 returns-then-number-len-clause-unchanged g c = λ h. pairs_refl _ _ (λ i station is. cell_stays station)
