@@ -1,13 +1,12 @@
 -- How far a node has come: its images stand where its processes stand after so many acts, on one approximation of the network's histories.
-use Rattle.std.specs.Prelude.{◌≡◌, ℕ, zero, suc, ◌≤◌, ◌==◌, Bool, true, false, ℤ, List, [], ◌∷◌, map, length, take, find, Option, Some, None, slice_get, slice_index}
+use Rattle.std.specs.Prelude.{◌≡◌, ℕ, ◌≤◌, ◌==◌, Bool, true, false, ℤ, List, [], map, length, take, find, Option, Some, None, slice_get, slice_index}
 use Rattle.kahn_net.specs.Streams.{history_of}
 use Rattle.kahn_net.specs.Syntax.{Code, Network}
 use Rattle.kahn_net.specs.Statements.{Step}
 use Rattle.kahn_net.specs.Processes.{Standing, StandsAt, process_trace, sent_on, got_on}
 use Rattle.kahn_net.specs.Approximations.{approximation}
 use Rattle.kahn_net.specs.declared.program.Channel.{Channel}
-use Rattle.kahn_net.specs.declared.program.Port.{Port}
-use Rattle.kahn_net.specs.declared.program.Port.TheVariants.{Outside, Process}
+use Rattle.kahn_net.specs.declared.program.Port.TheVariants.{Process}
 use Rattle.proc_step.specs.Turns.{IsTurn}
 use Rattle.retained.specs.LogState.{LogState, IsLogOf, IsInLog}
 use Rattle.record.specs.ProcessView.{SavedProcessView}
@@ -17,7 +16,7 @@ use Rattle.ckpt_codec.specs.RecordText.{role_of}
 use Rattle.protocol.specs.Node.JobView.{JobView}
 use Rattle.protocol.specs.Node.Layout.{role_here, processes_on, ends_on}
 use Rattle.protocol.specs.Node.NodeView.{RunningNode}
-use Rattle.protocol.specs.Node.Sharing.{is_logging, log_share, IsWithinShare}
+use Rattle.protocol.specs.Node.Sharing.{log_share, IsWithinShare}
 use Rattle.protocol.specs.Node.Granting.{items_from, room_from}
 use Rattle.record.specs.declared.image.SavedEnd.{SavedEnd}
 use Rattle.record.specs.declared.image.End.{End}
@@ -66,17 +65,6 @@ pub record HasReached (net : Network) (inputs : List (List ℤ)) (node : Running
   pub current : ImageStands net (approximation net inputs n) current_acts node.current
   pub held_after : IsAsFar permanent_acts held_acts
   pub current_after : IsAsFar held_acts current_acts
-
--- the numbers from this one on, so many
-abbrev pub numbers_from : ℕ → ℕ → List ℕ
-numbers_from first zero = []
-numbers_from first (suc count) = first ∷ numbers_from (suc first) count
-
--- the role of an end of a channel whose items come from there and go there: it receives, sends, or does both
-abbrev pub role_between : Port → Port → ℕ
-role_between Outside consumer = 0
-role_between (Process p) Outside = 1
-role_between (Process p) (Process q) = 2
 
 -- An image of a node has one entry for each of its processes and for each channel of which it has an end, in order of their numbers, and an
 -- end has the role that the node has there.

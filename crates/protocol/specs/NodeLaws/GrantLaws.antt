@@ -1,6 +1,6 @@
 -- Laws of a job that is granted: it is of where its process stands.
-use Rattle.std.proofs.Common.{◌≡◌, ℕ, Bool, true, false, eqb, cond, ℤ, List, length, Option, Some, None, refl, ap, subst, ◌∙◌, arith}
-use Rattle.std.specs.Prelude.{slice_get, find, ◌&&◌, ◌==◌}
+use Rattle.std.proofs.Common.{◌≡◌, ℕ, Bool, true, false, cond, ℤ, List, length, Option, Some, None, refl, subst, arith}
+use Rattle.std.specs.Prelude.{slice_get, ◌&&◌, ◌==◌}
 use Rattle.kahn_net.specs.Syntax.{Network}
 use Rattle.record.specs.ProcessView.{SavedProcessView}
 use Rattle.record.specs.ImageView.{ImageView}

@@ -1,72 +1,17 @@
 -- Laws of images that are laid out: an end is found at its channel's number, and what a step changes of an end is found there.
-use Rattle.std.proofs.Common.{◌≡◌, ◌≢◌, ◌⊎◌, inl, inr, ℕ, zero, suc, ◌+◌, ◌<◌, Bool, true, false, eqb, cond, List, [], ◌∷◌, length, map, Option, Some, None, option_map, refl, sym, ap, ◌∙◌, arith}
+use Rattle.std.proofs.Common.{◌≡◌, ◌≢◌, ◌⊎◌, inl, inr, ℕ, zero, suc, Bool, true, false, eqb, cond, List, [], ◌∷◌, length, map, Option, Some, None, option_map, refl, sym, ap, ◌∙◌}
 use Rattle.std.specs.Prelude.{slice_get, find}
-use Rattle.std.proofs.lemmas.Bool.{eq-eqb, ne_eqb}
 use Rattle.std.proofs.lemmas.Bool.Decides.{eqb_tells}
 use Rattle.kahn_net.specs.Syntax.{Network}
 use Rattle.record.specs.ImageView.{ImageView}
 use Rattle.record.specs.Ends.{end_of, received_of, received_at, log_of, log_at}
 use Rattle.protocol.specs.Node.Layout.{has_end}
-use Rattle.protocol.specs.Node.Reached.{numbers_from, IsLaidOut}
+use Rattle.protocol.specs.Node.Reached.{IsLaidOut}
 use Rattle.protocol.specs.NodeLaws.NumberedLaws.{where_find}
 use Rattle.record.specs.declared.image.SavedEnd.{SavedEnd}
 use Rattle.record.specs.declared.image.End.{End}
 
--- Lists whose elements are numbered in order
-
-pub numbered_mark : {A : Type 0} (f : A → ℕ) (xs : List A) (first count k : ℕ) (x : A) → map f xs ≡ numbers_from first count → slice_get xs k ≡ Some x → f x ≡ first + k
-numbered_mark f [] first count k x h is = absurd (cc)
-numbered_mark f (y ∷ xs) first zero k x h is = absurd (cc)
-numbered_mark f (y ∷ xs) first (suc count) zero x h is =
-    let here : f y ≡ first = cc in
-    let same : y ≡ x = cc in
-    let sum : first ≡ first + 0 = omega arith in
-    ap f (sym same) ∙ (here ∙ sum)
-numbered_mark f (y ∷ xs) first (suc count) (suc k) x h is =
-    let later : map f xs ≡ numbers_from (suc first) count = cc in
-    let sum : suc first + k ≡ first + suc k = omega arith in
-    numbered_mark f xs (suc first) count k x later is ∙ sum
-
-pub numbered_count : {A : Type 0} (f : A → ℕ) (xs : List A) (first count : ℕ) → map f xs ≡ numbers_from first count → length xs ≡ count
-numbered_count f [] first zero h = refl
-numbered_count f [] first (suc count) h = absurd (cc)
-numbered_count f (y ∷ xs) first zero h = absurd (cc)
-numbered_count f (y ∷ xs) first (suc count) h =
-    let later : map f xs ≡ numbers_from (suc first) count = cc in
-    ap suc (numbered_count f xs (suc first) count later)
-
--- each number is there
-pub numbered_there : {A : Type 0} (f : A → ℕ) (xs : List A) (first count k : ℕ) → map f xs ≡ numbers_from first count → k < count → (x : A) × (slice_get xs k ≡ Some x)
-numbered_there f [] first zero k h lt = absurd (omega (arith, lt))
-numbered_there f [] first (suc count) k h lt = absurd (cc)
-numbered_there f (y ∷ xs) first zero k h lt = absurd (omega (arith, lt))
-numbered_there f (y ∷ xs) first (suc count) zero h lt = (y, refl)
-numbered_there f (y ∷ xs) first (suc count) (suc k) h lt =
-    let later : map f xs ≡ numbers_from (suc first) count = cc in
-    let below : k < count = omega (arith, lt) in
-    numbered_there f xs (suc first) count k later below
-
-find_here : {A : Type 0} (f : A → ℕ) (y : A) (xs : List A) (n : ℕ) → f y ≡ n → find (λ (z : A). eqb (f z) n) (y ∷ xs) ≡ Some y
-find_here f y xs n e = ap (λ (b : Bool). cond b (Some y) (find (λ (z : _). eqb (f z) n) xs)) (eq-eqb (f y) n e)
-
-find_later : {A : Type 0} (f : A → ℕ) (y : A) (xs : List A) (n : ℕ) → (f y ≡ n → ⊥) → find (λ (z : A). eqb (f z) n) (y ∷ xs) ≡ find (λ (z : A). eqb (f z) n) xs
-find_later f y xs n ne = ap (λ (b : Bool). cond b (Some y) (find (λ (z : _). eqb (f z) n) xs)) (ne_eqb (f y) n ne)
-
--- and found by its number
-pub numbered_find : {A : Type 0} (f : A → ℕ) (xs : List A) (first count k : ℕ) (x : A) → map f xs ≡ numbers_from first count → slice_get xs k ≡ Some x
-    → find (λ (z : A). eqb (f z) (first + k)) xs ≡ Some x
-numbered_find f [] first count k x h is = absurd (cc)
-numbered_find f (y ∷ xs) first zero k x h is = absurd (cc)
-numbered_find f (y ∷ xs) first (suc count) zero x h is =
-    let here : f y ≡ first = cc in
-    let sum : first ≡ first + 0 = omega arith in
-    find_here f y xs (first + 0) (here ∙ sum) ∙ is
-numbered_find {A} f (y ∷ xs) first (suc count) (suc k) x h is =
-    let here : f y ≡ first = cc in
-    let later : map f xs ≡ numbers_from (suc first) count = cc in
-    let sum : first + suc k ≡ suc first + k = omega arith in
-    let ne : f y ≡ first + suc k → ⊥ = (λ e. omega (arith, e, here)) in
-    find_later f y xs (first + suc k) ne ∙ (ap (λ (n : ℕ). find (λ (z : A). eqb (f z) n) xs) sum ∙ numbered_find f xs (suc first) count k x later is)
+-- Lists
 
 -- what is found stands somewhere
 pub find_within : {A : Type 0} (test : A → Bool) (xs : List A) (x : A) → find test xs ≡ Some x → (k : ℕ) × (slice_get xs k ≡ Some x)

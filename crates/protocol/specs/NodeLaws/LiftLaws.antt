@@ -1,5 +1,5 @@
 -- Laws of a later approximation: a node that stands on one stands on the next, and what it has at hand comes next there.
-use Rattle.std.proofs.Common.{◌≡◌, ◌≢◌, ◌⊎◌, inl, inr, ℕ, suc, ◌+◌, ◌-◌, ◌<◌, ◌≤◌, Bool, true, false, eqb, cond, ℤ, List, [], ◌∷◌, ◌++◌, length, take, drop, get_or, Option, Some, None, refl, sym, ap, subst, ◌∙◌, arith}
+use Rattle.std.proofs.Common.{◌≡◌, ◌≢◌, ◌⊎◌, inl, inr, ℕ, suc, ◌+◌, ◌-◌, ◌<◌, ◌≤◌, Bool, true, false, eqb, cond, ℤ, List, [], ◌++◌, length, take, drop, get_or, Option, Some, None, refl, sym, ap, subst, ◌∙◌, arith}
 use Rattle.std.specs.Prelude.{slice_get, min, IsTrue}
 use Rattle.std.proofs.Math.Nat.{min-le_left, min-le_right, min-eq_left, le-min}
 use Rattle.std.proofs.lemmas.Bool.Decides.{eqb_tells}
@@ -18,12 +18,10 @@ use Rattle.kahn_net.specs.Laws.Streams.{longer_process, stands_on}
 use Rattle.kahn_net.specs.declared.program.Channel.{Channel}
 use Rattle.kahn_net.specs.declared.program.Port.{Port}
 use Rattle.kahn_net.specs.declared.program.Port.TheVariants.{Outside, Process}
-use Rattle.retained.specs.LogState.{LogState, IsLogOf, items_since}
+use Rattle.retained.specs.LogState.{IsLogOf, items_since}
 use Rattle.proc_step.specs.Turns.{AreNext}
 use Rattle.record.specs.ImageView.{ImageView}
-use Rattle.record.specs.ProcessView.{SavedProcessView}
 use Rattle.record.specs.Ends.{received_at, received_of, log_at, log_of}
-use Rattle.record.specs.declared.image.SavedEnd.{SavedEnd}
 use Rattle.record.specs.declared.record.Tentative.{Tentative}
 use Rattle.protocol.specs.Node.Granting.{is_process, next_in_log, next_items, items_from}
 use Rattle.protocol.specs.Node.NodeView.{RunningNode}

@@ -1,10 +1,10 @@
 -- Laws of images as a store takes them: what a node has of a valid network may be written, and is of one shape wherever its processes stand.
-use Rattle.std.proofs.Common.{◌≡◌, ◌⊎◌, inl, inr, ℕ, zero, suc, ◌+◌, ◌^◌, ◌<◌, ◌≤◌, Bool, true, false, cond, ℤ, List, [], ◌∷◌, ◌++◌, length, map, get_or, Some, None, refl, sym, ap, subst, ◌∙◌, arith}
+use Rattle.std.proofs.Common.{◌≡◌, ◌⊎◌, inl, inr, ℕ, zero, suc, ◌+◌, ◌^◌, ◌<◌, ◌≤◌, Bool, true, false, cond, ℤ, List, [], ◌∷◌, ◌++◌, length, map, get_or, Some, None, refl, sym, ap, ◌∙◌, arith}
 use Rattle.std.specs.Prelude.{slice_get, ◌&&◌, nat_lt, nat_le, replicate}
 use Rattle.std.proofs.lemmas.Bool.{eq-eqb, le-leb, lt-ltb, and_from}
 use Rattle.std.proofs.lemmas.List.{length-replicate, get_or_past}
 use Rattle.std.proofs.lemmas.List.Elements.{All-nil, All-cons, All-append}
-use Rattle.std.proofs.lemmas.Option.{slice_get_cases, slice_get_within, get_or_from_slice_get}
+use Rattle.std.proofs.lemmas.Option.{slice_get_cases, get_or_from_slice_get}
 use Rattle.kahn_net.specs.Streams.{history_of}
 use Rattle.kahn_net.specs.Syntax.{Code, Network}
 use Rattle.kahn_net.specs.Valid.{IsValid}
@@ -13,14 +13,12 @@ use Rattle.kahn_net.specs.Processes.{Standing}
 use Rattle.kahn_net.specs.Processes.Standing.{NotBegun, At, Done}
 use Rattle.kahn_net.specs.Approximations.{approximation}
 use Rattle.kahn_net.specs.declared.program.Channel.{Channel}
-use Rattle.kahn_net.specs.declared.program.Port.{Port}
-use Rattle.kahn_net.specs.declared.program.Port.TheVariants.{Outside, Process}
 use Rattle.kahn_net.specs.declared.limits.TheConstants.{MAX_COUNT, MAX_NODES, MAX_PROCESSES, MAX_CHANNELS, MAX_VARIABLES}
 use Rattle.retained.specs.LogState.{LogState, IsWithinLimits, IsInLog, log_end}
 use Rattle.retained.specs.declared.log.TheConstants.{MAX_LOG_ITEMS}
 use Rattle.record.specs.ProcessView.{SavedProcessView}
 use Rattle.record.specs.ImageView.{ImageView}
-use Rattle.record.specs.Ends.{received_at, log_at}
+use Rattle.record.specs.Ends.{log_at}
 use Rattle.record.specs.declared.image.SavedEnd.{SavedEnd}
 use Rattle.record.specs.declared.image.End.{End}
 use Rattle.record.specs.declared.image.End.TheVariants.{Receives, Sends, Both}
@@ -33,7 +31,7 @@ use Rattle.ckpt_store.proofs.Parts.{whole}
 use Rattle.ckpt_store.proofs.Alike.{like_of}
 use Rattle.protocol.specs.Node.Layout.{numbers_where, has_process, has_end}
 use Rattle.protocol.specs.Node.Reached.{ImageStands, IsLaidOut, CountIsWithin, CountsAreWithin, LogsAreWithin}
-use Rattle.protocol.specs.Node.Opening.{opening_end, opening_ends, opening_image, opening_record}
+use Rattle.protocol.specs.Node.Opening.{opening_image, opening_record}
 use Rattle.protocol.specs.NodeLaws.OpeningLaws.{reached_opening, laid_out_opening, counts_opening, logs_opening}
 use Rattle.protocol.specs.NodeLaws.NumberedLaws.{where_mark, where_count}
 use Rattle.protocol.specs.NodeLaws.SharingLaws.{share_within}

@@ -1,9 +1,8 @@
 -- Laws of lists whose elements have, in order, those numbers that pass a test.
-use Rattle.std.proofs.Common.{◌≡◌, ◌≢◌, ◌⊎◌, inl, inr, ℕ, zero, suc, ◌+◌, ◌<◌, ◌≤◌, Bool, true, false, eqb, cond, List, [], ◌∷◌, length, map, Some, refl, sym, ap, subst, ◌∙◌, arith}
+use Rattle.std.proofs.Common.{◌≡◌, ◌≢◌, ◌⊎◌, inl, inr, ℕ, zero, suc, ◌+◌, ◌<◌, ◌≤◌, Bool, true, false, eqb, cond, List, [], ◌∷◌, length, map, Some, refl, sym, ap, ◌∙◌, arith}
 use Rattle.std.specs.Prelude.{slice_get, find, IsTrue}
 use Rattle.std.proofs.lemmas.Bool.{eq-eqb, ne_eqb}
 use Rattle.protocol.specs.Node.Layout.{numbers_where}
-use Rattle.protocol.specs.Node.Reached.{numbers_from}
 
 -- an element's number passes the test, and is one of those that were gone through
 pub where_mark : {A : Type 0} (f : A → ℕ) (test : ℕ → Bool) (first count : ℕ) (xs : List A) (k : ℕ) (x : A) → map f xs ≡ numbers_where test first count → slice_get xs k ≡ Some x
@@ -82,13 +81,6 @@ where_find {A} f test first (suc count) xs k x h is = at (test first) xs k h is 
         let mark = where_mark f test (suc first) count ys k x rest is in
         let apart : f y ≢ f x = (λ e. omega (arith, here, mark.1, e)) in
         ap (λ (b : Bool). cond b (Some y) (find (λ (z : A). eqb (f z) (f x)) ys)) (ne_eqb (f y) (f x) apart) ∙ further ys k rest is
-
--- where all of them pass, they are all
-pub where_all : (test : ℕ → Bool) (first count : ℕ) → ((n : ℕ) → first ≤ n → n < first + count → IsTrue (test n)) → numbers_where test first count ≡ numbers_from first count
-where_all test first zero all = refl
-where_all test first (suc count) all =
-    ap (λ (b : Bool). cond b (first ∷ numbers_where test (suc first) count) (numbers_where test (suc first) count)) (all first (omega arith) (omega arith))
-    ∙ ap (λ (ns : List ℕ). first ∷ ns) (where_all test (suc first) count (λ n from below. all n (omega (arith, from)) (omega (arith, below))))
 
 -- no two elements have the same number
 abbrev pub StandOnce : {A : Type 0} → (A → ℕ) → List A → Type 0

@@ -1,10 +1,9 @@
 -- Laws of a trimmed image: what is kept of an image is kept, and a node has come as far.
-use Rattle.std.proofs.Common.{◌≡◌, ◌≢◌, ◌⊎◌, inl, inr, ℕ, zero, suc, ◌+◌, ◌-◌, ◌≤◌, Bool, true, false, eqb, ltb, cond, ℤ, List, [], ◌∷◌, length, take, drop, map, Option, Some, None, option_map, refl, sym, ap, subst, ◌∙◌, arith}
+use Rattle.std.proofs.Common.{◌≡◌, ◌≢◌, ◌⊎◌, inl, inr, ℕ, zero, suc, ◌+◌, ◌-◌, ◌≤◌, Bool, true, false, eqb, cond, ℤ, List, [], ◌∷◌, length, map, Option, Some, None, option_map, refl, sym, ap, subst, ◌∙◌, arith}
 use Rattle.std.specs.Prelude.{slice_get, slice_index, find, min}
 use Rattle.std.proofs.Math.Nat.{min-le_left, min-le_right, le-min}
 use Rattle.std.proofs.lemmas.Bool.{ne_eqb}
 use Rattle.std.proofs.lemmas.Bool.Decides.{eqb_tells}
-use Rattle.kahn_net.specs.Streams.{history_of}
 use Rattle.kahn_net.specs.Syntax.{Network}
 use Rattle.kahn_net.specs.Processes.{sent_on}
 use Rattle.kahn_net.specs.declared.program.Channel.{Channel}

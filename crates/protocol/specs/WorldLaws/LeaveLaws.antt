@@ -1,5 +1,5 @@
 -- Laws of an item that leaves: there is one where the permanent image covers more than has left, and what is true of a station stays so.
-use Rattle.std.proofs.Common.{◌≡◌, ◌≢◌, ◌⊎◌, inl, inr, ℕ, ◌<◌, ◌≤◌, ℤ, List, length, Option, Some, None, refl, sym, ap, subst, ◌∙◌, arith}
+use Rattle.std.proofs.Common.{◌≡◌, ◌≢◌, ◌⊎◌, inl, inr, ℕ, ◌<◌, ◌≤◌, ℤ, List, length, Option, Some, None, refl, ap, subst, ◌∙◌, arith}
 use Rattle.std.specs.Prelude.{slice_get, slice_set}
 use Rattle.std.proofs.Math.Logic.{∥∥₁_map}
 use Rattle.std.proofs.Math.Nat.{min-le_right}
@@ -9,7 +9,7 @@ use Rattle.kahn_net.specs.Processes.{sent_on}
 use Rattle.kahn_net.specs.Approximations.{approximation}
 use Rattle.kahn_net.specs.declared.program.Channel.{Channel}
 use Rattle.kahn_net.specs.declared.program.Port.TheVariants.{Outside, Process}
-use Rattle.retained.specs.LogState.{LogState, IsLogOf, log_end}
+use Rattle.retained.specs.LogState.{LogState, IsLogOf}
 use Rattle.record.specs.ImageView.{ImageView}
 use Rattle.protocol.specs.Node.NodeView.{RunningNode}
 use Rattle.record.specs.Ends.{log_of, log_at, base_in, base_of, sent_in, sent_of}

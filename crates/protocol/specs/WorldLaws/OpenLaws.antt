@@ -8,8 +8,6 @@ use Rattle.kahn_net.specs.Nodes.{IsOnOneNode}
 use Rattle.kahn_net.specs.Valid.{IsValid}
 use Rattle.kahn_net.specs.Syntax.{Network}
 use Rattle.kahn_net.specs.declared.program.Channel.{Channel}
-use Rattle.kahn_net.specs.declared.program.Port.{Port}
-use Rattle.kahn_net.specs.declared.program.Port.TheVariants.{Outside, Process}
 use Rattle.record.specs.Ends.{log_at, base_in, base_of}
 use Rattle.protocol.specs.Node.Opening.{opening_end, opening_ends, opening_image, opening_running}
 use Rattle.protocol.specs.NodeLaws.SizeLaws.{opening_within}

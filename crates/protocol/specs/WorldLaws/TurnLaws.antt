@@ -1,5 +1,5 @@
 -- A turn that comes back fits what the node has now, and what is true of a station stays so.
-use Rattle.std.proofs.Common.{◌≡◌, ℕ, suc, List, ℤ, length, Option, Some, None, refl, sym, subst, ◌∙◌, arith}
+use Rattle.std.proofs.Common.{◌≡◌, ℕ, suc, List, ℤ, length, Option, Some, None, sym, subst, ◌∙◌, arith}
 use Rattle.std.proofs.Math.Logic.{∥∥₁_elim, ∥∥₁_map₂}
 use Rattle.std.proofs.Math.Bridge.{le_prop}
 use mathlib.Core.HLevel.{⊥_prop}
