@@ -65,10 +65,7 @@ fn step(alloc: Global, world: &mut World<GateCell<MemDisk>, ListOutlet>) -> anyh
 fn main(rt: HostRuntime) -> anyhow::Result<()> {
     let alloc = rt.alloc();
     let net = check(alloc, parse(alloc, NET)?)?;
-    anyhow::ensure!(
-        can_run(&net),
-        "several nodes, or channels between processes"
-    );
+    anyhow::ensure!(can_run(&net), "several nodes");
     let inputs = bind(alloc, &net, parse_inputs(alloc, "i: 1 2 3")?)?;
     let outputs = list_outputs(alloc, &net)?;
     let net = Arc::new(alloc, net)?;

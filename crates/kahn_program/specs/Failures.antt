@@ -16,7 +16,7 @@ failure_text (Whole source number) = source_text source ++ codes ": refusal " ++
 failure_text (NotText source) = source_text source ++ codes ": not text"
 failure_text (Unreadable source) = source_text source ++ codes ": cannot be read"
 failure_text (Approximation number) = codes "approx: refusal " ++ decimal number
-failure_text Unsupported = codes "run: several nodes, or channels between processes, are not supported yet; use --approx"
+failure_text Unsupported = codes "run: several nodes are not supported yet; use --approx"
 failure_text NoMemory = codes "no memory"
 failure_text (Other number) = codes "refusal " ++ decimal number
 

@@ -34,7 +34,7 @@ pub enum Failure {
     Approximation {
         number: u8,
     },
-    /// A network has several nodes, or channels between processes.
+    /// A network has several nodes.
     Unsupported,
     /// There is no memory.
     NoMemory,
@@ -70,7 +70,7 @@ impl fmt::Display for Failure {
             Failure::Unreadable(source) => write!(f, "{source}: cannot be read"),
             Failure::Approximation { number } => write!(f, "approx: refusal {number}"),
             Failure::Unsupported => f.write_str(
-                "run: several nodes, or channels between processes, are not supported yet; use --approx",
+                "run: several nodes are not supported yet; use --approx",
             ),
             Failure::NoMemory => f.write_str("no memory"),
             Failure::Other { number } => write!(f, "refusal {number}"),

@@ -20,7 +20,7 @@ use std::io::{Read, Write};
 use world::can_run;
 
 /// The report that is asked for of a network on its inputs, and whether it tells `complete`: of an approximation, or of a
-/// run, which is there so far for a network of one node without channels between processes.
+/// run, which is there so far for a network of one node.
 fn report_of(
     alloc: Global,
     options: &Options,

@@ -24,7 +24,7 @@ fn has_item(channels: &[Channel], inputs: &[History], image: &Image, channel: us
                 Some(input) => image.received(channel as u8) < input.len() as u64,
                 None => false,
             },
-            Port::Process(_) => false,
+            Port::Process(_) => image.received(channel as u8) < image.sent(channel as u8),
         },
         None => false,
     }

@@ -3,7 +3,7 @@ ghost use Rattle.std.specs.Prelude.{◌≡◌, ◌≤◌, ◌<◌, IfOk, length,
 ghost use Rattle.kahn_net.specs.Syntax.{network_of};
 ghost use Rattle.kahn_net.specs.States.{standing_of};
 ghost use Rattle.node.specs.JobView.{job_view};
-ghost use Rattle.protocol.specs.Node.Granting.{is_process, next_items, items_from, room_in, room_from, job_for};
+ghost use Rattle.protocol.specs.Node.Granting.{is_process, next_in_log, next_items, items_from, room_in, room_from, job_for};
 ghost use Rattle.kahn_net.specs.declared.limits.TheConstants.{MAX_CHANNELS};
 
 use crate::sharing::share_of;
@@ -34,6 +34,16 @@ fn next_of(items: &[i64], received: u64) -> &[i64]
     &rest[..MAX_JOB_ITEMS.min(rest.len())]
 }
 
+// A copy of the items of a log that come next behind so many, at most as many as a job may have.
+fn copy_logged(alloc: Global, log: Option<&Log>, received: u64) -> Result<History, AllocError>
+    ensures { IfOk result (λ items. items ≡ next_in_log received (option_copied log.entry)) }
+{
+    match log {
+        Some(log) => Ok(History::from_vec(log.copy_since(alloc, received, MAX_JOB_ITEMS)?)),
+        None => Ok(History::new(alloc)),
+    }
+}
+
 // A copy of the items that are at hand of a channel whose items come from there.
 fn copy_next(
     alloc: Global,
@@ -52,7 +62,7 @@ fn copy_next(
             )?)),
             None => Ok(History::new(alloc)),
         },
-        Port::Process(_) => Ok(History::new(alloc)),
+        Port::Process(_) => copy_logged(alloc, image.log(channel), image.received(channel)),
     }
 }
 

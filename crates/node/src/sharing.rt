@@ -51,11 +51,11 @@ pub(crate) fn share_of(image: &Image) -> usize
 /// node's current one, however far it has come. And so is a node's first record, with such an image that of a start, and that of a
 /// decision. `ckpt_codec::bounded_records_fit` says that they fit.
 pub fn share_law()
-    ensures image { (net : Network) (histories : List (List ℤ)) (made : ℕ → ℕ) (image : ImageView)
-        → IsValid net → IsLaidOut net image → ImageStands net histories made image
+    ensures image { (net : Network) (home : ℕ) (histories : List (List ℤ)) (made : ℕ → ℕ)
+        (image : ImageView) → IsValid net → IsLaidOut net home image → ImageStands net histories made image
         → LogsAreWithin image → IsImageWithin MAX_RETAINED_ITEMS image }
-    ensures current { (net : Network) (inputs : List (List ℤ)) (node : RunningNode)
-        → IsValid net → IsLaidOut net node.current → LogsAreWithin node.current
+    ensures current { (net : Network) (home : ℕ) (inputs : List (List ℤ)) (node : RunningNode)
+        → IsValid net → IsLaidOut net home node.current → LogsAreWithin node.current
         → ∥ HasReached net inputs node ∥₁ → IsImageWithin MAX_RETAINED_ITEMS node.current }
     ensures opening { (net : Network) (nodes number : ℕ) → IsValid net → nodes ≤ MAX_NODES
         → IsRecordWithin MAX_RETAINED_ITEMS (opening_record net nodes number) }

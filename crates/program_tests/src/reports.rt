@@ -70,7 +70,7 @@ fn failures_and_their_statuses(rt: HostRuntime) -> Result<(), Fail> {
         ),
         (
             Failure::Unsupported,
-            "run: several nodes, or channels between processes, are not supported yet; use --approx",
+            "run: several nodes are not supported yet; use --approx",
             1,
         ),
         (Failure::NoMemory, "no memory", 1),

@@ -138,6 +138,18 @@ fn runs_that_end_at_a_number_of_items(rt: HostRuntime) -> Result<(), Fail> {
 }
 
 #[test]
+fn a_process_that_sends_to_itself(rt: HostRuntime) -> Result<(), Fail> {
+    let alloc = rt.alloc();
+    let mut options = names_alone(alloc);
+    options.items = Some(4);
+    let count =
+        b"kahn 1; chan next; output o; process count on 0 { var n; put 0 to next; loop { n = get next; put n to o; put n + 1 to next; } }";
+    let printed = (b"o: 0 1 2 3\npartial\n".as_slice(), b"".as_slice());
+    comes_to(&rt, &options, (count, b""), alloc, printed, 3);
+    Ok(())
+}
+
+#[test]
 fn a_run_of_one_round(rt: HostRuntime) -> Result<(), Fail> {
     let alloc = rt.alloc();
     let mut options = names_alone(alloc);

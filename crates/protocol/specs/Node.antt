@@ -8,6 +8,7 @@ pub mod Installing
 pub mod Starting
 pub mod Recovering
 pub mod Choosing
+pub mod Layout
 pub mod Reached
 pub mod Trimming
 pub mod Opening

@@ -1,6 +1,11 @@
 -- What follows for a node from the definitions of its events.
 pub mod ImageLaws
+pub mod NumberedLaws
 pub mod ReachedLaws
+pub mod LogLaws
+pub mod CountLaws
+pub mod InnerLaws
+pub mod LiftLaws
 pub mod InstallLaws
 pub mod FitLaws
 pub mod TrimLaws

@@ -15,4 +15,3 @@ pub mod OpenLaws
 pub mod PairLaws
 pub mod QuietLaws
 pub mod LineLaws
-pub mod OuterLaws

@@ -16,12 +16,6 @@ pushed items (Receives received) = Receives received
 pushed items (Sends log) = Sends (log_with items log)
 pushed items (Both received log) = Both received (log_with items log)
 
--- an end of a channel after so many items were got
-abbrev pub counted : ℕ → End → End
-counted count (Receives received) = Receives (received + count)
-counted count (Sends log) = Sends log
-counted count (Both received log) = Both (received + count) log
-
 -- what is put on this end fits its log
 abbrev pub LogTakes : ℕ → Option LogState → Type 0
 LogTakes count None = Unit {0}
@@ -30,6 +24,12 @@ LogTakes count (Some log) = ¬ (Overfills log count)
 -- a log from a position on, where that is one of its positions or its end, and else as it was
 abbrev pub trimmed_log : ℕ → LogState → LogState
 trimmed_log position log = if nat_lt position log.base then log else (if nat_lt (log_end log) position then log else trimmed log position)
+
+-- an end of a channel after so many items were got; one that stays on the node retains none of them
+abbrev pub counted : ℕ → End → End
+counted count (Receives received) = Receives (received + count)
+counted count (Sends log) = Sends log
+counted count (Both received log) = Both (received + count) (trimmed_log (received + count) log)
 
 abbrev pub trimmed_end : ℕ → End → End
 trimmed_end position (Receives received) = Receives received

@@ -89,7 +89,7 @@ impl End {
         }
     }
 
-    /// Counts items that were got.
+    /// Counts items that were got. The log of a channel that stays on the node lets go of them.
     pub fn count(&mut self, taken: usize)
         requires { received_at (Some self.old) + taken ≤ MAX_COUNT }
         ensures { self.new ≡ counted taken self.old }
@@ -97,7 +97,10 @@ impl End {
         match self {
             End::Receives { received } => *received += taken as u64,
             End::Sends { .. } => {}
-            End::Both { received, .. } => *received += taken as u64,
+            End::Both { received, log } => {
+                *received += taken as u64;
+                log.trim(*received);
+            }
         }
     }
 

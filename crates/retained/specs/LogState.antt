@@ -39,6 +39,10 @@ item_at log position = if nat_lt position log.base then None else slice_get log.
 abbrev pub items_at : LogState → ℕ → List ℤ
 items_at log position = option_to_list (item_at log position)
 
+-- the items from a position on
+abbrev pub items_since : LogState → ℕ → List ℤ
+items_since log position = drop (position - log.base) log.items
+
 -- the log without what lies before a position of it
 abbrev pub trimmed : LogState → ℕ → LogState
 trimmed log position = record { base = position; items = drop (position - log.base) log.items }

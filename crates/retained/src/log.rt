@@ -1,7 +1,7 @@
 // The items of a history that may still be asked for.
 ghost use Rattle.std.specs.Prelude.{◌≡◌, ◌==◌, ◌↔◌, ◌+◌, ◌-◌, ◌<◌, ◌≤◌, List, [], ◌∷◌, ◌++◌, ℤ, length, take, drop, slice_get, IfOk, IfSome, Some, IsTrue, OnOk, OnErr, IsErrOf};
 ghost use Rattle.std.specs.VecDeque.{deque_len, deque_capacity};
-ghost use Rattle.retained.specs.LogState.{log_end, IsFull, Overfills, IsInLog, item_at, trimmed, cut_at, IsLogOf};
+ghost use Rattle.retained.specs.LogState.{log_end, IsFull, Overfills, IsInLog, item_at, items_since, trimmed, cut_at, IsLogOf};
 
 use crate::fault::LogFault;
 use kahn_net::MAX_COUNT;
@@ -127,6 +127,24 @@ impl Log {
             return None;
         }
         self.items.get((position - self.base) as usize).copied()
+    }
+
+    /// A copy of the items from a position on, at most so many.
+    pub fn copy_since(
+        &self,
+        alloc: Global,
+        position: u64,
+        most: usize,
+    ) -> Result<Vec<i64>, AllocError>
+        ensures { IfOk result (λ items. items.items ≡ take most (items_since self.now position)) }
+    {
+        let first = position.saturating_sub(self.base).min(self.len() as u64) as usize;
+        let count = most.min(self.len() - first);
+        let mut items = Vec::with_capacity(alloc, count)?;
+        for offset in 0..count {
+            items.push(self.items[first + offset])?;
+        }
+        Ok(items)
     }
 
     /// Drops what lies before the position, which becomes the base. Changes nothing where the position isn't one from the

@@ -17,9 +17,9 @@ use Rattle.world.specs.WorldView.{station_view}
 use Rattle.world.specs.declared.station.Station.{Station}
 use Rattle.world.proofs.Cells.{own_alone, own_spelled}
 
-module _ {C O : Type 0} {cell : CellWords C} (taken : O → List ℤ) (failures : O → ℕ) where
+module _ {C O : Type 0} {cell : CellWords C} (taken : O → List ℤ) (failures : O → ℕ) (net : Network) where
   -- each choice spells a record of each node
-  all_spelled : (olds news : List (Station C O cell)) (lefts : List (Option (List ℕ))) → AllZip (StaysInLine taken failures) olds news → AreLeftSince olds news lefts → ∥ ((records : List RecordView) × AllZip Spells records lefts) ∥₁
+  all_spelled : (olds news : List (Station C O cell)) (lefts : List (Option (List ℕ))) → AllZip (StaysInLine taken failures net) olds news → AreLeftSince olds news lefts → ∥ ((records : List RecordView) × AllZip Spells records lefts) ∥₁
   all_spelled [] [] [] stays since = ∣ ([], tt) ∣₁
   all_spelled [] [] (left ∷ lefts) stays since = absurd since
   all_spelled [] (new ∷ news) lefts stays since = absurd since
@@ -31,11 +31,11 @@ module _ {C O : Type 0} {cell : CellWords C} (taken : O → List ℤ) (failures 
   -- these records fit what had left before and what has left by now, and aren't behind
   abbrev Follow : List (Station C O cell) → List (Station C O cell) → List RecordView → Type 0
   Follow olds news records =
-      AllZip (λ (station : StationView) (kept : RecordView). FitsOutputs (outputs_of station.outlets) kept) (map (station_view taken failures) olds) records
-      × AllZip (λ (station : StationView) (kept : RecordView). FitsOutputs (outputs_of station.outlets) kept) (map (station_view taken failures) news) records
+      AllZip (λ (station : StationView) (kept : RecordView). FitsOutputs net (outputs_of station.outlets) kept) (map (station_view taken failures) olds) records
+      × AllZip (λ (station : StationView) (kept : RecordView). FitsOutputs net (outputs_of station.outlets) kept) (map (station_view taken failures) news) records
       × AllZip (λ (old kept : RecordView). IsBehind old.permanent kept.permanent) (records_of (map (station_view taken failures) olds)) records
 
-  all_follow : (olds news : List (Station C O cell)) (lefts : List (Option (List ℕ))) (records : List RecordView) → AllZip (StaysInLine taken failures) olds news → AreLeftSince olds news lefts → AllZip Spells records lefts → Follow olds news records
+  all_follow : (olds news : List (Station C O cell)) (lefts : List (Option (List ℕ))) (records : List RecordView) → AllZip (StaysInLine taken failures net) olds news → AreLeftSince olds news lefts → AllZip Spells records lefts → Follow olds news records
   all_follow [] [] [] [] stays since spelled = (tt, tt, tt)
   all_follow [] [] [] (kept ∷ records) stays since spelled = absurd spelled
   all_follow [] [] (left ∷ lefts) records stays since spelled = absurd since
@@ -49,7 +49,7 @@ module _ {C O : Type 0} {cell : CellWords C} (taken : O → List ℤ) (failures 
       ((one.at_first kept spelled.0, others.0), (one.at_last kept spelled.0, others.1), (one.not_behind kept spelled.0, others.2))
 
   -- what the nodes keep in the end isn't behind
-  all_go_on : (olds news : List (Station C O cell)) → AllZip (StaysInLine taken failures) olds news
+  all_go_on : (olds news : List (Station C O cell)) → AllZip (StaysInLine taken failures net) olds news
       → AllZip (λ (old kept : RecordView). IsBehind old.permanent kept.permanent) (records_of (map (station_view taken failures) olds)) (records_of (map (station_view taken failures) news))
   all_go_on [] [] stays = tt
   all_go_on [] (new ∷ news) stays = absurd stays
@@ -57,24 +57,25 @@ module _ {C O : Type 0} {cell : CellWords C} (taken : O → List ℤ) (failures 
   all_go_on (old ∷ olds) (new ∷ news) stays = (stays.0.goes_on, all_go_on olds news stays.1)
 
   -- so an event keeps the line
-  pub keeps_line : (net : Network) (inputs : List (List ℤ)) (olds news : List (Station C O cell)) (before after : ℕ)
+  pub keeps_line : (inputs : List (List ℤ)) (olds news : List (Station C O cell)) (before after : ℕ)
       → WorldInvariant (record { net = net; inputs = inputs; stations = map (station_view taken failures) olds; round = before })
       → WorldInvariant (record { net = net; inputs = inputs; stations = map (station_view taken failures) news; round = after })
-      → AllZip (StaysInLine taken failures) olds news → KeepsLine taken failures net olds news
-  keeps_line net inputs olds news before after was is stays = record {
+      → AllZip (StaysInLine taken failures net) olds news → KeepsLine taken failures net olds news
+  keeps_line inputs olds news before after was is stays = record {
     spelled = λ lefts since. all_spelled olds news lefts stays since;
     in_line = λ lefts records since spelled. (
         let follow = all_follow olds news lefts records stays since spelled in
         record {
-          at_first = line_of net inputs was.outer was.alone (map (station_view taken failures) olds) records was.inhabited was.stations follow.0;
-          at_last = line_of net inputs was.outer was.alone (map (station_view taken failures) news) records is.inhabited is.stations follow.1;
-          not_behind = line_ahead net inputs was.outer was.alone (map (station_view taken failures) olds) records was.stations
-              (fit_undecided net inputs was.outer was.alone (map (station_view taken failures) olds) records follow.0) follow.2;
+          at_first = line_of net inputs was.valid was.alone (map (station_view taken failures) olds) records was.inhabited was.stations follow.0;
+          at_last = line_of net inputs was.valid was.alone (map (station_view taken failures) news) records is.inhabited is.stations follow.1;
+          not_behind = line_ahead net inputs was.valid was.alone (map (station_view taken failures) olds) records was.stations
+              (fit_undecided net inputs was.valid was.alone (map (station_view taken failures) olds) records follow.0) follow.2;
         });
-    goes_on = line_ahead net inputs was.outer was.alone (map (station_view taken failures) olds) (records_of (map (station_view taken failures) news)) was.stations
-        (kept_undecided net inputs was.outer was.alone (map (station_view taken failures) news) is.stations) (all_go_on olds news stays);
+    goes_on = line_ahead net inputs was.valid was.alone (map (station_view taken failures) olds) (records_of (map (station_view taken failures) news)) was.stations
+        (kept_undecided net inputs was.valid was.alone (map (station_view taken failures) news) is.stations) (all_go_on olds news stays);
   }
 
+module _ {C O : Type 0} {cell : CellWords C} (taken : O → List ℤ) (failures : O → ℕ) where
   -- what a crash leaves now is what the nodes keep
   kept_spelled : (stations : List (Station C O cell)) (lefts : List (Option (List ℕ))) → AllZip MayBeLeft stations lefts → ∥ AllZip Spells (records_of (map (station_view taken failures) stations)) lefts ∥₁
   kept_spelled [] [] may = ∣ tt ∣₁

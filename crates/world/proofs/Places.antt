@@ -5,11 +5,10 @@ use Rattle.std.specs.List.{list_all}
 use Rattle.std.proofs.lemmas.Bool.Decides.{nat_tests}
 use Rattle.kahn_net.specs.Nodes.{IsOnOneNode, nodes_above}
 use Rattle.kahn_net.specs.Syntax.{Code, code_of, network_of}
-use Rattle.kahn_net.specs.declared.program.Channel.{Channel}
 use Rattle.kahn_net.specs.declared.program.Process.{Process}
 use Rattle.kahn_net.specs.declared.program.Program.{Program}
 use Rattle.protocol.specs.NodeLaws.ImageLaws.{map_got}
-use Rattle.protocol.specs.World.Runnable.{CanRun, is_open}
+use Rattle.protocol.specs.World.Runnable.{CanRun}
 
 both : (a b : Bool) → (a && b) ≡ true → (a ≡ true) × (b ≡ true)
 both true b h = (refl, h)
@@ -49,29 +48,16 @@ on_first program all = record { node = each; count = one_above (network_of progr
 all_first : (program : Program) → CanRun (network_of program) → list_all (λ (process : Process). process.node == 0) program.processes.items ≡ true
 all_first program can =
     all_by (λ (process : Process). process.node == 0) program.processes.items
-    (λ k process at. zero_is process.node (can.one_node.node k (code_of process) (there program.processes.items k process at)))
+    (λ k process at. zero_is process.node (can.node k (code_of process) (there program.processes.items k process at)))
   where
     there : (processes : List Process) (k : ℕ) (process : Process) → slice_get processes k ≡ Some process → slice_get (map code_of processes) k ≡ Some (code_of process)
     there [] k process at = absurd (cc)
     there (one ∷ processes) zero process at = let same : one ≡ process = cc in ap (λ (p : Process). Some (code_of p)) same
     there (one ∷ processes) (suc k) process at = there processes k process at
 
--- where the first test passed, a network can be run exactly where the second one does
-pub where_open : (program : Program) (processes : List Process) (channels : List Channel) (passes : Bool) → processes ≡ program.processes.items → channels ≡ program.channels.items
-    → list_all (λ (process : Process). process.node == 0) processes ≡ true → passes ≡ list_all is_open channels → IsTrue passes ↔ CanRun (network_of program)
-where_open program processes channels passes here there first is = (
-  λ yes_it_is. record {
-    one_node = on_first program (ap (list_all (λ (process : Process). process.node == 0)) (sym here) ∙ first);
-    outside = λ c channel at. (let all : list_all is_open program.channels.items ≡ true = ap (list_all is_open) (sym there) ∙ (sym is ∙ yes_it_is) in
-        all_at is_open program.channels.items c channel all at);
-  },
-  λ can. is ∙ (ap (list_all is_open) there ∙ all_by is_open program.channels.items can.outside),
-)
-
--- and where it failed it can't
-pub never_else : (program : Program) (processes : List Process) (passes : Bool) → processes ≡ program.processes.items → passes ≡ list_all (λ (process : Process). process.node == 0) processes → passes ≡ false
-    → IsTrue passes ↔ CanRun (network_of program)
-never_else program processes passes here is fails = (
-  λ passed. (let bad : true ≡ false = sym passed ∙ fails in absurd (cc)),
+-- a network can be run exactly where the test passes
+pub where_first : (program : Program) (processes : List Process) (passes : Bool) → processes ≡ program.processes.items → passes ≡ list_all (λ (process : Process). process.node == 0) processes → IsTrue passes ↔ CanRun (network_of program)
+where_first program processes passes here is = (
+  λ passed. on_first program (ap (list_all (λ (process : Process). process.node == 0)) (sym here) ∙ (sym is ∙ passed)),
   λ can. is ∙ (ap (list_all (λ (process : Process). process.node == 0)) here ∙ all_first program can),
 )

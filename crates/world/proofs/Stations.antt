@@ -74,31 +74,31 @@ module _ {C O : Type 0} {cell : CellWords C} (taken : O → List ℤ) (failures 
   all_still stations sound = pairs_refl (IsGrown taken) stations (λ i station is. still station (sound i (station_view taken failures station) (map_at (station_view taken failures) stations i station is)))
 
   -- what a crash leaves of a station whose cell nobody called is the record of before
-  untouched_in_line : (old new : Station C O cell) → StationInvariant net inputs (station_view taken failures old) → StationInvariant net inputs (station_view taken failures new) → cell_in old.node.store ≡ cell_in new.node.store
-      → (left : Option (List ℕ)) → cell.left_since (cell_in new.node.store) (cell.moment (cell_in old.node.store)) left → LeavesInLine (station_view taken failures old) (station_view taken failures new) left
-  untouched_in_line old new inv later same left since =
-      same_in_line net inputs (station_view taken failures old) (station_view taken failures new) left inv later (ap (λ (c : C). record_spelled (cell.value c)) (sym same))
+  untouched_in_line : (old new : Station C O cell) → IsValid net → StationInvariant net inputs (station_view taken failures old) → StationInvariant net inputs (station_view taken failures new) → cell_in old.node.store ≡ cell_in new.node.store
+      → (left : Option (List ℕ)) → cell.left_since (cell_in new.node.store) (cell.moment (cell_in old.node.store)) left → LeavesInLine net (station_view taken failures old) (station_view taken failures new) left
+  untouched_in_line old new valid inv later same left since =
+      same_in_line net inputs (station_view taken failures old) (station_view taken failures new) left valid inv later (ap (λ (c : C). record_spelled (cell.value c)) (sym same))
       (own_left cell old.node.store (record_in old.node.store) old.node.kept.settled left
       (only_now (cell_in old.node.store) left (subst (λ (c : C). cell.left_since c (cell.moment (cell_in old.node.store)) left) (sym same) since)))
 
-  still_in_line : (station : Station C O cell) → StationInvariant net inputs (station_view taken failures station) → StaysInLine taken failures station station
-  still_in_line station inv = record { leaves = untouched_in_line station station inv inv refl; goes_on = behind_itself (record_in station.node.store).permanent }
+  still_in_line : (station : Station C O cell) → IsValid net → StationInvariant net inputs (station_view taken failures station) → StaysInLine taken failures net station station
+  still_in_line station valid inv = record { leaves = untouched_in_line station station valid inv inv refl; goes_on = behind_itself (record_in station.node.store).permanent }
 
-  pub all_still_in_line : (stations : List (Station C O cell)) → AreSound net inputs (map (station_view taken failures) stations) → AllZip (StaysInLine taken failures) stations stations
-  all_still_in_line stations sound =
-      pairs_refl (StaysInLine taken failures) stations (λ i station is. still_in_line station (sound i (station_view taken failures station) (map_at (station_view taken failures) stations i station is)))
+  pub all_still_in_line : (stations : List (Station C O cell)) → IsValid net → AreSound net inputs (map (station_view taken failures) stations) → AllZip (StaysInLine taken failures net) stations stations
+  all_still_in_line stations valid sound =
+      pairs_refl (StaysInLine taken failures net) stations (λ i station is. still_in_line station valid (sound i (station_view taken failures station) (map_at (station_view taken failures) stations i station is)))
 
   -- and of one with an event
   event_in_line : (event : EventView) (old new : Station C O cell) → IsValid net → StationInvariant net inputs (station_view taken failures old) → StationInvariant net inputs (station_view taken failures new)
       → HasMoved cell.moment cell.left_since (cell_in old.node.store) (cell_in new.node.store) (record_in old.node.store) (next_kept event (station_view taken failures old)) (outlet_views taken failures old.outputs.items) (outlet_views taken failures new.outputs.items)
-      → (left : Option (List ℕ)) → cell.left_since (cell_in new.node.store) (cell.moment (cell_in old.node.store)) left → LeavesInLine (station_view taken failures old) (station_view taken failures new) left
+      → (left : Option (List ℕ)) → cell.left_since (cell_in new.node.store) (cell.moment (cell_in old.node.store)) left → LeavesInLine net (station_view taken failures old) (station_view taken failures new) left
   event_in_line event old new valid inv later moved left since = at moved.apart
     where
       at : (cell_in old.node.store ≡ cell_in new.node.store)
           ⊎ ((outlet_views taken failures old.outputs.items ≡ outlet_views taken failures new.outputs.items)
           × ((other : Option (List ℕ)) → cell.left_since (cell_in new.node.store) (cell.moment (cell_in old.node.store)) other → LeavesEither (record_in old.node.store) (next_kept event (station_view taken failures old)) other))
-          → LeavesInLine (station_view taken failures old) (station_view taken failures new) left
-      at (inl same) = untouched_in_line old new inv later same left since
+          → LeavesInLine net (station_view taken failures old) (station_view taken failures new) left
+      at (inl same) = untouched_in_line old new valid inv later same left since
       at (inr through) = either_in_line net inputs event (station_view taken failures old) (station_view taken failures new) left valid inv (ap outputs_of through.0) (through.1 left since)
 
   module _ (valid : IsValid net) (fits : Fits net inputs) (room : RecordView → Bool) (round : ℕ) (event : EventView) where
@@ -121,9 +121,9 @@ module _ {C O : Type 0} {cell : CellWords C} (taken : O → List ℤ) (failures 
         → HasMoved cell.moment cell.left_since (cell_in x.node.store) (cell_in y.node.store) (record_in x.node.store) (next_kept event (station_view taken failures x)) (outlet_views taken failures x.outputs.items) (outlet_views taken failures y.outputs.items)
         → IfOk result (λ reply. IsStationStep net inputs room round event (station_view taken failures x) (reply_view reply) (station_view taken failures y))
         → OnErr result (station_view taken failures y ≡ station_view taken failures x)
-        → AllZip (StaysInLine taken failures) stations (slice_set stations place y)
+        → AllZip (StaysInLine taken failures net) stations (slice_set stations place y)
     all_in_line stations place x y result sound within is moved step same =
         let inv = sound place (station_view taken failures x) (seen_at (station_view taken failures) stations place x within is) in
         let later = sound_then net inputs valid fits room round event (station_view taken failures x) (station_view taken failures y) result inv step same in
-        pairs_set (StaysInLine taken failures) stations place x y (λ i station at. still_in_line station (sound i (station_view taken failures station) (map_at (station_view taken failures) stations i station at))) within is
+        pairs_set (StaysInLine taken failures net) stations place x y (λ i station at. still_in_line station valid (sound i (station_view taken failures station) (map_at (station_view taken failures) stations i station at))) within is
         (record { leaves = event_in_line event x y valid inv later moved; goes_on = ahead_then net inputs room round event (station_view taken failures x) (station_view taken failures y) result inv step same })

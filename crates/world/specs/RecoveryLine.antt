@@ -43,7 +43,7 @@ pub record HasOneLine {C O : Type 0} {cell : CellWords C} (taken : O → List �
 -- ---- the same of one station
 
 -- whatever a crash at a moment of the event leaves is in line, and so is the record that is kept in the end
-pub record StaysInLine {C O : Type 0} {cell : CellWords C} (taken : O → List ℤ) (failures : O → ℕ) (old new : Station C O cell) : Type 0 where
+pub record StaysInLine {C O : Type 0} {cell : CellWords C} (taken : O → List ℤ) (failures : O → ℕ) (net : Network) (old new : Station C O cell) : Type 0 where
   pub leaves : (left : Option (List ℕ)) → cell.left_since (cell_in new.node.store) (cell.moment (cell_in old.node.store)) left
-      → LeavesInLine (station_view taken failures old) (station_view taken failures new) left
+      → LeavesInLine net (station_view taken failures old) (station_view taken failures new) left
   pub goes_on : IsBehind (station_view taken failures old).node.kept.permanent (station_view taken failures new).node.kept.permanent

@@ -6,7 +6,6 @@ ghost use Rattle.ckpt_store.specs.Spelling.{fits_in};
 ghost use Rattle.ckpt_store.specs.StoreView.{cell_in};
 ghost use Rattle.node.specs.NodeOf.{view_of};
 ghost use Rattle.protocol.specs.Node.Starting.{is_down};
-ghost use Rattle.protocol.specs.NodeLaws.LikeLaws.{HasOuterChannels};
 ghost use Rattle.world.specs.EventView.{event_view};
 ghost use Rattle.protocol.specs.World.Invariant.{StationInvariant};
 ghost use Rattle.protocol.specs.World.Pairs.{HasMoved};
@@ -69,7 +68,6 @@ impl<C: StableCell, O: Outlet> Station<C, O> {
         event: &Event,
     ) -> Result<Reply, AllocError>
         requires fits { Fits (network_of net.now.value.program) inputs.now }
-        requires outer { HasOuterChannels (network_of net.now.value.program) }
         requires sound { StationInvariant (network_of net.now.value.program) inputs.now
             (station_view O.taken O.failures self.old) }
         ensures moved { HasMoved C.moment C.left_since (cell_in self.old.node.store)

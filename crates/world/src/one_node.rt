@@ -1,11 +1,11 @@
-//! Which networks can be run: those of one node without channels between processes, so far.
+//! Which networks can be run: those of one node, so far.
 
 ghost use Rattle.std.specs.Prelude.{◌≡◌, ◌↔◌, ◌==◌, IsTrue};
 ghost use Rattle.std.specs.List.{list_all};
 ghost use Rattle.kahn_net.specs.Syntax.{network_of};
-ghost use Rattle.protocol.specs.World.Runnable.{CanRun, is_open, is_outside};
+ghost use Rattle.protocol.specs.World.Runnable.{CanRun};
 
-use kahn_net::{Channel, Port, Process};
+use kahn_net::Process;
 use net_check::Net;
 
 /// The only node of a network that can be run.
@@ -23,31 +23,9 @@ fn are_on_first_node(processes: &[Process]) -> bool
     true
 }
 
-/// Whether this end is outside.
-fn is_outside(port: Port) -> bool
-    ensures { result ≡ is_outside port }
-{
-    match port {
-        Port::Outside => true,
-        Port::Process(_) => false,
-    }
-}
-
-/// Whether each channel has an end outside.
-fn are_open(channels: &[Channel]) -> bool
-    ensures { result ≡ list_all is_open channels.now }
-{
-    for channel in channels {
-        if !is_outside(channel.producer) && !is_outside(channel.consumer) {
-            return false;
-        }
-    }
-    true
-}
-
-/// Whether a network can be run: each process is on node 0, the only one, and no channel goes from process to process.
+/// Whether a network can be run: each process is on node 0, the only one.
 pub fn can_run(net: &Net) -> bool
     ensures { IsTrue result ↔ CanRun (network_of net.now.program) }
 {
-    are_on_first_node(&net.program.processes) && are_open(&net.program.channels)
+    are_on_first_node(&net.program.processes)
 }

@@ -3,7 +3,6 @@ ghost use Rattle.std.specs.Prelude.{◌≡◌, map, IfOk, IfErr, OnErr};
 ghost use Rattle.std.specs.List.{AllZip};
 ghost use Rattle.kahn_net.specs.Fits.{Fits};
 ghost use Rattle.kahn_net.specs.Syntax.{network_of};
-ghost use Rattle.protocol.specs.NodeLaws.LikeLaws.{HasOuterChannels};
 ghost use Rattle.protocol.specs.World.EventView.{event_node};
 ghost use Rattle.world.specs.EventView.{event_view};
 ghost use Rattle.protocol.specs.World.Headline.{AreApproximated};
@@ -69,11 +68,11 @@ fn act_at<C: StableCell, O: Outlet>(
     event: &Event,
 ) -> Result<Reply, AllocError>
     requires fits { Fits (network_of net.now.value.program) inputs.now }
-    requires outer { HasOuterChannels (network_of net.now.value.program) }
     requires sound { AreSound (network_of net.now.value.program) inputs.now
         (map (station_view O.taken O.failures) stations.old.items) }
     ensures grown { AllZip (IsGrown O.taken) stations.old.items stations.new.items }
-    ensures line { AllZip (StaysInLine O.taken O.failures) stations.old.items stations.new.items }
+    ensures line { AllZip (StaysInLine O.taken O.failures
+        (network_of net.now.value.program)) stations.old.items stations.new.items }
     ensures refused { OnErr result
         ((map (station_view O.taken O.failures) stations.new.items
         ≡ map (station_view O.taken O.failures) stations.old.items)

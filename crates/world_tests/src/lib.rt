@@ -9,6 +9,8 @@ mod crashes;
 #[cfg(test)]
 mod events;
 #[cfg(test)]
+mod pipes;
+#[cfg(test)]
 mod stops;
 #[cfg(test)]
 mod sums;

@@ -12,8 +12,11 @@ use std::process::Abort;
 use std::test::Fail;
 use world::{Event, Reply, World};
 
-// The event that is next. A job that it grants is run, and taken in.
-fn take_turn(alloc: Global, world: &mut World<TestCell, ListOutlet>) -> Result<(), Fail> {
+/// The event that is next. A job that it grants is run, and taken in.
+pub(crate) fn take_turn(
+    alloc: Global,
+    world: &mut World<TestCell, ListOutlet>,
+) -> Result<(), Fail> {
     let event = world.pick(0);
     match world.apply(alloc, event) {
         Ok(Reply::Granted(job)) => {
@@ -31,8 +34,8 @@ fn begins(rt: &impl Abort, found: &[i64], row: (u64, u64, u8)) {
     same_at(rt, &found, &sums(found.len()), &row);
 }
 
-// Takes turns until nothing is left to do.
-fn run_out(
+/// Takes turns until nothing is left to do, and asserts that 1 3 6 leaves.
+pub(crate) fn run_out(
     rt: &impl Abort,
     alloc: Global,
     run: &mut Run<ListOutlet>,

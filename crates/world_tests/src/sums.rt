@@ -33,10 +33,10 @@ pub(crate) const ITEMS: &str = "i: 1 2 3";
 
 pub(crate) type TestCell = GateCell<MemDisk>;
 
-fn sum_net(alloc: Global) -> Result<Net, Fail>
+fn net_of(alloc: Global, text: &str) -> Result<Net, Fail>
     ensures { IfOk result (λ net. CanRun (network_of net.program)) }
 {
-    let net = check(alloc, parse(alloc, SUM)?)?;
+    let net = check(alloc, parse(alloc, text)?)?;
     if !can_run(&net) {
         return Err("the network can't be run".into());
     }
@@ -57,18 +57,42 @@ pub(crate) fn disk_of(alloc: Global, sectors: usize) -> Result<MemDisk, Fail> {
     Ok(MemDisk::new(alloc, sectors)?)
 }
 
+/// The world of a network on these items, on this disk.
+fn world_of(
+    alloc: Global,
+    net: &str,
+    items: &str,
+    disk: MemDisk,
+) -> Result<Result<World<TestCell, ListOutlet>, StoreFault>, Fail> {
+    let net = net_of(alloc, net)?;
+    let inputs = items_in(alloc, &net, items)?;
+    let outputs = list_outputs(alloc, &net)?;
+    let net = Arc::new(alloc, net)?;
+    let inputs = Arc::new(alloc, inputs)?;
+    Ok(World::new(alloc, net, inputs, disk, outputs))
+}
+
 /// The world of the running sum on these items, on this disk.
 pub(crate) fn sum_world(
     alloc: Global,
     text: &str,
     disk: MemDisk,
 ) -> Result<Result<World<TestCell, ListOutlet>, StoreFault>, Fail> {
-    let net = sum_net(alloc)?;
-    let inputs = items_in(alloc, &net, text)?;
-    let outputs = list_outputs(alloc, &net)?;
-    let net = Arc::new(alloc, net)?;
-    let inputs = Arc::new(alloc, inputs)?;
-    Ok(World::new(alloc, net, inputs, disk, outputs))
+    world_of(alloc, SUM, text, disk)
+}
+
+/// A network on these items, on a disk of so many sectors.
+pub(crate) fn run_of(
+    alloc: Global,
+    net: &str,
+    items: &str,
+    sectors: usize,
+) -> Result<Run<ListOutlet>, Fail> {
+    Ok(Run {
+        world: world_of(alloc, net, items, disk_of(alloc, sectors)?)??,
+        done: None,
+        earlier: None,
+    })
 }
 
 // The one output of the running sum, with an outlet that fails.
@@ -358,11 +382,7 @@ pub(crate) fn sum_run_on(
     text: &str,
     sectors: usize,
 ) -> Result<Run<ListOutlet>, Fail> {
-    Ok(Run {
-        world: sum_world(alloc, text, disk_of(alloc, sectors)?)??,
-        done: None,
-        earlier: None,
-    })
+    run_of(alloc, SUM, text, sectors)
 }
 
 /// The running sum of 1 2 3.
@@ -376,7 +396,7 @@ pub(crate) fn weak_outlet_run(
     fails_at: usize,
     takes_it: bool,
 ) -> Result<Run<WeakOutlet>, Fail> {
-    let net = sum_net(alloc)?;
+    let net = net_of(alloc, SUM)?;
     let inputs = items_in(alloc, &net, ITEMS)?;
     let outputs = weak_outputs(alloc, &net, fails_at, takes_it)?;
     let net = Arc::new(alloc, net)?;

@@ -10,7 +10,7 @@ use Rattle.kahn_net.specs.declared.program.Port.{Port}
 use Rattle.kahn_net.specs.declared.program.Port.TheVariants.{Outside, Process}
 use Rattle.record.specs.ProcessView.{SavedProcessView}
 use Rattle.record.specs.ImageView.{ImageView}
-use Rattle.record.specs.Ends.{received_of}
+use Rattle.record.specs.Ends.{received_of, sent_of}
 use Rattle.turns.specs.Turns.{next_in_turn}
 use Rattle.protocol.specs.Node.JobView.{JobView}
 use Rattle.protocol.specs.Node.NodeView.{NodeView, RunningView, RunningNode, running_of, on_running}
@@ -18,10 +18,10 @@ use Rattle.protocol.specs.Node.Granting.{room_of, job_for}
 use Rattle.protocol.specs.Node.Starting.{is_none}
 use Rattle.kahn_net.specs.declared.limits.TheConstants.{MAX_COUNT}
 
--- a next item is at hand of a channel whose items come from there
+-- a next item is at hand of a channel whose items come from there: of an input, or of what a process put
 abbrev pub has_next : List (List ℤ) → ImageView → ℕ → Port → Bool
 has_next inputs image channel Outside = nat_lt (received_of image channel) (length (history_of inputs channel))
-has_next inputs image channel (Process p) = false
+has_next inputs image channel (Process p) = nat_lt (received_of image channel) (sent_of image channel)
 
 abbrev pub has_item : List (List ℤ) → ImageView → ℕ → Option Channel → Bool
 has_item inputs image channel None = false

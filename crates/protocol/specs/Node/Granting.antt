@@ -6,7 +6,7 @@ use Rattle.kahn_net.specs.Processes.{Standing}
 use Rattle.kahn_net.specs.declared.program.Channel.{Channel}
 use Rattle.kahn_net.specs.declared.program.Port.{Port}
 use Rattle.kahn_net.specs.declared.program.Port.TheVariants.{Outside, Process}
-use Rattle.retained.specs.LogState.{LogState, log_end}
+use Rattle.retained.specs.LogState.{LogState, log_end, items_since}
 use Rattle.record.specs.ImageView.{ImageView}
 use Rattle.record.specs.Ends.{received_of, log_of}
 use Rattle.protocol.specs.Node.JobView.{JobView}
@@ -19,11 +19,19 @@ abbrev pub is_process : ℕ → Port → Bool
 is_process process Outside = false
 is_process process (Process p) = p == process
 
--- The items of a channel that are at hand, at most 64: those of an input that come next. None of any other channel, since nothing
--- brings items from a process yet.
+-- the items of a log that come next behind so many
+abbrev pub next_in_log : ℕ → Option LogState → List ℤ
+next_in_log received None = []
+next_in_log received (Some log) = take MAX_JOB_ITEMS (items_since log received)
+
+-- The items of a channel that are at hand where so many were received, at most 64: those that come next of an input, or of the log of what
+-- a process of the node put.
+abbrev pub items_by : List (List ℤ) → ℕ → Port → ℕ → Option LogState → List ℤ
+items_by inputs channel Outside received log = take MAX_JOB_ITEMS (drop received (history_of inputs channel))
+items_by inputs channel (Process p) received log = next_in_log received log
+
 abbrev pub next_items : List (List ℤ) → ImageView → ℕ → Port → List ℤ
-next_items inputs image channel Outside = take MAX_JOB_ITEMS (drop (received_of image channel) (history_of inputs channel))
-next_items inputs image channel (Process p) = []
+next_items inputs image channel producer = items_by inputs channel producer (received_of image channel) (log_of image channel)
 
 -- what a process has at hand of each channel, the first one of this number: of those from which it gets
 abbrev pub items_from : List (List ℤ) → ImageView → ℕ → ℕ → List Channel → List (List ℤ)

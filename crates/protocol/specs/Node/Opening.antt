@@ -1,40 +1,43 @@
 -- A node before its first event.
-use Rattle.std.specs.Prelude.{ℕ, suc, List, [], ◌∷◌, replicate, None}
+use Rattle.std.specs.Prelude.{ℕ, suc, Bool, true, false, ◌==◌, if◌then◌else◌, List, [], ◌∷◌, replicate, Some, None}
 use Rattle.kahn_net.specs.Syntax.{Code, Network}
 use Rattle.kahn_net.specs.Processes.{NotBegun}
 use Rattle.kahn_net.specs.declared.program.Channel.{Channel}
-use Rattle.kahn_net.specs.declared.program.Port.{Port}
-use Rattle.kahn_net.specs.declared.program.Port.TheVariants.{Outside, Process}
 use Rattle.record.specs.ProcessView.{SavedProcessView}
 use Rattle.record.specs.ImageView.{ImageView}
 use Rattle.record.specs.RecordView.{RecordView}
+use Rattle.protocol.specs.Node.Layout.{port_on, channel_on}
 use Rattle.protocol.specs.Node.NodeView.{NodeView, Runs, RunningNode}
 use Rattle.record.specs.declared.image.SavedEnd.{SavedEnd}
 use Rattle.record.specs.declared.image.End.{End}
 use Rattle.record.specs.declared.image.End.TheVariants.{Receives, Sends, Both}
 
--- no process has begun
-abbrev pub opening_processes : ℕ → List Code → List SavedProcessView
-opening_processes number [] = []
-opening_processes number (code ∷ codes) = record { number = number; standing = NotBegun code.vars } ∷ opening_processes (suc number) codes
+-- none of the node's processes has begun
+abbrev pub opening_processes : ℕ → ℕ → List Code → List SavedProcessView
+opening_processes home number [] = []
+opening_processes home number (code ∷ codes) =
+    if code.node == home then record { number = number; standing = NotBegun code.vars } ∷ opening_processes home (suc number) codes else opening_processes home (suc number) codes
 
--- nothing was received or put: an end of a channel whose items come from there and go there
-abbrev pub opening_end : Port → Port → End
-opening_end Outside consumer = Receives 0
-opening_end (Process p) Outside = Sends (record { base = 0; items = [] })
-opening_end (Process p) (Process q) = Both 0 (record { base = 0; items = [] })
+-- nothing was received or put: an end at which the node puts, and gets, or not
+abbrev pub opening_end : Bool → Bool → End
+opening_end true true = Both 0 (record { base = 0; items = [] })
+opening_end true false = Sends (record { base = 0; items = [] })
+opening_end false gets = Receives 0
 
-abbrev pub opening_ends : ℕ → List Channel → List SavedEnd
-opening_ends number [] = []
-opening_ends number (channel ∷ channels) = record { channel = number; end = opening_end channel.producer channel.consumer } ∷ opening_ends (suc number) channels
+abbrev pub opening_ends : Network → ℕ → ℕ → List Channel → List SavedEnd
+opening_ends net home number [] = []
+opening_ends net home number (channel ∷ channels) =
+    if channel_on net home (Some channel)
+    then record { channel = number; end = opening_end (port_on net home channel.producer) (port_on net home channel.consumer) } ∷ opening_ends net home (suc number) channels
+    else opening_ends net home (suc number) channels
 
--- the image of a node that has every process and every channel
-abbrev pub opening_image : Network → ImageView
-opening_image net = record { processes = opening_processes 0 net.codes; ends = opening_ends 0 net.channels }
+-- the image of the node of this number, which has its own processes and ends
+abbrev pub opening_image : Network → ℕ → ImageView
+opening_image net home = record { processes = opening_processes home 0 net.codes; ends = opening_ends net home 0 net.channels }
 
 -- the record of the node of this number, of so many nodes
 abbrev pub opening_record : Network → ℕ → ℕ → RecordView
-opening_record net nodes number = record { node = number; epoch = 0; highest = replicate nodes 0; decision = None; permanent = opening_image net; tentative = None }
+opening_record net nodes number = record { node = number; epoch = 0; highest = replicate nodes 0; decision = None; permanent = opening_image net number; tentative = None }
 
 -- a node that runs from its record's permanent image, and never went down
 abbrev pub running_from : RecordView → NodeView
@@ -45,4 +48,4 @@ abbrev pub opening_node : Network → ℕ → ℕ → NodeView
 opening_node net nodes number = running_from (opening_record net nodes number)
 
 abbrev pub opening_running : Network → ℕ → ℕ → RunningNode
-opening_running net nodes number = record { kept = opening_record net nodes number; version = 0; current = opening_image net; out = None; last = None }
+opening_running net nodes number = record { kept = opening_record net nodes number; version = 0; current = opening_image net number; out = None; last = None }

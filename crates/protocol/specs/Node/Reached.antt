@@ -1,22 +1,22 @@
 -- How far a node has come: its images stand where its processes stand after so many acts, on one approximation of the network's histories.
-use Rattle.std.specs.Prelude.{◌≡◌, ℕ, zero, suc, ◌≤◌, ◌==◌, Bool, true, false, ℤ, List, [], ◌∷◌, map, length, take, find, Option, Some, None, slice_get, slice_index}
+use Rattle.std.specs.Prelude.{◌≡◌, ℕ, ◌≤◌, ◌==◌, Bool, true, false, ℤ, List, [], map, length, take, find, Option, Some, None, slice_get, slice_index}
 use Rattle.kahn_net.specs.Streams.{history_of}
 use Rattle.kahn_net.specs.Syntax.{Code, Network}
 use Rattle.kahn_net.specs.Statements.{Step}
 use Rattle.kahn_net.specs.Processes.{Standing, StandsAt, process_trace, sent_on, got_on}
 use Rattle.kahn_net.specs.Approximations.{approximation}
 use Rattle.kahn_net.specs.declared.program.Channel.{Channel}
-use Rattle.kahn_net.specs.declared.program.Port.{Port}
-use Rattle.kahn_net.specs.declared.program.Port.TheVariants.{Outside, Process}
+use Rattle.kahn_net.specs.declared.program.Port.TheVariants.{Process}
 use Rattle.proc_step.specs.Turns.{IsTurn}
-use Rattle.retained.specs.LogState.{LogState, IsLogOf}
+use Rattle.retained.specs.LogState.{LogState, IsLogOf, IsInLog}
 use Rattle.record.specs.ProcessView.{SavedProcessView}
 use Rattle.record.specs.ImageView.{ImageView}
 use Rattle.record.specs.Ends.{received_at, log_at}
 use Rattle.ckpt_codec.specs.RecordText.{role_of}
 use Rattle.protocol.specs.Node.JobView.{JobView}
+use Rattle.protocol.specs.Node.Layout.{role_here, processes_on, ends_on}
 use Rattle.protocol.specs.Node.NodeView.{RunningNode}
-use Rattle.protocol.specs.Node.Sharing.{is_logging, log_share, IsWithinShare}
+use Rattle.protocol.specs.Node.Sharing.{log_share, IsWithinShare}
 use Rattle.protocol.specs.Node.Granting.{items_from, room_from}
 use Rattle.record.specs.declared.image.SavedEnd.{SavedEnd}
 use Rattle.record.specs.declared.image.End.{End}
@@ -32,9 +32,15 @@ first_acts (Some code) histories m = take m (process_trace code histories).steps
 abbrev pub acts_of : Network → List (List ℤ) → (ℕ → ℕ) → ℕ → List Step
 acts_of net histories made process = first_acts (slice_get net.codes process) histories (made process)
 
--- an end of a channel counts the items that its process got, and retains the last ones that its process put
+-- an end counts what it receives
+abbrev pub is_counting : End → Bool
+is_counting (Receives received) = true
+is_counting (Sends log) = false
+is_counting (Both received log) = true
+
+-- an end of a channel counts the items that its process got, where it receives, and retains the last ones that its process put
 pub record EndStands (net : Network) (histories : List (List ℤ)) (made : ℕ → ℕ) (number : ℕ) (channel : Channel) (end : End) : Type 0 where
-  pub received : (p : ℕ) → channel.consumer ≡ Process p → received_at (Some end) ≡ length (got_on number (acts_of net histories made p))
+  pub received : (p : ℕ) → channel.consumer ≡ Process p → is_counting end ≡ true → received_at (Some end) ≡ length (got_on number (acts_of net histories made p))
   pub retained : (p : ℕ) (log : LogState) → channel.producer ≡ Process p → log_at (Some end) ≡ Some log → IsLogOf log (sent_on number (acts_of net histories made p))
 
 -- an image stands where each of its processes has made so many acts
@@ -60,38 +66,22 @@ pub record HasReached (net : Network) (inputs : List (List ℤ)) (node : Running
   pub held_after : IsAsFar permanent_acts held_acts
   pub current_after : IsAsFar held_acts current_acts
 
--- the numbers from this one on, so many
-abbrev pub numbers_from : ℕ → ℕ → List ℕ
-numbers_from first zero = []
-numbers_from first (suc count) = first ∷ numbers_from (suc first) count
-
--- an end counts what it receives
-abbrev pub is_counting : End → Bool
-is_counting (Receives received) = true
-is_counting (Sends log) = false
-is_counting (Both received log) = true
-
--- the role of an end of a channel whose items come from there and go there: it receives, sends, or does both
-abbrev pub role_between : Port → Port → ℕ
-role_between Outside consumer = 0
-role_between (Process p) Outside = 1
-role_between (Process p) (Process q) = 2
-
--- an image of a node that has every process and every channel has one entry for each, in order of their numbers, an end from which a process
--- gets counts, one on which a process puts has a log, and each has the role of its channel's ports
-pub record IsLaidOut (net : Network) (image : ImageView) : Type 0 where
-  pub processes : map (λ (saved : SavedProcessView). saved.number) image.processes ≡ numbers_from 0 (length net.codes)
-  pub ends : map (λ (saved : SavedEnd). saved.channel) image.ends ≡ numbers_from 0 (length net.channels)
-  pub counting : (k p : ℕ) (saved : SavedEnd) (channel : Channel) → slice_get image.ends k ≡ Some saved → slice_get net.channels saved.channel ≡ Some channel
-      → channel.consumer ≡ Process p → is_counting saved.end ≡ true
-  pub logging : (k p : ℕ) (saved : SavedEnd) (channel : Channel) → slice_get image.ends k ≡ Some saved → slice_get net.channels saved.channel ≡ Some channel
-      → channel.producer ≡ Process p → is_logging saved.end ≡ true
+-- An image of a node has one entry for each of its processes and for each channel of which it has an end, in order of their numbers, and an
+-- end has the role that the node has there.
+pub record IsLaidOut (net : Network) (home : ℕ) (image : ImageView) : Type 0 where
+  pub processes : map (λ (saved : SavedProcessView). saved.number) image.processes ≡ processes_on net home
+  pub ends : map (λ (saved : SavedEnd). saved.channel) image.ends ≡ ends_on net home
   pub roles : (k : ℕ) (saved : SavedEnd) (channel : Channel) → slice_get image.ends k ≡ Some saved → slice_get net.channels saved.channel ≡ Some channel
-      → role_of saved.end ≡ role_between channel.producer channel.consumer
+      → role_of saved.end ≡ role_here net home channel
 
--- no more was received than there is
+-- no more was received of a channel than there is: of an input than it has, and of a channel that stays on the node than was put, and so
+-- much that its log has what comes next
+pub record CountIsWithin (inputs : List (List ℤ)) (channel : ℕ) (end : End) : Type 0 where
+  pub of_input : (received : ℕ) → end ≡ Receives received → received ≤ length (history_of inputs channel)
+  pub in_log : (received : ℕ) (log : LogState) → end ≡ Both received log → IsInLog log received
+
 abbrev pub CountsAreWithin : List (List ℤ) → ImageView → Type 0
-CountsAreWithin inputs image = (k : ℕ) (saved : SavedEnd) → slice_get image.ends k ≡ Some saved → received_at (Some (saved.end)) ≤ length (history_of inputs saved.channel)
+CountsAreWithin inputs image = (k : ℕ) (saved : SavedEnd) → slice_get image.ends k ≡ Some saved → CountIsWithin inputs saved.channel saved.end
 
 -- each log has at most its share, and ends at a count
 abbrev pub LogsAreWithin : ImageView → Type 0

@@ -1,5 +1,5 @@
 -- Laws of a turn that fits: what it takes is there, what it puts has room, and what is kept of an image is kept by it.
-use Rattle.std.proofs.Common.{◌≡◌, ◌⊎◌, inl, inr, ℕ, zero, suc, ◌+◌, ◌-◌, ◌<◌, ◌≤◌, Bool, true, false, eqb, cond, ℤ, List, [], ◌∷◌, ◌++◌, length, drop, map, get_or, Option, Some, None, option_map, refl, sym, ap, subst, ◌∙◌, arith}
+use Rattle.std.proofs.Common.{◌≡◌, ◌⊎◌, inl, inr, ℕ, zero, suc, ◌+◌, ◌-◌, ◌<◌, ◌≤◌, Bool, true, false, eqb, cond, ℤ, List, [], ◌∷◌, ◌++◌, length, take, drop, map, get_or, Option, Some, None, option_map, refl, sym, ap, subst, ◌∙◌, arith}
 use Rattle.std.specs.Prelude.{slice_get, slice_index, find, min}
 use Rattle.std.proofs.Math.Nat.{min-le_left, min-le_right}
 use Rattle.std.proofs.lemmas.List.{length-append, length-take, length-drop, get_or_past}
@@ -12,7 +12,7 @@ use Rattle.kahn_net.specs.Approximations.{approximation}
 use Rattle.kahn_net.specs.declared.program.Channel.{Channel}
 use Rattle.kahn_net.specs.declared.program.Port.{Port}
 use Rattle.kahn_net.specs.declared.program.Port.TheVariants.{Outside, Process}
-use Rattle.retained.specs.LogState.{LogState, Overfills, log_end}
+use Rattle.retained.specs.LogState.{LogState, IsInLog, Overfills, log_end, items_since}
 use Rattle.proc_step.specs.Turns.{IsTurn}
 use Rattle.proc_step.specs.TurnLaws.{sent_fits, taken_fits}
 use Rattle.record.specs.ProcessView.{SavedProcessView}
@@ -22,13 +22,17 @@ use Rattle.protocol.specs.Node.JobView.{JobView}
 use Rattle.protocol.specs.Node.NodeView.{RunningNode}
 use Rattle.record.specs.Ends.{received_of, received_at, log_of, log_at, sent_in, end_of, base_in, base_of}
 use Rattle.protocol.specs.Node.Sharing.{is_logging, log_share, IsWithinShare}
-use Rattle.protocol.specs.Node.Granting.{is_process, next_items, room_in, room_of, room_from}
-use Rattle.record.specs.Changes.{log_with, pushed, counted, LogTakes}
+use Rattle.protocol.specs.Node.Granting.{is_process, items_by, next_items, room_in, room_of, room_from}
+use Rattle.record.specs.Changes.{log_with, trimmed_log, pushed, counted, LogTakes}
 use Rattle.protocol.specs.Node.Installing.{is_consumer, is_producer, taken_from, put_on, saved_pushed, saved_counted, moved, installed, ImageTakes}
 use Rattle.protocol.specs.Node.Starting.{IsBehind}
-use Rattle.protocol.specs.Node.Reached.{ImageStands, HasReached, is_counting, role_between, IsLaidOut, CountsAreWithin, LogsAreWithin, IsJobOf, IsTurnOf}
-use Rattle.protocol.specs.NodeLaws.ImageLaws.{channel_at, received_is, log_is, map_got, map_keeps, map_twice, end_of_changed}
-use Rattle.protocol.specs.NodeLaws.ReachedLaws.{items_at_hand, items_of_channel}
+use Rattle.protocol.specs.Node.Layout.{port_on, role_by, role_here}
+use Rattle.protocol.specs.Node.Reached.{ImageStands, HasReached, IsLaidOut, CountIsWithin, CountsAreWithin, LogsAreWithin, IsJobOf, IsTurnOf}
+use Rattle.protocol.specs.NodeLaws.ImageLaws.{received_is, log_is, map_got, map_keeps, map_twice, end_of_changed}
+use Rattle.protocol.specs.NodeLaws.CountLaws.{receives_within, sends_within, both_within}
+use Rattle.protocol.specs.NodeLaws.LiftLaws.{IsAtHand}
+use Rattle.protocol.specs.NodeLaws.LogLaws.{trimmed_end_stays, base_after, in_trimmed}
+use Rattle.protocol.specs.NodeLaws.ReachedLaws.{items_of_channel}
 use Rattle.protocol.specs.NodeLaws.SharingLaws.{share_within, share_kept}
 use Rattle.protocol.specs.NodeLaws.InstallLaws.{turn_of_job, job_has_code, log_then}
 use Rattle.record.specs.declared.image.SavedEnd.{SavedEnd}
@@ -40,47 +44,84 @@ use Rattle.retained.specs.declared.log.TheConstants.{MAX_LOG_ITEMS}
 
 -- What a turn takes
 
+-- as far as the count of an end can go by a turn: to the end of the input, or of the log of a channel that stays on the node
+abbrev pub count_limit : List (List ℤ) → ℕ → End → ℕ
+count_limit inputs c (Receives received) = length (history_of inputs c)
+count_limit inputs c (Sends log) = MAX_JOB_ITEMS
+count_limit inputs c (Both received log) = log_end log
+
+count_below : (inputs : List (List ℤ)) (c : ℕ) (end : End) → CountIsWithin inputs c end → received_at (Some end) ≤ count_limit inputs c end
+count_below inputs c (Receives received) within = within.of_input received refl
+count_below inputs c (Sends log) within = omega arith
+count_below inputs c (Both received log) within = (within.in_log received log refl).to_end
+
 -- no more is at hand than is left
-at_hand_is_left : (inputs : List (List ℤ)) (image : ImageView) (c : ℕ) (gets : Bool) (port : Port)
-    → length (cond gets (next_items inputs image c port) []) ≤ length (history_of inputs c) - received_of image c
-at_hand_is_left inputs image c false port = omega arith
-at_hand_is_left inputs image c true (Process q) = omega arith
-at_hand_is_left inputs image c true Outside =
-    let some = length-take MAX_JOB_ITEMS (drop (received_of image c) (history_of inputs c)) in
-    let few = min-le_right MAX_JOB_ITEMS (length (drop (received_of image c) (history_of inputs c))) in
-    let left = length-drop (received_of image c) (history_of inputs c) in
-    omega (arith, some, few, left)
+input_left : (input : List ℤ) (received : ℕ) → received ≤ length input → received + length (take MAX_JOB_ITEMS (drop received input)) ≤ length input
+input_left input received within =
+    let some = length-take MAX_JOB_ITEMS (drop received input) in
+    let few = min-le_right MAX_JOB_ITEMS (length (drop received input)) in
+    let left = length-drop received input in
+    omega (arith, within, some, few, left)
+
+log_left : (received : ℕ) (log : LogState) → IsInLog log received → received + length (take MAX_JOB_ITEMS (items_since log received)) ≤ log_end log
+log_left received log within =
+    let some = length-take MAX_JOB_ITEMS (items_since log received) in
+    let few = min-le_right MAX_JOB_ITEMS (length (items_since log received)) in
+    let left = length-drop (received - log.base) log.items in
+    let low = within.from_base in
+    let high = within.to_end in
+    omega (arith, some, few, left, low, high)
+
+few_taken : (items : List ℤ) → length (take MAX_JOB_ITEMS items) ≤ MAX_JOB_ITEMS
+few_taken items =
+    let some = length-take MAX_JOB_ITEMS items in
+    let few = min-le_left MAX_JOB_ITEMS (length items) in
+    omega (arith, some, few)
+
+left_by_end : (net : Network) (home : ℕ) (inputs : List (List ℤ)) (c : ℕ) (end : End) (producer consumer : Port) → CountIsWithin inputs c end → role_of end ≡ role_by (port_on net home producer) (port_on net home consumer)
+    → received_at (Some end) + length (items_by inputs c producer (received_at (Some end)) (log_at (Some end))) ≤ count_limit inputs c end
+left_by_end net home inputs c (Receives received) Outside consumer within role = input_left (history_of inputs c) received (within.of_input received refl)
+left_by_end net home inputs c (Receives received) (Process q) consumer within role = let few = within.of_input received refl in omega (arith, few)
+left_by_end net home inputs c (Sends log) Outside consumer within role = let few = few_taken (drop 0 (history_of inputs c)) in omega (arith, few)
+left_by_end net home inputs c (Sends log) (Process q) consumer within role = let few = few_taken (items_since log 0) in omega (arith, few)
+left_by_end net home inputs c (Both received log) Outside consumer within role = absurd (cc)
+left_by_end net home inputs c (Both received log) (Process q) consumer within role = log_left received log (within.in_log received log refl)
 
 -- what a turn takes from a channel is there
-pub taken_is_there : (net : Network) (inputs : List (List ℤ)) (n : ℕ) (made : ℕ → ℕ) (image : ImageView) (job : JobView) (code : Code) (after : Standing) (taken : List ℕ) (sent : List (List ℤ))
-    → ImageStands net (approximation net inputs n) made image → IsLaidOut net image → CountsAreWithin inputs image → IsJobOf net inputs image job → slice_get net.codes job.process ≡ Some code
-    → IsTurn code job.standing job.items job.room after taken sent
+pub taken_is_there : (net : Network) (home : ℕ) (inputs : List (List ℤ)) (n : ℕ) (made : ℕ → ℕ) (image : ImageView) (job : JobView) (code : Code) (after : Standing) (taken : List ℕ) (sent : List (List ℤ))
+    → ImageStands net (approximation net inputs n) made image → IsLaidOut net home image → IsAtHand net inputs (approximation net inputs n) made image job.process → CountsAreWithin inputs image → IsJobOf net inputs image job
+    → slice_get net.codes job.process ≡ Some code → IsTurn code job.standing job.items job.room after taken sent
     → (k : ℕ) (saved : SavedEnd) → slice_get image.ends k ≡ Some saved
-    → received_at (Some (saved.end)) + taken_from net.channels job.process taken saved.channel ≤ length (history_of inputs saved.channel)
-taken_is_there net inputs n made image job code after taken sent stands laid counts of there turn k saved is = at (slice_get_cases net.channels saved.channel).1
+    → received_at (Some (saved.end)) + taken_from net.channels job.process taken saved.channel ≤ count_limit inputs saved.channel saved.end
+taken_is_there net home inputs n made image job code after taken sent stands laid hand counts of there turn k saved is = at (slice_get_cases net.channels saved.channel).1
   where
-    within : received_at (Some (saved.end)) ≤ length (history_of inputs saved.channel)
-    within = counts k saved is
+    below : received_at (Some (saved.end)) ≤ count_limit inputs saved.channel saved.end
+    below = count_below inputs saved.channel saved.end (counts k saved is)
 
     same : received_of image saved.channel ≡ received_at (Some (saved.end))
-    same =
-        let number = channel_at net image k saved laid is in
-        ap (received_of image) number ∙ received_is net image k saved laid is
+    same = received_is net home image k saved laid is
+
+    same_log : log_of image saved.channel ≡ log_at (Some (saved.end))
+    same_log = log_is net home image k saved laid is
 
     by_test : (channel : Channel) → slice_get net.channels saved.channel ≡ Some channel → (gets : Bool) → is_process job.process channel.consumer ≡ gets
-        → received_at (Some (saved.end)) + cond gets (slice_index taken saved.channel) 0 ≤ length (history_of inputs saved.channel)
-    by_test channel on false test = omega (arith, within)
+        → received_at (Some (saved.end)) + cond gets (slice_index taken saved.channel) 0 ≤ count_limit inputs saved.channel saved.end
+    by_test channel on false test = omega (arith, below)
     by_test channel on true test =
-        let done = turn_of_job net inputs n made image job code after taken sent stands laid of there turn in
+        let done = turn_of_job net inputs n made image job code after taken sent stands hand of there turn in
         let few = taken_fits code (approximation net inputs n) (made job.process) job.items job.room after taken sent done saved.channel in
-        let items : history_of job.items saved.channel ≡ items_at_hand inputs image job.process saved.channel channel =
-        ap (λ (items : List (List ℤ)). history_of items saved.channel) of.items ∙ items_of_channel net inputs image job.process saved.channel channel on in
-        let left = at_hand_is_left inputs image saved.channel (is_process job.process channel.consumer) channel.producer in
-        let count : length (history_of job.items saved.channel) ≤ length (history_of inputs saved.channel) - received_of image saved.channel = omega (arith, ap (length {A = ℤ}) items, left) in
-        omega (arith, few, count, same, within)
+        let items : history_of job.items saved.channel ≡ next_items inputs image saved.channel channel.producer =
+        ap (λ (items : List (List ℤ)). history_of items saved.channel) of.items
+        ∙ (items_of_channel net inputs image job.process saved.channel channel on
+        ∙ ap (λ (b : Bool). cond b (next_items inputs image saved.channel channel.producer) []) test) in
+        let by_end : next_items inputs image saved.channel channel.producer ≡ items_by inputs saved.channel channel.producer (received_at (Some (saved.end))) (log_at (Some (saved.end))) =
+        ap (λ (r : ℕ). items_by inputs saved.channel channel.producer r (log_of image saved.channel)) same
+        ∙ ap (items_by inputs saved.channel channel.producer (received_at (Some (saved.end)))) same_log in
+        let left = left_by_end net home inputs saved.channel saved.end channel.producer channel.consumer (counts k saved is) (laid.roles k saved channel is on) in
+        omega (arith, few, ap (length {A = ℤ}) items, ap (length {A = ℤ}) by_end, left)
 
     at : ((x : Channel) × (saved.channel < length net.channels) × (slice_get net.channels saved.channel ≡ Some x) × (get_or net.channels saved.channel x ≡ x)) ⊎ ((length net.channels ≤ saved.channel) × (slice_get net.channels saved.channel ≡ None))
-        → received_at (Some (saved.end)) + taken_from net.channels job.process taken saved.channel ≤ length (history_of inputs saved.channel)
+        → received_at (Some (saved.end)) + taken_from net.channels job.process taken saved.channel ≤ count_limit inputs saved.channel saved.end
     at (inl here) =
         let all = by_test here.0 here.2 (is_process job.process here.0.consumer) refl in
         let tested : taken_from net.channels job.process taken saved.channel ≡ cond (is_process job.process here.0.consumer) (slice_index taken saved.channel) 0 =
@@ -88,7 +129,7 @@ taken_is_there net inputs n made image job code after taken sent stands laid cou
         omega (arith, all, tested)
     at (inr past) =
         let tested : taken_from net.channels job.process taken saved.channel ≡ 0 = ap (λ (o : Option Channel). cond (is_consumer job.process o) (slice_index taken saved.channel) 0) past.1 in
-        omega (arith, within, tested)
+        omega (arith, below, tested)
 
 -- What a turn puts
 
@@ -106,14 +147,14 @@ room_from-at image process number (x ∷ channels) (suc c) channel is =
 
 -- what a turn puts on a channel has room in its log
 pub put_has_room : (net : Network) (inputs : List (List ℤ)) (n : ℕ) (made : ℕ → ℕ) (image : ImageView) (job : JobView) (code : Code) (after : Standing) (taken : List ℕ) (sent : List (List ℤ))
-    → ImageStands net (approximation net inputs n) made image → IsLaidOut net image → IsJobOf net inputs image job → slice_get net.codes job.process ≡ Some code
+    → ImageStands net (approximation net inputs n) made image → IsAtHand net inputs (approximation net inputs n) made image job.process → IsJobOf net inputs image job → slice_get net.codes job.process ≡ Some code
     → IsTurn code job.standing job.items job.room after taken sent → (c : ℕ) → length (put_on net.channels job.process sent c) ≤ room_of image c
-put_has_room net inputs n made image job code after taken sent stands laid of there turn c = at (slice_get_cases net.channels c).1
+put_has_room net inputs n made image job code after taken sent stands hand of there turn c = at (slice_get_cases net.channels c).1
   where
     by_test : (channel : Channel) → slice_get net.channels c ≡ Some channel → (puts : Bool) → is_process job.process channel.producer ≡ puts → length (cond puts (history_of sent c) []) ≤ room_of image c
     by_test channel on false test = omega arith
     by_test channel on true test =
-        let done = turn_of_job net inputs n made image job code after taken sent stands laid of there turn in
+        let done = turn_of_job net inputs n made image job code after taken sent stands hand of there turn in
         let few = sent_fits code (approximation net inputs n) (made job.process) job.items job.room after taken sent done c in
         let sum : 0 + c ≡ c = omega arith in
         let room : slice_index (room_from image job.process 0 net.channels) c ≡ room_of image c =
@@ -167,23 +208,28 @@ history_is_short net inputs c fits = at (slice_get_cases inputs c).1
     at (inr past) = omega (arith, ap (length {A = ℤ}) (get_or_past inputs c [] past.0))
 
 -- the turn fits the image: no count and no log comes past its limit
-pub image_takes_turn : (net : Network) (inputs : List (List ℤ)) (n : ℕ) (made : ℕ → ℕ) (image : ImageView) (job : JobView) (code : Code) (after : Standing) (taken : List ℕ) (sent : List (List ℤ))
-    → ImageStands net (approximation net inputs n) made image → IsLaidOut net image → CountsAreWithin inputs image → LogsAreWithin image → Fits net inputs
+pub image_takes_turn : (net : Network) (home : ℕ) (inputs : List (List ℤ)) (n : ℕ) (made : ℕ → ℕ) (image : ImageView) (job : JobView) (code : Code) (after : Standing) (taken : List ℕ) (sent : List (List ℤ))
+    → ImageStands net (approximation net inputs n) made image → IsLaidOut net home image → IsAtHand net inputs (approximation net inputs n) made image job.process → CountsAreWithin inputs image → LogsAreWithin image → Fits net inputs
     → IsJobOf net inputs image job → slice_get net.codes job.process ≡ Some code → IsTurn code job.standing job.items job.room after taken sent
     → ImageTakes net.channels job.process taken sent image
-image_takes_turn net inputs n made image job code after taken sent stands laid counts logs fits of there turn k saved is = record {
+image_takes_turn net home inputs n made image job code after taken sent stands laid hand counts logs fits of there turn k saved is = record {
   received =
-      let sum = taken_is_there net inputs n made image job code after taken sent stands laid counts of there turn k saved is in
-      let short = history_is_short net inputs saved.channel fits in
-      omega (arith, sum, short);
+      let sum = taken_is_there net home inputs n made image job code after taken sent stands laid hand counts of there turn k saved is in
+      let most = limit_is_count saved.end (logs k saved) in
+      omega (arith, sum, most);
   put = at (log_at (Some (saved.end))) refl;
 }
   where
+    limit_is_count : (end : End) → ((log : LogState) → slice_get image.ends k ≡ Some saved → log_at (Some end) ≡ Some log → IsWithinShare (log_share image) log) → count_limit inputs saved.channel end ≤ MAX_COUNT
+    limit_is_count (Receives received) logs = let short = history_is_short net inputs saved.channel fits in omega (arith, short)
+    limit_is_count (Sends log) logs = omega arith
+    limit_is_count (Both received log) logs = let within = logs log is refl in within.last
+
     at : (o : Option LogState) → log_at (Some (saved.end)) ≡ o → LogTakes (length (put_on net.channels job.process sent saved.channel)) o
     at None e = tt
     at (Some log) e =
-        let room = put_has_room net inputs n made image job code after taken sent stands laid of there turn saved.channel in
-        let same : log_of image saved.channel ≡ Some log = ap (log_of image) (channel_at net image k saved laid is) ∙ (log_is net image k saved laid is ∙ e) in
+        let room = put_has_room net inputs n made image job code after taken sent stands hand of there turn saved.channel in
+        let same : log_of image saved.channel ≡ Some log = log_is net home image k saved laid is ∙ e in
         let share = share_within image in
         fits_log (log_share image) log (put_on net.channels job.process sent saved.channel) (omega (arith, share)) (logs k saved log is e)
         (subst (λ (o : Option LogState). length (put_on net.channels job.process sent saved.channel) ≤ room_in (log_share image) o) same room)
@@ -208,11 +254,6 @@ moved_keeps process standing (y ∷ xs) = at (eqb y.number process) (moved_keeps
     at true later = refl
     at false later = ap (λ (ns : List ℕ). y.number ∷ ns) later
 
-still_counting : (end : End) (items : List ℤ) (count : ℕ) → is_counting (counted count (pushed items end)) ≡ is_counting end
-still_counting (Receives received) items count = refl
-still_counting (Sends log) items count = refl
-still_counting (Both received log) items count = refl
-
 still_logging : (end : End) (items : List ℤ) (count : ℕ) → is_logging (counted count (pushed items end)) ≡ is_logging end
 still_logging (Receives received) items count = refl
 still_logging (Sends log) items count = refl
@@ -223,38 +264,18 @@ still_its_role (Receives received) items count = refl
 still_its_role (Sends log) items count = refl
 still_its_role (Both received log) items count = refl
 
-pub laid_out_installed : (net : Network) (process : ℕ) (after : Standing) (taken : List ℕ) (sent : List (List ℤ)) (image : ImageView)
-    → IsLaidOut net image → IsLaidOut net (installed net.channels process after taken sent image)
-laid_out_installed net process after taken sent image laid = record {
+pub laid_out_installed : (net : Network) (home process : ℕ) (after : Standing) (taken : List ℕ) (sent : List (List ℤ)) (image : ImageView)
+    → IsLaidOut net home image → IsLaidOut net home (installed net.channels process after taken sent image)
+laid_out_installed net home process after taken sent image laid = record {
   processes = moved_keeps process after image.processes ∙ laid.processes;
   ends =
       map_keeps (λ (s : SavedEnd). s.channel) (saved_counted net.channels process taken) (map (saved_pushed net.channels process sent) image.ends) (λ s. refl)
       ∙ (map_keeps (λ (s : SavedEnd). s.channel) (saved_pushed net.channels process sent) image.ends (λ s. refl) ∙ laid.ends);
-  counting = counting;
-  logging = logging;
   roles = roles;
 }
   where
-    counting : (k p : ℕ) (saved : SavedEnd) (channel : Channel) → slice_get (installed net.channels process after taken sent image).ends k ≡ Some saved → slice_get net.channels saved.channel ≡ Some channel
-        → channel.consumer ≡ Process p → is_counting saved.end ≡ true
-    counting k p saved channel is on to =
-        let old = end_before net.channels process after taken sent image k saved is in
-        let number : old.0.channel ≡ saved.channel = ap (λ (s : SavedEnd). s.channel) old.2 in
-        ap (λ (s : SavedEnd). is_counting s.end) (sym old.2)
-        ∙ (still_counting old.0.end (put_on net.channels process sent old.0.channel) (taken_from net.channels process taken old.0.channel)
-        ∙ laid.counting k p old.0 channel old.1 (ap (slice_get net.channels) number ∙ on) to)
-
-    logging : (k p : ℕ) (saved : SavedEnd) (channel : Channel) → slice_get (installed net.channels process after taken sent image).ends k ≡ Some saved → slice_get net.channels saved.channel ≡ Some channel
-        → channel.producer ≡ Process p → is_logging saved.end ≡ true
-    logging k p saved channel is on from =
-        let old = end_before net.channels process after taken sent image k saved is in
-        let number : old.0.channel ≡ saved.channel = ap (λ (s : SavedEnd). s.channel) old.2 in
-        ap (λ (s : SavedEnd). is_logging s.end) (sym old.2)
-        ∙ (still_logging old.0.end (put_on net.channels process sent old.0.channel) (taken_from net.channels process taken old.0.channel)
-        ∙ laid.logging k p old.0 channel old.1 (ap (slice_get net.channels) number ∙ on) from)
-
     roles : (k : ℕ) (saved : SavedEnd) (channel : Channel) → slice_get (installed net.channels process after taken sent image).ends k ≡ Some saved → slice_get net.channels saved.channel ≡ Some channel
-        → role_of saved.end ≡ role_between channel.producer channel.consumer
+        → role_of saved.end ≡ role_here net home channel
     roles k saved channel is on =
         let old = end_before net.channels process after taken sent image k saved is in
         let number : old.0.channel ≡ saved.channel = ap (λ (s : SavedEnd). s.channel) old.2 in
@@ -262,21 +283,25 @@ laid_out_installed net process after taken sent image laid = record {
         ∙ (still_its_role old.0.end (put_on net.channels process sent old.0.channel) (taken_from net.channels process taken old.0.channel)
         ∙ laid.roles k old.0 channel old.1 (ap (slice_get net.channels) number ∙ on))
 
-at_most_counted : (end : End) (items : List ℤ) (count : ℕ) → received_at (Some (counted count (pushed items end))) ≤ received_at (Some end) + count
-at_most_counted (Receives received) items count = omega arith
-at_most_counted (Sends log) items count = omega arith
-at_most_counted (Both received log) items count = omega arith
+-- a count that goes no further than its limit is within what there is
+counted_within : (inputs : List (List ℤ)) (c : ℕ) (end : End) (items : List ℤ) (count : ℕ) → CountIsWithin inputs c end → received_at (Some end) + count ≤ count_limit inputs c end
+    → CountIsWithin inputs c (counted count (pushed items end))
+counted_within inputs c (Receives received) items count within few = receives_within inputs c (received + count) few
+counted_within inputs c (Sends log) items count within few = sends_within inputs c (log_with items log)
+counted_within inputs c (Both received log) items count within few =
+    let sum = length-append log.items items in
+    let low = (within.in_log received log refl).from_base in
+    both_within inputs c (received + count) (trimmed_log (received + count) (log_with items log))
+    (in_trimmed (received + count) (log_with items log) (record { from_base = omega (arith, low); to_end = omega (arith, few, sum) }))
 
-pub counts_after_turn : (net : Network) (inputs : List (List ℤ)) (n : ℕ) (made : ℕ → ℕ) (image : ImageView) (job : JobView) (code : Code) (after : Standing) (taken : List ℕ) (sent : List (List ℤ))
-    → ImageStands net (approximation net inputs n) made image → IsLaidOut net image → CountsAreWithin inputs image → IsJobOf net inputs image job → slice_get net.codes job.process ≡ Some code
-    → IsTurn code job.standing job.items job.room after taken sent → CountsAreWithin inputs (installed net.channels job.process after taken sent image)
-counts_after_turn net inputs n made image job code after taken sent stands laid counts of there turn k saved is =
+pub counts_after_turn : (net : Network) (home : ℕ) (inputs : List (List ℤ)) (n : ℕ) (made : ℕ → ℕ) (image : ImageView) (job : JobView) (code : Code) (after : Standing) (taken : List ℕ) (sent : List (List ℤ))
+    → ImageStands net (approximation net inputs n) made image → IsLaidOut net home image → IsAtHand net inputs (approximation net inputs n) made image job.process → CountsAreWithin inputs image → IsJobOf net inputs image job
+    → slice_get net.codes job.process ≡ Some code → IsTurn code job.standing job.items job.room after taken sent → CountsAreWithin inputs (installed net.channels job.process after taken sent image)
+counts_after_turn net home inputs n made image job code after taken sent stands laid hand counts of there turn k saved is =
     let old = end_before net.channels job.process after taken sent image k saved is in
-    let most = at_most_counted old.0.end (put_on net.channels job.process sent old.0.channel) (taken_from net.channels job.process taken old.0.channel) in
-    let sum = taken_is_there net inputs n made image job code after taken sent stands laid counts of there turn k old.0 old.1 in
-    let count : received_at (Some (counted (taken_from net.channels job.process taken old.0.channel) (pushed (put_on net.channels job.process sent old.0.channel) old.0.end))) ≤ length (history_of inputs old.0.channel) =
-    omega (arith, most, sum) in
-    subst (λ (s : SavedEnd). received_at (Some (s.end)) ≤ length (history_of inputs s.channel)) old.2 count
+    let sum = taken_is_there net home inputs n made image job code after taken sent stands laid hand counts of there turn k old.0 old.1 in
+    subst (λ (s : SavedEnd). CountIsWithin inputs s.channel s.end) old.2
+    (counted_within inputs old.0.channel old.0.end (put_on net.channels job.process sent old.0.channel) (taken_from net.channels job.process taken old.0.channel) (counts k old.0 old.1) sum)
 
 -- as many ends have a log as before
 share_installed : (channels : List Channel) (process : ℕ) (after : Standing) (taken : List ℕ) (sent : List (List ℤ)) (image : ImageView)
@@ -286,55 +311,91 @@ share_installed channels process after taken sent image =
     (λ s. still_logging s.end (put_on channels process sent s.channel) (taken_from channels process taken s.channel))
     (map_twice (saved_pushed channels process sent) (saved_counted channels process taken) image.ends)
 
-logs_after_turn : (net : Network) (inputs : List (List ℤ)) (n : ℕ) (made : ℕ → ℕ) (image : ImageView) (job : JobView) (code : Code) (after : Standing) (taken : List ℕ) (sent : List (List ℤ))
-    → ImageStands net (approximation net inputs n) made image → IsLaidOut net image → LogsAreWithin image → IsJobOf net inputs image job → slice_get net.codes job.process ≡ Some code
-    → IsTurn code job.standing job.items job.room after taken sent → LogsAreWithin (installed net.channels job.process after taken sent image)
-logs_after_turn net inputs n made image job code after taken sent stands laid logs of there turn k saved log is at_end =
+share_of_log : (share position : ℕ) (one log : LogState) → (one ≡ log) ⊎ (trimmed_log position one ≡ log) → IsWithinShare share one → IsWithinShare share log
+share_of_log share position one log (inl same) within = subst (IsWithinShare share) same within
+share_of_log share position one log (inr same) within =
+    let stays = trimmed_end_stays position one in
+    let many = within.count in
+    let last = within.last in
+    subst (IsWithinShare share) same (record { count = omega (arith, stays.1, many); last = omega (arith, stays.0, last) })
+
+logs_after_turn : (net : Network) (home : ℕ) (inputs : List (List ℤ)) (n : ℕ) (made : ℕ → ℕ) (image : ImageView) (job : JobView) (code : Code) (after : Standing) (taken : List ℕ) (sent : List (List ℤ))
+    → ImageStands net (approximation net inputs n) made image → IsLaidOut net home image → IsAtHand net inputs (approximation net inputs n) made image job.process → LogsAreWithin image → IsJobOf net inputs image job
+    → slice_get net.codes job.process ≡ Some code → IsTurn code job.standing job.items job.room after taken sent → LogsAreWithin (installed net.channels job.process after taken sent image)
+logs_after_turn net home inputs n made image job code after taken sent stands laid hand logs of there turn k saved log is at_end =
     let old = end_before net.channels job.process after taken sent image k saved is in
     let put : List ℤ = put_on net.channels job.process sent old.0.channel in
     let same : log_at (Some (counted (taken_from net.channels job.process taken old.0.channel) (pushed put old.0.end))) ≡ Some log = ap (λ (s : SavedEnd). log_at (Some (s.end))) old.2 ∙ at_end in
     let before = log_then old.0.end put (taken_from net.channels job.process taken old.0.channel) log same in
-    let room = put_has_room net inputs n made image job code after taken sent stands laid of there turn old.0.channel in
-    let found : log_of image old.0.channel ≡ Some before.0 = ap (log_of image) (channel_at net image k old.0 laid old.1) ∙ (log_is net image k old.0 laid old.1 ∙ before.1) in
+    let room = put_has_room net inputs n made image job code after taken sent stands hand of there turn old.0.channel in
+    let found : log_of image old.0.channel ≡ Some before.0 = log_is net home image k old.0 laid old.1 ∙ before.2 in
     let within : IsWithinShare (log_share image) (log_with put before.0) =
-    log_with_room (log_share image) before.0 put (logs k old.0 before.0 old.1 before.1)
+    log_with_room (log_share image) before.0 put (logs k old.0 before.0 old.1 before.2)
     (subst (λ (o : Option LogState). length put ≤ room_in (log_share image) o) found room) in
-    subst (λ (share : ℕ). IsWithinShare share log) (sym (share_installed net.channels job.process after taken sent image)) (subst (IsWithinShare (log_share image)) before.2 within)
+    subst (λ (share : ℕ). IsWithinShare share log) (sym (share_installed net.channels job.process after taken sent image)) (share_of_log (log_share image) before.1 (log_with put before.0) log before.3 within)
 
 more_sent : (end : End) (items : List ℤ) (count : ℕ) → sent_in (log_at (Some end)) ≤ sent_in (log_at (Some (counted count (pushed items end))))
 more_sent (Receives received) items count = omega arith
 more_sent (Sends log) items count = let sum = length-append log.items items in omega (arith, sum)
-more_sent (Both received log) items count = let sum = length-append log.items items in omega (arith, sum)
+more_sent (Both received log) items count =
+    let sum = length-append log.items items in
+    let stays = (trimmed_end_stays (received + count) (log_with items log)).0 in
+    omega (arith, sum, stays)
 
 more_received : (end : End) (items : List ℤ) (count : ℕ) → received_at (Some end) ≤ received_at (Some (counted count (pushed items end)))
 more_received (Receives received) items count = omega arith
 more_received (Sends log) items count = omega arith
 more_received (Both received log) items count = omega arith
 
-same_base : (end : End) (items : List ℤ) (count : ℕ) → base_in (log_at (Some (counted count (pushed items end)))) ≡ base_in (log_at (Some end))
-same_base (Receives received) items count = refl
-same_base (Sends log) items count = refl
-same_base (Both received log) items count = refl
+later_base : (end : End) (items : List ℤ) (count : ℕ) → base_in (log_at (Some end)) ≤ base_in (log_at (Some (counted count (pushed items end))))
+later_base (Receives received) items count = omega arith
+later_base (Sends log) items count = omega arith
+later_base (Both received log) items count = base_after (received + count) (log_with items log)
 
--- no log begins later
-pub base_installed : (channels : List Channel) (process : ℕ) (after : Standing) (taken : List ℕ) (sent : List (List ℤ)) (image : ImageView) (c : ℕ)
-    → base_of (installed channels process after taken sent image) c ≡ base_of image c
-base_installed channels process after taken sent image c =
-    ap (λ (o : Option End). base_in (log_at o))
-    (end_of_changed image (installed channels process after taken sent image) c (λ (s : SavedEnd). saved_counted channels process taken (saved_pushed channels process sent s)) (λ s. refl)
-    (map_twice (saved_pushed channels process sent) (saved_counted channels process taken) image.ends))
-    ∙ at (find (λ (s : SavedEnd). eqb s.channel c) image.ends)
+same_base : (end : End) (items : List ℤ) (count : ℕ) → ((received : ℕ) (log : LogState) → ¬ (end ≡ Both received log)) → base_in (log_at (Some (counted count (pushed items end)))) ≡ base_in (log_at (Some end))
+same_base (Receives received) items count apart = refl
+same_base (Sends log) items count apart = refl
+same_base (Both received log) items count apart = absurd (apart received log refl)
+
+end_installed : (channels : List Channel) (process : ℕ) (after : Standing) (taken : List ℕ) (sent : List (List ℤ)) (image : ImageView) (c : ℕ)
+    → end_of (installed channels process after taken sent image) c ≡ option_map (λ (s : SavedEnd). (saved_counted channels process taken (saved_pushed channels process sent s)).end) (find (λ (s : SavedEnd). eqb s.channel c) image.ends)
+end_installed channels process after taken sent image c =
+    end_of_changed image (installed channels process after taken sent image) c (λ (s : SavedEnd). saved_counted channels process taken (saved_pushed channels process sent s)) (λ s. refl)
+    (map_twice (saved_pushed channels process sent) (saved_counted channels process taken) image.ends)
+
+-- a log begins no earlier
+base_later : (channels : List Channel) (process : ℕ) (after : Standing) (taken : List ℕ) (sent : List (List ℤ)) (image : ImageView) (c : ℕ)
+    → base_of image c ≤ base_of (installed channels process after taken sent image) c
+base_later channels process after taken sent image c =
+    let then = at (find (λ (s : SavedEnd). eqb s.channel c) image.ends) in
+    let is : base_of (installed channels process after taken sent image) c
+    ≡ base_in (log_at (option_map (λ (s : SavedEnd). (saved_counted channels process taken (saved_pushed channels process sent s)).end) (find (λ (s : SavedEnd). eqb s.channel c) image.ends))) =
+    ap (λ (o : Option End). base_in (log_at o)) (end_installed channels process after taken sent image c) in
+    omega (arith, then, is)
   where
-    at : (o : Option SavedEnd) → base_in (log_at (option_map (λ (s : SavedEnd). (saved_counted channels process taken (saved_pushed channels process sent s)).end) o))
+    at : (o : Option SavedEnd) → base_in (log_at (option_map (λ (s : SavedEnd). s.end) o))
+        ≤ base_in (log_at (option_map (λ (s : SavedEnd). (saved_counted channels process taken (saved_pushed channels process sent s)).end) o))
+    at None = omega arith
+    at (Some s) = later_base s.end (put_on channels process sent s.channel) (taken_from channels process taken s.channel)
+
+-- and that of a channel that goes elsewhere where it began
+pub base_installed : (channels : List Channel) (process : ℕ) (after : Standing) (taken : List ℕ) (sent : List (List ℤ)) (image : ImageView) (c : ℕ)
+    → ((received : ℕ) (log : LogState) → ¬ (end_of image c ≡ Some (Both received log))) → base_of (installed channels process after taken sent image) c ≡ base_of image c
+base_installed channels process after taken sent image c apart =
+    ap (λ (o : Option End). base_in (log_at o)) (end_installed channels process after taken sent image c) ∙ at (find (λ (s : SavedEnd). eqb s.channel c) image.ends) refl
+  where
+    at : (o : Option SavedEnd) → find (λ (s : SavedEnd). eqb s.channel c) image.ends ≡ o → base_in (log_at (option_map (λ (s : SavedEnd). (saved_counted channels process taken (saved_pushed channels process sent s)).end) o))
         ≡ base_in (log_at (option_map (λ (s : SavedEnd). s.end) o))
-    at None = refl
-    at (Some s) = same_base s.end (put_on channels process sent s.channel) (taken_from channels process taken s.channel)
+    at None found = refl
+    at (Some s) found =
+        same_base s.end (put_on channels process sent s.channel) (taken_from channels process taken s.channel)
+        (λ received log is. apart received log (ap (option_map (λ (s : SavedEnd). s.end)) found ∙ ap Some is))
 
 -- a turn takes back nothing that was received or put
 pub behind_installed : (channels : List Channel) (process : ℕ) (after : Standing) (taken : List ℕ) (sent : List (List ℤ)) (image : ImageView) → IsBehind image (installed channels process after taken sent image)
 behind_installed channels process after taken sent image = record {
   received = λ c. omega (arith, received_then (find (λ (s : SavedEnd). eqb s.channel c) image.ends), ap received_at (changed c));
-  base = λ c. omega (arith, base_installed channels process after taken sent image c);
+  base = λ c. base_later channels process after taken sent image c;
   sent = λ c. omega (arith, sent_then (find (λ (s : SavedEnd). eqb s.channel c) image.ends), ap (λ (o : Option End). sent_in (log_at o)) (changed c));
 }
   where
@@ -357,25 +418,27 @@ behind_installed channels process after taken sent image = record {
 -- Nodes
 
 -- a turn on the job that was out fits what the node has now
-pub turn_fits : (net : Network) (inputs : List (List ℤ)) (node : RunningNode) (job : JobView) (after : Standing) (taken : List ℕ) (sent : List (List ℤ))
-    → HasReached net inputs node → IsLaidOut net node.current → CountsAreWithin inputs node.current → LogsAreWithin node.current → Fits net inputs
-    → IsJobOf net inputs node.current job → IsTurnOf net job after taken sent → ImageTakes net.channels job.process taken sent node.current
-turn_fits net inputs node job after taken sent reached laid counts logs fits of turn =
-    let code = job_has_code net inputs node.current job laid of in
-    image_takes_turn net inputs reached.n reached.current_acts node.current job code.0 after taken sent reached.current laid counts logs fits of code.1 (turn code.0 code.1)
+pub turn_fits : (net : Network) (home : ℕ) (inputs : List (List ℤ)) (node : RunningNode) (job : JobView) (after : Standing) (taken : List ℕ) (sent : List (List ℤ))
+    → (reached : HasReached net inputs node) → IsLaidOut net home node.current → IsAtHand net inputs (approximation net inputs reached.n) reached.current_acts node.current job.process → CountsAreWithin inputs node.current → LogsAreWithin node.current
+    → Fits net inputs → IsJobOf net inputs node.current job → IsTurnOf net job after taken sent → ImageTakes net.channels job.process taken sent node.current
+turn_fits net home inputs node job after taken sent reached laid hand counts logs fits of turn =
+    let code = job_has_code net home inputs node.current job laid of in
+    image_takes_turn net home inputs reached.n reached.current_acts node.current job code.0 after taken sent reached.current laid hand counts logs fits of code.1 (turn code.0 code.1)
 
 -- and then no more was received than there is
-pub counts_installed : (net : Network) (inputs : List (List ℤ)) (node : RunningNode) (job : JobView) (after : Standing) (taken : List ℕ) (sent : List (List ℤ))
-    → HasReached net inputs node → IsLaidOut net node.current → CountsAreWithin inputs node.current → IsJobOf net inputs node.current job → IsTurnOf net job after taken sent
+pub counts_installed : (net : Network) (home : ℕ) (inputs : List (List ℤ)) (node : RunningNode) (job : JobView) (after : Standing) (taken : List ℕ) (sent : List (List ℤ))
+    → (reached : HasReached net inputs node) → IsLaidOut net home node.current → IsAtHand net inputs (approximation net inputs reached.n) reached.current_acts node.current job.process → CountsAreWithin inputs node.current
+    → IsJobOf net inputs node.current job → IsTurnOf net job after taken sent
     → CountsAreWithin inputs (installed net.channels job.process after taken sent node.current)
-counts_installed net inputs node job after taken sent reached laid counts of turn =
-    let code = job_has_code net inputs node.current job laid of in
-    counts_after_turn net inputs reached.n reached.current_acts node.current job code.0 after taken sent reached.current laid counts of code.1 (turn code.0 code.1)
+counts_installed net home inputs node job after taken sent reached laid hand counts of turn =
+    let code = job_has_code net home inputs node.current job laid of in
+    counts_after_turn net home inputs reached.n reached.current_acts node.current job code.0 after taken sent reached.current laid hand counts of code.1 (turn code.0 code.1)
 
 -- and each log is within its share
-pub logs_installed : (net : Network) (inputs : List (List ℤ)) (node : RunningNode) (job : JobView) (after : Standing) (taken : List ℕ) (sent : List (List ℤ))
-    → HasReached net inputs node → IsLaidOut net node.current → LogsAreWithin node.current → IsJobOf net inputs node.current job → IsTurnOf net job after taken sent
+pub logs_installed : (net : Network) (home : ℕ) (inputs : List (List ℤ)) (node : RunningNode) (job : JobView) (after : Standing) (taken : List ℕ) (sent : List (List ℤ))
+    → (reached : HasReached net inputs node) → IsLaidOut net home node.current → IsAtHand net inputs (approximation net inputs reached.n) reached.current_acts node.current job.process → LogsAreWithin node.current
+    → IsJobOf net inputs node.current job → IsTurnOf net job after taken sent
     → LogsAreWithin (installed net.channels job.process after taken sent node.current)
-logs_installed net inputs node job after taken sent reached laid logs of turn =
-    let code = job_has_code net inputs node.current job laid of in
-    logs_after_turn net inputs reached.n reached.current_acts node.current job code.0 after taken sent reached.current laid logs of code.1 (turn code.0 code.1)
+logs_installed net home inputs node job after taken sent reached laid hand logs of turn =
+    let code = job_has_code net home inputs node.current job laid of in
+    logs_after_turn net home inputs reached.n reached.current_acts node.current job code.0 after taken sent reached.current laid hand logs of code.1 (turn code.0 code.1)

@@ -1,6 +1,6 @@
 -- Laws of a job that is granted: it is of where its process stands.
-use Rattle.std.proofs.Common.{◌≡◌, ℕ, Bool, true, false, eqb, cond, ℤ, List, length, Option, Some, None, refl, ap, subst, ◌∙◌, arith}
-use Rattle.std.specs.Prelude.{slice_get, find, ◌&&◌, ◌==◌}
+use Rattle.std.proofs.Common.{◌≡◌, ℕ, Bool, true, false, cond, ℤ, List, length, Option, Some, None, refl, subst, arith}
+use Rattle.std.specs.Prelude.{slice_get, ◌&&◌, ◌==◌}
 use Rattle.kahn_net.specs.Syntax.{Network}
 use Rattle.record.specs.ProcessView.{SavedProcessView}
 use Rattle.record.specs.ImageView.{ImageView}
@@ -10,7 +10,9 @@ use Rattle.protocol.specs.Node.NodeView.{RunningNode}
 use Rattle.protocol.specs.Node.Granting.{job_for}
 use Rattle.protocol.specs.Node.Choosing.{is_ready, ready_processes, process_at, next_process, may_grant, job_of, next_job}
 use Rattle.protocol.specs.Node.Reached.{IsLaidOut, IsJobOf}
-use Rattle.protocol.specs.NodeLaws.ImageLaws.{numbered_mark, numbered_find, find_within}
+use Rattle.protocol.specs.Node.Layout.{has_process}
+use Rattle.protocol.specs.NodeLaws.ImageLaws.{find_within}
+use Rattle.protocol.specs.NodeLaws.NumberedLaws.{where_find}
 
 -- the process that is next is one of the image
 pub next_within : (net : Network) (inputs : List (List ℤ)) (image : ImageView) (last : Option ℕ) (saved : SavedProcessView) → next_process net inputs image last ≡ Some saved
@@ -22,28 +24,25 @@ next_within net inputs image last saved h = at (next_in_turn last (ready_process
     at (Some number) e = find_within (λ (s : SavedProcessView). (s.number == number) && is_ready net inputs image s) image.processes saved e
 
 -- a job made from an entry of an image is of that image
-pub job_of_entry : (net : Network) (inputs : List (List ℤ)) (image : ImageView) (k : ℕ) (saved : SavedProcessView) (version : ℕ) → IsLaidOut net image → slice_get image.processes k ≡ Some saved
+pub job_of_entry : (net : Network) (home : ℕ) (inputs : List (List ℤ)) (image : ImageView) (k : ℕ) (saved : SavedProcessView) (version : ℕ) → IsLaidOut net home image → slice_get image.processes k ≡ Some saved
     → IsJobOf net inputs image (job_for net inputs image saved.number saved.standing version)
-job_of_entry net inputs image k saved version laid is = record {
-  process =
-      ap (λ (n : ℕ). find (λ (s : SavedProcessView). eqb s.number n) image.processes)
-      (numbered_mark (λ (s : SavedProcessView). s.number) image.processes 0 (length net.codes) k saved laid.processes is)
-      ∙ numbered_find (λ (s : SavedProcessView). s.number) image.processes 0 (length net.codes) k saved laid.processes is;
+job_of_entry net home inputs image k saved version laid is = record {
+  process = where_find (λ (s : SavedProcessView). s.number) (has_process net home) 0 (length net.codes) image.processes k saved laid.processes is;
   code = refl;
   items = refl;
   room = λ c. omega arith;
 }
 
 -- the job that a node grants is of where its process stands now
-pub job_granted : (net : Network) (inputs : List (List ℤ)) (node : RunningNode) (job : JobView) → IsLaidOut net node.current → next_job net inputs node ≡ Some job → IsJobOf net inputs node.current job
-job_granted net inputs node job laid h = by_leave (may_grant node) h
+pub job_granted : (net : Network) (home : ℕ) (inputs : List (List ℤ)) (node : RunningNode) (job : JobView) → IsLaidOut net home node.current → next_job net inputs node ≡ Some job → IsJobOf net inputs node.current job
+job_granted net home inputs node job laid h = by_leave (may_grant node) h
   where
     by_process : (o : Option SavedProcessView) → next_process net inputs node.current node.last ≡ o → job_of net inputs node o ≡ Some job → IsJobOf net inputs node.current job
     by_process None next e = absurd (cc)
     by_process (Some saved) next e =
         let there = next_within net inputs node.current node.last saved next in
         let same : job_for net inputs node.current saved.number saved.standing node.version ≡ job = cc in
-        subst (IsJobOf net inputs node.current) same (job_of_entry net inputs node.current there.0 saved node.version laid there.1)
+        subst (IsJobOf net inputs node.current) same (job_of_entry net home inputs node.current there.0 saved node.version laid there.1)
 
     by_leave : (b : Bool) → cond b (job_of net inputs node (next_process net inputs node.current node.last)) None ≡ Some job → IsJobOf net inputs node.current job
     by_leave true e = by_process (next_process net inputs node.current node.last) refl e

@@ -1,68 +1,17 @@
 -- Laws of images that are laid out: an end is found at its channel's number, and what a step changes of an end is found there.
-use Rattle.std.proofs.Common.{◌≡◌, ℕ, zero, suc, ◌+◌, ◌<◌, Bool, true, false, eqb, cond, List, [], ◌∷◌, length, map, Option, Some, None, option_map, refl, sym, ap, ◌∙◌, arith}
+use Rattle.std.proofs.Common.{◌≡◌, ◌≢◌, ◌⊎◌, inl, inr, ℕ, zero, suc, Bool, true, false, eqb, cond, List, [], ◌∷◌, length, map, Option, Some, None, option_map, refl, sym, ap, ◌∙◌}
 use Rattle.std.specs.Prelude.{slice_get, find}
-use Rattle.std.proofs.lemmas.Bool.{eq-eqb, ne_eqb}
+use Rattle.std.proofs.lemmas.Bool.Decides.{eqb_tells}
 use Rattle.kahn_net.specs.Syntax.{Network}
 use Rattle.record.specs.ImageView.{ImageView}
 use Rattle.record.specs.Ends.{end_of, received_of, received_at, log_of, log_at}
-use Rattle.protocol.specs.Node.Reached.{numbers_from, IsLaidOut}
+use Rattle.protocol.specs.Node.Layout.{has_end}
+use Rattle.protocol.specs.Node.Reached.{IsLaidOut}
+use Rattle.protocol.specs.NodeLaws.NumberedLaws.{where_find}
 use Rattle.record.specs.declared.image.SavedEnd.{SavedEnd}
+use Rattle.record.specs.declared.image.End.{End}
 
--- Lists whose elements are numbered in order
-
-pub numbered_mark : {A : Type 0} (f : A → ℕ) (xs : List A) (first count k : ℕ) (x : A) → map f xs ≡ numbers_from first count → slice_get xs k ≡ Some x → f x ≡ first + k
-numbered_mark f [] first count k x h is = absurd (cc)
-numbered_mark f (y ∷ xs) first zero k x h is = absurd (cc)
-numbered_mark f (y ∷ xs) first (suc count) zero x h is =
-    let here : f y ≡ first = cc in
-    let same : y ≡ x = cc in
-    let sum : first ≡ first + 0 = omega arith in
-    ap f (sym same) ∙ (here ∙ sum)
-numbered_mark f (y ∷ xs) first (suc count) (suc k) x h is =
-    let later : map f xs ≡ numbers_from (suc first) count = cc in
-    let sum : suc first + k ≡ first + suc k = omega arith in
-    numbered_mark f xs (suc first) count k x later is ∙ sum
-
-pub numbered_count : {A : Type 0} (f : A → ℕ) (xs : List A) (first count : ℕ) → map f xs ≡ numbers_from first count → length xs ≡ count
-numbered_count f [] first zero h = refl
-numbered_count f [] first (suc count) h = absurd (cc)
-numbered_count f (y ∷ xs) first zero h = absurd (cc)
-numbered_count f (y ∷ xs) first (suc count) h =
-    let later : map f xs ≡ numbers_from (suc first) count = cc in
-    ap suc (numbered_count f xs (suc first) count later)
-
--- each number is there
-pub numbered_there : {A : Type 0} (f : A → ℕ) (xs : List A) (first count k : ℕ) → map f xs ≡ numbers_from first count → k < count → (x : A) × (slice_get xs k ≡ Some x)
-numbered_there f [] first zero k h lt = absurd (omega (arith, lt))
-numbered_there f [] first (suc count) k h lt = absurd (cc)
-numbered_there f (y ∷ xs) first zero k h lt = absurd (omega (arith, lt))
-numbered_there f (y ∷ xs) first (suc count) zero h lt = (y, refl)
-numbered_there f (y ∷ xs) first (suc count) (suc k) h lt =
-    let later : map f xs ≡ numbers_from (suc first) count = cc in
-    let below : k < count = omega (arith, lt) in
-    numbered_there f xs (suc first) count k later below
-
-find_here : {A : Type 0} (f : A → ℕ) (y : A) (xs : List A) (n : ℕ) → f y ≡ n → find (λ (z : A). eqb (f z) n) (y ∷ xs) ≡ Some y
-find_here f y xs n e = ap (λ (b : Bool). cond b (Some y) (find (λ (z : _). eqb (f z) n) xs)) (eq-eqb (f y) n e)
-
-find_later : {A : Type 0} (f : A → ℕ) (y : A) (xs : List A) (n : ℕ) → (f y ≡ n → ⊥) → find (λ (z : A). eqb (f z) n) (y ∷ xs) ≡ find (λ (z : A). eqb (f z) n) xs
-find_later f y xs n ne = ap (λ (b : Bool). cond b (Some y) (find (λ (z : _). eqb (f z) n) xs)) (ne_eqb (f y) n ne)
-
--- and found by its number
-pub numbered_find : {A : Type 0} (f : A → ℕ) (xs : List A) (first count k : ℕ) (x : A) → map f xs ≡ numbers_from first count → slice_get xs k ≡ Some x
-    → find (λ (z : A). eqb (f z) (first + k)) xs ≡ Some x
-numbered_find f [] first count k x h is = absurd (cc)
-numbered_find f (y ∷ xs) first zero k x h is = absurd (cc)
-numbered_find f (y ∷ xs) first (suc count) zero x h is =
-    let here : f y ≡ first = cc in
-    let sum : first ≡ first + 0 = omega arith in
-    find_here f y xs (first + 0) (here ∙ sum) ∙ is
-numbered_find {A} f (y ∷ xs) first (suc count) (suc k) x h is =
-    let here : f y ≡ first = cc in
-    let later : map f xs ≡ numbers_from (suc first) count = cc in
-    let sum : first + suc k ≡ suc first + k = omega arith in
-    let ne : f y ≡ first + suc k → ⊥ = (λ e. omega (arith, e, here)) in
-    find_later f y xs (first + suc k) ne ∙ (ap (λ (n : ℕ). find (λ (z : A). eqb (f z) n) xs) sum ∙ numbered_find f xs (suc first) count k x later is)
+-- Lists
 
 -- what is found stands somewhere
 pub find_within : {A : Type 0} (test : A → Bool) (xs : List A) (x : A) → find test xs ≡ Some x → (k : ℕ) × (slice_get xs k ≡ Some x)
@@ -72,6 +21,19 @@ find_within {A} test (y ∷ xs) x h = at (test y) (λ e. find_within test xs x e
     at : (b : Bool) → (find test xs ≡ Some x → (k : ℕ) × (slice_get xs k ≡ Some x)) → cond b (Some y) (find test xs) ≡ Some x → (k : ℕ) × (slice_get (y ∷ xs) k ≡ Some x)
     at true later e = (0, e)
     at false later e = let r = later e in (suc r.0, r.1)
+
+-- what is found has the number
+pub found_is : {A : Type 0} (f : A → ℕ) (xs : List A) (n : ℕ) (x : A) → find (λ (z : A). eqb (f z) n) xs ≡ Some x → f x ≡ n
+found_is f [] n x h = absurd (cc)
+found_is {A} f (y ∷ xs) n x h = at (eqb_tells (f y) n) (λ e. found_is f xs n x e) h
+  where
+    at : ((eqb (f y) n ≡ true) × (f y ≡ n)) ⊎ ((eqb (f y) n ≡ false) × (f y ≢ n)) → (find (λ (z : A). eqb (f z) n) xs ≡ Some x → f x ≡ n)
+        → cond (eqb (f y) n) (Some y) (find (λ (z : A). eqb (f z) n) xs) ≡ Some x → f x ≡ n
+    at (inl same) later e =
+        let it : Some y ≡ Some x = sym (ap (λ (b : Bool). cond b (Some y) (find (λ (z : A). eqb (f z) n) xs)) same.0) ∙ e in
+        let is : y ≡ x = cc in
+        ap f (sym is) ∙ same.1
+    at (inr other) later e = later (sym (ap (λ (b : Bool). cond b (Some y) (find (λ (z : A). eqb (f z) n) xs)) other.0) ∙ e)
 
 -- what is found in a list that keeps each number
 pub find_map : {A : Type 0} (f : A → ℕ) (g : A → A) (xs : List A) (n : ℕ) → ((x : A) → f (g x) ≡ f x) → find (λ (z : A). eqb (f z) n) (map g xs) ≡ option_map g (find (λ (z : A). eqb (f z) n) xs)
@@ -101,25 +63,33 @@ map_twice {A} f g (x ∷ xs) = ap (λ (ys : List A). g (f x) ∷ ys) (map_twice 
 
 -- Ends
 
--- an entry of a channel is at the channel's number
-pub channel_at : (net : Network) (image : ImageView) (k : ℕ) (saved : SavedEnd) → IsLaidOut net image → slice_get image.ends k ≡ Some saved → saved.channel ≡ k
-channel_at net image k saved laid is =
-    let sum : 0 + k ≡ k = omega arith in
-    numbered_mark (λ (s : SavedEnd). s.channel) image.ends 0 (length net.channels) k saved laid.ends is ∙ sum
+-- what the image says of an entry's channel is what that entry says
+pub end_at : (net : Network) (home : ℕ) (image : ImageView) (k : ℕ) (saved : SavedEnd) → IsLaidOut net home image → slice_get image.ends k ≡ Some saved → end_of image saved.channel ≡ Some (saved.end)
+end_at net home image k saved laid is =
+    ap (option_map (λ (s : SavedEnd). s.end)) (where_find (λ (s : SavedEnd). s.channel) (has_end net home) 0 (length net.channels) image.ends k saved laid.ends is)
 
--- what the image says of the channel is what that entry says
-pub end_at : (net : Network) (image : ImageView) (k : ℕ) (saved : SavedEnd) → IsLaidOut net image → slice_get image.ends k ≡ Some saved → end_of image k ≡ Some (saved.end)
-end_at net image k saved laid is =
-    let sum : k ≡ 0 + k = omega arith in
-    ap (option_map (λ (s : SavedEnd). s.end))
-    (ap (λ (n : ℕ). find (λ (s : SavedEnd). eqb s.channel n) image.ends) sum
-    ∙ numbered_find (λ (s : SavedEnd). s.channel) image.ends 0 (length net.channels) k saved laid.ends is)
+pub received_is : (net : Network) (home : ℕ) (image : ImageView) (k : ℕ) (saved : SavedEnd) → IsLaidOut net home image → slice_get image.ends k ≡ Some saved → received_of image saved.channel ≡ received_at (Some (saved.end))
+received_is net home image k saved laid is = ap received_at (end_at net home image k saved laid is)
 
-pub received_is : (net : Network) (image : ImageView) (k : ℕ) (saved : SavedEnd) → IsLaidOut net image → slice_get image.ends k ≡ Some saved → received_of image k ≡ received_at (Some (saved.end))
-received_is net image k saved laid is = ap received_at (end_at net image k saved laid is)
+pub log_is : (net : Network) (home : ℕ) (image : ImageView) (k : ℕ) (saved : SavedEnd) → IsLaidOut net home image → slice_get image.ends k ≡ Some saved → log_of image saved.channel ≡ log_at (Some (saved.end))
+log_is net home image k saved laid is = ap log_at (end_at net home image k saved laid is)
 
-pub log_is : (net : Network) (image : ImageView) (k : ℕ) (saved : SavedEnd) → IsLaidOut net image → slice_get image.ends k ≡ Some saved → log_of image k ≡ log_at (Some (saved.end))
-log_is net image k saved laid is = ap log_at (end_at net image k saved laid is)
+-- what an image says of a channel is what one of its entries says
+pub record Entry (image : ImageView) (c : ℕ) (end : End) : Type 0 where
+  pub place : ℕ
+  pub saved : SavedEnd
+  pub is : slice_get image.ends place ≡ Some saved
+  pub channel : saved.channel ≡ c
+  pub is_end : saved.end ≡ end
+
+pub entry_of : (image : ImageView) (c : ℕ) (end : End) → end_of image c ≡ Some end → Entry image c end
+entry_of image c end h = at (find (λ (s : SavedEnd). eqb s.channel c) image.ends) refl h
+  where
+    at : (o : Option SavedEnd) → find (λ (s : SavedEnd). eqb s.channel c) image.ends ≡ o → option_map (λ (s : SavedEnd). s.end) o ≡ Some end → Entry image c end
+    at None found e = absurd (cc)
+    at (Some saved) found e =
+        let there = find_within (λ (s : SavedEnd). eqb s.channel c) image.ends saved found in
+        record { place = there.0; saved = saved; is = there.1; channel = found_is (λ (s : SavedEnd). s.channel) image.ends c saved found; is_end = cc }
 
 -- what an image says of a channel, where each entry changed and none its number
 pub end_of_changed : (image later : ImageView) (c : ℕ) (f : SavedEnd → SavedEnd) → ((saved : SavedEnd) → (f saved).channel ≡ saved.channel) → later.ends ≡ map f image.ends

@@ -1,10 +1,10 @@
 -- Laws of a turn taken in: the node has come further by the turn's acts, and what the turn took and put fits.
 use Rattle.std.proofs.Common.{◌≡◌, ◌≢◌, ◌⊎◌, inl, inr, ℕ, zero, suc, ◌+◌, ◌<◌, ◌≤◌, Bool, true, false, eqb, cond, ℤ, List, [], ◌∷◌, ◌++◌, length, take, drop, map, get_or, Option, Some, None, refl, sym, ap, subst, ◌∙◌, append-nil, append_assoc, arith}
-use Rattle.std.specs.Prelude.{slice_get, slice_index}
+use Rattle.std.specs.Prelude.{slice_get, slice_index, IsTrue}
 use Rattle.std.proofs.lemmas.Bool.{eq-eqb, ne_eqb}
 use Rattle.std.proofs.lemmas.Bool.Decides.{eqb_tells}
 use Rattle.std.proofs.lemmas.List.{take-append-drop, length-append, length-take-le, take_at, drop-append-le}
-use Rattle.std.proofs.lemmas.Option.{slice_get_cases, slice_get_within}
+use Rattle.std.proofs.lemmas.Option.{slice_get_cases}
 use Rattle.kahn_net.specs.Streams.{history_of}
 use Rattle.kahn_net.specs.Syntax.{Code, Network}
 use Rattle.kahn_net.specs.Statements.{Step}
@@ -23,11 +23,14 @@ use Rattle.protocol.specs.Node.JobView.{JobView}
 use Rattle.protocol.specs.Node.NodeView.{RunningNode}
 use Rattle.record.specs.Ends.{received_at, log_at}
 use Rattle.protocol.specs.Node.Granting.{is_process, items_from}
-use Rattle.record.specs.Changes.{log_with, pushed, counted}
+use Rattle.record.specs.Changes.{log_with, trimmed_log, pushed, counted}
 use Rattle.protocol.specs.Node.Installing.{is_consumer, is_producer, taken_from, put_on, saved_pushed, saved_counted, moved, installed, with_turn}
-use Rattle.protocol.specs.Node.Reached.{first_acts, acts_of, EndStands, ImageStands, HasReached, numbers_from, is_counting, IsLaidOut, IsJobOf, IsTurnOf, HasComeOn}
-use Rattle.protocol.specs.NodeLaws.ImageLaws.{numbered_mark, numbered_count, find_within, map_got}
-use Rattle.protocol.specs.NodeLaws.ReachedLaws.{next_are_at_hand}
+use Rattle.protocol.specs.Node.Layout.{has_process}
+use Rattle.protocol.specs.Node.Reached.{first_acts, acts_of, EndStands, ImageStands, HasReached, is_counting, IsLaidOut, IsJobOf, IsTurnOf, HasComeOn}
+use Rattle.protocol.specs.NodeLaws.ImageLaws.{find_within, map_got}
+use Rattle.protocol.specs.NodeLaws.NumberedLaws.{StandOnce, where_mark, where_once}
+use Rattle.protocol.specs.NodeLaws.LiftLaws.{IsAtHand}
+use Rattle.protocol.specs.NodeLaws.LogLaws.{trimmed_is_log_of}
 use Rattle.record.specs.declared.image.SavedEnd.{SavedEnd}
 use Rattle.record.specs.declared.image.End.{End}
 use Rattle.record.specs.declared.image.End.TheVariants.{Receives, Sends, Both}
@@ -55,19 +58,14 @@ log_with_more log history items is =
 
 -- Which process moved
 
-pub moved_cases : (process : ℕ) (standing : Standing) (xs : List SavedProcessView) (first count k : ℕ) (saved : SavedProcessView)
-    → map (λ (s : SavedProcessView). s.number) xs ≡ numbers_from first count → slice_get (moved process standing xs) k ≡ Some saved
+pub moved_cases : (process : ℕ) (standing : Standing) (xs : List SavedProcessView) (k : ℕ) (saved : SavedProcessView)
+    → StandOnce (λ (s : SavedProcessView). s.number) xs → slice_get (moved process standing xs) k ≡ Some saved
     → ((saved.number ≡ process) × (saved.standing ≡ standing)) ⊎ ((saved.number ≢ process) × (slice_get xs k ≡ Some saved))
-moved_cases process standing [] first count k saved h is = absurd (cc)
-moved_cases process standing (y ∷ xs) first zero k saved h is = absurd (cc)
-moved_cases process standing (y ∷ xs) first (suc count) k saved h is =
-    at (eqb_tells y.number process) k (λ j there. moved_cases process standing xs (suc first) count j saved (cc) there) is
+moved_cases process standing [] k saved once is = absurd (cc)
+moved_cases process standing (y ∷ xs) k saved once is = at (eqb_tells y.number process) k (λ j there. moved_cases process standing xs j saved later there) is
   where
-    later : map (λ (s : SavedProcessView). s.number) xs ≡ numbers_from (suc first) count
-    later = cc
-
-    here : y.number ≡ first
-    here = cc
+    later : StandOnce (λ (s : SavedProcessView). s.number) xs
+    later i j x z one other same = (let e : suc i ≡ suc j = once (suc i) (suc j) x z one other same in omega (arith, e))
 
     -- the first one has the number, or another one has
     at_found : (k : ℕ) → y.number ≡ process → slice_get (record { number = y.number; standing = standing } ∷ xs) k ≡ Some saved
@@ -75,9 +73,7 @@ moved_cases process standing (y ∷ xs) first (suc count) k saved h is =
     at_found zero same e =
         let it : ◌≡◌ {A = SavedProcessView} (record { number = y.number; standing = standing }) saved = cc in
         inl (sym (ap (λ (s : SavedProcessView). s.number) it) ∙ same, sym (ap (λ (s : SavedProcessView). s.standing) it))
-    at_found (suc j) same e =
-        let number : saved.number ≡ suc first + j = numbered_mark (λ (s : SavedProcessView). s.number) xs (suc first) count j saved later e in
-        inr ((λ bad. omega (arith, number, bad, same, here)), e)
+    at_found (suc j) same e = inr ((λ bad. (let twice : 0 ≡ suc j = once 0 (suc j) y saved refl e (same ∙ sym bad) in omega (arith, twice))), e)
 
     at_other : (k : ℕ) → y.number ≢ process → ((j : ℕ) → slice_get (moved process standing xs) j ≡ Some saved → ((saved.number ≡ process) × (saved.standing ≡ standing)) ⊎ ((saved.number ≢ process) × (slice_get xs j ≡ Some saved)))
         → slice_get (y ∷ moved process standing xs) k ≡ Some saved
@@ -115,13 +111,12 @@ as_far_then process acts made q = at (eqb q process)
 
 -- the turn on a job of an image that stands there
 pub turn_of_job : (net : Network) (inputs : List (List ℤ)) (n : ℕ) (made : ℕ → ℕ) (image : ImageView) (job : JobView) (code : Code) (after : Standing) (taken : List ℕ) (sent : List (List ℤ))
-    → ImageStands net (approximation net inputs n) made image → IsLaidOut net image → IsJobOf net inputs image job → slice_get net.codes job.process ≡ Some code
+    → ImageStands net (approximation net inputs n) made image → IsAtHand net inputs (approximation net inputs n) made image job.process → IsJobOf net inputs image job → slice_get net.codes job.process ≡ Some code
     → IsTurn code job.standing job.items job.room after taken sent → Turn code (approximation net inputs n) (made job.process) job.items job.room after taken sent
-turn_of_job net inputs n made image job code after taken sent stands laid of there turn =
+turn_of_job net inputs n made image job code after taken sent stands hand of there turn =
     let found = find_within (λ (saved : SavedProcessView). eqb saved.number job.process) image.processes (record { number = job.process; standing = job.standing }) of.process in
     let before : StandsAt code (approximation net inputs n) (made job.process) job.standing = stands.processes found.0 (record { number = job.process; standing = job.standing }) code found.1 there in
-    let next : AreNext (items_from inputs image job.process 0 net.channels) (approximation net inputs n) (acts_of net (approximation net inputs n) made job.process) =
-    next_are_at_hand net inputs n made image job.process stands laid in
+    let next : AreNext (items_from inputs image job.process 0 net.channels) (approximation net inputs n) (acts_of net (approximation net inputs n) made job.process) = hand in
     let next_here : AreNext job.items (approximation net inputs n) (take (made job.process) (process_trace code (approximation net inputs n)).steps) =
     subst (λ (items : List (List ℤ)). AreNext items (approximation net inputs n) (take (made job.process) (process_trace code (approximation net inputs n)).steps)) (sym of.items)
     (subst (λ (o : Option Code). AreNext (items_from inputs image job.process 0 net.channels) (approximation net inputs n) (first_acts o (approximation net inputs n) (made job.process))) there next) in
@@ -173,17 +168,29 @@ received_then (Receives received) items count h = refl
 received_then (Sends log) items count h = absurd (cc)
 received_then (Both received log) items count h = refl
 
--- and its log has what is put
-pub log_then : (end : End) (items : List ℤ) (count : ℕ) (log : LogState) → log_at (Some (counted count (pushed items end))) ≡ Some log → (before : LogState) × (log_at (Some end) ≡ Some before) × (log_with items before ≡ log)
+-- and its log has what is put, but for what it let go of
+pub log_then : (end : End) (items : List ℤ) (count : ℕ) (log : LogState) → log_at (Some (counted count (pushed items end))) ≡ Some log
+    → (before : LogState) × (position : ℕ) × (log_at (Some end) ≡ Some before) × ((log_with items before ≡ log) ⊎ (trimmed_log position (log_with items before) ≡ log))
 log_then (Receives received) items count log h = absurd (cc)
-log_then (Sends before) items count log h = (before, refl, cc)
-log_then (Both received before) items count log h = (before, refl, cc)
+log_then (Sends before) items count log h = (before, 0, refl, inl (cc))
+log_then (Both received before) items count log h = (before, received + count, refl, inr (cc))
+
+-- and stays a log of the history
+of_log : (position : ℕ) (one log : LogState) (history : List ℤ) → (one ≡ log) ⊎ (trimmed_log position one ≡ log) → IsLogOf one history → IsLogOf log history
+of_log position one log history (inl same) is = subst (λ (l : LogState). IsLogOf l history) same is
+of_log position one log history (inr same) is = subst (λ (l : LogState). IsLogOf l history) same (trimmed_is_log_of position one history is)
+
+-- an end counts as before
+pub still_counting : (end : End) (items : List ℤ) (count : ℕ) → is_counting (counted count (pushed items end)) ≡ is_counting end
+still_counting (Receives received) items count = refl
+still_counting (Sends log) items count = refl
+still_counting (Both received log) items count = refl
 
 -- an image after a turn stands where the process has made the turn's acts too
-pub image_installed : (net : Network) (histories : List (List ℤ)) (made : ℕ → ℕ) (image : ImageView) (process : ℕ) (code : Code) (items : List (List ℤ)) (room : List ℕ) (after : Standing) (taken : List ℕ) (sent : List (List ℤ))
-    → ImageStands net histories made image → IsLaidOut net image → slice_get net.codes process ≡ Some code → made process ≤ length (process_trace code histories).steps
+pub image_installed : (net : Network) (home : ℕ) (histories : List (List ℤ)) (made : ℕ → ℕ) (image : ImageView) (process : ℕ) (code : Code) (items : List (List ℤ)) (room : List ℕ) (after : Standing) (taken : List ℕ) (sent : List (List ℤ))
+    → ImageStands net histories made image → IsLaidOut net home image → slice_get net.codes process ≡ Some code → made process ≤ length (process_trace code histories).steps
     → (turn : Turn code histories (made process) items room after taken sent) → ImageStands net histories (made_then process turn.acts made) (installed net.channels process after taken sent image)
-image_installed net histories made image process code items room after taken sent stands laid there few turn = record { processes = processes; ends = ends }
+image_installed net home histories made image process code items room after taken sent stands laid there few turn = record { processes = processes; ends = ends }
   where
     acts : List Step
     acts = turn.acts
@@ -196,7 +203,7 @@ image_installed net histories made image process code items room after taken sen
 
     processes : (k : ℕ) (saved : SavedProcessView) (code' : Code) → slice_get (moved process after image.processes) k ≡ Some saved → slice_get net.codes saved.number ≡ Some code'
         → StandsAt code' histories (made_then process acts made saved.number) saved.standing
-    processes k saved code' is there' = at (moved_cases process after image.processes 0 (length net.codes) k saved laid.processes is)
+    processes k saved code' is there' = at (moved_cases process after image.processes k saved (where_once (λ (s : SavedProcessView). s.number) (has_process net home) 0 (length net.codes) image.processes laid.processes) is)
       where
         at : ((saved.number ≡ process) × (saved.standing ≡ after)) ⊎ ((saved.number ≢ process) × (slice_get image.processes k ≡ Some saved)) → StandsAt code' histories (made_then process acts made saved.number) saved.standing
         at (inr other) = subst (λ (m : ℕ). StandsAt code' histories m saved.standing) (then_other saved.number other.0) (stands.processes k saved code' other.1 there')
@@ -225,11 +232,13 @@ image_installed net histories made image process code items room after taken sen
             before = stands.ends k s channel here on'
 
             received : (q : ℕ) → channel.consumer ≡ Process q
+                → is_counting (counted (taken_from net.channels process taken s.channel) (pushed (put_on net.channels process sent s.channel) s.end)) ≡ true
                 → received_at (Some (counted (taken_from net.channels process taken s.channel) (pushed (put_on net.channels process sent s.channel) s.end)))
                 ≡ length (got_on s.channel (acts_of net histories (made_then process acts made) q))
-            received q to =
-                let sum = received_then s.end (put_on net.channels process sent s.channel) (taken_from net.channels process taken s.channel) (laid.counting k q s channel here on' to) in
-                let old = before.received q to in
+            received q to counting =
+                let counts = sym (still_counting s.end (put_on net.channels process sent s.channel) (taken_from net.channels process taken s.channel)) ∙ counting in
+                let sum = received_then s.end (put_on net.channels process sent s.channel) (taken_from net.channels process taken s.channel) counts in
+                let old = before.received q to counts in
                 let new = taken_is_got net.channels process taken acts s.channel q channel on' to (turn.taken_is s.channel) in
                 let both = length-append (got_on s.channel (acts_of net histories made q)) (got_on s.channel (more_of process acts q)) in
                 let all : got_on s.channel (acts_of net histories (made_then process acts made) q) ≡ got_on s.channel (acts_of net histories made q) ++ got_on s.channel (more_of process acts q) =
@@ -248,37 +257,36 @@ image_installed net histories made image process code items room after taken sen
                 ∙ (sent_on-append s.channel (acts_of net histories made q) (more_of process acts q)
                 ∙ ap (λ (x : List ℤ). sent_on s.channel (acts_of net histories made q) ++ x) (sym new)) in
                 subst (IsLogOf log) (sym all)
-                (subst (λ (l : LogState). IsLogOf l (sent_on s.channel (acts_of net histories made q) ++ put_on net.channels process sent s.channel)) old.2
-                (log_with_more old.0 (sent_on s.channel (acts_of net histories made q)) (put_on net.channels process sent s.channel) (before.retained q old.0 from old.1)))
+                (of_log old.1 (log_with (put_on net.channels process sent s.channel) old.0) log (sent_on s.channel (acts_of net histories made q) ++ put_on net.channels process sent s.channel) old.3
+                (log_with_more old.0 (sent_on s.channel (acts_of net histories made q)) (put_on net.channels process sent s.channel) (before.retained q old.0 from old.2)))
 
--- the process of the job that is out is one of the network
-pub job_has_code : (net : Network) (inputs : List (List ℤ)) (image : ImageView) (job : JobView) → IsLaidOut net image → IsJobOf net inputs image job → (code : Code) × (slice_get net.codes job.process ≡ Some code)
-job_has_code net inputs image job laid of = at (slice_get_cases net.codes job.process).1
+-- the process of the job that is out is one of the node's, and of the network
+job_marks : (net : Network) (home : ℕ) (inputs : List (List ℤ)) (image : ImageView) (job : JobView) → IsLaidOut net home image → IsJobOf net inputs image job
+    → IsTrue (has_process net home job.process) × (0 ≤ job.process) × (job.process < 0 + length net.codes)
+job_marks net home inputs image job laid of =
+    let found = find_within (λ (saved : SavedProcessView). eqb saved.number job.process) image.processes (record { number = job.process; standing = job.standing }) of.process in
+    where_mark (λ (s : SavedProcessView). s.number) (has_process net home) 0 (length net.codes) image.processes found.0 (record { number = job.process; standing = job.standing }) laid.processes found.1
+
+pub job_here : (net : Network) (home : ℕ) (inputs : List (List ℤ)) (image : ImageView) (job : JobView) → IsLaidOut net home image → IsJobOf net inputs image job → IsTrue (has_process net home job.process)
+job_here net home inputs image job laid of = (job_marks net home inputs image job laid of).0
+
+pub job_has_code : (net : Network) (home : ℕ) (inputs : List (List ℤ)) (image : ImageView) (job : JobView) → IsLaidOut net home image → IsJobOf net inputs image job → (code : Code) × (slice_get net.codes job.process ≡ Some code)
+job_has_code net home inputs image job laid of = at (slice_get_cases net.codes job.process).1
   where
-    found : (k : ℕ) × (slice_get image.processes k ≡ Some (record { number = job.process; standing = job.standing }))
-    found = find_within (λ (saved : SavedProcessView). eqb saved.number job.process) image.processes (record { number = job.process; standing = job.standing }) of.process
-
-    below : job.process < length net.codes
-    below =
-        let number = numbered_mark (λ (s : SavedProcessView). s.number) image.processes 0 (length net.codes) found.0 (record { number = job.process; standing = job.standing }) laid.processes found.1 in
-        let count = numbered_count (λ (s : SavedProcessView). s.number) image.processes 0 (length net.codes) laid.processes in
-        let within = slice_get_within image.processes found.0 (record { number = job.process; standing = job.standing }) found.1 in
-        omega (arith, number, count, within)
-
     at : ((x : Code) × (job.process < length net.codes) × (slice_get net.codes job.process ≡ Some x) × (get_or net.codes job.process x ≡ x)) ⊎ ((length net.codes ≤ job.process) × (slice_get net.codes job.process ≡ None))
         → (code : Code) × (slice_get net.codes job.process ≡ Some code)
     at (inl here) = (here.0, here.2)
-    at (inr past) = absurd (omega (arith, below, past.0))
+    at (inr past) = (let below = (job_marks net home inputs image job laid of).2 in absurd (omega (arith, below, past.0)))
 
 -- a node has come further by the turn on the job that was out
-pub reached_install : (net : Network) (inputs : List (List ℤ)) (node : RunningNode) (job : JobView) (after : Standing) (taken : List ℕ) (sent : List (List ℤ))
-    → HasReached net inputs node → IsLaidOut net node.current → IsJobOf net inputs node.current job → IsTurnOf net job after taken sent
+pub reached_install : (net : Network) (home : ℕ) (inputs : List (List ℤ)) (node : RunningNode) (job : JobView) (after : Standing) (taken : List ℕ) (sent : List (List ℤ))
+    → (reached : HasReached net inputs node) → IsLaidOut net home node.current → IsAtHand net inputs (approximation net inputs reached.n) reached.current_acts node.current job.process → IsJobOf net inputs node.current job → IsTurnOf net job after taken sent
     → HasReached net inputs (with_turn net.channels job.process after taken sent node)
-reached_install net inputs node job after taken sent reached laid of turn =
-    let code = job_has_code net inputs node.current job laid of in
+reached_install net home inputs node job after taken sent reached laid hand of turn =
+    let code = job_has_code net home inputs node.current job laid of in
     let found = find_within (λ (saved : SavedProcessView). eqb saved.number job.process) node.current.processes (record { number = job.process; standing = job.standing }) of.process in
     let before = reached.current.processes found.0 (record { number = job.process; standing = job.standing }) code.0 found.1 code.1 in
-    let done = turn_of_job net inputs reached.n reached.current_acts node.current job code.0 after taken sent reached.current laid of code.1 (turn code.0 code.1) in
+    let done = turn_of_job net inputs reached.n reached.current_acts node.current job code.0 after taken sent reached.current hand of code.1 (turn code.0 code.1) in
     record {
       n = reached.n;
       permanent_acts = reached.permanent_acts;
@@ -286,16 +294,17 @@ reached_install net inputs node job after taken sent reached laid of turn =
       current_acts = made_then job.process done.acts reached.current_acts;
       permanent = reached.permanent;
       held = reached.held;
-      current = image_installed net (approximation net inputs reached.n) reached.current_acts node.current job.process code.0 job.items job.room after taken sent reached.current laid code.1 before.within done;
+      current = image_installed net home (approximation net inputs reached.n) reached.current_acts node.current job.process code.0 job.items job.room after taken sent reached.current laid code.1 before.within done;
       held_after = reached.held_after;
       current_after = λ q. (let far = reached.current_after q in let more = as_far_then job.process done.acts reached.current_acts q in omega (arith, far, more));
     }
 
-pub on_install : (net : Network) (inputs : List (List ℤ)) (node : RunningNode) (job : JobView) (after : Standing) (taken : List ℕ) (sent : List (List ℤ))
-    → (reached : HasReached net inputs node) (laid : IsLaidOut net node.current) (of : IsJobOf net inputs node.current job) (turn : IsTurnOf net job after taken sent)
-    → HasComeOn net inputs node (with_turn net.channels job.process after taken sent node) reached (reached_install net inputs node job after taken sent reached laid of turn)
+pub on_install : (net : Network) (home : ℕ) (inputs : List (List ℤ)) (node : RunningNode) (job : JobView) (after : Standing) (taken : List ℕ) (sent : List (List ℤ))
+    → (reached : HasReached net inputs node) (laid : IsLaidOut net home node.current) (hand : IsAtHand net inputs (approximation net inputs reached.n) reached.current_acts node.current job.process)
+    → (of : IsJobOf net inputs node.current job) (turn : IsTurnOf net job after taken sent)
+    → HasComeOn net inputs node (with_turn net.channels job.process after taken sent node) reached (reached_install net home inputs node job after taken sent reached laid hand of turn)
 unfolding reached_install
-on_install net inputs node job after taken sent reached laid of turn =
-    let code = job_has_code net inputs node.current job laid of in
-    let done = turn_of_job net inputs reached.n reached.current_acts node.current job code.0 after taken sent reached.current laid of code.1 (turn code.0 code.1) in
+on_install net home inputs node job after taken sent reached laid hand of turn =
+    let code = job_has_code net home inputs node.current job laid of in
+    let done = turn_of_job net inputs reached.n reached.current_acts node.current job code.0 after taken sent reached.current hand of code.1 (turn code.0 code.1) in
     record { same = refl; further = as_far_then job.process done.acts reached.current_acts }

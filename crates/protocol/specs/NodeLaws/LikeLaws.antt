@@ -1,10 +1,10 @@
 -- Laws of images as a store takes them: what a node has of a valid network may be written, and is of one shape wherever its processes stand.
-use Rattle.std.proofs.Common.{◌≡◌, ◌⊎◌, inl, inr, ℕ, zero, suc, ◌+◌, ◌^◌, ◌<◌, ◌≤◌, ℤ, List, [], ◌∷◌, ◌++◌, length, map, get_or, Some, None, refl, sym, ap, subst, ◌∙◌, arith}
+use Rattle.std.proofs.Common.{◌≡◌, ◌⊎◌, inl, inr, ℕ, zero, suc, ◌+◌, ◌^◌, ◌<◌, ◌≤◌, Bool, true, false, cond, ℤ, List, [], ◌∷◌, ◌++◌, length, map, get_or, Some, None, refl, sym, ap, ◌∙◌, arith}
 use Rattle.std.specs.Prelude.{slice_get, ◌&&◌, nat_lt, nat_le, replicate}
 use Rattle.std.proofs.lemmas.Bool.{eq-eqb, le-leb, lt-ltb, and_from}
 use Rattle.std.proofs.lemmas.List.{length-replicate, get_or_past}
 use Rattle.std.proofs.lemmas.List.Elements.{All-nil, All-cons, All-append}
-use Rattle.std.proofs.lemmas.Option.{slice_get_cases, slice_get_within, get_or_from_slice_get}
+use Rattle.std.proofs.lemmas.Option.{slice_get_cases, get_or_from_slice_get}
 use Rattle.kahn_net.specs.Streams.{history_of}
 use Rattle.kahn_net.specs.Syntax.{Code, Network}
 use Rattle.kahn_net.specs.Valid.{IsValid}
@@ -13,14 +13,12 @@ use Rattle.kahn_net.specs.Processes.{Standing}
 use Rattle.kahn_net.specs.Processes.Standing.{NotBegun, At, Done}
 use Rattle.kahn_net.specs.Approximations.{approximation}
 use Rattle.kahn_net.specs.declared.program.Channel.{Channel}
-use Rattle.kahn_net.specs.declared.program.Port.{Port}
-use Rattle.kahn_net.specs.declared.program.Port.TheVariants.{Outside, Process}
 use Rattle.kahn_net.specs.declared.limits.TheConstants.{MAX_COUNT, MAX_NODES, MAX_PROCESSES, MAX_CHANNELS, MAX_VARIABLES}
 use Rattle.retained.specs.LogState.{LogState, IsWithinLimits, IsInLog, log_end}
 use Rattle.retained.specs.declared.log.TheConstants.{MAX_LOG_ITEMS}
 use Rattle.record.specs.ProcessView.{SavedProcessView}
 use Rattle.record.specs.ImageView.{ImageView}
-use Rattle.record.specs.Ends.{received_at, log_at}
+use Rattle.record.specs.Ends.{log_at}
 use Rattle.record.specs.declared.image.SavedEnd.{SavedEnd}
 use Rattle.record.specs.declared.image.End.{End}
 use Rattle.record.specs.declared.image.End.TheVariants.{Receives, Sends, Both}
@@ -31,10 +29,11 @@ use Rattle.ckpt_store.specs.Shapes.{HasShapeOf}
 use Rattle.ckpt_store.specs.Spelling.{IsLike}
 use Rattle.ckpt_store.proofs.Parts.{whole}
 use Rattle.ckpt_store.proofs.Alike.{like_of}
-use Rattle.protocol.specs.Node.Reached.{ImageStands, numbers_from, role_between, IsLaidOut, CountsAreWithin, LogsAreWithin}
-use Rattle.protocol.specs.Node.Opening.{opening_end, opening_ends, opening_image, opening_record}
+use Rattle.protocol.specs.Node.Layout.{numbers_where, has_process, has_end}
+use Rattle.protocol.specs.Node.Reached.{ImageStands, IsLaidOut, CountIsWithin, CountsAreWithin, LogsAreWithin}
+use Rattle.protocol.specs.Node.Opening.{opening_image, opening_record}
 use Rattle.protocol.specs.NodeLaws.OpeningLaws.{reached_opening, laid_out_opening, counts_opening, logs_opening}
-use Rattle.protocol.specs.NodeLaws.ImageLaws.{numbered_mark, numbered_count}
+use Rattle.protocol.specs.NodeLaws.NumberedLaws.{where_mark, where_count}
 use Rattle.protocol.specs.NodeLaws.SharingLaws.{share_within}
 use Rattle.protocol.specs.NodeLaws.VariableLaws.{variables_stay}
 use Rattle.protocol.specs.NodeLaws.SiteLaws.{code_sites, StandsBelow, site_of_standing, site_short}
@@ -89,17 +88,26 @@ process_allowed least p above below short =
     (All-append IsAllowed (mode_fields p.standing) (counted ∷ values) (mode_allowed p.standing short.site)
     (All-cons IsAllowed counted values (limited_allowed 1 MAX_VARIABLES (length (variables_of p.standing)) (omega arith) short.variables) (items_allowed (variables_of p.standing))))
 
-processes_allowed : (least many : ℕ) (ps : List SavedProcessView) → map (λ (p : SavedProcessView). p.number) ps ≡ numbers_from least many → least + many ≤ MAX_PROCESSES
+processes_allowed : (test : ℕ → Bool) (first count least : ℕ) (ps : List SavedProcessView) → map (λ (p : SavedProcessView). p.number) ps ≡ numbers_where test first count → least ≤ first → first + count ≤ MAX_PROCESSES
     → ((k : ℕ) (p : SavedProcessView) → slice_get ps k ≡ Some p → IsShortStanding p.standing) → AreAllowed (processes_fields None least ps)
-processes_allowed least many [] numbers few short = All-nil IsAllowed
-processes_allowed least zero (p ∷ ps) numbers few short = absurd (cc)
-processes_allowed least (suc many) (p ∷ ps) numbers few short =
-    let here : p.number ≡ least = cc in
-    let later : map (λ (q : SavedProcessView). q.number) ps ≡ numbers_from (suc least) many = cc in
-    let from : map (λ (q : SavedProcessView). q.number) ps ≡ numbers_from (suc p.number) many = later ∙ ap (λ (n : ℕ). numbers_from (suc n) many) (sym here) in
-    All-append IsAllowed (process_fields None least p) (processes_fields None (suc p.number) ps)
-    (process_allowed least p (omega (arith, here)) (omega (arith, here, few)) (short 0 p refl))
-    (processes_allowed (suc p.number) many ps from (omega (arith, here, few)) (λ k q is. short (suc k) q is))
+processes_allowed test first zero least [] numbers low few short = All-nil IsAllowed
+processes_allowed test first zero least (p ∷ ps) numbers low few short = absurd (cc)
+processes_allowed test first (suc count) least ps numbers low few short =
+    at (test first) ps numbers short (λ least' qs same low' each. processes_allowed test (suc first) count least' qs same low' (omega (arith, few)) each)
+  where
+    at : (b : Bool) → (ps : List SavedProcessView) → map (λ (p : SavedProcessView). p.number) ps ≡ cond b (first ∷ numbers_where test (suc first) count) (numbers_where test (suc first) count)
+        → ((k : ℕ) (p : SavedProcessView) → slice_get ps k ≡ Some p → IsShortStanding p.standing)
+        → ((least' : ℕ) (qs : List SavedProcessView) → map (λ (p : SavedProcessView). p.number) qs ≡ numbers_where test (suc first) count → least' ≤ suc first
+        → ((k : ℕ) (p : SavedProcessView) → slice_get qs k ≡ Some p → IsShortStanding p.standing) → AreAllowed (processes_fields None least' qs))
+        → AreAllowed (processes_fields None least ps)
+    at false ps numbers short further = further least ps numbers (omega (arith, low)) short
+    at true [] numbers short further = All-nil IsAllowed
+    at true (p ∷ ps) numbers short further =
+        let here : p.number ≡ first = cc in
+        let later : map (λ (q : SavedProcessView). q.number) ps ≡ numbers_where test (suc first) count = cc in
+        All-append IsAllowed (process_fields None least p) (processes_fields None (suc p.number) ps)
+        (process_allowed least p (omega (arith, here, low)) (omega (arith, here, few)) (short 0 p refl))
+        (further (suc p.number) ps later (omega (arith, here)) (λ k q is. short (suc k) q is))
 
 -- ---- ends
 
@@ -148,38 +156,54 @@ saved_end_allowed least e above below short =
     All-cons IsAllowed (between 2 least MAX_CHANNELS e.channel) (role ∷ end_fields e.end) (number_allowed 2 least MAX_CHANNELS e.channel (omega arith) above below)
     (All-cons IsAllowed role (end_fields e.end) (limited_allowed 1 2 (role_of e.end) (omega arith) (role_short e.end)) (end_allowed e.end short))
 
-ends_allowed : (least many : ℕ) (es : List SavedEnd) → map (λ (e : SavedEnd). e.channel) es ≡ numbers_from least many → least + many ≤ MAX_CHANNELS
+ends_allowed : (test : ℕ → Bool) (first count least : ℕ) (es : List SavedEnd) → map (λ (e : SavedEnd). e.channel) es ≡ numbers_where test first count → least ≤ first → first + count ≤ MAX_CHANNELS
     → ((k : ℕ) (e : SavedEnd) → slice_get es k ≡ Some e → IsShortEnd e.end) → AreAllowed (ends_fields None least es)
-ends_allowed least many [] numbers few short = All-nil IsAllowed
-ends_allowed least zero (e ∷ es) numbers few short = absurd (cc)
-ends_allowed least (suc many) (e ∷ es) numbers few short =
-    let here : e.channel ≡ least = cc in
-    let later : map (λ (f : SavedEnd). f.channel) es ≡ numbers_from (suc least) many = cc in
-    let from : map (λ (f : SavedEnd). f.channel) es ≡ numbers_from (suc e.channel) many = later ∙ ap (λ (n : ℕ). numbers_from (suc n) many) (sym here) in
-    All-append IsAllowed (saved_end_fields None least e) (ends_fields None (suc e.channel) es)
-    (saved_end_allowed least e (omega (arith, here)) (omega (arith, here, few)) (short 0 e refl))
-    (ends_allowed (suc e.channel) many es from (omega (arith, here, few)) (λ k f is. short (suc k) f is))
+ends_allowed test first zero least [] numbers low few short = All-nil IsAllowed
+ends_allowed test first zero least (e ∷ es) numbers low few short = absurd (cc)
+ends_allowed test first (suc count) least es numbers low few short =
+    at (test first) es numbers short (λ least' fs same low' each. ends_allowed test (suc first) count least' fs same low' (omega (arith, few)) each)
+  where
+    at : (b : Bool) → (es : List SavedEnd) → map (λ (e : SavedEnd). e.channel) es ≡ cond b (first ∷ numbers_where test (suc first) count) (numbers_where test (suc first) count)
+        → ((k : ℕ) (e : SavedEnd) → slice_get es k ≡ Some e → IsShortEnd e.end)
+        → ((least' : ℕ) (fs : List SavedEnd) → map (λ (e : SavedEnd). e.channel) fs ≡ numbers_where test (suc first) count → least' ≤ suc first
+        → ((k : ℕ) (e : SavedEnd) → slice_get fs k ≡ Some e → IsShortEnd e.end) → AreAllowed (ends_fields None least' fs))
+        → AreAllowed (ends_fields None least es)
+    at false es numbers short further = further least es numbers (omega (arith, low)) short
+    at true [] numbers short further = All-nil IsAllowed
+    at true (e ∷ es) numbers short further =
+        let here : e.channel ≡ first = cc in
+        let later : map (λ (f : SavedEnd). f.channel) es ≡ numbers_where test (suc first) count = cc in
+        All-append IsAllowed (saved_end_fields None least e) (ends_fields None (suc e.channel) es)
+        (saved_end_allowed least e (omega (arith, here, low)) (omega (arith, here, few)) (short 0 e refl))
+        (further (suc e.channel) es later (omega (arith, here)) (λ k f is. short (suc k) f is))
 
 -- ---- images
 
 -- the code of a process of an image
-pub code_of_entry : (net : Network) (image : ImageView) (k : ℕ) (saved : SavedProcessView) → IsLaidOut net image → slice_get image.processes k ≡ Some saved
+pub code_of_entry : (net : Network) (home : ℕ) (image : ImageView) (k : ℕ) (saved : SavedProcessView) → IsLaidOut net home image → slice_get image.processes k ≡ Some saved
     → (code : Code) × (slice_get net.codes saved.number ≡ Some code)
-code_of_entry net image k saved laid is = at (slice_get_cases net.codes saved.number).1
+code_of_entry net home image k saved laid is = at (slice_get_cases net.codes saved.number).1
   where
-    number : saved.number ≡ 0 + k
-    number = numbered_mark (λ (s : SavedProcessView). s.number) image.processes 0 (length net.codes) k saved laid.processes is
-
-    many : length image.processes ≡ length net.codes
-    many = numbered_count (λ (s : SavedProcessView). s.number) image.processes 0 (length net.codes) laid.processes
-
-    within : k < length image.processes
-    within = slice_get_within image.processes k saved is
+    within : saved.number < 0 + length net.codes
+    within = (where_mark (λ (s : SavedProcessView). s.number) (has_process net home) 0 (length net.codes) image.processes k saved laid.processes is).2
 
     at : ((x : Code) × (saved.number < length net.codes) × (slice_get net.codes saved.number ≡ Some x) × (get_or net.codes saved.number x ≡ x)) ⊎ ((length net.codes ≤ saved.number) × (slice_get net.codes saved.number ≡ None))
         → (code : Code) × (slice_get net.codes saved.number ≡ Some code)
     at (inl here) = (here.0, here.2)
-    at (inr past) = absurd (omega (arith, number, many, within, past.0))
+    at (inr past) = absurd (omega (arith, within, past.0))
+
+-- the channel of an end of an image
+channel_of_entry : (net : Network) (home : ℕ) (image : ImageView) (k : ℕ) (saved : SavedEnd) → IsLaidOut net home image → slice_get image.ends k ≡ Some saved
+    → (channel : Channel) × (slice_get net.channels saved.channel ≡ Some channel)
+channel_of_entry net home image k saved laid is = at (slice_get_cases net.channels saved.channel).1
+  where
+    within : saved.channel < 0 + length net.channels
+    within = (where_mark (λ (s : SavedEnd). s.channel) (has_end net home) 0 (length net.channels) image.ends k saved laid.ends is).2
+
+    at : ((x : Channel) × (saved.channel < length net.channels) × (slice_get net.channels saved.channel ≡ Some x) × (get_or net.channels saved.channel x ≡ x)) ⊎ ((length net.channels ≤ saved.channel) × (slice_get net.channels saved.channel ≡ None))
+        → (channel : Channel) × (slice_get net.channels saved.channel ≡ Some channel)
+    at (inl here) = (here.0, here.2)
+    at (inr past) = absurd (omega (arith, within, past.0))
 
 site_written : (net : Network) (p : ℕ) (code : Code) (standing : Standing) → IsValid net → slice_get net.codes p ≡ Some code → StandsBelow (code_sites code) standing → HasShortSite standing
 site_written net p code (NotBegun vars) valid here below = tt
@@ -187,10 +211,10 @@ site_written net p code (At point vars) valid here below = (site_short net p cod
 site_written net p code (Done vars) valid here below = tt
 
 -- each process of an image that stands there may be written
-pub standing_short : (net : Network) (histories : List (List ℤ)) (made : ℕ → ℕ) (image : ImageView) → IsValid net → IsLaidOut net image → ImageStands net histories made image
+pub standing_short : (net : Network) (home : ℕ) (histories : List (List ℤ)) (made : ℕ → ℕ) (image : ImageView) → IsValid net → IsLaidOut net home image → ImageStands net histories made image
     → (k : ℕ) (saved : SavedProcessView) → slice_get image.processes k ≡ Some saved → IsShortStanding saved.standing
-standing_short net histories made image valid laid stands k saved is =
-    let code = code_of_entry net image k saved laid is in
+standing_short net home histories made image valid laid stands k saved is =
+    let code = code_of_entry net home image k saved laid is in
     let here = stands.processes k saved code.0 is code.1 in
     let same = variables_stay code.0 histories (made saved.number) saved.standing here in
     let few = (valid.codes saved.number code.0 code.1).variables in
@@ -199,32 +223,20 @@ standing_short net histories made image valid laid stands k saved is =
       variables = omega (arith, same, few);
     }
 
--- an end that receives what it sends has received up to a position of its log
-abbrev pub ReceivedAreInLogs : ImageView → Type 0
-ReceivedAreInLogs image = (k received : ℕ) (saved : SavedEnd) (log : LogState) → slice_get image.ends k ≡ Some saved → saved.end ≡ Both received log → IsInLog log received
-
--- no count of items received is above the greatest
-abbrev pub CountsAreSmall : ImageView → Type 0
-CountsAreSmall image = (k : ℕ) (saved : SavedEnd) → slice_get image.ends k ≡ Some saved → received_at (Some (saved.end)) ≤ MAX_COUNT
-
--- so it is where no more was received than there is
-pub counts_small : (inputs : List (List ℤ)) (image : ImageView) → AreShort inputs → CountsAreWithin inputs image → CountsAreSmall image
-counts_small inputs image short counts k saved is = at (slice_get_cases inputs saved.channel).1
+-- no input is longer than the greatest count
+input_short : (inputs : List (List ℤ)) (c : ℕ) → AreShort inputs → length (history_of inputs c) ≤ MAX_COUNT
+input_short inputs c short = at (slice_get_cases inputs c).1
   where
-    within : received_at (Some (saved.end)) ≤ length (history_of inputs saved.channel)
-    within = counts k saved is
-
-    at : ((x : List ℤ) × (saved.channel < length inputs) × (slice_get inputs saved.channel ≡ Some x) × (get_or inputs saved.channel x ≡ x)) ⊎ ((length inputs ≤ saved.channel) × (slice_get inputs saved.channel ≡ None))
-        → received_at (Some (saved.end)) ≤ MAX_COUNT
+    at : ((x : List ℤ) × (c < length inputs) × (slice_get inputs c ≡ Some x) × (get_or inputs c x ≡ x)) ⊎ ((length inputs ≤ c) × (slice_get inputs c ≡ None)) → length (history_of inputs c) ≤ MAX_COUNT
     at (inl here) =
-        let few = short saved.channel here.0 here.2 in
-        let same = ap (length {A = ℤ}) (get_or_from_slice_get inputs saved.channel here.0 [] here.2) in
-        omega (arith, within, few, same)
-    at (inr past) = let none = ap (length {A = ℤ}) (get_or_past inputs saved.channel [] past.0) in omega (arith, within, none)
+        let few = short c here.0 here.2 in
+        let same = ap (length {A = ℤ}) (get_or_from_slice_get inputs c here.0 [] here.2) in
+        omega (arith, few, same)
+    at (inr past) = let none = ap (length {A = ℤ}) (get_or_past inputs c [] past.0) in omega (arith, none)
 
 -- each end may be written
-end_short : (image : ImageView) → CountsAreSmall image → LogsAreWithin image → ReceivedAreInLogs image → (k : ℕ) (saved : SavedEnd) → slice_get image.ends k ≡ Some saved → IsShortEnd saved.end
-end_short image counts logs inner k saved is = at saved.end refl
+end_short : (inputs : List (List ℤ)) (image : ImageView) → AreShort inputs → CountsAreWithin inputs image → LogsAreWithin image → (k : ℕ) (saved : SavedEnd) → slice_get image.ends k ≡ Some saved → IsShortEnd saved.end
+end_short inputs image short counts logs k saved is = at saved.end (counts k saved is) (λ log has. limits log has)
   where
     limits : (log : LogState) → log_at (Some (saved.end)) ≡ Some log → IsWithinLimits log
     limits log has =
@@ -233,26 +245,26 @@ end_short image counts logs inner k saved is = at saved.end refl
         let many = within.count in
         record { count = omega (arith, share, many); last = within.last }
 
-    at : (end : End) → saved.end ≡ end → IsShortEnd end
-    at (Receives received) e = subst (λ (x : End). received_at (Some x) ≤ MAX_COUNT) e (counts k saved is)
-    at (Sends log) e = limits log (ap (λ (x : End). log_at (Some x)) e)
-    at (Both received log) e = (limits log (ap (λ (x : End). log_at (Some x)) e), inner k received saved log is e)
+    at : (end : End) → CountIsWithin inputs saved.channel end → ((log : LogState) → log_at (Some end) ≡ Some log → IsWithinLimits log) → IsShortEnd end
+    at (Receives received) within of = let few = input_short inputs saved.channel short in let count = within.of_input received refl in omega (arith, few, count)
+    at (Sends log) within of = of log refl
+    at (Both received log) within of = (of log refl, within.in_log received log refl)
 
 -- What a node has of a valid network may be written alone.
-pub image_allowed : (net : Network) (histories : List (List ℤ)) (made : ℕ → ℕ) (image : ImageView) → IsValid net → IsLaidOut net image → ImageStands net histories made image
-    → CountsAreSmall image → LogsAreWithin image → ReceivedAreInLogs image → AreAllowed (image_fields None image)
-image_allowed net histories made image valid laid stands counts logs inner =
-    let processes = numbered_count (λ (s : SavedProcessView). s.number) image.processes 0 (length net.codes) laid.processes in
-    let ends = numbered_count (λ (s : SavedEnd). s.channel) image.ends 0 (length net.channels) laid.ends in
+pub image_allowed : (net : Network) (home : ℕ) (inputs histories : List (List ℤ)) (made : ℕ → ℕ) (image : ImageView) → IsValid net → AreShort inputs → IsLaidOut net home image → ImageStands net histories made image
+    → CountsAreWithin inputs image → LogsAreWithin image → AreAllowed (image_fields None image)
+image_allowed net home inputs histories made image valid short laid stands counts logs =
+    let processes = where_count (λ (s : SavedProcessView). s.number) (has_process net home) 0 (length net.codes) image.processes laid.processes in
+    let ends = where_count (λ (s : SavedEnd). s.channel) (has_end net home) 0 (length net.channels) image.ends laid.ends in
     let codes = valid.process_count in
     let channels = valid.channel_count in
     let one : Field = at_most 1 MAX_PROCESSES (length image.processes) in
     let other : Field = at_most 2 MAX_CHANNELS (length image.ends) in
     All-append IsAllowed (one ∷ processes_fields None 0 image.processes) (other ∷ ends_fields None 0 image.ends)
     (All-cons IsAllowed one (processes_fields None 0 image.processes) (limited_allowed 1 MAX_PROCESSES (length image.processes) (omega arith) (omega (arith, processes, codes)))
-    (processes_allowed 0 (length net.codes) image.processes laid.processes (omega (arith, codes)) (standing_short net histories made image valid laid stands)))
+    (processes_allowed (has_process net home) 0 (length net.codes) 0 image.processes laid.processes (omega arith) (omega (arith, codes)) (standing_short net home histories made image valid laid stands)))
     (All-cons IsAllowed other (ends_fields None 0 image.ends) (limited_allowed 2 MAX_CHANNELS (length image.ends) (omega arith) (omega (arith, ends, channels)))
-    (ends_allowed 0 (length net.channels) image.ends laid.ends (omega (arith, channels)) (end_short image counts logs inner)))
+    (ends_allowed (has_end net home) 0 (length net.channels) 0 image.ends laid.ends (omega arith) (omega (arith, channels)) (end_short inputs image short counts logs)))
 
 -- ---- shapes
 
@@ -265,98 +277,67 @@ same_maps f g (x ∷ xs) (y ∷ ys) many same =
     let rest : length xs ≡ length ys = cc in
     ap (λ (n : ℕ). n ∷ map f xs) (same 0 x y refl refl) ∙ ap (λ (ns : List ℕ). g y ∷ ns) (same_maps f g xs ys rest (λ k. same (suc k)))
 
--- each process of an image that stands there has as many variables as its code
-pub variables_as_codes : (net : Network) (histories : List (List ℤ)) (made : ℕ → ℕ) (image : ImageView) → IsLaidOut net image → ImageStands net histories made image
-    → map (λ (p : SavedProcessView). length (variables_of p.standing)) image.processes ≡ map (λ (code : Code). length code.vars) net.codes
-variables_as_codes net histories made image laid stands =
-    same_maps (λ (p : SavedProcessView). length (variables_of p.standing)) (λ (code : Code). length code.vars) image.processes net.codes
-    (numbered_count (λ (s : SavedProcessView). s.number) image.processes 0 (length net.codes) laid.processes) at
-  where
-    at : (k : ℕ) (saved : SavedProcessView) (code : Code) → slice_get image.processes k ≡ Some saved → slice_get net.codes k ≡ Some code → length (variables_of saved.standing) ≡ length code.vars
-    at k saved code is there =
-        let sum : 0 + k ≡ k = omega arith in
-        let number : saved.number ≡ k = numbered_mark (λ (s : SavedProcessView). s.number) image.processes 0 (length net.codes) k saved laid.processes is ∙ sum in
-        variables_stay code histories (made saved.number) saved.standing (stands.processes k saved code is (ap (slice_get net.codes) number ∙ there))
+-- where two lists have the same numbers, so have the elements at each place
+same_at : {A : Type 0} (f : A → ℕ) (xs ys : List A) (k : ℕ) (x y : A) → map f xs ≡ map f ys → slice_get xs k ≡ Some x → slice_get ys k ≡ Some y → f x ≡ f y
+same_at f [] ys k x y same is there = absurd (cc)
+same_at f (a ∷ xs) [] k x y same is there = absurd (cc)
+same_at f (a ∷ xs) (b ∷ ys) zero x y same is there = (let e : f a ≡ f b = cc in let p : a ≡ x = cc in let q : b ≡ y = cc in ap f (sym p) ∙ (e ∙ ap f q))
+same_at f (a ∷ xs) (b ∷ ys) (suc k) x y same is there = (let rest : map f xs ≡ map f ys = cc in same_at f xs ys k x y rest is there)
 
--- and each end has the role of its channel
-pub roles_as_channels : (net : Network) (image : ImageView) → IsLaidOut net image
-    → map (λ (e : SavedEnd). role_of e.end) image.ends ≡ map (λ (channel : Channel). role_between channel.producer channel.consumer) net.channels
-roles_as_channels net image laid =
-    same_maps (λ (e : SavedEnd). role_of e.end) (λ (channel : Channel). role_between channel.producer channel.consumer) image.ends net.channels
-    (numbered_count (λ (s : SavedEnd). s.channel) image.ends 0 (length net.channels) laid.ends) at
-  where
-    at : (k : ℕ) (saved : SavedEnd) (channel : Channel) → slice_get image.ends k ≡ Some saved → slice_get net.channels k ≡ Some channel → role_of saved.end ≡ role_between channel.producer channel.consumer
-    at k saved channel is there =
-        let sum : 0 + k ≡ k = omega arith in
-        let number : saved.channel ≡ k = numbered_mark (λ (s : SavedEnd). s.channel) image.ends 0 (length net.channels) k saved laid.ends is ∙ sum in
-        laid.roles k saved channel is (ap (slice_get net.channels) number ∙ there)
+same_length : {A : Type 0} (f : A → ℕ) (xs ys : List A) → map f xs ≡ map f ys → length xs ≡ length ys
+same_length f [] [] same = refl
+same_length f [] (y ∷ ys) same = absurd (cc)
+same_length f (x ∷ xs) [] same = absurd (cc)
+same_length f (x ∷ xs) (y ∷ ys) same = (let rest : map f xs ≡ map f ys = cc in ap suc (same_length f xs ys rest))
 
--- two images of a network have the same shape, wherever their processes stand
-pub same_shape : (net : Network) (histories later : List (List ℤ)) (made come : ℕ → ℕ) (permanent image : ImageView)
-    → IsLaidOut net permanent → ImageStands net histories made permanent → IsLaidOut net image → ImageStands net later come image → HasShapeOf permanent image
-same_shape net histories later made come permanent image first stands second goes = record {
-  numbers = second.processes ∙ sym first.processes;
-  variables = variables_as_codes net later come image second goes ∙ sym (variables_as_codes net histories made permanent first stands);
-  channels = second.ends ∙ sym first.ends;
-  roles = roles_as_channels net image second ∙ sym (roles_as_channels net permanent first);
+-- two images of a node have the same shape, wherever their processes stand
+pub same_shape : (net : Network) (home : ℕ) (histories later : List (List ℤ)) (made come : ℕ → ℕ) (permanent image : ImageView)
+    → IsLaidOut net home permanent → ImageStands net histories made permanent → IsLaidOut net home image → ImageStands net later come image → HasShapeOf permanent image
+same_shape net home histories later made come permanent image first stands second goes = record {
+  numbers = numbers;
+  variables = same_maps (λ (p : SavedProcessView). length (variables_of p.standing)) (λ (p : SavedProcessView). length (variables_of p.standing)) image.processes permanent.processes
+      (same_length (λ (p : SavedProcessView). p.number) image.processes permanent.processes numbers) variables;
+  channels = channels;
+  roles = same_maps (λ (e : SavedEnd). role_of e.end) (λ (e : SavedEnd). role_of e.end) image.ends permanent.ends
+      (same_length (λ (e : SavedEnd). e.channel) image.ends permanent.ends channels) roles;
 }
+  where
+    numbers : map (λ (p : SavedProcessView). p.number) image.processes ≡ map (λ (p : SavedProcessView). p.number) permanent.processes
+    numbers = second.processes ∙ sym first.processes
+
+    channels : map (λ (e : SavedEnd). e.channel) image.ends ≡ map (λ (e : SavedEnd). e.channel) permanent.ends
+    channels = second.ends ∙ sym first.ends
+
+    -- a process has as many variables as its code
+    variables : (k : ℕ) (p q : SavedProcessView) → slice_get image.processes k ≡ Some p → slice_get permanent.processes k ≡ Some q → length (variables_of p.standing) ≡ length (variables_of q.standing)
+    variables k p q is there =
+        let number : p.number ≡ q.number = same_at (λ (s : SavedProcessView). s.number) image.processes permanent.processes k p q numbers is there in
+        let code = code_of_entry net home image k p second is in
+        variables_stay code.0 later (come p.number) p.standing (goes.processes k p code.0 is code.1)
+        ∙ sym (variables_stay code.0 histories (made q.number) q.standing (stands.processes k q code.0 there (ap (slice_get net.codes) (sym number) ∙ code.1)))
+
+    -- an end has the role that the node has at its channel
+    roles : (k : ℕ) (e f : SavedEnd) → slice_get image.ends k ≡ Some e → slice_get permanent.ends k ≡ Some f → role_of e.end ≡ role_of f.end
+    roles k e f is there =
+        let number : e.channel ≡ f.channel = same_at (λ (s : SavedEnd). s.channel) image.ends permanent.ends k e f channels is there in
+        let channel = channel_of_entry net home image k e second is in
+        second.roles k e channel.0 is channel.1 ∙ sym (first.roles k f channel.0 there (ap (slice_get net.channels) (sym number) ∙ channel.1))
 
 -- So one that may be written alone may be written beside another.
-pub image_like : (net : Network) (histories later : List (List ℤ)) (made come : ℕ → ℕ) (permanent image : ImageView)
-    → IsValid net → IsLaidOut net permanent → ImageStands net histories made permanent → IsLaidOut net image → ImageStands net later come image
-    → CountsAreSmall image → LogsAreWithin image → ReceivedAreInLogs image → IsLike permanent image
-image_like net histories later made come permanent image valid first stands second goes counts logs inner =
-    like_of permanent image (image_allowed net later come image valid second goes counts logs inner) (same_shape net histories later made come permanent image first stands second goes)
-
--- ---- channels with an end outside
-
--- no channel has both of its ends at processes, so that each has one outside
-abbrev pub HasOuterChannels : Network → Type 0
-HasOuterChannels net = (c : ℕ) (channel : Channel) → slice_get net.channels c ≡ Some channel → ¬ (role_between channel.producer channel.consumer ≡ 2)
-
--- then no end receives what it sends
-pub outer_in_logs : (net : Network) (image : ImageView) → HasOuterChannels net → IsLaidOut net image → ReceivedAreInLogs image
-outer_in_logs net image outer laid k received saved log is e = at (slice_get_cases net.channels saved.channel).1
-  where
-    number : saved.channel ≡ 0 + k
-    number = numbered_mark (λ (s : SavedEnd). s.channel) image.ends 0 (length net.channels) k saved laid.ends is
-
-    many : length image.ends ≡ length net.channels
-    many = numbered_count (λ (s : SavedEnd). s.channel) image.ends 0 (length net.channels) laid.ends
-
-    within : k < length image.ends
-    within = slice_get_within image.ends k saved is
-
-    at : ((x : Channel) × (saved.channel < length net.channels) × (slice_get net.channels saved.channel ≡ Some x) × (get_or net.channels saved.channel x ≡ x)) ⊎ ((length net.channels ≤ saved.channel) × (slice_get net.channels saved.channel ≡ None))
-        → IsInLog log received
-    at (inl here) = absurd (outer saved.channel here.0 here.2 (sym (laid.roles k saved here.0 is here.2) ∙ ap role_of e))
-    at (inr past) = absurd (omega (arith, number, many, within, past.0))
+pub image_like : (net : Network) (home : ℕ) (inputs histories later : List (List ℤ)) (made come : ℕ → ℕ) (permanent image : ImageView)
+    → IsValid net → AreShort inputs → IsLaidOut net home permanent → ImageStands net histories made permanent → IsLaidOut net home image → ImageStands net later come image
+    → CountsAreWithin inputs image → LogsAreWithin image → IsLike permanent image
+image_like net home inputs histories later made come permanent image valid short first stands second goes counts logs =
+    like_of permanent image (image_allowed net home inputs later come image valid short second goes counts logs) (same_shape net home histories later made come permanent image first stands second goes)
 
 -- ---- before the first event
 
-end_opening : (producer consumer : Port) (received : ℕ) (log : LogState) → opening_end producer consumer ≡ Both received log → IsInLog log received
-end_opening Outside consumer received log e = absurd (cc)
-end_opening (Process p) Outside received log e = absurd (cc)
-end_opening (Process p) (Process q) received log e =
-    let none : received ≡ 0 = ap (λ (end : End). received_at (Some end)) (sym e) in
-    let same : Some log ≡ Some (record { base = 0; items = [] }) = ap (λ (end : End). log_at (Some end)) (sym e) in
-    let empty : ◌≡◌ {A = LogState} log (record { base = 0; items = [] }) = cc in
-    let base : log.base ≡ 0 = ap (λ (l : LogState). l.base) empty in
-    record { from_base = omega (arith, none, base); to_end = omega (arith, none) }
-
-opening_in_logs : (number : ℕ) (channels : List Channel) (k received : ℕ) (saved : SavedEnd) (log : LogState) → slice_get (opening_ends number channels) k ≡ Some saved → saved.end ≡ Both received log → IsInLog log received
-opening_in_logs number [] k received saved log is e = absurd (cc)
-opening_in_logs number (channel ∷ channels) zero received saved log is e =
-    let same : ◌≡◌ {A = SavedEnd} saved (record { channel = number; end = opening_end channel.producer channel.consumer }) = cc in
-    end_opening channel.producer channel.consumer received log (ap (λ (s : SavedEnd). s.end) (sym same) ∙ e)
-opening_in_logs number (channel ∷ channels) (suc k) received saved log is e = opening_in_logs (suc number) channels k received saved log is e
-
 -- the image of a node before its first event may be written
-pub opening_image_allowed : (net : Network) → IsValid net → AreAllowed (image_fields None (opening_image net))
-opening_image_allowed net valid =
-    let reached = reached_opening net [] 0 0 in
-    image_allowed net (approximation net [] reached.n) reached.permanent_acts (opening_image net) valid (laid_out_opening net) reached.permanent
-    (counts_small [] (opening_image net) (λ c items is. absurd (cc)) (counts_opening net [])) (logs_opening net) (opening_in_logs 0 net.channels)
+pub opening_image_allowed : (net : Network) (home : ℕ) → IsValid net → AreAllowed (image_fields None (opening_image net home))
+opening_image_allowed net home valid =
+    let reached = reached_opening net [] 0 home in
+    image_allowed net home [] (approximation net [] reached.n) reached.permanent_acts (opening_image net home) valid (λ c items is. absurd (cc)) (laid_out_opening net home) reached.permanent
+    (counts_opening net home []) (logs_opening net home)
 
 entries_opening : (nodes : ℕ) → AreAllowed (map count (replicate nodes 0))
 entries_opening zero = All-nil IsAllowed
@@ -379,6 +360,6 @@ opening_allowed net nodes number valid below few =
           (one_field last (omega (arith, small), and_from (nat_lt number (length highest)) (nat_le (length highest) MAX_NODES) (lt-ltb number (length highest) above) (le-leb (length highest) MAX_NODES small)))));
       entries = entries_opening nodes;
       decision = one_field (flag 0) none;
-      permanent = opening_image_allowed net valid;
+      permanent = opening_image_allowed net number valid;
       tentative = one_field (flag 0) none;
     })

@@ -1,80 +1,96 @@
 -- Laws of a node before its first event: no process has made an act.
-use Rattle.std.proofs.Common.{◌≡◌, ℕ, zero, suc, ◌+◌, true, ℤ, List, [], ◌∷◌, length, drop, map, Option, Some, None, refl, sym, ap, subst, ◌∙◌, arith}
-use Rattle.std.specs.Prelude.{slice_get}
+use Rattle.std.proofs.Common.{◌≡◌, ℕ, zero, suc, ◌+◌, Bool, true, false, cond, ℤ, List, [], ◌∷◌, length, drop, map, Option, Some, None, refl, sym, ap, subst, ◌∙◌, arith}
+use Rattle.std.specs.Prelude.{slice_get, ◌==◌}
 use Rattle.kahn_net.specs.Syntax.{Code, Network}
 use Rattle.kahn_net.specs.Processes.{Standing, NotBegun, StandsAt, got_on, sent_on}
 use Rattle.kahn_net.specs.declared.program.Channel.{Channel}
-use Rattle.kahn_net.specs.declared.program.Port.{Port}
-use Rattle.kahn_net.specs.declared.program.Port.TheVariants.{Outside, Process}
 use Rattle.retained.specs.LogState.{LogState, IsLogOf}
 use Rattle.record.specs.ProcessView.{SavedProcessView}
 use Rattle.record.specs.Ends.{received_at, log_at}
 use Rattle.ckpt_codec.specs.RecordText.{role_of}
 use Rattle.protocol.specs.Node.Opening.{opening_processes, opening_end, opening_ends, opening_image, opening_running}
-use Rattle.protocol.specs.Node.Sharing.{is_logging}
-use Rattle.protocol.specs.Node.Reached.{first_acts, EndStands, ImageStands, HasReached, numbers_from, is_counting, role_between, IsLaidOut, CountsAreWithin, LogsAreWithin}
+use Rattle.protocol.specs.Node.Layout.{numbers_where, is_on, has_process, port_on, channel_on, has_end, role_by}
+use Rattle.protocol.specs.NodeLaws.CountLaws.{receives_within, sends_within, both_within}
+use Rattle.protocol.specs.Node.Reached.{first_acts, EndStands, ImageStands, HasReached, IsLaidOut, CountIsWithin, CountsAreWithin, LogsAreWithin}
 use Rattle.record.specs.declared.image.SavedEnd.{SavedEnd}
 use Rattle.record.specs.declared.image.End.{End}
 
 -- which entry stands where
-process_at : (number : ℕ) (codes : List Code) (k : ℕ) (saved : SavedProcessView) → slice_get (opening_processes number codes) k ≡ Some saved
-    → (code : Code) × (slice_get codes k ≡ Some code) × (saved.number ≡ number + k) × (saved.standing ≡ NotBegun code.vars)
-process_at number [] k saved is = absurd (cc)
-process_at number (code ∷ codes) zero saved is =
-    let same : ◌≡◌ {A = SavedProcessView} saved (record { number = number; standing = NotBegun code.vars }) = cc in
-    let sum : number ≡ number + 0 = omega arith in
-    (code, refl, ap (λ (s : SavedProcessView). s.number) same ∙ sum, ap (λ (s : SavedProcessView). s.standing) same)
-process_at number (code ∷ codes) (suc k) saved is =
-    let later = process_at (suc number) codes k saved is in
-    let sum : suc number + k ≡ number + suc k = omega arith in
-    (later.0, later.1, later.2 ∙ sum, later.3)
+record OwnProcess (home number : ℕ) (codes : List Code) (saved : SavedProcessView) : Type 0 where
+  pub place : ℕ
+  pub code : Code
+  pub there : slice_get codes place ≡ Some code
+  pub numbered : saved.number ≡ number + place
+  pub stands : saved.standing ≡ NotBegun code.vars
 
-end_of_number : (number : ℕ) (channels : List Channel) (k : ℕ) (saved : SavedEnd) → slice_get (opening_ends number channels) k ≡ Some saved
-    → (channel : Channel) × (slice_get channels k ≡ Some channel) × (saved.channel ≡ number + k) × (saved.end ≡ opening_end channel.producer channel.consumer)
-end_of_number number [] k saved is = absurd (cc)
-end_of_number number (channel ∷ channels) zero saved is =
-    let same : ◌≡◌ {A = SavedEnd} saved (record { channel = number; end = opening_end channel.producer channel.consumer }) = cc in
-    let sum : number ≡ number + 0 = omega arith in
-    (channel, refl, ap (λ (s : SavedEnd). s.channel) same ∙ sum, ap (λ (s : SavedEnd). s.end) same)
-end_of_number number (channel ∷ channels) (suc k) saved is =
-    let later = end_of_number (suc number) channels k saved is in
-    let sum : suc number + k ≡ number + suc k = omega arith in
-    (later.0, later.1, later.2 ∙ sum, later.3)
+process_further : (home number : ℕ) (code : Code) (codes : List Code) (saved : SavedProcessView) → OwnProcess home (suc number) codes saved → OwnProcess home number (code ∷ codes) saved
+process_further home number code codes saved own =
+    let sum : suc number + own.place ≡ number + suc own.place = omega arith in
+    record { place = suc own.place; code = own.code; there = own.there; numbered = own.numbered ∙ sum; stands = own.stands }
+
+process_at : (home number : ℕ) (codes : List Code) (k : ℕ) (saved : SavedProcessView) → slice_get (opening_processes home number codes) k ≡ Some saved → OwnProcess home number codes saved
+process_at home number [] k saved is = absurd (cc)
+process_at home number (code ∷ codes) k saved is = at (code.node == home) k is (λ j e. process_at home (suc number) codes j saved e)
+  where
+    at : (b : Bool) (k : ℕ) → slice_get (cond b (record { number = number; standing = NotBegun code.vars } ∷ opening_processes home (suc number) codes) (opening_processes home (suc number) codes)) k ≡ Some saved
+        → ((j : ℕ) → slice_get (opening_processes home (suc number) codes) j ≡ Some saved → OwnProcess home (suc number) codes saved) → OwnProcess home number (code ∷ codes) saved
+    at false k e later = process_further home number code codes saved (later k e)
+    at true (suc k) e later = process_further home number code codes saved (later k e)
+    at true zero e later =
+        let same : ◌≡◌ {A = SavedProcessView} saved (record { number = number; standing = NotBegun code.vars }) = cc in
+        let sum : number ≡ number + 0 = omega arith in
+        record { place = 0; code = code; there = refl; numbered = ap (λ (s : SavedProcessView). s.number) same ∙ sum; stands = ap (λ (s : SavedProcessView). s.standing) same }
+
+record OwnEnd (net : Network) (home number : ℕ) (channels : List Channel) (saved : SavedEnd) : Type 0 where
+  pub place : ℕ
+  pub channel : Channel
+  pub there : slice_get channels place ≡ Some channel
+  pub numbered : saved.channel ≡ number + place
+  pub is : saved.end ≡ opening_end (port_on net home channel.producer) (port_on net home channel.consumer)
+
+end_further : (net : Network) (home number : ℕ) (channel : Channel) (channels : List Channel) (saved : SavedEnd) → OwnEnd net home (suc number) channels saved → OwnEnd net home number (channel ∷ channels) saved
+end_further net home number channel channels saved own =
+    let sum : suc number + own.place ≡ number + suc own.place = omega arith in
+    record { place = suc own.place; channel = own.channel; there = own.there; numbered = own.numbered ∙ sum; is = own.is }
+
+end_of_number : (net : Network) (home number : ℕ) (channels : List Channel) (k : ℕ) (saved : SavedEnd) → slice_get (opening_ends net home number channels) k ≡ Some saved → OwnEnd net home number channels saved
+end_of_number net home number [] k saved is = absurd (cc)
+end_of_number net home number (channel ∷ channels) k saved is = at (channel_on net home (Some channel)) k is (λ j e. end_of_number net home (suc number) channels j saved e)
+  where
+    at : (b : Bool) (k : ℕ)
+        → slice_get (cond b (record { channel = number; end = opening_end (port_on net home channel.producer) (port_on net home channel.consumer) } ∷ opening_ends net home (suc number) channels) (opening_ends net home (suc number) channels)) k ≡ Some saved
+        → ((j : ℕ) → slice_get (opening_ends net home (suc number) channels) j ≡ Some saved → OwnEnd net home (suc number) channels saved) → OwnEnd net home number (channel ∷ channels) saved
+    at false k e later = end_further net home number channel channels saved (later k e)
+    at true (suc k) e later = end_further net home number channel channels saved (later k e)
+    at true zero e later =
+        let same : ◌≡◌ {A = SavedEnd} saved (record { channel = number; end = opening_end (port_on net home channel.producer) (port_on net home channel.consumer) }) = cc in
+        let sum : number ≡ number + 0 = omega arith in
+        record { place = 0; channel = channel; there = refl; numbered = ap (λ (s : SavedEnd). s.channel) same ∙ sum; is = ap (λ (s : SavedEnd). s.end) same }
 
 -- an entry is of its own channel, and its end is that channel's
-own_end : (net : Network) (k : ℕ) (saved : SavedEnd) (channel : Channel) → slice_get (opening_ends 0 net.channels) k ≡ Some saved → slice_get net.channels saved.channel ≡ Some channel
-    → saved.end ≡ opening_end channel.producer channel.consumer
-own_end net k saved channel is on =
-    let entry = end_of_number 0 net.channels k saved is in
-    let sum : 0 + k ≡ k = omega arith in
-    let both : Some entry.0 ≡ Some channel = sym entry.1 ∙ (ap (slice_get net.channels) (sym (entry.2 ∙ sum)) ∙ on) in
-    let same : entry.0 ≡ channel = cc in
-    entry.3 ∙ ap (λ (c : Channel). opening_end c.producer c.consumer) same
+own_end : (net : Network) (home k : ℕ) (saved : SavedEnd) (channel : Channel) → slice_get (opening_ends net home 0 net.channels) k ≡ Some saved → slice_get net.channels saved.channel ≡ Some channel
+    → saved.end ≡ opening_end (port_on net home channel.producer) (port_on net home channel.consumer)
+own_end net home k saved channel is on =
+    let entry = end_of_number net home 0 net.channels k saved is in
+    let sum : 0 + entry.place ≡ entry.place = omega arith in
+    let both : Some entry.channel ≡ Some channel = sym entry.there ∙ (ap (slice_get net.channels) (sym (entry.numbered ∙ sum)) ∙ on) in
+    let same : entry.channel ≡ channel = cc in
+    entry.is ∙ ap (λ (c : Channel). opening_end (port_on net home c.producer) (port_on net home c.consumer)) same
 
-none_received : (producer consumer : Port) → received_at (Some (opening_end producer consumer)) ≡ 0
-none_received Outside consumer = refl
-none_received (Process p) Outside = refl
-none_received (Process p) (Process q) = refl
+none_received : (puts gets : Bool) → received_at (Some (opening_end puts gets)) ≡ 0
+none_received true true = refl
+none_received true false = refl
+none_received false gets = refl
 
-none_put : (producer consumer : Port) (log : LogState) → log_at (Some (opening_end producer consumer)) ≡ Some log → (log.base ≡ 0) × (log.items ≡ [])
-none_put Outside consumer log h = absurd (cc)
-none_put (Process p) Outside log h = let same : ◌≡◌ {A = LogState} log (record { base = 0; items = [] }) = cc in (ap (λ (l : LogState). l.base) same, ap (λ (l : LogState). l.items) same)
-none_put (Process p) (Process q) log h = let same : ◌≡◌ {A = LogState} log (record { base = 0; items = [] }) = cc in (ap (λ (l : LogState). l.base) same, ap (λ (l : LogState). l.items) same)
+none_put : (puts gets : Bool) (log : LogState) → log_at (Some (opening_end puts gets)) ≡ Some log → (log.base ≡ 0) × (log.items ≡ [])
+none_put true true log h = let same : ◌≡◌ {A = LogState} log (record { base = 0; items = [] }) = cc in (ap (λ (l : LogState). l.base) same, ap (λ (l : LogState). l.items) same)
+none_put true false log h = let same : ◌≡◌ {A = LogState} log (record { base = 0; items = [] }) = cc in (ap (λ (l : LogState). l.base) same, ap (λ (l : LogState). l.items) same)
+none_put false gets log h = absurd (cc)
 
-counts_there : (producer consumer : Port) (q : ℕ) → consumer ≡ Process q → is_counting (opening_end producer consumer) ≡ true
-counts_there Outside consumer q to = refl
-counts_there (Process p) Outside q to = absurd (cc)
-counts_there (Process p) (Process r) q to = refl
-
-logs_there : (producer consumer : Port) (q : ℕ) → producer ≡ Process q → is_logging (opening_end producer consumer) ≡ true
-logs_there Outside consumer q from = absurd (cc)
-logs_there (Process p) Outside q from = refl
-logs_there (Process p) (Process r) q from = refl
-
-role_there : (producer consumer : Port) → role_of (opening_end producer consumer) ≡ role_between producer consumer
-role_there Outside consumer = refl
-role_there (Process p) Outside = refl
-role_there (Process p) (Process q) = refl
+role_there : (puts gets : Bool) → role_of (opening_end puts gets) ≡ role_by puts gets
+role_there true true = refl
+role_there true false = refl
+role_there false gets = refl
 
 no_acts : (code : Option Code) (histories : List (List ℤ)) → first_acts code histories 0 ≡ []
 no_acts None histories = refl
@@ -84,26 +100,26 @@ no_acts (Some code) histories = refl
 abbrev pub none_made : ℕ → ℕ
 none_made q = 0
 
-image_opening : (net : Network) (histories : List (List ℤ)) → ImageStands net histories none_made (opening_image net)
-image_opening net histories = record { processes = processes; ends = ends }
+image_opening : (net : Network) (home : ℕ) (histories : List (List ℤ)) → ImageStands net histories none_made (opening_image net home)
+image_opening net home histories = record { processes = processes; ends = ends }
   where
-    processes : (k : ℕ) (saved : SavedProcessView) (code : Code) → slice_get (opening_processes 0 net.codes) k ≡ Some saved → slice_get net.codes saved.number ≡ Some code → StandsAt code histories 0 saved.standing
+    processes : (k : ℕ) (saved : SavedProcessView) (code : Code) → slice_get (opening_processes home 0 net.codes) k ≡ Some saved → slice_get net.codes saved.number ≡ Some code → StandsAt code histories 0 saved.standing
     processes k saved code is there =
-        let entry = process_at 0 net.codes k saved is in
-        let sum : 0 + k ≡ k = omega arith in
-        let both : Some entry.0 ≡ Some code = sym entry.1 ∙ (ap (slice_get net.codes) (sym (entry.2 ∙ sum)) ∙ there) in
-        let same : entry.0 ≡ code = cc in
-        subst (λ (s : Standing). StandsAt code histories 0 s) (sym (entry.3 ∙ ap (λ (c : Code). NotBegun c.vars) same))
+        let entry = process_at home 0 net.codes k saved is in
+        let sum : 0 + entry.place ≡ entry.place = omega arith in
+        let both : Some entry.code ≡ Some code = sym entry.there ∙ (ap (slice_get net.codes) (sym (entry.numbered ∙ sum)) ∙ there) in
+        let same : entry.code ≡ code = cc in
+        subst (λ (s : Standing). StandsAt code histories 0 s) (sym (entry.stands ∙ ap (λ (c : Code). NotBegun c.vars) same))
         (record { within = omega arith; here = (refl, refl) })
 
-    ends : (k : ℕ) (saved : SavedEnd) (channel : Channel) → slice_get (opening_ends 0 net.channels) k ≡ Some saved → slice_get net.channels saved.channel ≡ Some channel
+    ends : (k : ℕ) (saved : SavedEnd) (channel : Channel) → slice_get (opening_ends net home 0 net.channels) k ≡ Some saved → slice_get net.channels saved.channel ≡ Some channel
         → EndStands net histories none_made saved.channel channel saved.end
     ends k saved channel is on = record {
-      received = λ p to.
-          ap (λ (e : End). received_at (Some e)) (own_end net k saved channel is on)
-          ∙ (none_received channel.producer channel.consumer ∙ sym (ap (λ (steps : List _). length (got_on saved.channel steps)) (no_acts (slice_get net.codes p) histories)));
+      received = λ p to counting.
+          ap (λ (e : End). received_at (Some e)) (own_end net home k saved channel is on)
+          ∙ (none_received (port_on net home channel.producer) (port_on net home channel.consumer) ∙ sym (ap (λ (steps : List _). length (got_on saved.channel steps)) (no_acts (slice_get net.codes p) histories)));
       retained = λ p log from has.
-          (let none = none_put channel.producer channel.consumer log (ap (λ (e : End). log_at (Some e)) (sym (own_end net k saved channel is on)) ∙ has) in
+          (let none = none_put (port_on net home channel.producer) (port_on net home channel.consumer) log (ap (λ (e : End). log_at (Some e)) (sym (own_end net home k saved channel is on)) ∙ has) in
           let acts = ap (sent_on saved.channel) (no_acts (slice_get net.codes p) histories) in
           subst (IsLogOf log) (sym acts) (empty log none.0 none.1));
     }
@@ -121,43 +137,65 @@ reached_opening net inputs nodes number = record {
   permanent_acts = none_made;
   held_acts = none_made;
   current_acts = none_made;
-  permanent = image_opening net inputs;
+  permanent = image_opening net number inputs;
   held = λ tentative is. absurd (cc);
-  current = image_opening net inputs;
+  current = image_opening net number inputs;
   held_after = λ p. omega arith;
   current_after = λ p. omega arith;
 }
 
-process_numbers : (number : ℕ) (codes : List Code) → map (λ (s : SavedProcessView). s.number) (opening_processes number codes) ≡ numbers_from number (length codes)
-process_numbers number [] = refl
-process_numbers number (code ∷ codes) = ap (λ (ns : List ℕ). number ∷ ns) (process_numbers (suc number) codes)
+-- the codes from a number on are those of the network from there
+process_numbers : (net : Network) (home number : ℕ) (codes : List Code) → ((j : ℕ) → slice_get net.codes (number + j) ≡ slice_get codes j)
+    → map (λ (s : SavedProcessView). s.number) (opening_processes home number codes) ≡ numbers_where (has_process net home) number (length codes)
+process_numbers net home number [] all = refl
+process_numbers net home number (code ∷ codes) all =
+    at (code.node == home) (process_numbers net home (suc number) codes (λ j. (let sum : suc number + j ≡ number + suc j = omega arith in ap (slice_get net.codes) sum ∙ all (suc j)))) ∙ ap (λ (b : Bool). cond b (number ∷ numbers_where (has_process net home) (suc number) (length codes)) (numbers_where (has_process net home) (suc number) (length codes))) (sym test)
+  where
+    test : has_process net home number ≡ (code.node == home)
+    test = (let sum : number ≡ number + 0 = omega arith in ap (is_on home) (ap (slice_get net.codes) sum ∙ all 0))
 
-channel_numbers : (number : ℕ) (channels : List Channel) → map (λ (s : SavedEnd). s.channel) (opening_ends number channels) ≡ numbers_from number (length channels)
-channel_numbers number [] = refl
-channel_numbers number (channel ∷ channels) = ap (λ (ns : List ℕ). number ∷ ns) (channel_numbers (suc number) channels)
+    at : (b : Bool) → map (λ (s : SavedProcessView). s.number) (opening_processes home (suc number) codes) ≡ numbers_where (has_process net home) (suc number) (length codes)
+        → map (λ (s : SavedProcessView). s.number) (cond b (record { number = number; standing = NotBegun code.vars } ∷ opening_processes home (suc number) codes) (opening_processes home (suc number) codes))
+        ≡ cond b (number ∷ numbers_where (has_process net home) (suc number) (length codes)) (numbers_where (has_process net home) (suc number) (length codes))
+    at true rest = ap (λ (ns : List ℕ). number ∷ ns) rest
+    at false rest = rest
 
-pub laid_out_opening : (net : Network) → IsLaidOut net (opening_image net)
-laid_out_opening net = record {
-  processes = process_numbers 0 net.codes;
-  ends = channel_numbers 0 net.channels;
-  counting = λ k p saved channel is on to.
-      ap is_counting (own_end net k saved channel is on) ∙ counts_there channel.producer channel.consumer p to;
-  logging = λ k p saved channel is on from.
-      ap is_logging (own_end net k saved channel is on) ∙ logs_there channel.producer channel.consumer p from;
-  roles = λ k saved channel is on.
-      ap role_of (own_end net k saved channel is on) ∙ role_there channel.producer channel.consumer;
+channel_numbers : (net : Network) (home number : ℕ) (channels : List Channel) → ((j : ℕ) → slice_get net.channels (number + j) ≡ slice_get channels j)
+    → map (λ (s : SavedEnd). s.channel) (opening_ends net home number channels) ≡ numbers_where (has_end net home) number (length channels)
+channel_numbers net home number [] all = refl
+channel_numbers net home number (channel ∷ channels) all =
+    at (channel_on net home (Some channel)) (channel_numbers net home (suc number) channels (λ j. (let sum : suc number + j ≡ number + suc j = omega arith in ap (slice_get net.channels) sum ∙ all (suc j)))) ∙ ap (λ (b : Bool). cond b (number ∷ numbers_where (has_end net home) (suc number) (length channels)) (numbers_where (has_end net home) (suc number) (length channels))) (sym test)
+  where
+    test : has_end net home number ≡ channel_on net home (Some channel)
+    test = (let sum : number ≡ number + 0 = omega arith in ap (channel_on net home) (ap (slice_get net.channels) sum ∙ all 0))
+
+    at : (b : Bool) → map (λ (s : SavedEnd). s.channel) (opening_ends net home (suc number) channels) ≡ numbers_where (has_end net home) (suc number) (length channels)
+        → map (λ (s : SavedEnd). s.channel) (cond b (record { channel = number; end = opening_end (port_on net home channel.producer) (port_on net home channel.consumer) } ∷ opening_ends net home (suc number) channels) (opening_ends net home (suc number) channels))
+        ≡ cond b (number ∷ numbers_where (has_end net home) (suc number) (length channels)) (numbers_where (has_end net home) (suc number) (length channels))
+    at true rest = ap (λ (ns : List ℕ). number ∷ ns) rest
+    at false rest = rest
+
+pub laid_out_opening : (net : Network) (home : ℕ) → IsLaidOut net home (opening_image net home)
+laid_out_opening net home = record {
+  processes = process_numbers net home 0 net.codes (λ j. (let sum : 0 + j ≡ j = omega arith in ap (slice_get net.codes) sum));
+  ends = channel_numbers net home 0 net.channels (λ j. (let sum : 0 + j ≡ j = omega arith in ap (slice_get net.channels) sum));
+  roles = λ k saved channel is on. ap role_of (own_end net home k saved channel is on) ∙ role_there (port_on net home channel.producer) (port_on net home channel.consumer);
 }
 
-pub counts_opening : (net : Network) (inputs : List (List ℤ)) → CountsAreWithin inputs (opening_image net)
-counts_opening net inputs k saved is =
-    let entry = end_of_number 0 net.channels k saved is in
-    let none : received_at (Some (saved.end)) ≡ 0 = ap (λ (e : End). received_at (Some e)) entry.3 ∙ none_received entry.0.producer entry.0.consumer in
-    omega (arith, none)
+pub counts_opening : (net : Network) (home : ℕ) (inputs : List (List ℤ)) → CountsAreWithin inputs (opening_image net home)
+counts_opening net home inputs k saved is =
+    let entry = end_of_number net home 0 net.channels k saved is in
+    subst (CountIsWithin inputs saved.channel) (sym entry.is) (at (port_on net home entry.channel.producer) (port_on net home entry.channel.consumer))
+  where
+    at : (puts gets : Bool) → CountIsWithin inputs saved.channel (opening_end puts gets)
+    at false gets = receives_within inputs saved.channel 0 (omega arith)
+    at true false = sends_within inputs saved.channel (record { base = 0; items = [] })
+    at true true = both_within inputs saved.channel 0 (record { base = 0; items = [] }) (record { from_base = omega arith; to_end = omega arith })
 
-pub logs_opening : (net : Network) → LogsAreWithin (opening_image net)
-logs_opening net k saved log is has =
-    let entry = end_of_number 0 net.channels k saved is in
-    let none = none_put entry.0.producer entry.0.consumer log (ap (λ (e : End). log_at (Some e)) (sym entry.3) ∙ has) in
+pub logs_opening : (net : Network) (home : ℕ) → LogsAreWithin (opening_image net home)
+logs_opening net home k saved log is has =
+    let entry = end_of_number net home 0 net.channels k saved is in
+    let none = none_put (port_on net home entry.channel.producer) (port_on net home entry.channel.consumer) log (ap (λ (e : End). log_at (Some e)) (sym entry.is) ∙ has) in
     let base : log.base ≡ 0 = none.0 in
     let items : length log.items ≡ 0 = ap (length {A = ℤ}) none.1 in
     record { count = omega (arith, items); last = omega (arith, items, base) }

@@ -1,8 +1,7 @@
 -- Laws of what a node's logs hold: the last items of a beginning of each channel's history.
-use Rattle.std.proofs.Common.{◌≡◌, ℕ, suc, ◌≤◌, ℤ, List, [], ◌++◌, length, take, drop, Option, Some, None, refl, sym, ap, subst, ◌∙◌}
+use Rattle.std.proofs.Common.{◌≡◌, ℕ, suc, ◌≤◌, ℤ, List, [], ◌++◌, take, drop, Option, Some, None, refl, sym, ap, subst, ◌∙◌}
 use Rattle.std.specs.Prelude.{slice_get}
 use Rattle.std.proofs.lemmas.List.{take-append-drop, take-take}
-use Rattle.std.proofs.lemmas.Option.{slice_get_within}
 use Rattle.kahn_net.specs.Streams.{history_of, IsPrefix}
 use Rattle.kahn_net.specs.Laws.Prefixes.{prefix_nil, prefix_along, prefix_trans, prefix_of}
 use Rattle.kahn_net.specs.Syntax.{Code, Network}
@@ -17,10 +16,10 @@ use Rattle.kahn_net.specs.declared.program.Port.TheVariants.{Process}
 use Rattle.retained.specs.LogState.{LogState, IsLogOf}
 use Rattle.record.specs.ImageView.{ImageView}
 use Rattle.protocol.specs.Node.NodeView.{RunningNode}
-use Rattle.record.specs.Ends.{log_of}
-use Rattle.protocol.specs.Node.Reached.{first_acts, acts_of, ImageStands, HasReached, IsLaidOut, HasComeOn}
-use Rattle.protocol.specs.NodeLaws.ImageLaws.{numbered_there, channel_at, log_is}
-use Rattle.record.specs.declared.image.SavedEnd.{SavedEnd}
+use Rattle.record.specs.Ends.{end_of, log_at, log_of}
+use Rattle.record.specs.declared.image.End.{End}
+use Rattle.protocol.specs.Node.Reached.{first_acts, acts_of, ImageStands, HasReached, HasComeOn}
+use Rattle.protocol.specs.NodeLaws.ImageLaws.{entry_of}
 
 -- what the first acts of a process put is a front of what it puts
 pub put_is_prefix : (code : Option Code) (histories : List (List ℤ)) (m c : ℕ) → IsPrefix (sent_on c (first_acts code histories m)) (output_at code histories c)
@@ -41,14 +40,21 @@ acts_put_prefix net inputs n made c p channel is from =
     (put_is_prefix (slice_get net.codes p) (approximation net inputs n) (made p) c)
 
 -- the log of an image holds what its producer's acts put
-pub log_stands : (net : Network) (histories : List (List ℤ)) (made : ℕ → ℕ) (image : ImageView) (c p : ℕ) (channel : Channel) (log : LogState) → ImageStands net histories made image → IsLaidOut net image
+log_entry : (image : ImageView) (c : ℕ) (log : LogState) → log_of image c ≡ Some log → (end : End) × (end_of image c ≡ Some end) × (log_at (Some end) ≡ Some log)
+log_entry image c log has = at (end_of image c) refl has
+  where
+    at : (o : Option End) → end_of image c ≡ o → log_at o ≡ Some log → (end : End) × (end_of image c ≡ Some end) × (log_at (Some end) ≡ Some log)
+    at None is e = absurd (cc)
+    at (Some end) is e = (end, is, e)
+
+pub log_stands : (net : Network) (histories : List (List ℤ)) (made : ℕ → ℕ) (image : ImageView) (c p : ℕ) (channel : Channel) (log : LogState) → ImageStands net histories made image
     → slice_get net.channels c ≡ Some channel → channel.producer ≡ Process p → log_of image c ≡ Some log → IsLogOf log (sent_on c (acts_of net histories made p))
-log_stands net histories made image c p channel log stands laid is from has =
-    let there = numbered_there (λ (s : SavedEnd). s.channel) image.ends 0 (length net.channels) c laid.ends (slice_get_within net.channels c channel is) in
-    let here : there.0.channel ≡ c = channel_at net image c there.0 laid there.1 in
-    let end = stands.ends c there.0 channel there.1 (ap (slice_get net.channels) here ∙ is) in
-    subst (λ (d : ℕ). IsLogOf log (sent_on d (acts_of net histories made p))) here
-    (end.retained p log from (sym (log_is net image c there.0 laid there.1) ∙ has))
+log_stands net histories made image c p channel log stands is from has =
+    let found = log_entry image c log has in
+    let entry = entry_of image c found.0 found.1 in
+    let end = stands.ends entry.place entry.saved channel entry.is (ap (slice_get net.channels) entry.channel ∙ is) in
+    subst (λ (d : ℕ). IsLogOf log (sent_on d (acts_of net histories made p))) entry.channel
+    (end.retained p log from (ap (λ (e : End). log_at (Some e)) entry.is_end ∙ found.2))
 
 -- What has left the system stays a beginning of what was put
 

@@ -4,7 +4,7 @@ use Rattle.std.specs.Prelude.{slice_get}
 use Rattle.std.proofs.Math.Logic.{∥∥₁_elim}
 use Rattle.std.proofs.Math.Bridge.{le_prop}
 use Rattle.std.proofs.lemmas.List.{length-replicate}
-use Rattle.std.proofs.lemmas.Option.{slice_get_cases, slice_get_within}
+use Rattle.std.proofs.lemmas.Option.{slice_get_cases}
 use Rattle.kahn_net.specs.Syntax.{Code, Network}
 use Rattle.kahn_net.specs.Valid.{IsValid}
 use Rattle.kahn_net.specs.Approximations.{approximation}
@@ -22,23 +22,18 @@ use Rattle.protocol.specs.Node.Reached.{HasReached, ImageStands, IsLaidOut, Logs
 use Rattle.protocol.specs.Node.Starting.{with_own, held_number, decided}
 use Rattle.protocol.specs.Node.Opening.{opening_image, opening_record}
 use Rattle.protocol.specs.NodeLaws.OpeningLaws.{reached_opening, laid_out_opening, logs_opening}
-use Rattle.protocol.specs.NodeLaws.ImageLaws.{numbered_mark, numbered_count}
+use Rattle.protocol.specs.Node.Layout.{has_process, has_end}
+use Rattle.protocol.specs.NodeLaws.NumberedLaws.{where_mark, where_count}
 use Rattle.protocol.specs.NodeLaws.SharingLaws.{items_fit}
 use Rattle.protocol.specs.NodeLaws.VariableLaws.{variables_stay}
 
 -- each process of an image that stands there has no more variables than a network allows
-variables_few : (net : Network) (histories : List (List ℤ)) (made : ℕ → ℕ) (image : ImageView) → IsValid net → IsLaidOut net image → ImageStands net histories made image
+variables_few : (net : Network) (home : ℕ) (histories : List (List ℤ)) (made : ℕ → ℕ) (image : ImageView) → IsValid net → IsLaidOut net home image → ImageStands net histories made image
     → (k : ℕ) (saved : SavedProcessView) → slice_get image.processes k ≡ Some saved → length (variables_of saved.standing) ≤ MAX_VARIABLES
-variables_few net histories made image valid laid stands k saved is = at (slice_get_cases net.codes saved.number).1
+variables_few net home histories made image valid laid stands k saved is = at (slice_get_cases net.codes saved.number).1
   where
-    number : saved.number ≡ 0 + k
-    number = numbered_mark (λ (s : SavedProcessView). s.number) image.processes 0 (length net.codes) k saved laid.processes is
-
-    count : length image.processes ≡ length net.codes
-    count = numbered_count (λ (s : SavedProcessView). s.number) image.processes 0 (length net.codes) laid.processes
-
-    within : k < length image.processes
-    within = slice_get_within image.processes k saved is
+    within : saved.number < 0 + length net.codes
+    within = (where_mark (λ (s : SavedProcessView). s.number) (has_process net home) 0 (length net.codes) image.processes k saved laid.processes is).2
 
     at : ((x : Code) × (saved.number < length net.codes) × (slice_get net.codes saved.number ≡ Some x) × (get_or net.codes saved.number x ≡ x)) ⊎ ((length net.codes ≤ saved.number) × (slice_get net.codes saved.number ≡ None))
         → length (variables_of saved.standing) ≤ MAX_VARIABLES
@@ -46,35 +41,35 @@ variables_few net histories made image valid laid stands k saved is = at (slice_
         let same = variables_stay here.0 histories (made saved.number) saved.standing (stands.processes k saved here.0 is here.2) in
         let few = (valid.codes saved.number here.0 here.2).variables in
         omega (arith, same, few)
-    at (inr past) = absurd (omega (arith, number, count, within, past.0))
+    at (inr past) = absurd (omega (arith, within, past.0))
 
 -- an image of a valid network, whose logs keep to their share, is within the bounds of which a record holds two
-pub image_within : (net : Network) (histories : List (List ℤ)) (made : ℕ → ℕ) (image : ImageView) → IsValid net → IsLaidOut net image → ImageStands net histories made image → LogsAreWithin image
+pub image_within : (net : Network) (home : ℕ) (histories : List (List ℤ)) (made : ℕ → ℕ) (image : ImageView) → IsValid net → IsLaidOut net home image → ImageStands net histories made image → LogsAreWithin image
     → IsImageWithin MAX_RETAINED_ITEMS image
-image_within net histories made image valid laid stands logs =
-    let processes = numbered_count (λ (s : SavedProcessView). s.number) image.processes 0 (length net.codes) laid.processes in
-    let ends = numbered_count (λ (s : SavedEnd). s.channel) image.ends 0 (length net.channels) laid.ends in
+image_within net home histories made image valid laid stands logs =
+    let processes = where_count (λ (s : SavedProcessView). s.number) (has_process net home) 0 (length net.codes) image.processes laid.processes in
+    let ends = where_count (λ (s : SavedEnd). s.channel) (has_end net home) 0 (length net.channels) image.ends laid.ends in
     let codes = valid.process_count in
     let channels = valid.channel_count in
     record {
       processes = omega (arith, processes, codes);
-      variables = variables_few net histories made image valid laid stands;
+      variables = variables_few net home histories made image valid laid stands;
       ends = omega (arith, ends, channels);
       items = items_fit image (λ k saved log is has. (logs k saved log is has).count);
     }
 
 -- and so is a node's current image, however far it has come
-pub current_within : (net : Network) (inputs : List (List ℤ)) (node : RunningNode) → IsValid net → IsLaidOut net node.current → LogsAreWithin node.current → ∥ HasReached net inputs node ∥₁
+pub current_within : (net : Network) (home : ℕ) (inputs : List (List ℤ)) (node : RunningNode) → IsValid net → IsLaidOut net home node.current → LogsAreWithin node.current → ∥ HasReached net inputs node ∥₁
     → IsImageWithin MAX_RETAINED_ITEMS node.current
-current_within net inputs node valid laid logs reached = record {
+current_within net home inputs node valid laid logs reached = record {
   processes =
-      (let count = numbered_count (λ (s : SavedProcessView). s.number) node.current.processes 0 (length net.codes) laid.processes in
+      (let count = where_count (λ (s : SavedProcessView). s.number) (has_process net home) 0 (length net.codes) node.current.processes laid.processes in
       let few = valid.process_count in
       omega (arith, count, few));
   variables = λ k saved is.
-      ∥∥₁_elim reached le_prop (λ come. variables_few net (approximation net inputs come.n) come.current_acts node.current valid laid come.current k saved is);
+      ∥∥₁_elim reached le_prop (λ come. variables_few net home (approximation net inputs come.n) come.current_acts node.current valid laid come.current k saved is);
   ends =
-      (let count = numbered_count (λ (s : SavedEnd). s.channel) node.current.ends 0 (length net.channels) laid.ends in
+      (let count = where_count (λ (s : SavedEnd). s.channel) (has_end net home) 0 (length net.channels) node.current.ends laid.ends in
       let few = valid.channel_count in
       omega (arith, count, few));
   items = items_fit node.current (λ k saved log is has. (logs k saved log is has).count);
@@ -89,7 +84,7 @@ opening_within net nodes number valid few =
     record {
       nodes = (let same : length (opening_record net nodes number).highest ≡ nodes = length-replicate nodes 0 in omega (arith, same, few));
       decision = λ d is. absurd (cc);
-      permanent = image_within net (approximation net [] reached.n) reached.permanent_acts (opening_image net) valid (laid_out_opening net) reached.permanent (logs_opening net);
+      permanent = image_within net number (approximation net [] reached.n) reached.permanent_acts (opening_image net number) valid (laid_out_opening net number) reached.permanent (logs_opening net number);
       tentative = λ t is. absurd (cc);
     }
 

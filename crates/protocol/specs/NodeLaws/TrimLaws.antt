@@ -1,25 +1,28 @@
 -- Laws of a trimmed image: what is kept of an image is kept, and a node has come as far.
-use Rattle.std.proofs.Common.{◌≡◌, ◌⊎◌, inl, inr, ℕ, zero, suc, ◌+◌, ◌-◌, ◌≤◌, Bool, true, false, eqb, ltb, cond, ℤ, List, [], ◌∷◌, length, take, drop, map, Option, Some, None, option_map, refl, sym, ap, subst, ◌∙◌, arith}
+use Rattle.std.proofs.Common.{◌≡◌, ◌≢◌, ◌⊎◌, inl, inr, ℕ, zero, suc, ◌+◌, ◌-◌, ◌≤◌, Bool, true, false, eqb, cond, ℤ, List, [], ◌∷◌, length, map, Option, Some, None, option_map, refl, sym, ap, subst, ◌∙◌, arith}
 use Rattle.std.specs.Prelude.{slice_get, slice_index, find, min}
 use Rattle.std.proofs.Math.Nat.{min-le_left, min-le_right, le-min}
-use Rattle.std.proofs.lemmas.Bool.{ltb-false}
-use Rattle.std.proofs.lemmas.List.{length-drop, drop-drop}
-use Rattle.kahn_net.specs.Streams.{history_of}
+use Rattle.std.proofs.lemmas.Bool.{ne_eqb}
+use Rattle.std.proofs.lemmas.Bool.Decides.{eqb_tells}
 use Rattle.kahn_net.specs.Syntax.{Network}
 use Rattle.kahn_net.specs.Processes.{sent_on}
 use Rattle.kahn_net.specs.declared.program.Channel.{Channel}
 use Rattle.kahn_net.specs.declared.program.Port.{Port}
 use Rattle.kahn_net.specs.declared.program.Port.TheVariants.{Outside, Process}
-use Rattle.retained.specs.LogState.{LogState, IsLogOf, log_end, trimmed}
+use Rattle.retained.specs.LogState.{LogState, IsLogOf, log_end}
 use Rattle.record.specs.ImageView.{ImageView}
 use Rattle.ckpt_codec.specs.RecordText.{role_of}
 use Rattle.protocol.specs.Node.JobView.{JobView}
 use Rattle.record.specs.Ends.{received_of, received_at, log_of, log_at, sent_in, sent_of, end_of, base_in, base_of}
 use Rattle.protocol.specs.Node.Sharing.{is_logging, log_share, IsWithinShare}
-use Rattle.protocol.specs.Node.Granting.{is_process, next_items, items_from, room_in, room_of, room_from}
+use Rattle.protocol.specs.Node.Granting.{is_process, items_by, next_items, items_from, room_in, room_of, room_from}
 use Rattle.record.specs.Changes.{trimmed_log, trimmed_end, trimmed_saved, trimmed_image}
-use Rattle.protocol.specs.Node.Reached.{acts_of, EndStands, ImageStands, is_counting, role_between, IsLaidOut, CountsAreWithin, LogsAreWithin, IsJobOf}
-use Rattle.protocol.specs.NodeLaws.ImageLaws.{map_got, map_keeps, end_of_changed}
+use Rattle.protocol.specs.Node.Layout.{role_here}
+use Rattle.protocol.specs.Node.Reached.{acts_of, EndStands, ImageStands, is_counting, IsLaidOut, CountIsWithin, CountsAreWithin, LogsAreWithin, IsJobOf}
+use Rattle.protocol.specs.NodeLaws.CountLaws.{sends_within}
+use Rattle.protocol.specs.NodeLaws.LogLaws.{trimmed_end_stays, trimmed_is_log_of, base_at, base_after}
+use Rattle.protocol.specs.NodeLaws.ImageLaws.{map_got, map_keeps, end_at, end_of_changed, found_is}
+use Rattle.protocol.specs.NodeLaws.InnerLaws.{output_apart}
 use Rattle.protocol.specs.NodeLaws.SharingLaws.{share_kept}
 use Rattle.protocol.specs.Node.Starting.{IsBehind}
 use Rattle.record.specs.declared.image.SavedEnd.{SavedEnd}
@@ -27,45 +30,6 @@ use Rattle.record.specs.declared.image.End.{End}
 use Rattle.record.specs.declared.image.End.TheVariants.{Receives, Sends, Both}
 use Rattle.kahn_net.specs.declared.limits.TheConstants.{MAX_COUNT}
 use Rattle.protocol.specs.declared.limits.TheConstants.{MAX_JOB_ITEMS}
-
--- Logs
-
--- a trimmed log is as it was, or begins at one of its positions or at its end
-trimmed_cases : (position : ℕ) (log : LogState) → (trimmed_log position log ≡ log) ⊎ ((log.base ≤ position) × (position ≤ log_end log) × (trimmed_log position log ≡ trimmed log position))
-trimmed_cases position log = at (ltb position log.base) (ltb (log_end log) position) refl refl
-  where
-    at : (b d : Bool) → ltb position log.base ≡ b → ltb (log_end log) position ≡ d
-        → (cond b log (cond d log (trimmed log position)) ≡ log) ⊎ ((log.base ≤ position) × (position ≤ log_end log) × (cond b log (cond d log (trimmed log position)) ≡ trimmed log position))
-    at true d h k = inl refl
-    at false true h k = inl refl
-    at false false h k = inr (ltb-false position log.base h, ltb-false (log_end log) position k, refl)
-
--- it ends where it ended, with no more items
-trimmed_end_stays : (position : ℕ) (log : LogState) → (log_end (trimmed_log position log) ≡ log_end log) × (length ((trimmed_log position log).items) ≤ length log.items)
-trimmed_end_stays position log = at (trimmed_cases position log)
-  where
-    at : ((trimmed_log position log ≡ log) ⊎ ((log.base ≤ position) × (position ≤ log_end log) × (trimmed_log position log ≡ trimmed log position)))
-        → (log_end (trimmed_log position log) ≡ log_end log) × (length ((trimmed_log position log).items) ≤ length log.items)
-    at (inl same) = (ap log_end same, omega (arith, ap (λ (l : LogState). length l.items) same))
-    at (inr cut) =
-        let left = length-drop (position - log.base) log.items in
-        let end : log_end (trimmed log position) ≡ log_end log = omega (arith, left, cut.0, cut.1) in
-        (ap log_end cut.2 ∙ end, omega (arith, left, ap (λ (l : LogState). length l.items) cut.2))
-
--- and is of the same history
-pub trimmed_is_log_of : (position : ℕ) (log : LogState) (history : List ℤ) → IsLogOf log history → IsLogOf (trimmed_log position log) history
-trimmed_is_log_of position log history is = at (trimmed_cases position log)
-  where
-    at : ((trimmed_log position log ≡ log) ⊎ ((log.base ≤ position) × (position ≤ log_end log) × (trimmed_log position log ≡ trimmed log position))) → IsLogOf (trimmed_log position log) history
-    at (inl same) = subst (λ (l : LogState). IsLogOf l history) (sym same) is
-    at (inr cut) =
-        let left = length-drop (position - log.base) log.items in
-        let sum : log.base + (position - log.base) ≡ position = omega (arith, cut.0) in
-        subst (λ (l : LogState). IsLogOf l history) (sym cut.2)
-        (record {
-          count = omega (arith, left, cut.0, cut.1, is.count);
-          items = ap (drop (position - log.base)) is.items ∙ (drop-drop (position - log.base) log.base history ∙ ap (λ (n : ℕ). drop n history) sum);
-        })
 
 -- Ends
 
@@ -149,13 +113,6 @@ sent_trimmed c position image d = ap (λ (o : Option End). sent_in (log_at o)) (
     at (Some s) = still_sent position (eqb s.channel c) s.end
 
 -- where a log of this channel begins, it is no later than the position, if it wasn't before
-base_at : (position : ℕ) (log : LogState) → log.base ≤ position → (trimmed_log position log).base ≤ position
-base_at position log h = at (trimmed_cases position log)
-  where
-    at : ((trimmed_log position log ≡ log) ⊎ ((log.base ≤ position) × (position ≤ log_end log) × (trimmed_log position log ≡ trimmed log position))) → (trimmed_log position log).base ≤ position
-    at (inl same) = omega (arith, h, ap (λ (l : LogState). l.base) same)
-    at (inr cut) = omega (arith, ap (λ (l : LogState). l.base) cut.2)
-
 base_below : (position : ℕ) (trims : Bool) (end : End) → base_in (log_at (Some end)) ≤ position → base_in (log_at (Some (cond trims (trimmed_end position end) end))) ≤ position
 base_below position false end h = h
 base_below position true (Receives received) h = omega arith
@@ -171,13 +128,6 @@ base_trimmed c position image d h =
     at (Some s) h = base_below position (eqb s.channel c) s.end h
 
 -- and where it begins is no earlier than before
-base_after : (position : ℕ) (log : LogState) → log.base ≤ (trimmed_log position log).base
-base_after position log = at (trimmed_cases position log)
-  where
-    at : ((trimmed_log position log ≡ log) ⊎ ((log.base ≤ position) × (position ≤ log_end log) × (trimmed_log position log ≡ trimmed log position))) → log.base ≤ (trimmed_log position log).base
-    at (inl same) = omega (arith, ap (λ (l : LogState). l.base) same)
-    at (inr cut) = omega (arith, cut.0, ap (λ (l : LogState). l.base) cut.2)
-
 later_base : (position : ℕ) (trims : Bool) (end : End) → base_in (log_at (Some end)) ≤ base_in (log_at (Some (cond trims (trimmed_end position end) end)))
 later_base position false end = omega arith
 later_base position true (Receives received) = omega arith
@@ -211,46 +161,47 @@ room_trimmed c position image d =
     at None = omega arith
     at (Some s) = room_stays (log_share image) position (eqb s.channel c) s.end
 
-pub laid_out_trimmed : (net : Network) (c position : ℕ) (image : ImageView) → IsLaidOut net image → IsLaidOut net (trimmed_image c position image)
-laid_out_trimmed net c position image laid = record {
+pub laid_out_trimmed : (net : Network) (home c position : ℕ) (image : ImageView) → IsLaidOut net home image → IsLaidOut net home (trimmed_image c position image)
+laid_out_trimmed net home c position image laid = record {
   processes = laid.processes;
   ends = map_keeps (λ (s : SavedEnd). s.channel) (trimmed_saved c position) image.ends (λ s. refl) ∙ laid.ends;
-  counting = counting;
-  logging = logging;
   roles = roles;
 }
   where
-    counting : (k p : ℕ) (saved : SavedEnd) (channel : Channel) → slice_get (map (trimmed_saved c position) image.ends) k ≡ Some saved → slice_get net.channels saved.channel ≡ Some channel
-        → channel.consumer ≡ Process p → is_counting saved.end ≡ true
-    counting k p saved channel is on to =
-        let old = map_got (trimmed_saved c position) image.ends k saved is in
-        let number : old.0.channel ≡ saved.channel = ap (λ (s : SavedEnd). s.channel) old.2 in
-        ap (λ (s : SavedEnd). is_counting s.end) (sym old.2)
-        ∙ (still_counting position (eqb old.0.channel c) old.0.end ∙ laid.counting k p old.0 channel old.1 (ap (slice_get net.channels) number ∙ on) to)
-
-    logging : (k p : ℕ) (saved : SavedEnd) (channel : Channel) → slice_get (map (trimmed_saved c position) image.ends) k ≡ Some saved → slice_get net.channels saved.channel ≡ Some channel
-        → channel.producer ≡ Process p → is_logging saved.end ≡ true
-    logging k p saved channel is on from =
-        let old = map_got (trimmed_saved c position) image.ends k saved is in
-        let number : old.0.channel ≡ saved.channel = ap (λ (s : SavedEnd). s.channel) old.2 in
-        ap (λ (s : SavedEnd). is_logging s.end) (sym old.2)
-        ∙ (still_logging position (eqb old.0.channel c) old.0.end ∙ laid.logging k p old.0 channel old.1 (ap (slice_get net.channels) number ∙ on) from)
-
     roles : (k : ℕ) (saved : SavedEnd) (channel : Channel) → slice_get (map (trimmed_saved c position) image.ends) k ≡ Some saved → slice_get net.channels saved.channel ≡ Some channel
-        → role_of saved.end ≡ role_between channel.producer channel.consumer
+        → role_of saved.end ≡ role_here net home channel
     roles k saved channel is on =
         let old = map_got (trimmed_saved c position) image.ends k saved is in
         let number : old.0.channel ≡ saved.channel = ap (λ (s : SavedEnd). s.channel) old.2 in
         ap (λ (s : SavedEnd). role_of s.end) (sym old.2)
         ∙ (still_its_role position (eqb old.0.channel c) old.0.end ∙ laid.roles k old.0 channel old.1 (ap (slice_get net.channels) number ∙ on))
 
-pub counts_trimmed : (inputs : List (List ℤ)) (c position : ℕ) (image : ImageView) → CountsAreWithin inputs image → CountsAreWithin inputs (trimmed_image c position image)
-counts_trimmed inputs c position image counts k saved is =
+-- what was received is as much as before; where the log is of a channel that goes elsewhere, no count is any other
+count_trimmed : (inputs : List (List ℤ)) (c position : ℕ) (saved : SavedEnd) → ((received : ℕ) (log : LogState) → saved.channel ≡ c → ¬ (saved.end ≡ Both received log))
+    → CountIsWithin inputs saved.channel saved.end → CountIsWithin inputs saved.channel (cond (eqb saved.channel c) (trimmed_end position saved.end) saved.end)
+count_trimmed inputs c position saved apart within = at (eqb_tells saved.channel c)
+  where
+    by_end : (end : End) → ((received : ℕ) (log : LogState) → ¬ (end ≡ Both received log)) → CountIsWithin inputs saved.channel end → CountIsWithin inputs saved.channel (trimmed_end position end)
+    by_end (Receives received) apart within = within
+    by_end (Sends log) apart within = sends_within inputs saved.channel (trimmed_log position log)
+    by_end (Both received log) apart within = absurd (apart received log refl)
+
+    at : ((eqb saved.channel c ≡ true) × (saved.channel ≡ c)) ⊎ ((eqb saved.channel c ≡ false) × (saved.channel ≢ c))
+        → CountIsWithin inputs saved.channel (cond (eqb saved.channel c) (trimmed_end position saved.end) saved.end)
+    at (inr other) = subst (λ (b : Bool). CountIsWithin inputs saved.channel (cond b (trimmed_end position saved.end) saved.end)) (sym other.0) within
+    at (inl same) =
+        subst (λ (b : Bool). CountIsWithin inputs saved.channel (cond b (trimmed_end position saved.end) saved.end)) (sym same.0)
+        (by_end saved.end (λ received log. apart received log same.1) within)
+
+pub counts_trimmed : (net : Network) (home : ℕ) (inputs : List (List ℤ)) (c position : ℕ) (channel : Channel) (image : ImageView) → IsLaidOut net home image → slice_get net.channels c ≡ Some channel → channel.consumer ≡ Outside
+    → CountsAreWithin inputs image → CountsAreWithin inputs (trimmed_image c position image)
+counts_trimmed net home inputs c position channel image laid on to counts k saved is =
     let old = map_got (trimmed_saved c position) image.ends k saved is in
-    let same = still_received position (eqb old.0.channel c) old.0.end in
-    let before = counts k old.0 old.1 in
-    let count : received_at (Some ((trimmed_saved c position old.0).end)) ≤ length (history_of inputs old.0.channel) = omega (arith, same, before) in
-    subst (λ (s : SavedEnd). received_at (Some (s.end)) ≤ length (history_of inputs s.channel)) old.2 count
+    subst (λ (s : SavedEnd). CountIsWithin inputs s.channel s.end) old.2
+    (count_trimmed inputs c position old.0 (λ received log here both. output_apart net home image c received channel log laid on to (found old.0 old.1 here ∙ ap Some both)) (counts k old.0 old.1))
+  where
+    found : (s : SavedEnd) → slice_get image.ends k ≡ Some s → s.channel ≡ c → end_of image c ≡ Some (s.end)
+    found s there here = ap (end_of image) (sym here) ∙ end_at net home image k s laid there
 
 pub logs_trimmed : (c position : ℕ) (image : ImageView) → LogsAreWithin image → LogsAreWithin (trimmed_image c position image)
 logs_trimmed c position image logs k saved log is at_end =
@@ -269,16 +220,34 @@ logs_trimmed c position image logs k saved log is at_end =
 
 -- Jobs
 
-items_same : (inputs : List (List ℤ)) (image later : ImageView) (process number : ℕ) (channels : List Channel) → ((d : ℕ) → received_of later d ≡ received_of image d)
+-- what a process has at hand of each channel, where no log from which it gets was trimmed
+items_same : (inputs : List (List ℤ)) (image later : ImageView) (process number : ℕ) (channels : List Channel)
+    → ((k : ℕ) (channel : Channel) → slice_get channels k ≡ Some channel → channel.consumer ≡ Process process → end_of later (number + k) ≡ end_of image (number + k))
     → items_from inputs later process number channels ≡ items_from inputs image process number channels
 items_same inputs image later process number [] same = refl
 items_same inputs image later process number (x ∷ channels) same =
-    ap (λ (first : List ℤ). cond (is_process process x.consumer) first [] ∷ items_from inputs later process (suc number) channels) (at x.producer)
-    ∙ ap (λ (rest : List (List ℤ)). cond (is_process process x.consumer) (next_items inputs image number x.producer) [] ∷ rest) (items_same inputs image later process (suc number) channels same)
+    ap (λ (first : List ℤ). first ∷ items_from inputs later process (suc number) channels) (by_consumer x.consumer refl)
+    ∙ ap (λ (rest : List (List ℤ)). cond (is_process process x.consumer) (next_items inputs image number x.producer) [] ∷ rest) (items_same inputs image later process (suc number) channels further)
   where
-    at : (port : Port) → next_items inputs later number port ≡ next_items inputs image number port
-    at Outside = ap (λ (k : ℕ). take MAX_JOB_ITEMS (drop k (history_of inputs number))) (same number)
-    at (Process q) = refl
+    further : (k : ℕ) (channel : Channel) → slice_get channels k ≡ Some channel → channel.consumer ≡ Process process → end_of later (suc number + k) ≡ end_of image (suc number + k)
+    further k channel is to =
+        let sum : suc number + k ≡ number + suc k = omega arith in
+        ap (end_of later) sum ∙ (same (suc k) channel is to ∙ ap (end_of image) (sym sum))
+
+    by_end : end_of later number ≡ end_of image number → next_items inputs later number x.producer ≡ next_items inputs image number x.producer
+    by_end e = ap (λ (o : Option End). items_by inputs number x.producer (received_at o) (log_at o)) e
+
+    by_number : (q : ℕ) → x.consumer ≡ Process q → ((eqb q process ≡ true) × (q ≡ process)) ⊎ ((eqb q process ≡ false) × (q ≢ process))
+        → cond (eqb q process) (next_items inputs later number x.producer) [] ≡ cond (eqb q process) (next_items inputs image number x.producer) []
+    by_number q to (inr other) =
+        ap (λ (b : Bool). cond b (next_items inputs later number x.producer) []) other.0 ∙ sym (ap (λ (b : Bool). cond b (next_items inputs image number x.producer) []) other.0)
+    by_number q to (inl here) =
+        let sum : number + 0 ≡ number = omega arith in
+        ap (λ (items : List ℤ). cond (eqb q process) items []) (by_end (ap (end_of later) (sym sum) ∙ (same 0 x refl (to ∙ ap Process here.1) ∙ ap (end_of image) sum)))
+
+    by_consumer : (port : Port) → x.consumer ≡ port → cond (is_process process port) (next_items inputs later number x.producer) [] ≡ cond (is_process process port) (next_items inputs image number x.producer) []
+    by_consumer Outside to = refl
+    by_consumer (Process q) to = by_number q to (eqb_tells q process)
 
 room_grows : (image later : ImageView) (process number : ℕ) (channels : List Channel) (d : ℕ) → ((d : ℕ) → room_of image d ≤ room_of later d)
     → slice_index (room_from image process number channels) d ≤ slice_index (room_from later process number channels) d
@@ -290,17 +259,37 @@ room_grows image later process number (x ∷ channels) zero more = at (is_proces
     at false = omega arith
 room_grows image later process number (x ∷ channels) (suc d) more = room_grows image later process (suc number) channels d more
 
--- the job that is out stays one of the trimmed image: there is no less room
-pub job_trimmed : (net : Network) (inputs : List (List ℤ)) (c position : ℕ) (image : ImageView) (job : JobView) → IsJobOf net inputs image job → IsJobOf net inputs (trimmed_image c position image) job
-job_trimmed net inputs c position image job of = record {
+-- no end but that of the channel is trimmed
+pub end_elsewhere : (c position : ℕ) (image : ImageView) (d : ℕ) → d ≢ c → end_of (trimmed_image c position image) d ≡ end_of image d
+end_elsewhere c position image d apart =
+    end_of_trimmed c position image d ∙ at (find (λ (s : SavedEnd). eqb s.channel d) image.ends) refl
+  where
+    at : (o : Option SavedEnd) → find (λ (s : SavedEnd). eqb s.channel d) image.ends ≡ o → option_map (λ (s : SavedEnd). (trimmed_saved c position s).end) o ≡ option_map (λ (s : SavedEnd). s.end) o
+    at None found = refl
+    at (Some s) found =
+        let here : s.channel ≡ d = found_is (λ (x : SavedEnd). x.channel) image.ends d s found in
+        ap (λ (b : Bool). Some (cond b (trimmed_end position s.end) s.end)) (ne_eqb s.channel c (λ e. apart (sym here ∙ e)))
+
+-- the job that is out stays one of an image whose log of an output was trimmed: there is no less room
+pub job_trimmed : (net : Network) (inputs : List (List ℤ)) (c position : ℕ) (channel : Channel) (image : ImageView) (job : JobView) → slice_get net.channels c ≡ Some channel → channel.consumer ≡ Outside
+    → IsJobOf net inputs image job → IsJobOf net inputs (trimmed_image c position image) job
+job_trimmed net inputs c position channel image job on to of = record {
   process = of.process;
   code = of.code;
-  items = of.items ∙ sym (items_same inputs image (trimmed_image c position image) job.process 0 net.channels (received_trimmed c position image));
+  items = of.items ∙ sym (items_same inputs image (trimmed_image c position image) job.process 0 net.channels same);
   room = λ d. (
       let given = of.room d in
       let more = room_grows image (trimmed_image c position image) job.process 0 net.channels d (room_trimmed c position image) in
       omega (arith, given, more));
 }
+  where
+    same : (k : ℕ) (other : Channel) → slice_get net.channels k ≡ Some other → other.consumer ≡ Process job.process → end_of (trimmed_image c position image) (0 + k) ≡ end_of image (0 + k)
+    same k other is goes = end_elsewhere c position image (0 + k) (λ e. (
+        let place : k ≡ c = omega (arith, e) in
+        let both : Some other ≡ Some channel = sym is ∙ (ap (slice_get net.channels) place ∙ on) in
+        let one : other ≡ channel = cc in
+        let bad : Process job.process ≡ Outside = sym goes ∙ (ap (λ (x : Channel). x.consumer) one ∙ to) in
+        absurd (cc)))
 
 -- How far a node has come
 
@@ -309,7 +298,7 @@ image_trimmed net histories made c position image stands = record { processes = 
   where
     of_old : (s : SavedEnd) (channel : Channel) → EndStands net histories made s.channel channel s.end
         → EndStands net histories made s.channel channel (cond (eqb s.channel c) (trimmed_end position s.end) s.end)
-    of_old s channel before = record { received = λ p to. still_received position (eqb s.channel c) s.end ∙ before.received p to; retained = retained }
+    of_old s channel before = record { received = λ p to counting. still_received position (eqb s.channel c) s.end ∙ before.received p to (sym (still_counting position (eqb s.channel c) s.end) ∙ counting); retained = retained }
       where
         retained : (p : ℕ) (log : LogState) → channel.producer ≡ Process p → log_at (Some (cond (eqb s.channel c) (trimmed_end position s.end) s.end)) ≡ Some log → IsLogOf log (sent_on s.channel (acts_of net histories made p))
         retained p log from is =

@@ -5,7 +5,6 @@ use Rattle.kahn_net.specs.Nodes.{IsOnOneNode}
 use Rattle.kahn_net.specs.Syntax.{Network}
 use Rattle.kahn_net.specs.Valid.{IsValid}
 use Rattle.protocol.specs.Node.NodeView.{RunningNode, running_of}
-use Rattle.protocol.specs.NodeLaws.LikeLaws.{HasOuterChannels}
 use Rattle.protocol.specs.Node.Starting.{AreInOrder}
 use Rattle.protocol.specs.World.OutputView.{OutputView}
 use Rattle.protocol.specs.World.RecordSound.{RecordIsSound}
@@ -35,12 +34,10 @@ pub record StationInvariant (net : Network) (inputs : List (List ℤ)) (station 
 abbrev pub AreSound : Network → List (List ℤ) → List StationView → Type 0
 AreSound net inputs stations = (i : ℕ) (station : StationView) → slice_get stations i ≡ Some station → StationInvariant net inputs station
 
--- A world: its network is valid, the inputs fit it, each channel has an end outside, each process is on the first node, there is a station,
--- and each one is sound.
+-- A world: its network is valid, the inputs fit it, each process is on the first node, there is a station, and each one is sound.
 pub record WorldInvariant (world : WorldView) : Type 0 where
   pub valid : IsValid world.net
   pub fits : Fits world.net world.inputs
-  pub outer : HasOuterChannels world.net
   pub alone : IsOnOneNode world.net
   pub inhabited : 0 < length world.stations
   pub stations : AreSound world.net world.inputs world.stations

@@ -5,7 +5,7 @@ use Rattle.kahn_net.specs.Syntax.{Code, Network}
 use Rattle.kahn_net.specs.declared.program.Channel.{Channel}
 use Rattle.kahn_net.specs.declared.program.Port.{Port}
 use Rattle.kahn_net.specs.declared.program.Port.TheVariants.{Outside, Process}
-use Rattle.record.specs.Ends.{base_of}
+use Rattle.record.specs.Ends.{base_of, received_of, sent_of}
 use Rattle.record.specs.Moves.{with_epoch}
 use Rattle.record.specs.RecordView.{RecordView}
 use Rattle.ckpt_store.specs.Spelling.{Spells, SpellsSome}
@@ -25,7 +25,8 @@ use Rattle.protocol.specs.World.StationView.{StationView}
 -- ---- the record that an event puts
 
 -- The record that an event puts at a station, where it puts one: a start adds a tentative image, a decision makes it permanent, and a recovery
--- begins an epoch. No other event puts a record; with those it is the one that is kept.
+-- begins an epoch. No other event puts a record; with those it is the one that is kept. It is said of every station, also of one where the event
+-- isn't due or is refused, so that it is all that such an event may leave, and no more than that.
 abbrev pub next_kept : EventView → StationView → RecordView
 next_kept (event.Grant k) station = station.node.kept
 next_kept (event.Install done) station = station.node.kept
@@ -95,16 +96,19 @@ LinesFollow = (first second third : ℕ → Record) → NotBehind first second �
 -- ---- the same of one station
 
 -- With this record a station's part of the line is sound and covers what has left: no decision stands, so that its permanent image is the
--- effective one, the log of each output begins no later than the outlet ends, and that image has put all that has left.
-pub record FitsOutputs (outputs : List OutputView) (kept : RecordView) : Type 0 where
+-- effective one, of a channel between two processes that image has received no more than it put and no less than its log let go of, the log of
+-- each output begins no later than the outlet ends, and that image has put all that has left.
+pub record FitsOutputs (net : Network) (outputs : List OutputView) (kept : RecordView) : Type 0 where
   pub undecided : kept.decision ≡ None
+  pub inside : (c p q : ℕ) → producer_of net (slice_get net.channels c) ≡ Some p → consumer_of net (slice_get net.channels c) ≡ Some q
+      → (base_of kept.permanent c ≤ received_of kept.permanent c) × (received_of kept.permanent c ≤ sent_of kept.permanent c)
   pub no_gap : (j : ℕ) (output : OutputView) → slice_get outputs j ≡ Some output → base_of kept.permanent output.channel ≤ length output.taken
   pub covered : CoversAll kept.permanent outputs
 
 -- A crash leaves a record of a station with an event: it fits what had left before and what has left by the end, and its permanent image isn't
 -- behind the one of before.
-pub record LeavesInLine (old new : StationView) (left : Option (List ℕ)) : Type 0 where
+pub record LeavesInLine (net : Network) (old new : StationView) (left : Option (List ℕ)) : Type 0 where
   pub something : SpellsSome left
-  pub at_first : (kept : RecordView) → Spells kept left → FitsOutputs (outputs_of old.outlets) kept
-  pub at_last : (kept : RecordView) → Spells kept left → FitsOutputs (outputs_of new.outlets) kept
+  pub at_first : (kept : RecordView) → Spells kept left → FitsOutputs net (outputs_of old.outlets) kept
+  pub at_last : (kept : RecordView) → Spells kept left → FitsOutputs net (outputs_of new.outlets) kept
   pub not_behind : (kept : RecordView) → Spells kept left → IsBehind old.node.kept.permanent kept.permanent

@@ -7,6 +7,7 @@ use Rattle.kahn_net.specs.declared.program.Channel.{Channel}
 use Rattle.kahn_net.specs.declared.program.Port.{Port}
 use Rattle.kahn_net.specs.declared.program.Port.TheVariants.{Outside, Process}
 use Rattle.protocol.specs.Node.JobView.{JobView}
+use Rattle.protocol.specs.Node.Layout.{AllHere}
 use Rattle.protocol.specs.Node.NodeView.{RunningNode}
 use Rattle.record.specs.Ends.{base_of, sent_of}
 use Rattle.protocol.specs.Node.Reached.{HasReached, IsLaidOut, CountsAreWithin, LogsAreWithin, IsJobOf, acts_of}
@@ -21,7 +22,7 @@ goes_outside (Process p) = false
 -- its image has every process and channel, no more was received than there is, and its logs are within their limits (a view of a node
 -- doesn't say so, and without it a turn might not fit)
 pub record NodeIsSound (net : Network) (inputs : List (List ℤ)) (node : RunningNode) : Type 0 where
-  pub laid_out : IsLaidOut net node.current
+  pub laid_out : IsLaidOut net node.kept.node node.current
   pub counts : CountsAreWithin inputs node.current
   pub logs : LogsAreWithin node.current
 
@@ -46,8 +47,9 @@ abbrev pub output_channels : ℕ → List Channel → List ℕ
 output_channels number [] = []
 output_channels number (channel ∷ channels) = if goes_outside channel.consumer then number ∷ output_channels (suc number) channels else output_channels (suc number) channels
 
--- All of it: there is an outlet for each output of the network, in order, and what is said above.
+-- All of it: each process is on the node, there is an outlet for each output of the network, in order, and what is said above.
 pub record IsSound (net : Network) (inputs : List (List ℤ)) (node : RunningNode) (outputs : List OutputView) : Type 0 where
+  pub here : AllHere net node.kept.node
   pub listed : map (λ (output : OutputView). output.channel) outputs ≡ output_channels 0 net.channels
   pub kept : NodeIsSound net inputs node
   pub covered : OutputsAreSound node outputs

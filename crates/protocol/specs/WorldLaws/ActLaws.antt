@@ -1,5 +1,5 @@
 -- What a node's events ask for, of a station that is sound.
-use Rattle.std.proofs.Common.{◌≡◌, ◌^◌, ◌<◌, List, ℤ, Option, Some, None, refl, sym, ap, ◌∙◌}
+use Rattle.std.proofs.Common.{subst, ◌≡◌, ◌^◌, ◌<◌, List, ℤ, Option, Some, None, refl, sym, ap, ◌∙◌}
 use Rattle.std.specs.Prelude.{IsTrue}
 use Rattle.std.specs.List.{AllByRecursion, AllByRecursion-prop}
 use Rattle.std.proofs.Math.Logic.{∥∥₁_elim}
@@ -14,7 +14,9 @@ use Rattle.ckpt_codec.specs.Fields.{Field, IsAllowed}
 use Rattle.ckpt_codec.specs.RecordText.{image_fields}
 use Rattle.ckpt_store.specs.Spelling.{IsLike}
 use Rattle.protocol.specs.Node.Installing.{IsOut, TakesTurn}
-use Rattle.protocol.specs.NodeLaws.LikeLaws.{HasOuterChannels, counts_small, outer_in_logs, image_like}
+use Rattle.protocol.specs.Node.Reached.{IsLaidOut}
+use Rattle.record.specs.RecordView.{RecordView}
+use Rattle.protocol.specs.NodeLaws.LikeLaws.{image_like}
 use Rattle.protocol.specs.Node.NodeView.{ModeView, Down, InDoubt, Runs, RunningNode, running_node, running_in, running_of}
 use Rattle.protocol.specs.Node.Starting.{IsLikeAt, IsLikeNow}
 use Rattle.protocol.specs.World.DoneView.{DoneView, IsTurnOfJob}
@@ -37,11 +39,11 @@ module _ (net : Network) (inputs : List (List ℤ)) (valid : IsValid net) (fits 
       at InDoubt is out = absurd out
       at (Runs running) is out =
           let node = running_node station.node.kept station.node.version running in
-          takes_done net inputs node (outputs_of station.outlets) done.job done.after done.taken done.sent fits (inv.runs node (ap (running_in station.node.kept station.node.version) is)).sound out turn
+          takes_done net inputs valid node (outputs_of station.outlets) done.job done.after done.taken done.sent fits (inv.runs node (ap (running_in station.node.kept station.node.version) is)).sound out turn
 
   -- what the node has now may be written beside its permanent image
-  like_node : HasOuterChannels net → (node : RunningNode) → node.kept ≡ station.node.kept → RunsSoundly net inputs node (outputs_of station.outlets) → IsLike station.node.kept.permanent node.current
-  like_node outer node same runs = record { allowed = All-from_recursion IsAllowed fields all }
+  like_node : (node : RunningNode) → node.kept ≡ station.node.kept → RunsSoundly net inputs node (outputs_of station.outlets) → IsLike station.node.kept.permanent node.current
+  like_node node same runs = record { allowed = All-from_recursion IsAllowed fields all }
     where
       fields : List Field
       fields = image_fields (Some (station.node.kept.permanent)) node.current
@@ -50,12 +52,11 @@ module _ (net : Network) (inputs : List (List ℤ)) (valid : IsValid net) (fits 
       all = ∥∥₁_elim inv.kept.come (AllByRecursion-prop IsAllowed allowed_once (image_fields (Some (station.node.kept.permanent)) node.current)) (λ kept.
           ∥∥₁_elim runs.sound.come (AllByRecursion-prop IsAllowed allowed_once (image_fields (Some (station.node.kept.permanent)) node.current)) (λ come.
           recursion_from_All IsAllowed (image_fields (Some (station.node.kept.permanent)) node.current)
-          (image_like net (approximation net inputs kept.n) (approximation net inputs come.reached.n) kept.permanent_acts come.reached.current_acts station.node.kept.permanent node.current valid
-          inv.kept.permanent.laid_out kept.permanent runs.sound.kept.laid_out come.reached.current (counts_small inputs node.current fits.few runs.sound.kept.counts) runs.sound.kept.logs
-          (outer_in_logs net node.current outer runs.sound.kept.laid_out)).allowed))
+          (image_like net station.node.kept.node inputs (approximation net inputs kept.n) (approximation net inputs come.reached.n) kept.permanent_acts come.reached.current_acts station.node.kept.permanent node.current valid fits.few
+          inv.kept.permanent.laid_out kept.permanent (subst (λ (k : RecordView). IsLaidOut net k.node node.current) same runs.sound.kept.laid_out) come.reached.current runs.sound.kept.counts runs.sound.kept.logs).allowed))
 
-  pub like_now : HasOuterChannels net → IsLikeNow station.node
-  like_now outer = at (running_of station.node) refl
+  pub like_now : IsLikeNow station.node
+  like_now = at (running_of station.node) refl
     where
       kept_of : (m : ModeView) (node : RunningNode) → running_in station.node.kept station.node.version m ≡ Some node → node.kept ≡ station.node.kept
       kept_of Down node is = absurd (cc)
@@ -64,4 +65,4 @@ module _ (net : Network) (inputs : List (List ℤ)) (valid : IsValid net) (fits 
 
       at : (o : Option RunningNode) → running_of station.node ≡ o → IsLikeAt station.node.kept o
       at None is = tt
-      at (Some node) is = like_node outer node (kept_of station.node.mode node is) (inv.runs node is)
+      at (Some node) is = like_node node (kept_of station.node.mode node is) (inv.runs node is)

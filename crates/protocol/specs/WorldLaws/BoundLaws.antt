@@ -18,7 +18,7 @@ module _ (net : Network) (inputs : List (List ℤ)) (valid : IsValid net) where
   pub own_bounded : (outputs : List OutputView) (number : ℕ) (node : RunningNode) → IsSound net inputs node outputs → IsRecordWithin MAX_RETAINED_ITEMS node.kept
       → IsRecordWithin MAX_RETAINED_ITEMS (with_own number node.current node.kept)
   own_bounded outputs number node sound kept =
-      own_within number node.current node.kept (current_within net inputs node valid sound.kept.laid_out sound.kept.logs (∥∥₁_map sound.come (λ come. come.reached))) kept
+      own_within number node.current node.kept (current_within net node.kept.node inputs node valid sound.kept.laid_out sound.kept.logs (∥∥₁_map sound.come (λ come. come.reached))) kept
 
   -- that of a start, whether or not it can happen
   pub start_bounded : (old : StationView) → StationInvariant net inputs old → IsRecordWithin MAX_RETAINED_ITEMS (with_own_now old.number old.node)

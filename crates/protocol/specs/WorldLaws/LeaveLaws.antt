@@ -1,89 +1,37 @@
 -- Laws of an item that leaves: there is one where the permanent image covers more than has left, and what is true of a station stays so.
-use Rattle.std.proofs.Common.{◌≡◌, ◌≢◌, ◌⊎◌, inl, inr, ℕ, ◌<◌, ◌≤◌, Bool, true, false, eqb, ltb, cond, ℤ, List, [], ◌∷◌, length, Option, Some, None, option_map, refl, sym, ap, subst, ◌∙◌, arith}
-use Rattle.std.specs.Prelude.{slice_get, slice_set, find}
+use Rattle.std.proofs.Common.{◌≡◌, ◌≢◌, ◌⊎◌, inl, inr, ℕ, ◌<◌, ◌≤◌, ℤ, List, length, Option, Some, None, refl, ap, subst, ◌∙◌, arith}
+use Rattle.std.specs.Prelude.{slice_get, slice_set}
 use Rattle.std.proofs.Math.Logic.{∥∥₁_map}
 use Rattle.std.proofs.Math.Nat.{min-le_right}
-use Rattle.std.proofs.lemmas.Bool.{ne_eqb}
-use Rattle.std.proofs.lemmas.Bool.Decides.{eqb_tells}
 use Rattle.std.proofs.lemmas.List.{length-take}
 use Rattle.kahn_net.specs.Syntax.{Network}
 use Rattle.kahn_net.specs.Processes.{sent_on}
 use Rattle.kahn_net.specs.Approximations.{approximation}
 use Rattle.kahn_net.specs.declared.program.Channel.{Channel}
-use Rattle.kahn_net.specs.declared.program.Port.TheVariants.{Process}
-use Rattle.retained.specs.LogState.{LogState, IsLogOf, log_end, trimmed}
+use Rattle.kahn_net.specs.declared.program.Port.TheVariants.{Outside, Process}
+use Rattle.retained.specs.LogState.{LogState, IsLogOf}
 use Rattle.record.specs.ImageView.{ImageView}
 use Rattle.protocol.specs.Node.NodeView.{RunningNode}
 use Rattle.record.specs.Ends.{log_of, log_at, base_in, base_of, sent_in, sent_of}
-use Rattle.record.specs.Changes.{trimmed_log, trimmed_end, trimmed_saved, trimmed_image}
+use Rattle.record.specs.Changes.{trimmed_image}
 use Rattle.protocol.specs.Node.Trimming.{with_current, HasNext}
 use Rattle.protocol.specs.Node.Reached.{acts_of}
-use Rattle.protocol.specs.NodeLaws.ImageLaws.{end_of_changed}
-use Rattle.protocol.specs.NodeLaws.TrimLaws.{laid_out_trimmed, counts_trimmed, logs_trimmed, job_trimmed, image_trimmed}
+use Rattle.protocol.specs.NodeLaws.TrimLaws.{laid_out_trimmed, counts_trimmed, logs_trimmed, job_trimmed, image_trimmed, base_trimmed, end_elsewhere}
 use Rattle.protocol.specs.NodeLaws.ReleaseLaws.{log_stands}
-use Rattle.record.specs.declared.image.SavedEnd.{SavedEnd}
 use Rattle.record.specs.declared.image.End.{End}
-use Rattle.record.specs.declared.image.End.TheVariants.{Receives, Sends, Both}
 use Rattle.protocol.specs.World.OutputView.{OutputView}
 use Rattle.protocol.specs.Node.Starting.{AreInOrder}
 use Rattle.protocol.specs.World.Sound.{OutputIsSound, OutputsAreSound, HasCome, IsSound}
-use Rattle.protocol.specs.WorldLaws.OutputLaws.{set_cases, set_keeps, same_output}
+use Rattle.protocol.specs.WorldLaws.OutputLaws.{output_channel, set_cases, set_keeps, same_output}
 use Rattle.kahn_net.specs.Streams.{IsPrefix}
 
 -- Where a trimmed log begins
 
--- no later than the position, where it began no later
-log_base : (position : ℕ) (log : LogState) → log.base ≤ position → (trimmed_log position log).base ≤ position
-log_base position log h = at (ltb position log.base) (ltb (log_end log) position)
-  where
-    at : (b d : Bool) → (cond b log (cond d log (trimmed log position))).base ≤ position
-    at true d = h
-    at false true = h
-    at false false = omega arith
-
-end_base : (position : ℕ) (trims : Bool) (end : End) → base_in (log_at (Some end)) ≤ position → base_in (log_at (Some (cond trims (trimmed_end position end) end))) ≤ position
-end_base position false end h = h
-end_base position true (Receives received) h = h
-end_base position true (Sends log) h = log_base position log h
-end_base position true (Both received log) h = log_base position log h
-
-base_trimmed : (c position : ℕ) (image : ImageView) (d : ℕ) → base_of image d ≤ position → base_of (trimmed_image c position image) d ≤ position
-base_trimmed c position image d h =
-    subst (λ (o : Option End). base_in (log_at o) ≤ position) (sym (end_of_changed image (trimmed_image c position image) d (trimmed_saved c position) (λ s. refl) refl))
-    (at (find (λ (s : SavedEnd). eqb s.channel d) image.ends) h)
-  where
-    at : (o : Option SavedEnd) → base_in (log_at (option_map (λ (s : SavedEnd). s.end) o)) ≤ position → base_in (log_at (option_map (λ (s : SavedEnd). (trimmed_saved c position s).end) o)) ≤ position
-    at None h = h
-    at (Some s) h = end_base position (eqb s.channel c) s.end h
-
--- and any other log is as it was
-other_ends : (c position d : ℕ) (ends : List SavedEnd) → d ≢ c
-    → option_map (λ (s : SavedEnd). (trimmed_saved c position s).end) (find (λ (s : SavedEnd). eqb s.channel d) ends) ≡ option_map (λ (s : SavedEnd). s.end) (find (λ (s : SavedEnd). eqb s.channel d) ends)
-other_ends c position d [] other = refl
-other_ends c position d (s ∷ ends) other = at (eqb_tells s.channel d) (other_ends c position d ends other)
-  where
-    both : Bool → Option SavedEnd
-    both b = cond b (Some s) (find (λ (t : SavedEnd). eqb t.channel d) ends)
-
-    untouched : s.channel ≡ d → ◌≡◌ {A = End} (cond (eqb s.channel c) (trimmed_end position s.end) s.end) s.end
-    untouched same = ap (λ (b : Bool). cond b (trimmed_end position s.end) s.end) (ne_eqb s.channel c (λ e. other (sym same ∙ e)))
-
-    at : ((eqb s.channel d ≡ true) × (s.channel ≡ d)) ⊎ ((eqb s.channel d ≡ false) × (s.channel ≢ d))
-        → option_map (λ (t : SavedEnd). (trimmed_saved c position t).end) (find (λ (t : SavedEnd). eqb t.channel d) ends) ≡ option_map (λ (t : SavedEnd). t.end) (find (λ (t : SavedEnd). eqb t.channel d) ends)
-        → option_map (λ (t : SavedEnd). (trimmed_saved c position t).end) (both (eqb s.channel d)) ≡ option_map (λ (t : SavedEnd). t.end) (both (eqb s.channel d))
-    at (inl here) later =
-        ap (λ (b : Bool). option_map (λ (t : SavedEnd). (trimmed_saved c position t).end) (both b)) here.0
-        ∙ (ap (λ (e : End). Some e) (untouched here.1)
-        ∙ ap (λ (b : Bool). option_map (λ (t : SavedEnd). t.end) (both b)) (sym here.0))
-    at (inr there) later =
-        ap (λ (b : Bool). option_map (λ (t : SavedEnd). (trimmed_saved c position t).end) (both b)) there.0
-        ∙ (later
-        ∙ ap (λ (b : Bool). option_map (λ (t : SavedEnd). t.end) (both b)) (sym there.0))
-
+-- any other log begins where it began
 base_elsewhere : (c position : ℕ) (image : ImageView) (d : ℕ) → d ≢ c → base_of (trimmed_image c position image) d ≡ base_of image d
 base_elsewhere c position image d other =
     ap (λ (o : Option End). base_in (log_at o))
-    (end_of_changed image (trimmed_image c position image) d (trimmed_saved c position) (λ s. refl) refl ∙ other_ends c position d image.ends other)
+    (end_elsewhere c position image d other)
 
 -- a beginning is no longer than the whole
 beginning_length : (taken whole : List ℤ) → IsPrefix taken whole → length taken ≤ length whole
@@ -142,7 +90,7 @@ module _ (net : Network) (inputs : List (List ℤ)) (node : RunningNode) (output
         by_log None has on' = absurd (logged has)
         by_log (Some log) has on' =
             goes_on log (sent_on output.channel (acts_of net (approximation net inputs come.reached.n) come.reached.current_acts p)) has
-            (log_stands net (approximation net inputs come.reached.n) come.reached.current_acts node.current output.channel p channel log come.reached.current sound.kept.laid_out on' from has)
+            (log_stands net (approximation net inputs come.reached.n) come.reached.current_acts node.current output.channel p channel log come.reached.current on' from has)
             (come.released j p output channel is on' from)
 
         at : ((i ≡ j) × (◌≡◌ {A = OutputView} (record { channel = output.channel; taken = taken }) one)) ⊎ ((i ≢ j) × (slice_get outputs i ≡ Some one))
@@ -152,6 +100,10 @@ module _ (net : Network) (inputs : List (List ℤ)) (node : RunningNode) (output
             let number : output.channel ≡ one.channel = ap (λ (o : OutputView). o.channel) here.1 in
             subst (λ (o : OutputView). IsPrefix o.taken (sent_on o.channel (acts_of net (approximation net inputs come.reached.n) come.reached.current_acts p))) here.1
             (by_log (log_of node.current output.channel) refl (ap (slice_get net.channels) number ∙ on))
+
+    -- it is of a channel that goes outside
+    there : (channel : Channel) × (slice_get net.channels output.channel ≡ Some channel) × (channel.consumer ≡ Outside)
+    there = output_channel net outputs sound.listed j output is
 
     come_then : HasCome net inputs node outputs → HasCome net inputs (with_current (trimmed_image output.channel (length taken) node.current) node) (slice_set outputs j (record { channel = output.channel; taken = taken }))
     come_then come = record {
@@ -166,17 +118,18 @@ module _ (net : Network) (inputs : List (List ℤ)) (node : RunningNode) (output
         held_after = come.reached.held_after;
         current_after = come.reached.current_after;
       };
-      out = λ job out. job_trimmed net inputs output.channel (length taken) node.current job (come.out job out);
+      out = λ job out. job_trimmed net inputs output.channel (length taken) there.0 node.current job there.1 there.2 (come.out job out);
       released = released_then come;
     }
 
     -- what has left stays a beginning, and is covered; and no log begins behind it
     pub sound_released : IsSound net inputs (with_current (trimmed_image output.channel (length taken) node.current) node) (slice_set outputs j (record { channel = output.channel; taken = taken }))
     sound_released = record {
+      here = sound.here;
       listed = set_keeps (λ (o : OutputView). o.channel) outputs j output (record { channel = output.channel; taken = taken }) is refl ∙ sound.listed;
       kept = record {
-        laid_out = laid_out_trimmed net output.channel (length taken) node.current sound.kept.laid_out;
-        counts = counts_trimmed inputs output.channel (length taken) node.current sound.kept.counts;
+        laid_out = laid_out_trimmed net node.kept.node output.channel (length taken) node.current sound.kept.laid_out;
+        counts = counts_trimmed net node.kept.node inputs output.channel (length taken) there.0 node.current sound.kept.laid_out there.1 there.2 sound.kept.counts;
         logs = logs_trimmed output.channel (length taken) node.current sound.kept.logs;
       };
       covered = covered_then;

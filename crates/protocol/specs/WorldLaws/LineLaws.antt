@@ -1,8 +1,9 @@
 -- Laws of the recovery line: of what an event may leave of one station, and of the line of all.
-use Rattle.std.proofs.Common.{◌≡◌, ◌≢◌, ◌⊎◌, inl, inr, ℕ, zero, suc, ◌+◌, ◌<◌, ◌≤◌, Bool, true, false, eqb, cond, ℤ, List, [], ◌∷◌, map, length, Option, Some, None, option_map, refl, sym, ap, subst, ◌∙◌, arith}
+use Rattle.std.proofs.Common.{◌≡◌, ◌≢◌, ◌⊎◌, inl, inr, ℕ, zero, suc, ◌+◌, ◌<◌, ◌≤◌, Bool, true, false, eqb, cond, ℤ, List, [], ◌∷◌, map, length, get_or, Option, Some, None, option_map, refl, sym, ap, subst, ◌∙◌, arith}
 use Rattle.std.specs.Prelude.{slice_get, find, not}
 use Rattle.std.specs.List.{AllZip}
 use Rattle.std.proofs.lemmas.Bool.Decides.{eqb_tells}
+use Rattle.std.proofs.lemmas.Option.{slice_get_cases}
 use Rattle.kahn_net.specs.Nodes.{IsOnOneNode}
 use Rattle.kahn_net.specs.Valid.{IsValid}
 use Rattle.kahn_net.specs.Syntax.{Code, Network}
@@ -10,14 +11,15 @@ use Rattle.kahn_net.specs.declared.program.Channel.{Channel}
 use Rattle.kahn_net.specs.declared.program.Port.{Port}
 use Rattle.kahn_net.specs.declared.program.Port.TheVariants.{Outside, Process}
 use Rattle.record.specs.DecisionView.{DecisionView}
-use Rattle.record.specs.Ends.{base_of, sent_of}
+use Rattle.record.specs.Ends.{received_at, log_at, base_in, sent_in, base_of, received_of, sent_of}
+use Rattle.record.specs.declared.image.End.{End}
+use Rattle.retained.specs.LogState.{log_end}
 use Rattle.record.specs.Moves.{with_epoch}
 use Rattle.record.specs.RecordView.{RecordView}
 use Rattle.protocol.specs.NodeLaws.ImageLaws.{map_got}
-use Rattle.protocol.specs.NodeLaws.LikeLaws.{HasOuterChannels}
+use Rattle.protocol.specs.NodeLaws.InnerLaws.{inner_there}
 use Rattle.protocol.specs.Node.Installing.{IsInstall}
 use Rattle.protocol.specs.Node.NodeView.{NodeView, ModeView, Down, InDoubt, Runs, running_in}
-use Rattle.protocol.specs.Node.Reached.{role_between}
 use Rattle.protocol.specs.Node.Recovering.{IsCrash, IsRecovery, put_off}
 use Rattle.protocol.specs.Node.Starting.{IsBehind, HasFailedAt, IsStart, IsDecision, is_down, own_at, with_own_now, decided, with_kept}
 use Rattle.protocol.specs.declared.putting.Putting.{Putting}
@@ -36,7 +38,7 @@ use Rattle.protocol.specs.World.Invariant.{output_of, outputs_of, AreSound, Stat
 use Rattle.protocol.specs.WorldLaws.OrderLaws.{behind_itself}
 use Rattle.protocol.specs.WorldLaws.OutputLaws.{map_at}
 use Rattle.protocol.specs.World.OutputView.{OutputView}
-use Rattle.protocol.specs.WorldLaws.RecordLaws.{last_more, record_decided, record_epoch}
+use Rattle.protocol.specs.WorldLaws.RecordLaws.{producer_here, consumer_here, last_more, record_decided, record_epoch}
 use Rattle.protocol.specs.World.RecordSound.{RecordIsSound}
 use Rattle.protocol.specs.World.RecoveryLine.{next_kept, node_at, producer_of, consumer_of, net_seen, record_or_new, records_seen, outlets_seen, records_of, IsLineOf, FitsOutputs, LeavesInLine, LinesFollow}
 use Rattle.protocol.specs.World.Released.{taken_or, released_of}
@@ -82,32 +84,56 @@ module _ (net : Network) (inputs : List (List ℤ)) where
   next_ahead (event.Arm k fault rounds) old inv = behind_itself old.node.kept.permanent
   next_ahead (event.Idle k) old inv = behind_itself old.node.kept.permanent
 
-  fits_outputs : (kept : RecordView) (outputs : List OutputView) → RecordIsSound net inputs kept outputs → FitsOutputs outputs kept
-  fits_outputs kept outputs sound = record { undecided = sound.undecided; no_gap = sound.permanent.no_gap; covered = sound.covered }
+  fits_outputs : (kept : RecordView) (outputs : List OutputView) → IsValid net → RecordIsSound net inputs kept outputs → FitsOutputs net outputs kept
+  fits_outputs kept outputs valid sound = record { undecided = sound.undecided; inside = inside; no_gap = sound.permanent.no_gap; covered = sound.covered }
+    where
+      -- a channel with nodes at both its ends goes from process to process
+      between_processes : (p q : ℕ) (producer consumer : Port) → node_at net producer ≡ Some p → node_at net consumer ≡ Some q → (a : ℕ) × (b : ℕ) × (producer ≡ Process a) × (consumer ≡ Process b)
+      between_processes p q Outside consumer from to = absurd (cc)
+      between_processes p q (Process a) Outside from to = absurd (cc)
+      between_processes p q (Process a) (Process b) from to = (a, b, refl, refl)
+
+      inside : (c p q : ℕ) → producer_of net (slice_get net.channels c) ≡ Some p → consumer_of net (slice_get net.channels c) ≡ Some q
+          → (base_of kept.permanent c ≤ received_of kept.permanent c) × (received_of kept.permanent c ≤ sent_of kept.permanent c)
+      inside c p q from to = at (slice_get net.channels c) refl from to
+        where
+          at : (o : Option Channel) → slice_get net.channels c ≡ o → producer_of net o ≡ Some p → consumer_of net o ≡ Some q
+              → (base_of kept.permanent c ≤ received_of kept.permanent c) × (received_of kept.permanent c ≤ sent_of kept.permanent c)
+          at None on from to = absurd (cc)
+          at (Some channel) on from to =
+              let ends = between_processes p q channel.producer channel.consumer from to in
+              let here = inner_there net kept.node inputs kept.permanent c ends.0 ends.1 channel sound.permanent.laid_out sound.permanent.counts on
+              ends.2 (producer_here net kept.node c ends.0 channel valid sound.here on ends.2) ends.3 (consumer_here net kept.node c ends.1 channel valid sound.here on ends.3) in
+              let received : received_of kept.permanent c ≡ here.received = ap received_at here.there in
+              let base : base_of kept.permanent c ≡ here.log.base = ap (λ (o : Option End). base_in (log_at o)) here.there in
+              let sent : sent_of kept.permanent c ≡ log_end here.log = ap (λ (o : Option End). sent_in (log_at o)) here.there in
+              let low = here.within.from_base in
+              let high = here.within.to_end in
+              (omega (arith, received, base, low), omega (arith, received, sent, high))
 
   -- where nothing left, and a record is left that is the one of before or the next one
-  pub either_in_line : (e : EventView) (old new : StationView) (left : Option (List ℕ)) → IsValid net → StationInvariant net inputs old → outputs_of old.outlets ≡ outputs_of new.outlets → LeavesEither old.node.kept (next_kept e old) left → LeavesInLine old new left
+  pub either_in_line : (e : EventView) (old new : StationView) (left : Option (List ℕ)) → IsValid net → StationInvariant net inputs old → outputs_of old.outlets ≡ outputs_of new.outlets → LeavesEither old.node.kept (next_kept e old) left → LeavesInLine net old new left
   either_in_line e old new left valid inv same leaves = record {
     something = leaves.something;
     at_first = λ kept is. fits kept (leaves.one_of kept is);
-    at_last = λ kept is. subst (λ (outputs : List OutputView). FitsOutputs outputs kept) same (fits kept (leaves.one_of kept is));
+    at_last = λ kept is. subst (λ (outputs : List OutputView). FitsOutputs net outputs kept) same (fits kept (leaves.one_of kept is));
     not_behind = λ kept is. ahead kept (leaves.one_of kept is);
   }
     where
-      fits : (kept : RecordView) → (kept ≡ old.node.kept) ⊎ (kept ≡ next_kept e old) → FitsOutputs (outputs_of old.outlets) kept
-      fits kept (inl it) = subst (FitsOutputs (outputs_of old.outlets)) (sym it) (fits_outputs old.node.kept (outputs_of old.outlets) inv.kept)
-      fits kept (inr it) = subst (FitsOutputs (outputs_of old.outlets)) (sym it) (fits_outputs (next_kept e old) (outputs_of old.outlets) (next_sound e old valid inv))
+      fits : (kept : RecordView) → (kept ≡ old.node.kept) ⊎ (kept ≡ next_kept e old) → FitsOutputs net (outputs_of old.outlets) kept
+      fits kept (inl it) = subst (FitsOutputs net (outputs_of old.outlets)) (sym it) (fits_outputs old.node.kept (outputs_of old.outlets) valid inv.kept)
+      fits kept (inr it) = subst (FitsOutputs net (outputs_of old.outlets)) (sym it) (fits_outputs (next_kept e old) (outputs_of old.outlets) valid (next_sound e old valid inv))
 
       ahead : (kept : RecordView) → (kept ≡ old.node.kept) ⊎ (kept ≡ next_kept e old) → IsBehind old.node.kept.permanent kept.permanent
       ahead kept (inl it) = subst (λ (r : RecordView). IsBehind old.node.kept.permanent r.permanent) (sym it) (behind_itself old.node.kept.permanent)
       ahead kept (inr it) = subst (λ (r : RecordView). IsBehind old.node.kept.permanent r.permanent) (sym it) (next_ahead e old inv)
 
   -- where the record of before is left, and kept by the end
-  pub same_in_line : (old new : StationView) (left : Option (List ℕ)) → StationInvariant net inputs old → StationInvariant net inputs new → new.node.kept ≡ old.node.kept → LeavesEither old.node.kept old.node.kept left → LeavesInLine old new left
-  same_in_line old new left inv later stays leaves = record {
+  pub same_in_line : (old new : StationView) (left : Option (List ℕ)) → IsValid net → StationInvariant net inputs old → StationInvariant net inputs new → new.node.kept ≡ old.node.kept → LeavesEither old.node.kept old.node.kept left → LeavesInLine net old new left
+  same_in_line old new left valid inv later stays leaves = record {
     something = leaves.something;
-    at_first = λ kept is. subst (FitsOutputs (outputs_of old.outlets)) (sym (it kept (leaves.one_of kept is))) (fits_outputs old.node.kept (outputs_of old.outlets) inv.kept);
-    at_last = λ kept is. subst (FitsOutputs (outputs_of new.outlets)) (stays ∙ sym (it kept (leaves.one_of kept is))) (fits_outputs new.node.kept (outputs_of new.outlets) later.kept);
+    at_first = λ kept is. subst (FitsOutputs net (outputs_of old.outlets)) (sym (it kept (leaves.one_of kept is))) (fits_outputs old.node.kept (outputs_of old.outlets) valid inv.kept);
+    at_last = λ kept is. subst (FitsOutputs net (outputs_of new.outlets)) (stays ∙ sym (it kept (leaves.one_of kept is))) (fits_outputs new.node.kept (outputs_of new.outlets) valid later.kept);
     not_behind = λ kept is. subst (λ (r : RecordView). IsBehind old.node.kept.permanent r.permanent) (sym (it kept (leaves.one_of kept is))) (behind_itself old.node.kept.permanent);
   }
     where
@@ -279,40 +305,47 @@ shown net station others c channel listed on to = at (outlet_there net station.o
 
 -- ---- the line is sound, and covers
 
-module _ (net : Network) (inputs : List (List ℤ)) (outer : HasOuterChannels net) (alone : IsOnOneNode net) where
-  not_both : (p q : ℕ) (producer consumer : Port) → ¬ (role_between producer consumer ≡ 2) → node_at net producer ≡ Some p → node_at net consumer ≡ Some q → ⊥
-  not_both p q Outside consumer apart from to = absurd (cc)
-  not_both p q (Process a) Outside apart from to = absurd (cc)
-  not_both p q (Process a) (Process b) apart from to = apart refl
-
-  -- no channel has both its ends at nodes
-  none_inside : (c p q : ℕ) → producer_of net (slice_get net.channels c) ≡ Some p → consumer_of net (slice_get net.channels c) ≡ Some q → ⊥
-  none_inside c p q from to = at (slice_get net.channels c) refl from to
-    where
-      at : (o : Option Channel) → slice_get net.channels c ≡ o → producer_of net o ≡ Some p → consumer_of net o ≡ Some q → ⊥
-      at None on from to = absurd (cc)
-      at (Some channel) on from to = not_both p q channel.producer channel.consumer (outer c channel on) from to
-
+module _ (net : Network) (inputs : List (List ℤ)) (valid : IsValid net) (alone : IsOnOneNode net) where
   on_first : (p a : ℕ) (o : Option Code) → slice_get net.codes a ≡ o → option_map (λ (code : Code). code.node) o ≡ Some p → p ≡ 0
   on_first p a None there is = absurd (cc)
   on_first p a (Some code) there is = let same : code.node ≡ p = cc in sym same ∙ alone.node a code there
 
-  goes_out : (p : ℕ) (producer consumer : Port) → ¬ (role_between producer consumer ≡ 2) → node_at net producer ≡ Some p → (consumer ≡ Outside) × (p ≡ 0)
-  goes_out p Outside consumer apart from = absurd (cc)
-  goes_out p (Process a) Outside apart from = (refl, on_first p a (slice_get net.codes a) refl from)
-  goes_out p (Process a) (Process b) apart from = absurd (apart refl)
+  -- there is no node but the first
+  at_first : (p : ℕ) (port : Port) → node_at net port ≡ Some p → p ≡ 0
+  at_first p Outside from = absurd (cc)
+  at_first p (Process a) from = on_first p a (slice_get net.codes a) refl from
+
+  end_at_first : (p : ℕ) (o : Option Channel) → producer_of net o ≡ Some p → p ≡ 0
+  end_at_first p None from = absurd (cc)
+  end_at_first p (Some channel) from = at_first p channel.producer from
+
+  other_at_first : (q : ℕ) (o : Option Channel) → consumer_of net o ≡ Some q → q ≡ 0
+  other_at_first q None to = absurd (cc)
+  other_at_first q (Some channel) to = at_first q channel.consumer to
 
   -- an output is a channel of the network whose items go outside, from the first node
   output_is : (c p : ℕ) → IsOutput (net_seen net) c p → (channel : Channel) × (slice_get net.channels c ≡ Some channel) × (channel.consumer ≡ Outside) × (p ≡ 0)
-  output_is c p output = at (slice_get net.channels c) refl output.from
+  output_is c p output = at (slice_get net.channels c) refl output.from output.to
     where
-      at : (o : Option Channel) → slice_get net.channels c ≡ o → producer_of net o ≡ Some p → (channel : Channel) × (slice_get net.channels c ≡ Some channel) × (channel.consumer ≡ Outside) × (p ≡ 0)
-      at None on from = absurd (cc)
-      at (Some channel) on from = let out = goes_out p channel.producer channel.consumer (outer c channel on) from in (channel, on, out.0, out.1)
+      -- each process of a channel is one of the network, and has a node
+      has_node : (a : ℕ) → ((x : Code) × (a < length net.codes) × (slice_get net.codes a ≡ Some x) × (get_or net.codes a x ≡ x)) ⊎ ((length net.codes ≤ a) × (slice_get net.codes a ≡ None))
+          → a < length net.codes → node_at net (Process a) ≡ None → ⊥
+      has_node a (inl here) below none =
+          let some : Some (here.0.node) ≡ None = sym (ap (option_map (λ (code : Code). code.node)) here.2) ∙ none in
+          absurd (cc)
+      has_node a (inr past) below none = omega (arith, below, past.0)
+
+      outside : (channel : Channel) → slice_get net.channels c ≡ Some channel → (port : Port) → channel.consumer ≡ port → node_at net port ≡ None → port ≡ Outside
+      outside channel on Outside to none = refl
+      outside channel on (Process a) to none = absurd (has_node a (slice_get_cases net.codes a).1 (valid.consumer_is_here c a channel on to) none)
+
+      at : (o : Option Channel) → slice_get net.channels c ≡ o → producer_of net o ≡ Some p → consumer_of net o ≡ None → (channel : Channel) × (slice_get net.channels c ≡ Some channel) × (channel.consumer ≡ Outside) × (p ≡ 0)
+      at None on from to = absurd (cc)
+      at (Some channel) on from to = (channel, on, outside channel on channel.consumer refl to, at_first p channel.producer from)
 
   -- each record fits the outlets of its station
   abbrev Fit : List StationView → List RecordView → Type 0
-  Fit stations records = AllZip (λ (station : StationView) (kept : RecordView). FitsOutputs (outputs_of station.outlets) kept) stations records
+  Fit stations records = AllZip (λ (station : StationView) (kept : RecordView). FitsOutputs net (outputs_of station.outlets) kept) stations records
 
   pub fit_undecided : (stations : List StationView) (records : List RecordView) → Fit stations records → NoneDecided records
   fit_undecided [] [] fit i kept is = absurd (cc)
@@ -343,12 +376,22 @@ module _ (net : Network) (inputs : List (List ℤ)) (outer : HasOuterChannels ne
           let sent : sent_of r.permanent d ≡ sent_of r.permanent c = ap (sent_of r.permanent) same in
           (omega (arith, count, base, gap), omega (arith, count, sent, few))
 
+  -- of a channel between two processes the first node's image has received no more than it put, and no less than its log let go of
+  inside_first : (stations : List StationView) (records : List RecordView) → 0 < length stations → Fit stations records
+      → (c p q : ℕ) → producer_of net (slice_get net.channels c) ≡ Some p → consumer_of net (slice_get net.channels c) ≡ Some q
+      → ((records_seen records 0).permanent.base c ≤ (records_seen records 0).permanent.received c) × ((records_seen records 0).permanent.received c ≤ (records_seen records 0).permanent.sent c)
+  inside_first [] records there fit c p q from to = absurd (omega (arith, there))
+  inside_first (s ∷ stations) [] there fit c p q from to = absurd fit
+  inside_first (s ∷ stations) (r ∷ records) there fit c p q from to = fit.0.inside c p q from to
+
   -- so the line of records that fit is one of these stations
   pub line_of : (stations : List StationView) (records : List RecordView) → 0 < length stations → AreSound net inputs stations → Fit stations records → IsLineOf net stations records
   line_of stations records there sound fit = record {
     sound = record {
-      no_orphan = λ c p q from to. absurd (none_inside c p q from to);
-      nothing_lost = λ c p q from to. absurd (none_inside c p q from to);
+      no_orphan = λ c p q from to.
+          omega (arith, (inside_first stations records there fit c p q from to).1, ap (λ (i : Image). i.received c) (line_at q (other_at_first q (slice_get net.channels c) to)), ap (λ (i : Image). i.sent c) (line_at p (end_at_first p (slice_get net.channels c) from)));
+      nothing_lost = λ c p q from to.
+          omega (arith, (inside_first stations records there fit c p q from to).0, ap (λ (i : Image). i.received c) (line_at q (other_at_first q (slice_get net.channels c) to)), ap (λ (i : Image). i.base c) (line_at p (end_at_first p (slice_get net.channels c) from)));
       outputs = λ c p output. subst (λ (i : Image). i.base c ≤ outlets_seen stations c) (sym (effective_is records none p)) (between stations records there sound fit c p output).0;
     };
     covers = record {
@@ -359,6 +402,10 @@ module _ (net : Network) (inputs : List (List ℤ)) (outer : HasOuterChannels ne
     where
       none : NoneDecided records
       none = fit_undecided stations records fit
+
+      -- the line at the first node is its permanent image
+      line_at : (p : ℕ) → p ≡ 0 → effective (records_seen records) p ≡ (records_seen records 0).permanent
+      line_at p first = effective_is records none p ∙ ap (λ (k : ℕ). (records_seen records k).permanent) first
 
   pub kept_undecided : (stations : List StationView) → AreSound net inputs stations → NoneDecided (records_of stations)
   kept_undecided stations sound i kept is =

@@ -13,7 +13,7 @@ use Rattle.kahn_net.specs.Statements.{Step}
 use Rattle.kahn_net.specs.Processes.{Standing, StandsAt, HasPassingLoop, process_trace, sent_on, got_on}
 use Rattle.kahn_net.specs.Resuming.{left_after}
 use Rattle.kahn_net.specs.Approximations.{approximation, IsReached}
-use Rattle.kahn_net.specs.Laws.Approximations.{next_histories_past, inner_empty, approximation_grows, agreement}
+use Rattle.kahn_net.specs.Laws.Approximations.{next_histories_past, approximation_grows, agreement}
 use Rattle.kahn_net.specs.Laws.Prefixes.{prefix_refl, prefix_nil, prefix_along}
 use Rattle.kahn_net.specs.Laws.Streams.{longer_process, stands_on}
 use Rattle.kahn_net.specs.Laws.Got.{reads}
@@ -26,15 +26,19 @@ use Rattle.kahn_net.specs.declared.program.Port.TheVariants.{Outside, Process}
 use Rattle.record.specs.ProcessView.{SavedProcessView}
 use Rattle.record.specs.ImageView.{ImageView}
 use Rattle.protocol.specs.Node.NodeView.{RunningNode, running_of}
-use Rattle.record.specs.Ends.{received_at, received_of, sent_of}
+use Rattle.record.specs.Ends.{received_at, received_of, log_at, sent_in, sent_of}
+use Rattle.record.specs.declared.image.End.{End}
+use Rattle.retained.specs.LogState.{log_end}
 use Rattle.protocol.specs.Node.Choosing.{next_at}
 use Rattle.protocol.specs.Node.Starting.{is_none}
-use Rattle.protocol.specs.Node.Reached.{first_acts, acts_of, IsLaidOut, CountsAreWithin}
-use Rattle.protocol.specs.NodeLaws.ImageLaws.{numbered_mark, numbered_there, channel_at, received_is}
+use Rattle.protocol.specs.Node.Reached.{first_acts, acts_of}
+use Rattle.protocol.specs.Node.Layout.{has_process}
+use Rattle.protocol.specs.NodeLaws.NumberedLaws.{where_there}
+use Rattle.protocol.specs.WorldLaws.RecordLaws.{producer_here}
+use Rattle.protocol.specs.NodeLaws.InnerLaws.{outer_within, inner_there}
 use Rattle.protocol.specs.NodeLaws.ReachedLaws.{input_stays, received_stands}
 use Rattle.protocol.specs.NodeLaws.ReleaseLaws.{acts_put_prefix}
 use Rattle.protocol.specs.NodeLaws.SentLaws.{sent_stands}
-use Rattle.record.specs.declared.image.SavedEnd.{SavedEnd}
 use Rattle.std.specs.List.{list_all}
 use Rattle.protocol.specs.World.Invariant.{outputs_of, AreSound, WorldInvariant}
 use Rattle.protocol.specs.World.OutputView.{OutputView}
@@ -75,16 +79,6 @@ rest_of net inputs node outputs quiet =
     let left = have_all_left node.current outputs in
     and_parts rest left (and_parts (is_none node.out) (rest && left) quiet).1
 
--- no more was received of a channel than came from outside
-received_within : (net : Network) (inputs : List (List ℤ)) (image : ImageView) (c : ℕ) (channel : Channel) → IsLaidOut net image → CountsAreWithin inputs image → slice_get net.channels c ≡ Some channel
-    → received_of image c ≤ length (history_of inputs c)
-received_within net inputs image c channel laid counts is =
-    let there = numbered_there (λ (s : SavedEnd). s.channel) image.ends 0 (length net.channels) c laid.ends (slice_get_within net.channels c channel is) in
-    let here : there.0.channel ≡ c = channel_at net image c there.0 laid there.1 in
-    let count = received_is net image c there.0 laid there.1 in
-    let few = subst (λ (d : ℕ). received_at (Some (there.0.end)) ≤ length (history_of inputs d)) here (counts c there.0 there.1) in
-    omega (arith, count, few)
-
 module _ (net : Network) (inputs : List (List ℤ)) (node : RunningNode) (outputs : List OutputView) (valid : IsValid net) (fits : Fits net inputs) (sound : IsSound net inputs node outputs)
     (come : HasCome net inputs node outputs) where
   -- the approximation on which the node stands
@@ -120,16 +114,18 @@ module _ (net : Network) (inputs : List (List ℤ)) (node : RunningNode) (output
     passing = (valid.codes p code there).passes
 
     -- where it stands
-    saved_there : (saved : SavedProcessView) × (slice_get node.current.processes p ≡ Some saved) × (saved.number ≡ p)
-    saved_there =
-        let found = numbered_there (λ (s : SavedProcessView). s.number) node.current.processes 0 (length net.codes) p sound.kept.laid_out.processes (slice_get_within net.codes p code there) in
-        let sum : 0 + p ≡ p = omega arith in
-        (found.0, found.1, numbered_mark (λ (s : SavedProcessView). s.number) node.current.processes 0 (length net.codes) p found.0 sound.kept.laid_out.processes found.1 ∙ sum)
+    own : IsTrue (has_process net node.kept.node p)
+    own = sound.here p code there
 
-    stands : (saved : SavedProcessView) → slice_get node.current.processes p ≡ Some saved → saved.number ≡ p → StandsAt code base (come.reached.current_acts p) saved.standing
-    stands saved is number =
+    saved_there : (k : ℕ) × (saved : SavedProcessView) × (slice_get node.current.processes k ≡ Some saved) × (saved.number ≡ p)
+    saved_there =
+        let within = slice_get_within net.codes p code there in
+        where_there (λ (s : SavedProcessView). s.number) (has_process net node.kept.node) 0 (length net.codes) p node.current.processes sound.kept.laid_out.processes own (omega arith) (omega (arith, within))
+
+    stands : (k : ℕ) (saved : SavedProcessView) → slice_get node.current.processes k ≡ Some saved → saved.number ≡ p → StandsAt code base (come.reached.current_acts p) saved.standing
+    stands k saved is number =
         subst (λ (q : ℕ). StandsAt code base (come.reached.current_acts q) saved.standing) number
-        (come.reached.current.processes p saved code is (ap (slice_get net.codes) number ∙ there))
+        (come.reached.current.processes k saved code is (ap (slice_get net.codes) number ∙ there))
 
     -- its acts are the same on the next approximation
     made_there : (standing : Standing) → StandsAt code base (come.reached.current_acts p) standing
@@ -143,24 +139,27 @@ module _ (net : Network) (inputs : List (List ℤ)) (node : RunningNode) (output
     -- it got of a channel as many items as its image counts
     got_there : (c : ℕ) (channel : Channel) → slice_get net.channels c ≡ Some channel → IsTrue (code_gets c code) → received_of node.current c ≡ length (got_on c (made p))
     got_there c channel is gets =
-        received_stands net base come.reached.current_acts node.current c p channel come.reached.current sound.kept.laid_out is ((valid.consumer c p channel code is there).0 gets)
+        received_stands net node.kept.node base come.reached.current_acts node.current c p channel come.reached.current sound.kept.laid_out is ((valid.consumer c p channel code is there).0 gets) own
 
-    -- and no more than is there (of a channel that joins two processes it got nothing, since nothing brings items from a process yet)
+    -- and no more than is there
     got_few : (c : ℕ) → IsTrue (code_gets c code) → length (got_on c (made p)) ≤ length (history_of now c)
     got_few c gets = at (slice_get_cases net.channels c).1
       where
         by_port : (channel : Channel) → slice_get net.channels c ≡ Some channel → (port : Port) → channel.producer ≡ port → received_of node.current c ≤ length (put_so_far inputs made c port)
-        by_port channel is Outside from = received_within net inputs node.current c channel sound.kept.laid_out sound.kept.counts is
+        by_port channel is Outside from = outer_within net node.kept.node inputs node.current c p channel sound.kept.laid_out sound.kept.counts is from ((valid.consumer c p channel code is there).0 gets) own
         by_port channel is (Process q) from =
-            let few = received_within net inputs node.current c channel sound.kept.laid_out sound.kept.counts is in
-            let none : length (history_of inputs c) ≡ 0 = ap (length {A = ℤ}) (inner_empty net valid inputs fits c q channel is from) in
-            omega (arith, few, none)
+            let here = inner_there net node.kept.node inputs node.current c q p channel sound.kept.laid_out sound.kept.counts is from (producer_here net node.kept.node c q channel valid sound.here is from) ((valid.consumer c p channel code is there).0 gets) own in
+            let received : received_of node.current c ≡ here.received = ap received_at here.there in
+            let sent : sent_of node.current c ≡ log_end here.log = ap (λ (o : Option End). sent_in (log_at o)) here.there in
+            let put = sent_stands net node.kept.node base come.reached.current_acts node.current c q channel come.reached.current sound.kept.laid_out is from (producer_here net node.kept.node c q channel valid sound.here is from) in
+            let few = here.within.to_end in
+            omega (arith, received, sent, put, few)
 
         -- of a channel that isn't there nothing is got
         no_channel : length net.channels ≤ c → length (got_on c (made p)) ≡ 0
         no_channel past =
             let s = saved_there in
-            let same = made_there s.0.standing (stands s.0 s.1 s.2) in
+            let same = made_there s.1.standing (stands s.0 s.1 s.2 s.3) in
             let steps = take (come.reached.current_acts p) (process_trace code (approximation net inputs (suc come.reached.n))).steps in
             let left = history_of (left_after steps (approximation net inputs (suc come.reached.n))) c in
             let front : [] ≡ got_on c steps ++ left = sym (next_histories_past net inputs base c past) ∙ reads code (approximation net inputs (suc come.reached.n)) (come.reached.current_acts p) c in
@@ -190,7 +189,7 @@ module _ (net : Network) (inputs : List (List ℤ)) (node : RunningNode) (output
         by_port channel is Outside from all = eqb-true (received_of node.current c) (length (history_of inputs c)) all
         by_port channel is (Process q) from all =
             eqb-true (received_of node.current c) (sent_of node.current c) all
-            ∙ sent_stands net base come.reached.current_acts node.current c q channel come.reached.current sound.kept.laid_out is from
+            ∙ sent_stands net node.kept.node base come.reached.current_acts node.current c q channel come.reached.current sound.kept.laid_out is from (producer_here net node.kept.node c q channel valid sound.here is from)
 
         by_channel : (o : Option Channel) → slice_get net.channels c ≡ o → IsTrue (has_got_all inputs node.current c o) → IsTrue (code_gets c code) → length (history_of now c) ≤ length (got_on c (made p))
         by_channel None is all gets = absurd (cc)
@@ -204,15 +203,15 @@ module _ (net : Network) (inputs : List (List ℤ)) (node : RunningNode) (output
     all_made : IsTrue (are_at_rest net inputs node.current node.current.processes) → (process_trace code now).steps ≡ made p
     all_made rest =
         let s = saved_there in
-        let here = stands s.0 s.1 s.2 in
-        let same = made_there s.0.standing here in
-        let can : IsTrue (can_rest net inputs node.current (next_of code s.0.standing)) =
-        sym (ap (λ (o : Option Code). can_rest net inputs node.current (next_at o s.0.standing)) (ap (slice_get net.codes) s.2 ∙ there))
-        ∙ rests_at net inputs node.current node.current.processes p s.0 rest s.1 in
-        acts_at_rest code now (approximation net inputs (suc come.reached.n)) (come.reached.current_acts p) s.0.standing passing now_within
-        (stands_on code base (approximation net inputs (suc come.reached.n)) (come.reached.current_acts p) s.0.standing passing (approximation_grows net valid inputs fits come.reached.n) here)
+        let here = stands s.0 s.1 s.2 s.3 in
+        let same = made_there s.1.standing here in
+        let can : IsTrue (can_rest net inputs node.current (next_of code s.1.standing)) =
+        sym (ap (λ (o : Option Code). can_rest net inputs node.current (next_at o s.1.standing)) (ap (slice_get net.codes) s.3 ∙ there))
+        ∙ rests_at net inputs node.current node.current.processes s.0 s.1 rest s.2 in
+        acts_at_rest code now (approximation net inputs (suc come.reached.n)) (come.reached.current_acts p) s.1.standing passing now_within
+        (stands_on code base (approximation net inputs (suc come.reached.n)) (come.reached.current_acts p) s.1.standing passing (approximation_grows net valid inputs fits come.reached.n) here)
         (λ c gets. subst (λ (steps : List Step). length (got_on c steps) ≤ length (history_of now c)) (sym same) (got_few c gets))
-        (subst (λ (steps : List Step). IsStuck code now steps (next_of code s.0.standing)) (sym same) (stuck (next_of code s.0.standing) can))
+        (subst (λ (steps : List Step). IsStuck code now steps (next_of code s.1.standing)) (sym same) (stuck (next_of code s.1.standing) can))
         ∙ same
 
   -- The network
@@ -236,7 +235,7 @@ module _ (net : Network) (inputs : List (List ℤ)) (node : RunningNode) (output
       let there = output_channel net outputs sound.listed j output is in
       let from = producer_of output.channel there.0 there.1 there.2 in
       let count = left_at node.current outputs j output left is in
-      let put = sent_stands net base come.reached.current_acts node.current output.channel from.0 there.0 come.reached.current sound.kept.laid_out there.1 from.1 in
+      let put = sent_stands net node.kept.node base come.reached.current_acts node.current output.channel from.0 there.0 come.reached.current sound.kept.laid_out there.1 from.1 (producer_here net node.kept.node output.channel from.0 there.0 valid sound.here there.1 from.1) in
       prefix_whole output.taken (sent_on output.channel (made from.0)) ((come.released j from.0 output there.0 is there.1 from.1)) (omega (arith, count, put))
       ∙ sym (ap (λ (all : List (List ℤ)). history_of all output.channel) (settled rest) ∙ (put_by_now-at net inputs made output.channel there.0 there.1 ∙ ap (put_so_far inputs made output.channel) from.1))
 

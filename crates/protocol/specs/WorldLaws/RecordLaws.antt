@@ -1,10 +1,14 @@
 -- What is true of a record stays so: as images are taken and become permanent, as items leave, and over a crash.
-use Rattle.std.proofs.Common.{◌≡◌, ℕ, ◌≤◌, Bool, true, false, cond, eqb, ℤ, List, length, take, Option, Some, None, refl, sym, ap, subst, ◌∙◌, arith}
-use Rattle.std.specs.Prelude.{slice_get}
+use Rattle.std.proofs.Common.{◌≡◌, ◌⊎◌, inl, inr, ℕ, ◌<◌, ◌≤◌, Bool, true, false, cond, eqb, ℤ, List, length, take, get_or, Option, Some, None, refl, sym, ap, subst, ◌∙◌, arith}
+use Rattle.std.specs.Prelude.{slice_get, IsTrue}
 use Rattle.std.proofs.Math.Logic.{∥∥₁_map}
 use Rattle.std.proofs.lemmas.List.{take-take}
+use Rattle.std.proofs.lemmas.Option.{slice_get_cases}
+use Rattle.kahn_net.specs.Valid.{IsValid}
+use Rattle.kahn_net.specs.declared.program.Channel.{Channel}
+use Rattle.kahn_net.specs.declared.program.Port.TheVariants.{Process}
 use Rattle.kahn_net.specs.Streams.{IsPrefix}
-use Rattle.kahn_net.specs.Syntax.{Network}
+use Rattle.kahn_net.specs.Syntax.{Code, Network}
 use Rattle.kahn_net.specs.Processes.{sent_on}
 use Rattle.kahn_net.specs.Approximations.{approximation}
 use Rattle.kahn_net.specs.Laws.Prefixes.{prefix_trans}
@@ -16,6 +20,7 @@ use Rattle.record.specs.declared.record.Tentative.{Tentative}
 use Rattle.ckpt_codec.specs.SizeLaws.{IsRecordWithin, within_epoch}
 use Rattle.ckpt_codec.specs.declared.lengths.TheConstants.{MAX_RETAINED_ITEMS}
 use Rattle.protocol.specs.Node.NodeView.{RunningNode}
+use Rattle.protocol.specs.Node.Layout.{has_process, AllHere}
 use Rattle.protocol.specs.Node.Reached.{ImageStands, acts_of}
 use Rattle.protocol.specs.NodeLaws.ReleaseLaws.{acts_grow}
 use Rattle.protocol.specs.NodeLaws.SentLaws.{sent_stands}
@@ -30,9 +35,24 @@ use Rattle.protocol.specs.World.Sound.{HasCome, IsSound}
 prefix_within : (xs ys zs : List ℤ) → IsPrefix xs zs → IsPrefix ys zs → length xs ≤ length ys → IsPrefix xs ys
 prefix_within xs ys zs a b shorter = a ∙ (sym (take-take (length xs) (length ys) zs shorter) ∙ ap (take (length xs)) (sym b))
 
+-- the process that puts on a channel is on the node, where all are
+pub producer_here : (net : Network) (home c p : ℕ) (channel : Channel) → IsValid net → AllHere net home → slice_get net.channels c ≡ Some channel → channel.producer ≡ Process p → IsTrue (has_process net home p)
+producer_here net home c p channel valid here is from = at (slice_get_cases net.codes p).1
+  where
+    at : ((x : Code) × (p < length net.codes) × (slice_get net.codes p ≡ Some x) × (get_or net.codes p x ≡ x)) ⊎ ((length net.codes ≤ p) × (slice_get net.codes p ≡ None)) → IsTrue (has_process net home p)
+    at (inl there) = here p there.0 there.2
+    at (inr past) = (let below = valid.producer_is_here c p channel is from in absurd (omega (arith, below, past.0)))
+
+pub consumer_here : (net : Network) (home c p : ℕ) (channel : Channel) → IsValid net → AllHere net home → slice_get net.channels c ≡ Some channel → channel.consumer ≡ Process p → IsTrue (has_process net home p)
+consumer_here net home c p channel valid here is to = at (slice_get_cases net.codes p).1
+  where
+    at : ((x : Code) × (p < length net.codes) × (slice_get net.codes p ≡ Some x) × (get_or net.codes p x ≡ x)) ⊎ ((length net.codes ≤ p) × (slice_get net.codes p ≡ None)) → IsTrue (has_process net home p)
+    at (inl there) = here p there.0 there.2
+    at (inr past) = (let below = valid.consumer_is_here c p channel is to in absurd (omega (arith, below, past.0)))
+
 module _ (net : Network) (inputs : List (List ℤ)) (outputs : List OutputView) where
   -- what a node that runs has now may be taken
-  pub current_sound : (node : RunningNode) → IsSound net inputs node outputs → ImageIsSound net inputs node.current outputs
+  pub current_sound : (node : RunningNode) → IsSound net inputs node outputs → ImageIsSound net node.kept.node inputs node.current outputs
   current_sound node sound = record {
     laid_out = sound.kept.laid_out;
     counts = sound.kept.counts;
@@ -41,9 +61,9 @@ module _ (net : Network) (inputs : List (List ℤ)) (outputs : List OutputView) 
   }
 
   -- what has left a node that runs is a beginning of what was put up to its permanent image
-  come_of : (node : RunningNode) → ImageIsSound net inputs node.kept.permanent outputs → ((j : ℕ) (output : OutputView) → slice_get outputs j ≡ Some output → length output.taken ≤ sent_of node.kept.permanent output.channel)
+  come_of : (node : RunningNode) → IsValid net → AllHere net node.kept.node → ImageIsSound net node.kept.node inputs node.kept.permanent outputs → ((j : ℕ) (output : OutputView) → slice_get outputs j ≡ Some output → length output.taken ≤ sent_of node.kept.permanent output.channel)
       → HasCome net inputs node outputs → RecordHasCome net inputs node.kept outputs
-  come_of node image covered come = record {
+  come_of node valid here image covered come = record {
     n = come.reached.n;
     permanent_acts = come.reached.permanent_acts;
     held_acts = come.reached.held_acts;
@@ -54,16 +74,17 @@ module _ (net : Network) (inputs : List (List ℤ)) (outputs : List OutputView) 
         let histories = approximation net inputs come.reached.n in
         let before = sent_on output.channel (acts_of net histories come.reached.permanent_acts p) in
         let now = sent_on output.channel (acts_of net histories come.reached.current_acts p) in
-        let count : sent_of node.kept.permanent output.channel ≡ length before = sent_stands net histories come.reached.permanent_acts node.kept.permanent output.channel p channel come.reached.permanent image.laid_out on from in
+        let count : sent_of node.kept.permanent output.channel ≡ length before = sent_stands net node.kept.node histories come.reached.permanent_acts node.kept.permanent output.channel p channel come.reached.permanent image.laid_out on from (producer_here net node.kept.node output.channel p channel valid here on from) in
         let few = covered j output is in
         let far : come.reached.permanent_acts p ≤ come.reached.current_acts p = (let a = come.reached.held_after p in let b = come.reached.current_after p in omega (arith, a, b)) in
         prefix_within output.taken before now (come.released j p output channel is on from) (acts_grow net histories come.reached.permanent_acts come.reached.current_acts output.channel p far) (omega (arith, few, count)));
   }
 
   -- so the record of a node that runs is sound where its images are, no decision stands in it, and it is within bounds
-  pub record_of : (node : RunningNode) → node.kept.decision ≡ None → IsRecordWithin MAX_RETAINED_ITEMS node.kept → ImageIsSound net inputs node.kept.permanent outputs
-      → ((tentative : Tentative) → node.kept.tentative ≡ Some tentative → ImageIsSound net inputs tentative.image outputs) → AreInOrder node.kept node.current → IsSound net inputs node outputs → RecordIsSound net inputs node.kept outputs
-  record_of node undecided bounded permanent held order sound = record {
+  pub record_of : (node : RunningNode) → IsValid net → node.kept.decision ≡ None → IsRecordWithin MAX_RETAINED_ITEMS node.kept → ImageIsSound net node.kept.node inputs node.kept.permanent outputs
+      → ((tentative : Tentative) → node.kept.tentative ≡ Some tentative → ImageIsSound net node.kept.node inputs tentative.image outputs) → AreInOrder node.kept node.current → IsSound net inputs node outputs → RecordIsSound net inputs node.kept outputs
+  record_of node valid undecided bounded permanent held order sound = record {
+    here = sound.here;
     listed = sound.listed;
     permanent = permanent;
     held = held;
@@ -71,16 +92,16 @@ module _ (net : Network) (inputs : List (List ℤ)) (outputs : List OutputView) 
     covered = λ j output is. (sound.covered j output is).covered;
     undecided = undecided;
     bounded = bounded;
-    come = ∥∥₁_map sound.come (come_of node permanent (λ j output is. (sound.covered j output is).covered));
+    come = ∥∥₁_map sound.come (come_of node valid sound.here permanent (λ j output is. (sound.covered j output is).covered));
   }
 
   -- a start
-  pub record_own : (number : ℕ) (kept : RecordView) (image : ImageView) → ImageIsSound net inputs image outputs → RecordIsSound net inputs kept outputs
-      → (tentative : Tentative) → (with_own number image kept).tentative ≡ Some tentative → ImageIsSound net inputs tentative.image outputs
-  record_own number kept image sound record_sound tentative is = let same : image ≡ tentative.image = cc in subst (λ (i : ImageView). ImageIsSound net inputs i outputs) same sound
+  pub record_own : (number : ℕ) (kept : RecordView) (image : ImageView) → ImageIsSound net kept.node inputs image outputs → RecordIsSound net inputs kept outputs
+      → (tentative : Tentative) → (with_own number image kept).tentative ≡ Some tentative → ImageIsSound net kept.node inputs tentative.image outputs
+  record_own number kept image sound record_sound tentative is = let same : image ≡ tentative.image = cc in subst (λ (i : ImageView). ImageIsSound net kept.node inputs i outputs) same sound
 
   -- the last image of a record
-  last_sound : (kept : RecordView) → RecordIsSound net inputs kept outputs → (o : Option Tentative) → kept.tentative ≡ o → ImageIsSound net inputs (last_image kept.permanent o) outputs
+  last_sound : (kept : RecordView) → RecordIsSound net inputs kept outputs → (o : Option Tentative) → kept.tentative ≡ o → ImageIsSound net kept.node inputs (last_image kept.permanent o) outputs
   last_sound kept sound None is = sound.permanent
   last_sound kept sound (Some held) is = sound.held held is
 
@@ -113,6 +134,7 @@ module _ (net : Network) (inputs : List (List ℤ)) (outputs : List OutputView) 
   -- a decision
   pub record_decided : (kept : RecordView) → RecordIsSound net inputs kept outputs → RecordIsSound net inputs (decided kept) outputs
   record_decided kept sound = record {
+    here = sound.here;
     listed = sound.listed;
     permanent = last_sound kept sound kept.tentative refl;
     held = λ tentative e. absurd (cc);
@@ -145,6 +167,7 @@ module _ (net : Network) (inputs : List (List ℤ)) (outputs : List OutputView) 
 
   pub record_epoch : (kept : RecordView) → RecordIsSound net inputs kept outputs → RecordIsSound net inputs (with_epoch kept) outputs
   record_epoch kept sound = record {
+    here = sound.here;
     listed = sound.listed;
     permanent = sound.permanent;
     held = λ tentative is. sound.held tentative (still_held kept.node kept.tentative tentative is);
@@ -183,6 +206,7 @@ module _ (net : Network) (inputs : List (List ℤ)) (outputs : List OutputView) 
 
   pub restarted_sound : (kept : RecordView) (version : ℕ) → kept.tentative ≡ None → RecordIsSound net inputs kept outputs → IsSound net inputs (restarted kept version) outputs
   restarted_sound kept version free sound = record {
+    here = sound.here;
     listed = sound.listed;
     kept = record { laid_out = sound.permanent.laid_out; counts = sound.permanent.counts; logs = sound.permanent.logs };
     covered = λ j output is. record { no_gap = sound.permanent.no_gap j output is; covered = sound.covered j output is };

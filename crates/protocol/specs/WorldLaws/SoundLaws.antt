@@ -24,13 +24,13 @@ module _ (net : Network) (inputs : List (List ℤ)) (outputs : List OutputView) 
 
   -- a start
   pub stored_sound : (number : ℕ) (old : RunningNode) → IsSound net inputs old outputs → IsSound net inputs (keeping (with_own number old.current old.kept) old) outputs
-  stored_sound number old sound = record { listed = sound.listed; kept = record { laid_out = sound.kept.laid_out; counts = sound.kept.counts; logs = sound.kept.logs }; covered = λ j output h. let at = sound.covered j output h in record { no_gap = at.no_gap; covered = at.covered }; come = ∥∥₁_map sound.come (come_start number old) }
+  stored_sound number old sound = record { here = sound.here; listed = sound.listed; kept = record { laid_out = sound.kept.laid_out; counts = sound.kept.counts; logs = sound.kept.logs }; covered = λ j output h. let at = sound.covered j output h in record { no_gap = at.no_gap; covered = at.covered }; come = ∥∥₁_map sound.come (come_start number old) }
 
   come_grant : (job : Option JobView) (old : RunningNode) → next_job net inputs old ≡ job → IsSound net inputs old outputs → HasCome net inputs old outputs → HasCome net inputs (after_grant job old) outputs
   come_grant None old is sound come = come
   come_grant (Some job) old is sound come = record {
     reached = reached_grant net inputs (Some job) old come.reached;
-    out = λ other h. subst (IsJobOf net inputs old.current) (same job other h) (job_granted net inputs old job sound.kept.laid_out is);
+    out = λ other h. subst (IsJobOf net inputs old.current) (same job other h) (job_granted net old.kept.node inputs old job sound.kept.laid_out is);
     released = λ j p output channel h at from. beginning_stays net inputs old _ come.reached _ output.channel p output.taken (on_grant net inputs (Some job) old come.reached) (come.released j p output channel h at from);
   }
     where
@@ -40,7 +40,7 @@ module _ (net : Network) (inputs : List (List ℤ)) (outputs : List OutputView) 
   -- whatever was granted
   pub granted_sound : (job : Option JobView) (old : RunningNode) → next_job net inputs old ≡ job → IsSound net inputs old outputs → IsSound net inputs (after_grant job old) outputs
   granted_sound None old is sound = sound
-  granted_sound (Some job) old is sound = record { listed = sound.listed; kept = record { laid_out = sound.kept.laid_out; counts = sound.kept.counts; logs = sound.kept.logs }; covered = λ j output h. let at = sound.covered j output h in record { no_gap = at.no_gap; covered = at.covered }; come = ∥∥₁_map sound.come (come_grant (Some job) old is sound) }
+  granted_sound (Some job) old is sound = record { here = sound.here; listed = sound.listed; kept = record { laid_out = sound.kept.laid_out; counts = sound.kept.counts; logs = sound.kept.logs }; covered = λ j output h. let at = sound.covered j output h in record { no_gap = at.no_gap; covered = at.covered }; come = ∥∥₁_map sound.come (come_grant (Some job) old is sound) }
 
   come_decide : (old : RunningNode) → HasCome net inputs old outputs → HasCome net inputs (keeping (decided old.kept) old) outputs
   come_decide old come = record {
@@ -52,6 +52,7 @@ module _ (net : Network) (inputs : List (List ℤ)) (outputs : List OutputView) 
   -- a decision
   pub decided_sound : (old : RunningNode) → IsBehind old.kept.permanent (decided old.kept).permanent → IsSound net inputs old outputs → IsSound net inputs (keeping (decided old.kept) old) outputs
   decided_sound old ahead sound = record {
+    here = sound.here;
     listed = sound.listed;
     kept = record { laid_out = sound.kept.laid_out; counts = sound.kept.counts; logs = sound.kept.logs };
     covered = λ j output h.

@@ -18,7 +18,6 @@ use Rattle.record.specs.declared.record.Tentative.{Tentative}
 use Rattle.protocol.specs.Node.JobView.{JobView}
 use Rattle.protocol.specs.Node.NodeView.{NodeView, ModeView, Down, InDoubt, Runs, RunningView, RunningNode, running_node, running_in, running_of, on_mode, on_running}
 use Rattle.protocol.specs.Node.ArmedRestarts.{restart_after, round_later, with_armed}
-use Rattle.protocol.specs.NodeLaws.LikeLaws.{HasOuterChannels}
 use Rattle.protocol.specs.Node.Choosing.{next_job, after_grant, job_at, node_job, granted, with_grant}
 use Rattle.protocol.specs.Node.Installing.{turned, IsOut, IsInstall}
 use Rattle.protocol.specs.NodeLaws.FitLaws.{behind_installed}
@@ -123,7 +122,7 @@ module _ (net : Network) (inputs : List (List ℤ)) where
           subst (λ (n : RunningNode). RunsSoundly net inputs n (outputs_of old.outlets)) before.2
           (record {
             order = order_ahead now.kept now.current _ (behind_installed net.channels done.job.process done.after done.taken done.sent now.current) sound.order;
-            sound = sound_done net inputs now (outputs_of old.outlets) done.job done.after done.taken done.sent fits sound.sound out turn;
+            sound = sound_done net inputs valid now (outputs_of old.outlets) done.job done.after done.taken done.sent fits sound.sound out turn;
           })
 
   -- A checkpoint
@@ -141,7 +140,7 @@ module _ (net : Network) (inputs : List (List ℤ)) where
       let now = running_node old.node.kept old.node.version running in
       let next = own_sound old running inv is in
       let bounded = own_bounded net inputs valid (outputs_of old.outlets) old.number now (runs_at old inv running is).sound inv.kept.bounded in
-      record_of net inputs (outputs_of old.outlets) (keeping (with_own old.number running.current old.node.kept) now) inv.kept.undecided bounded inv.kept.permanent
+      record_of net inputs (outputs_of old.outlets) (keeping (with_own old.number running.current old.node.kept) now) valid inv.kept.undecided bounded inv.kept.permanent
       (record_own net inputs (outputs_of old.outlets) old.number old.node.kept running.current (current_sound net inputs (outputs_of old.outlets) now (runs_at old inv running is).sound) inv.kept) next.order next.sound
 
   own_now : (old : StationView) (running : RunningView) → old.node.mode ≡ Runs running → with_own_now old.number old.node ≡ with_own old.number running.current old.node.kept
@@ -253,9 +252,9 @@ module _ (net : Network) (inputs : List (List ℤ)) where
   -- An item that leaves
 
   -- a log that goes back to what has left goes back to what has left by now
-  image_set : (image : ImageView) (outputs : List OutputView) (j : ℕ) (x y : OutputView) → slice_get outputs j ≡ Some x → y.channel ≡ x.channel → length x.taken ≤ length y.taken → ImageIsSound net inputs image outputs
-      → ImageIsSound net inputs image (slice_set outputs j y)
-  image_set image outputs j x y there channel longer sound = record {
+  image_set : (home : ℕ) (image : ImageView) (outputs : List OutputView) (j : ℕ) (x y : OutputView) → slice_get outputs j ≡ Some x → y.channel ≡ x.channel → length x.taken ≤ length y.taken → ImageIsSound net home inputs image outputs
+      → ImageIsSound net home inputs image (slice_set outputs j y)
+  image_set home image outputs j x y there channel longer sound = record {
     laid_out = sound.laid_out;
     counts = sound.counts;
     logs = sound.logs;
@@ -269,9 +268,9 @@ module _ (net : Network) (inputs : List (List ℤ)) where
           let base : base_of image y.channel ≡ base_of image x.channel = ap (base_of image) channel in
           subst (λ (o : OutputView). base_of image o.channel ≤ length o.taken) here.1 (omega (arith, gap, base, longer))
 
-  release_at : (round place : ℕ) (running : RunningView) (old : StationView) (answer : ReplyView) (new : StationView) → old.node.mode ≡ Runs running → next_release round old ≡ Some place → StationInvariant net inputs old
+  release_at : (round place : ℕ) (running : RunningView) (old : StationView) (answer : ReplyView) (new : StationView) → IsValid net → old.node.mode ≡ Runs running → next_release round old ≡ Some place → StationInvariant net inputs old
       → IsReleaseAt round place old answer new → StationInvariant net inputs new
-  release_at round place running old answer new mode next inv step =
+  release_at round place running old answer new valid mode next inv step =
       same_keeps _ new step.same (record { kept = subst (RecordIsSound net inputs old.node.kept) (sym outputs) kept; runs = λ run is. subst (RunsSoundly net inputs run) (sym outputs) (runs run is) })
     where
       before : RunningNode
@@ -327,9 +326,9 @@ module _ (net : Network) (inputs : List (List ℤ)) where
           (λ log history. took_goes_on (log_of running.current step.outlet.channel) step.outlet.taken step.later.taken history log has took) logged
 
       kept : RecordIsSound net inputs old.node.kept (slice_set (outputs_of old.outlets) place (record { channel = step.outlet.channel; taken = step.later.taken }))
-      kept = record_of net inputs _ (with_current (trimmed_image step.outlet.channel (length step.later.taken) running.current) (running_node old.node.kept old.node.version running)) inv.kept.undecided inv.kept.bounded
-          (image_set old.node.kept.permanent (outputs_of old.outlets) place (output_of step.outlet) (record { channel = step.outlet.channel; taken = step.later.taken }) there refl more_items inv.kept.permanent)
-          (λ tentative is. image_set tentative.image (outputs_of old.outlets) place (output_of step.outlet) (record { channel = step.outlet.channel; taken = step.later.taken }) there refl more_items (inv.kept.held tentative is)) order sound
+      kept = record_of net inputs _ (with_current (trimmed_image step.outlet.channel (length step.later.taken) running.current) (running_node old.node.kept old.node.version running)) valid inv.kept.undecided inv.kept.bounded
+          (image_set old.node.kept.node old.node.kept.permanent (outputs_of old.outlets) place (output_of step.outlet) (record { channel = step.outlet.channel; taken = step.later.taken }) there refl more_items inv.kept.permanent)
+          (λ tentative is. image_set old.node.kept.node tentative.image (outputs_of old.outlets) place (output_of step.outlet) (record { channel = step.outlet.channel; taken = step.later.taken }) there refl more_items (inv.kept.held tentative is)) order sound
 
       runs : (run : RunningNode) → running_of (trimmed_node step.outlet.channel (length step.later.taken) old.node) ≡ Some run
           → RunsSoundly net inputs run (slice_set (outputs_of old.outlets) place (record { channel = step.outlet.channel; taken = step.later.taken }))
@@ -339,16 +338,16 @@ module _ (net : Network) (inputs : List (List ℤ)) where
           let same : with_current (trimmed_image step.outlet.channel (length step.later.taken) running.current) (running_node old.node.kept old.node.version running) ≡ run = cc in
           subst (λ (n : RunningNode). RunsSoundly net inputs n (slice_set (outputs_of old.outlets) place (record { channel = step.outlet.channel; taken = step.later.taken }))) same (record { order = order; sound = sound })
 
-  release_keeps : (round place : ℕ) (old : StationView) (answer : ReplyView) (new : StationView) → next_release round old ≡ Some place → StationInvariant net inputs old → IsReleaseAt round place old answer new → StationInvariant net inputs new
-  release_keeps round place old answer new next inv step = at (is_running old.node.mode) refl next
+  release_keeps : (round place : ℕ) (old : StationView) (answer : ReplyView) (new : StationView) → IsValid net → next_release round old ≡ Some place → StationInvariant net inputs old → IsReleaseAt round place old answer new → StationInvariant net inputs new
+  release_keeps round place old answer new valid next inv step = at (is_running old.node.mode) refl next
     where
       at : (b : Bool) → is_running old.node.mode ≡ b → cond b (first_waiting old.node.kept round 0 old.outlets) None ≡ Some place → StationInvariant net inputs new
       at false test e = absurd (cc)
-      at true test e = let runs = runs_now old.node.mode test in release_at round place runs.0 old answer new runs.1 next inv step
+      at true test e = let runs = runs_now old.node.mode test in release_at round place runs.0 old answer new valid runs.1 next inv step
 
-  release_or_not : (round : ℕ) (o : Option ℕ) (old : StationView) (answer : ReplyView) (new : StationView) → next_release round old ≡ o → StationInvariant net inputs old → IsRelease round o old answer new → StationInvariant net inputs new
-  release_or_not round None old answer new next inv step = same_keeps old new step.1 inv
-  release_or_not round (Some place) old answer new next inv step = release_keeps round place old answer new next inv step
+  release_or_not : (round : ℕ) (o : Option ℕ) (old : StationView) (answer : ReplyView) (new : StationView) → IsValid net → next_release round old ≡ o → StationInvariant net inputs old → IsRelease round o old answer new → StationInvariant net inputs new
+  release_or_not round None old answer new valid next inv step = same_keeps old new step.1 inv
+  release_or_not round (Some place) old answer new valid next inv step = release_keeps round place old answer new valid next inv step
 
   send_keeps : (b : Bool) (round : ℕ) (old : StationView) (answer : ReplyView) (new : StationView) → StationInvariant net inputs old → IsSendOf b round old answer new → StationInvariant net inputs new
   send_keeps false round old answer new inv step = same_keeps old new step.1 inv
@@ -364,7 +363,7 @@ module _ (net : Network) (inputs : List (List ℤ)) where
     station_keeps room round (event.Send k) old answer new inv step = send_keeps (not (is_down old.node.mode)) round old answer new inv step
     station_keeps room round (event.Start k) old answer new inv step = same_keeps _ new step.same (start_keeps round step.call old step.outcome new.node new.failures _ valid inv step.step)
     station_keeps room round (event.Decide k) old answer new inv step = same_keeps _ new step.same (decision_keeps round step.call old step.outcome new.node new.failures _ inv step.step)
-    station_keeps room round (event.Release k) old answer new inv step = release_or_not round (next_release round old) old answer new refl inv step
+    station_keeps room round (event.Release k) old answer new inv step = release_or_not round (next_release round old) old answer new valid refl inv step
     station_keeps room round (event.Crash k fill rounds) old answer new inv step = same_keeps _ new step.same (crash_keeps (round_later round rounds) old step.was_up new.node _ inv step.step)
     station_keeps room round (event.Recover k) old answer new inv step = same_keeps _ new step.same (recovery_keeps round step.call old step.outcome new.node new.failures _ inv step.step)
     station_keeps room round (event.Arm k fault rounds) old answer new inv step = same_keeps _ new step.1 (moved_keeps (with_armed fault.call rounds old.node) old.failures old.turns old inv.kept inv.runs)
@@ -408,7 +407,6 @@ step_keeps rooms e old answer new inv step =
     record {
       valid = subst IsValid (sym step.net) inv.valid;
       fits = subst (λ (n : Network). Fits n new.inputs) (sym step.net) (subst (Fits old.net) (sym step.inputs) inv.fits);
-      outer = subst HasOuterChannels (sym step.net) inv.outer;
       alone = subst IsOnOneNode (sym step.net) inv.alone;
       inhabited = omega (arith, count, inv.inhabited);
       stations = subst (λ (n : Network). AreSound n new.inputs new.stations) (sym step.net) (subst (λ (i : List (List ℤ)). AreSound old.net i new.stations) (sym step.inputs) stations);

@@ -15,7 +15,6 @@ use Rattle.world.proofs.world.act_at.Goals as goal
 pub act-requires : goal.act-requires
 act-requires g c = record {
   fits = c.requires.fits;
-  outer = c.requires.outer;
   sound = c.requires.sound c.args.number (station_view g.O.Outlet.taken g.O.Outlet.failures c.index_mut.result.now) (seen_at (station_view g.O.Outlet.taken g.O.Outlet.failures) c.args.stations.now.items c.args.number c.index_mut.result.now (search rules) c.index_mut.ensures.value);
 }
 
@@ -25,7 +24,7 @@ returns-then-number-len-clause-grown g c =
 
 pub returns-then-number-len-clause-line : goal.returns-then-number-len-clause-line
 returns-then-number-len-clause-line g c =
-    all_still_in_line {cell = g.C.StableCell} g.O.Outlet.taken g.O.Outlet.failures g.met.C.StableCell.only_now (network_of c.args.net.now.value.program) c.args.inputs.now c.args.stations.now.items c.requires.sound
+    all_still_in_line {cell = g.C.StableCell} g.O.Outlet.taken g.O.Outlet.failures g.met.C.StableCell.only_now (network_of c.args.net.now.value.program) c.args.inputs.now c.args.stations.now.items c.args.net.now.value.valid c.requires.sound
 
 pub returns-then-number-len-clause-unchanged : goal.returns-then-number-len-clause-unchanged
 returns-then-number-len-clause-unchanged g c = λ h. pairs_refl _ _ (λ i station is. cell_stays station)

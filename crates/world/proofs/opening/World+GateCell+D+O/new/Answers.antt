@@ -5,7 +5,6 @@ use Rattle.protocol.specs.World.Invariant.{WorldInvariant}
 use Rattle.net_check.specs.declared.net.Net.{Net}
 use Rattle.protocol.specs.Node.Opening.{opening_record}
 use Rattle.world.specs.OpeningWorld.{LeavesOnlyRecord}
-use Rattle.protocol.specs.WorldLaws.OuterLaws.{outer_of}
 use Rattle.protocol.specs.WorldLaws.OpenLaws.{world_opened}
 use Rattle.world.specs.StationView.{outlet_views}
 use Rattle.world.specs.WorldView.{station_view, HasOutlets}
@@ -24,7 +23,7 @@ invariant_of-result g c =
       sound = subst WorldInvariant
           (sym (opened_world (station_view O.taken O.failures) c.deref.result.now net c.args.inputs.value (g.D.Disk.failure_count c.args.disk) _ (outlet_views O.taken O.failures outputs) c.push.new.self.items _ c.in_ok-station.station
           c.in_ok-stations.ensures.items c.in_ok-push.ensures.items c.deref.ensures c.in_ok-station.ensures.opening outlets))
-          (world_opened (network_of net.program) c.args.inputs.value (g.D.Disk.failure_count c.args.disk) (outlet_views O.taken O.failures outputs) net.valid c.requires.fits (outer_of (network_of net.program) c.requires.runnable) c.requires.runnable.one_node
+          (world_opened (network_of net.program) c.args.inputs.value (g.D.Disk.failure_count c.args.disk) (outlet_views O.taken O.failures outputs) net.valid c.requires.fits c.requires.runnable
           (opened_listed O.taken O.failures outputs ∙ c.requires.listed) (opened_nothing O.taken O.failures outputs c.requires.empty));
     }
 

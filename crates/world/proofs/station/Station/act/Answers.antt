@@ -18,7 +18,7 @@ install-requires g c = λ out.
 
 pub start-requires : goal.start-requires
 start-requires g c =
-    like_now (network_of c.args.net.now.value.program) c.args.inputs.now c.args.net.now.value.valid c.requires.fits (station_view g.O.Outlet.taken g.O.Outlet.failures c.args.self.now) c.requires.sound c.requires.outer
+    like_now (network_of c.args.net.now.value.program) c.args.inputs.now c.args.net.now.value.valid c.requires.fits (station_view g.O.Outlet.taken g.O.Outlet.failures c.args.self.now) c.requires.sound
 
 pub release-requires : goal.release-requires
 release-requires g c = λ place outlet next there.

@@ -1,0 +1,52 @@
+-- What of a network lies on a node: its processes, and its ends of channels.
+use Rattle.std.specs.Prelude.{◌≡◌, ℕ, zero, suc, Bool, true, false, ◌==◌, ◌||◌, if◌then◌else◌, List, [], ◌∷◌, length, Option, Some, None, slice_get, IsTrue}
+use Rattle.kahn_net.specs.Syntax.{Code, Network}
+use Rattle.kahn_net.specs.declared.program.Channel.{Channel}
+use Rattle.kahn_net.specs.declared.program.Port.{Port}
+use Rattle.kahn_net.specs.declared.program.Port.TheVariants.{Outside, Process}
+
+-- of so many numbers from a first one on, those that pass a test
+abbrev pub numbers_where : (ℕ → Bool) → ℕ → ℕ → List ℕ
+numbers_where test first zero = []
+numbers_where test first (suc count) = if test first then first ∷ numbers_where test (suc first) count else numbers_where test (suc first) count
+
+-- a process of this code is on the node
+abbrev pub is_on : ℕ → Option Code → Bool
+is_on node None = false
+is_on node (Some code) = code.node == node
+
+abbrev pub has_process : Network → ℕ → ℕ → Bool
+has_process net node p = is_on node (slice_get net.codes p)
+
+-- at this end of a channel there is a process of the node
+abbrev pub port_on : Network → ℕ → Port → Bool
+port_on net node Outside = false
+port_on net node (Process p) = has_process net node p
+
+abbrev pub channel_on : Network → ℕ → Option Channel → Bool
+channel_on net node None = false
+channel_on net node (Some channel) = port_on net node channel.producer || port_on net node channel.consumer
+
+-- the node has an end of this channel
+abbrev pub has_end : Network → ℕ → ℕ → Bool
+has_end net node c = channel_on net node (slice_get net.channels c)
+
+-- the role of the node's end: it receives (0), sends (1), or does both (2)
+abbrev pub role_by : Bool → Bool → ℕ
+role_by true true = 2
+role_by true false = 1
+role_by false gets = 0
+
+abbrev pub role_here : Network → ℕ → Channel → ℕ
+role_here net node channel = role_by (port_on net node channel.producer) (port_on net node channel.consumer)
+
+-- the numbers of the node's processes, and of the channels of which it has an end
+abbrev pub processes_on : Network → ℕ → List ℕ
+processes_on net node = numbers_where (has_process net node) 0 (length net.codes)
+
+abbrev pub ends_on : Network → ℕ → List ℕ
+ends_on net node = numbers_where (has_end net node) 0 (length net.channels)
+
+-- each process of the network is on the node
+abbrev pub AllHere : Network → ℕ → Type 0
+AllHere net node = (p : ℕ) (code : Code) → slice_get net.codes p ≡ Some code → IsTrue (has_process net node p)
