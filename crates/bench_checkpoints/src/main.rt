@@ -16,7 +16,7 @@ use std::alloc::{AllocError, Global};
 use std::env;
 use std::sync::Arc;
 use std::time::CpuClock;
-use world::{Event, Reply, World, can_run, list_outputs};
+use world::{Event, Reply, World, list_outputs, node_count};
 
 const NET: &str = "kahn 1; input i; output o;
 process sum on 0 { var a; var v; loop { v = get i; a = a + v; put a to o; } }";
@@ -66,14 +66,15 @@ fn take_turn(alloc: Global, world: &mut SumWorld) -> anyhow::Result<()> {
 // A world of the running sum whose node retains so many items, and has no checkpoint of them.
 fn world_of(alloc: Global, items: usize) -> anyhow::Result<SumWorld> {
     let net = check(alloc, parse(alloc, NET)?)?;
-    anyhow::ensure!(can_run(&net), "this network can't be run");
+    anyhow::ensure!(node_count(&net) == 1, "this network is of several nodes");
     let text = inputs_text(alloc, items)?;
     let inputs = bind(alloc, &net, parse_inputs(alloc, &text)?)?;
     let outputs = list_outputs(alloc, &net)?;
     let net = Arc::new(alloc, net)?;
     let inputs = Arc::new(alloc, inputs)?;
-    let disk = empty_disk(alloc, SECTORS)?;
-    let mut world = World::new(alloc, net, inputs, disk, outputs)?;
+    let mut disks = Vec::with_capacity(alloc, 1)?;
+    disks.push(empty_disk(alloc, SECTORS)?)?;
+    let mut world = World::new(alloc, net, inputs, disks, outputs)?;
     for _ in 0..items.div_ceil(TURN_ITEMS) {
         take_turn(alloc, &mut world)?;
     }

@@ -11,7 +11,7 @@ use outlet::ListOutlet;
 use sector_disk::MemDisk;
 use std::alloc::{AllocError, Global};
 use std::sync::Arc;
-use world::{Event, Reply, World, can_run, list_outputs};
+use world::{Event, Reply, World, list_outputs, node_count};
 
 const NET: &str = "kahn 1; input i; output o;
 process sum on 0 { var a; var v; loop { v = get i; a = a + v; put a to o; } }";
@@ -65,13 +65,14 @@ fn step(alloc: Global, world: &mut World<GateCell<MemDisk>, ListOutlet>) -> anyh
 fn main(rt: HostRuntime) -> anyhow::Result<()> {
     let alloc = rt.alloc();
     let net = check(alloc, parse(alloc, NET)?)?;
-    anyhow::ensure!(can_run(&net), "several nodes");
+    anyhow::ensure!(node_count(&net) == 1, "several nodes");
     let inputs = bind(alloc, &net, parse_inputs(alloc, "i: 1 2 3")?)?;
     let outputs = list_outputs(alloc, &net)?;
     let net = Arc::new(alloc, net)?;
     let inputs = Arc::new(alloc, inputs)?;
-    let disk = empty_disk(alloc, SECTORS)?;
-    let mut world = World::new(alloc, net, inputs, disk, outputs)?;
+    let mut disks = Vec::with_capacity(alloc, 1)?;
+    disks.push(empty_disk(alloc, SECTORS)?)?;
+    let mut world = World::new(alloc, net, inputs, disks, outputs)?;
     for turn in 0..100 {
         if world.complete() {
             break;

@@ -1,7 +1,7 @@
 //! Runs the program on each example, and prints each whose text comes out otherwise, and how many came out as written.
 //!
-//! A line of `list` names an example, after which may stand the number of the approximation that is printed in place of a
-//! run. The example NAME is NAME.net with the items of NAME.inputs, and its text NAME.out.
+//! A line of `list` names an example, after which may stand how many items of each output are asked for, where it never ends.
+//! The example NAME is NAME.net with the items of NAME.inputs, and its text NAME.out.
 #![tactic(auto)]
 
 use kahn_program::{Options, run};
@@ -19,15 +19,15 @@ fn read(rt: &HostRuntime, name: &str, kind: &str) -> io::Result<Vec<u8>> {
     Ok(bytes)
 }
 
-/// What the program writes to standard output where it prints this approximation, or runs.
+/// What the program writes to standard output, where so many items of each output are asked for.
 fn printed(
     alloc: Global,
     net: &[u8],
     inputs: &[u8],
-    approx: Option<u64>,
+    items: Option<u64>,
 ) -> Result<Vec<u8>, AllocError> {
     let mut options = Options::new(String::new(alloc), String::new(alloc));
-    options.approx = approx;
+    options.items = items;
     let mut out = Vec::new(alloc);
     let mut err = Vec::new(alloc);
     let _status = run(alloc, &options, Some(net), Some(inputs), &mut out, &mut err);
@@ -35,11 +35,11 @@ fn printed(
 }
 
 /// Whether an example comes out as written.
-fn holds(rt: &HostRuntime, name: &str, approx: Option<u64>) -> io::Result<bool> {
+fn holds(rt: &HostRuntime, name: &str, items: Option<u64>) -> io::Result<bool> {
     let net = read(rt, name, "net")?;
     let inputs = read(rt, name, "inputs")?;
     let text = read(rt, name, "out")?;
-    Ok(printed(rt.alloc(), &net, &inputs, approx)? == text)
+    Ok(printed(rt.alloc(), &net, &inputs, items)? == text)
 }
 
 /// The examples, a line each.
@@ -54,11 +54,11 @@ fn main(rt: HostRuntime) -> io::Result<()> {
     let examples = list(&rt)?;
     let mut as_written: u64 = 0;
     for line in examples.lines() {
-        let (name, approx) = match line.split_once(' ') {
+        let (name, items) = match line.split_once(' ') {
             Some((name, number)) => (name, number.parse::<u64>().ok()),
             None => (line, None),
         };
-        if holds(&rt, name, approx)? {
+        if holds(&rt, name, items)? {
             as_written = as_written.saturating_add(1);
         } else {
             println!(rt; "otherwise: {name}")?;

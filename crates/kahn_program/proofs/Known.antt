@@ -3,7 +3,7 @@ use Rattle.std.proofs.Common.{◌≡◌, ℕ, List, Option, Some, None, subst, r
 use Rattle.std.specs.Prelude.{IfSome, IsUtf8}
 use Rattle.kahn_program.specs.Readings.{IsOutside, IsReadFailure}
 use Rattle.kahn_program.specs.declared.failure.Failure.{Failure}
-use Rattle.kahn_program.specs.declared.failure.Failure.TheVariants.{Line, Whole, NotText, Unreadable, Approximation, Unsupported, NoMemory, Other}
+use Rattle.kahn_program.specs.declared.failure.Failure.TheVariants.{Line, Whole, NotText, Unreadable, Approximation, NoMemory, Other}
 use Rattle.kahn_program.specs.declared.failure.Source.{Source}
 
 -- what holds of the bytes that were read holds of the known ones
@@ -22,6 +22,5 @@ outside_of source known bytes (Whole other number) is utf8 h = absurd h
 outside_of source known bytes (NotText other) is utf8 h = absurd (subst (λ (o : Option (List ℕ)). IfSome o (λ xs. ¬ (IsUtf8 xs))) is h.1 utf8)
 outside_of source known bytes (Unreadable other) is utf8 h = inr (ap Unreadable h)
 outside_of source known bytes (Approximation number) is utf8 h = absurd h
-outside_of source known bytes Unsupported is utf8 h = absurd h
 outside_of source known bytes NoMemory is utf8 h = inl refl
 outside_of source known bytes (Other number) is utf8 h = absurd h

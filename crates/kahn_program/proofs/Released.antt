@@ -1,23 +1,23 @@
 -- What a world's outlets took are the streams of a run.
-use Rattle.std.proofs.Common.{◌≡◌, ◌≢◌, ◌⊎◌, inl, inr, Vec, Global, ℕ, zero, suc, ◌+◌, ◌<◌, Bool, true, false, ◌&&◌, eqb, cond, List, ℤ, [], ◌∷◌, ◌++◌, length, map, drop, get_or, Option, Some, refl, sym, ap, subst, ◌∙◌, append_assoc, arith}
-use Rattle.std.specs.Prelude.{Result, Ok, Err, IfOk, IfSome, slice_get, find, IsTrue, if◌then◌else◌}
+use Rattle.std.proofs.Common.{◌≡◌, ◌≢◌, ◌⊎◌, inl, inr, Vec, Global, ℕ, suc, ◌+◌, ◌<◌, Bool, true, false, ◌&&◌, List, ℤ, [], ◌∷◌, ◌++◌, length, map, drop, get_or, Option, Some, refl, sym, ap, subst, ◌∙◌, append_assoc, arith}
+use Rattle.std.specs.Prelude.{Result, Ok, Err, IfOk, IfSome, slice_get, IsTrue, if◌then◌else◌}
 use Rattle.std.specs.Io.KnownBytes.{Appends}
 use Rattle.std.proofs.Math.Logic.{∥∥₁_map}
 use Rattle.std.proofs.Math.Seq.{drop-cons}
-use Rattle.std.proofs.lemmas.Bool.Decides.{nat_tests}
 use Rattle.kahn_net.specs.Streams.{history_of, IsPrefix}
 use Rattle.kahn_net.specs.Syntax.{Network, network_of}
 use Rattle.kahn_net.specs.Approximations.{approximation}
 use Rattle.kahn_net.specs.declared.program.Channel.{Channel}
 use Rattle.protocol.specs.World.Sound.{goes_outside, output_channels}
 use Rattle.protocol.specs.World.Steps.{WorldView}
-use Rattle.protocol.specs.WorldLaws.OutputLaws.{map_at}
+use Rattle.protocol.specs.WorldLaws.OutputLaws.{channel_there, map_at}
+use Rattle.protocol.specs.WorldLaws.ShownLaws.{output_shown}
 use Rattle.protocol.specs.World.Headline.{released_prefix}
 use Rattle.protocol.specs.World.Invariant.{output_of, outputs_of, WorldInvariant}
 use Rattle.protocol.specs.World.OutputView.{OutputView}
 use Rattle.protocol.specs.World.Quiet.{are_quiet, AreWhole}
-use Rattle.protocol.specs.World.StationView.{OutletView, StationView}
-use Rattle.protocol.specs.World.Released.{taken_or, released_of}
+use Rattle.protocol.specs.World.StationView.{StationView}
+use Rattle.protocol.specs.World.Released.{released_of}
 use Rattle.kahn_net.specs.declared.program.Port.{Port}
 use Rattle.kahn_net.specs.declared.program.Port.TheVariants.{Outside, Process}
 use Rattle.std.specs.List.{list_all}
@@ -31,87 +31,35 @@ use Rattle.kahn_program.specs.declared.failure.Failure.{Failure}
 use Rattle.std.specs.Prelude.{IfErr}
 use Rattle.kahn_program.specs.Readings.{IsRunFailure, of_report}
 
--- The outlet of a channel
+-- The streams of a world, each of which the station of its producer's node has
 
-same_number : (a b : ℕ) → eqb a b ≡ true → a ≡ b
-same_number a b h = grind (arith, nat_tests, h)
-
-found_itself : (a : ℕ) → eqb a a ≡ true
-found_itself a = grind (arith, nat_tests)
-
--- the outlet of this channel that is found first is one of the list
-pub record IsFound (outlets : List OutletView) (c : ℕ) : Type 0 where
-  pub place : ℕ
-  pub outlet : OutletView
-  pub there : slice_get (outputs_of outlets) place ≡ Some (output_of outlet)
-  pub channel : outlet.channel ≡ c
-  pub found : find (λ (other : OutletView). eqb other.channel c) outlets ≡ Some outlet
-
-find_there : (outlets : List OutletView) (j c : ℕ) → slice_get (map (λ (output : OutputView). output.channel) (outputs_of outlets)) j ≡ Some c → IsFound outlets c
-find_there [] j c is = absurd (cc)
-find_there (x ∷ outlets) j c is = at (eqb x.channel c) refl j (λ k there. find_there outlets k c there) is
-  where
-    later : eqb x.channel c ≡ false → IsFound outlets c → IsFound (x ∷ outlets) c
-    later other f = record {
-      place = suc f.place;
-      outlet = f.outlet;
-      there = f.there;
-      channel = f.channel;
-      found = ap (λ (b : Bool). cond b (Some x) (find (λ (outlet : OutletView). eqb outlet.channel c) outlets)) other ∙ f.found;
-    }
-
-    at : (b : Bool) → eqb x.channel c ≡ b → (k : ℕ)
-        → ((i : ℕ) → slice_get (map (λ (output : OutputView). output.channel) (outputs_of outlets)) i ≡ Some c → IsFound outlets c)
-        → slice_get (map (λ (output : OutputView). output.channel) (outputs_of (x ∷ outlets))) k ≡ Some c → IsFound (x ∷ outlets) c
-    at true test k rest there = record {
-      place = 0;
-      outlet = x;
-      there = refl;
-      channel = same_number x.channel c test;
-      found = ap (λ (b : Bool). cond b (Some x) (find (λ (outlet : OutletView). eqb outlet.channel c) outlets)) test;
-    }
-    at false test zero rest there =
-        let same : x.channel ≡ c = cc in
-        let both : eqb x.channel c ≡ true = ap (eqb x.channel) (sym same) ∙ found_itself x.channel in
-        let wrong : false ≡ true = sym test ∙ both in
-        absurd (cc)
-    at false test (suc k) rest there = later test (rest k there)
-
--- The streams of a world, each of which its first station has
-
-module _ (net : Network) (station : StationView) (others : List StationView) (listed : map (λ (output : OutputView). output.channel) (outputs_of station.outlets) ≡ output_channels 0 net.channels) where
-  found_at : (j c : ℕ) → slice_get (output_channels 0 net.channels) j ≡ Some c → IsFound station.outlets c
-  found_at j c is = find_there station.outlets j c (ap (λ (numbers : List ℕ). slice_get numbers j) listed ∙ is)
-
-  stream_of : (c : ℕ) (f : IsFound station.outlets c) → released_of c (station ∷ others) ≡ f.outlet.taken
-  stream_of c f = ap (λ (o : Option OutletView). taken_or o (released_of c others)) f.found
-
-  same_items : (j c : ℕ) (items : List ℤ) → slice_get (output_channels 0 net.channels) j ≡ Some c → slice_get (released_streams net (station ∷ others)) j ≡ Some items → items ≡ released_of c (station ∷ others)
+module _ (world : WorldView) (inv : WorldInvariant world) where
+  same_items : (j c : ℕ) (items : List ℤ) → slice_get (output_channels 0 world.net.channels) j ≡ Some c → slice_get (released_streams world.net world.stations) j ≡ Some items → items ≡ released_of c world.stations
   same_items j c items is there =
-      let at : Some items ≡ Some (released_of c (station ∷ others)) = sym there ∙ map_at (λ (channel : ℕ). released_of channel (station ∷ others)) (output_channels 0 net.channels) j c is in
+      let at : Some items ≡ Some (released_of c world.stations) = sym there ∙ map_at (λ (channel : ℕ). released_of channel world.stations) (output_channels 0 world.net.channels) j c is in
       cc
 
-  -- each is of an output of the station
-  streams_are : (P : List ℤ → ℕ → Type 0) → ((j : ℕ) (output : OutputView) → slice_get (outputs_of station.outlets) j ≡ Some output → P output.taken output.channel)
-      → (j c : ℕ) (items : List ℤ) → slice_get (output_channels 0 net.channels) j ≡ Some c → slice_get (released_streams net (station ∷ others)) j ≡ Some items → P items c
+  -- each is of an output of a station
+  streams_are : (P : List ℤ → ℕ → Type 0) → ((i : ℕ) (station : StationView) → slice_get world.stations i ≡ Some station → (j : ℕ) (output : OutputView) → slice_get (outputs_of station.outlets) j ≡ Some output → P output.taken output.channel)
+      → (j c : ℕ) (items : List ℤ) → slice_get (output_channels 0 world.net.channels) j ≡ Some c → slice_get (released_streams world.net world.stations) j ≡ Some items → P items c
   streams_are P all j c items is there =
-      let f = found_at j c is in
-      subst (λ (list : List ℤ). P list c) (sym (same_items j c items is there ∙ stream_of c f))
-      (subst (P f.outlet.taken) f.channel (all f.place (output_of f.outlet) f.there))
+      let entry = channel_there 0 world.net.channels j c is in
+      let sum : c ≡ entry.0 = (let place = entry.2 in omega (arith, place)) in
+      let shown = output_shown world inv c entry.1 (ap (slice_get world.net.channels) sum ∙ entry.3) entry.4 in
+      let one = shown.at.shown in
+      subst (λ (list : List ℤ). P list c) (sym (same_items j c items is there ∙ one.shows))
+      (subst (P one.outlet.taken) one.channel (all shown.home shown.at.station shown.at.here one.place (output_of one.outlet) (map_at output_of shown.at.station.outlets one.place one.outlet one.there)))
 
 length_map : (f : ℕ → List ℤ) (cs : List ℕ) → length (map f cs) ≡ length cs
 length_map f [] = refl
 length_map f (c ∷ cs) = ap suc (length_map f cs)
 
 -- what has left a world are the streams of a run
-world_run : (net : Network) (inputs : List (List ℤ)) (stations : List StationView) (round : ℕ) (complete : Bool) → WorldInvariant (record { net = net; inputs = inputs; stations = stations; round = round })
-    → (IsTrue complete → AreWhole (record { net = net; inputs = inputs; stations = stations; round = round })) → IsRun net inputs (released_streams net stations) complete
-world_run net inputs [] round complete inv whole = absurd (let some = inv.inhabited in omega (arith, some))
-world_run net inputs (s ∷ stations) round complete inv whole = record {
-  count = length_map (λ (channel : ℕ). released_of channel (s ∷ stations)) (output_channels 0 net.channels);
-  prefix = ∥∥₁_map (released_prefix (record { net = net; inputs = inputs; stations = s ∷ stations; round = round }) inv)
-      (λ a. (a.0, streams_are net s stations (inv.stations 0 s refl).kept.listed (λ items c. IsPrefix items (history_of (approximation net inputs a.0) c)) (a.1 0 s refl)));
-  whole = λ done. ∥∥₁_map (whole done) (λ a. (a.0, a.1, streams_are net s stations (inv.stations 0 s refl).kept.listed (λ items c. items ≡ history_of (approximation net inputs a.0) c) (a.2 0 s refl)));
+world_run : (world : WorldView) (complete : Bool) → WorldInvariant world → (IsTrue complete → AreWhole world) → IsRun world.net world.inputs (released_streams world.net world.stations) complete
+world_run world complete inv whole = record {
+  count = length_map (λ (channel : ℕ). released_of channel world.stations) (output_channels 0 world.net.channels);
+  prefix = ∥∥₁_map (released_prefix world inv) (λ a. (a.0, streams_are world inv (λ items c. IsPrefix items (history_of (approximation world.net world.inputs a.0) c)) a.1));
+  whole = λ done. ∥∥₁_map (whole done) (λ a. (a.0, a.1, streams_are world inv (λ items c. items ≡ history_of (approximation world.net world.inputs a.0) c) a.2));
 }
 
 -- Streams in order of the channels
@@ -138,7 +86,7 @@ pub run_of : (world : WorldView) (net : Network) (inputs : List (List ℤ)) (com
 run_of world net inputs complete same_net same_inputs inv whole =
     subst (λ (n : Network). IsRun n inputs (released_streams n world.stations) complete) same_net
     (subst (λ (i : List (List ℤ)). IsRun world.net i (released_streams world.net world.stations) complete) same_inputs
-    (world_run world.net world.inputs world.stations world.round complete inv whole))
+    (world_run world complete inv whole))
 
 -- as many streams as outputs
 pub counted_streams : (f : ℕ → List ℤ) (number : ℕ) (channels : List Channel) → length (map f (output_channels number channels)) ≡ output_count channels

@@ -1,6 +1,8 @@
 -- Turns of a run.
 use Rattle.std.proofs.Common.{◌≡◌, ◌⊎◌, ◌∙◌, ◌∷◌, [], ◌+◌, ◌≤◌, ℕ, suc, ℤ, Bool, true, false, List, length, map, Option, refl, sym, ap, subst, arith}
 use Rattle.std.specs.List.{AllByRecursion}
+use Rattle.std.specs.Prelude.{replicate}
+use Rattle.kahn_net.specs.Nodes.{node_count}
 use Rattle.kahn_net.specs.Syntax.{Network}
 use Rattle.kahn_net.specs.declared.program.Channel.{Channel}
 use Rattle.record.specs.RecordView.{RecordView}
@@ -8,7 +10,8 @@ use Rattle.gate_cell.specs.declared.cell.StableCell.{Ghosts as CellWords}
 use Rattle.ckpt_store.specs.Spelling.{fits_in}
 use Rattle.ckpt_store.specs.StoreView.{cell_in}
 use Rattle.proc_step.specs.declared.job.Job.{Job}
-use Rattle.protocol.specs.World.OpeningWorld.{opening_outlet, opening_station, opening_world}
+use Rattle.wire.specs.Traffic.{opening_traffic}
+use Rattle.protocol.specs.World.OpeningWorld.{opening_outlet, opening_stations, opening_world}
 use Rattle.world.specs.OpeningWorld.{IsUnused}
 use Rattle.protocol.specs.World.Sound.{output_channels}
 use Rattle.protocol.specs.World.StationView.{OutletView, StationView}
@@ -19,16 +22,18 @@ use Rattle.protocol.specs.World.ReplyView.{ReplyView}
 use Rattle.world.specs.ReplyView.{reply_view}
 use Rattle.world.specs.WorldView.{rooms, station_view}
 use Rattle.world.specs.declared.event.Reply.{Reply}
-use Rattle.world.specs.declared.event.Reply.TheVariants.{Granted, Installed, Discarded, Sent, Started, Decided, Refused, Released, OutletFailed, Crashed, Recovered, InDoubt, Down, Acted, Idled, NotDue}
+use Rattle.world.specs.declared.event.Reply.TheVariants.{Delivered, Dropped, Granted, Installed, Discarded, Sent, Started, Decided, Refused, Released, OutletFailed, Crashed, Recovered, InDoubt, Down, Acted, Idled, NotDue}
 use Rattle.world.specs.declared.output.Output.{Output}
 use Rattle.world.specs.declared.station.Station.{Station}
-use Rattle.kahn_program.specs.Turning.{CameTo, first_world, Follows, IsStepInRoom, IsWorldTurn, unused_outlet}
+use Rattle.kahn_program.specs.Turning.{turn_node, CameTo, first_world, Follows, IsStepInRoom, IsWorldTurn, unused_outlet}
 use Rattle.kahn_program.specs.Runs.{is_over, IsLast}
 use Rattle.kahn_program.specs.declared.network_run.TheConstants.{MAX_TURNS}
 
 -- where no job was granted nothing follows
 pub nothing_follows : (answer : Reply) (now : WorldView) → ((job : Job) → answer ≡ Granted job → ⊥) → Follows (reply_view answer) now now
 nothing_follows (Granted job) now other = absurd (other job refl)
+nothing_follows Delivered now other = refl
+nothing_follows (Dropped refusal) now other = refl
 nothing_follows Installed now other = refl
 nothing_follows Discarded now other = refl
 nothing_follows Sent now other = refl
@@ -70,10 +75,10 @@ module _ {C O : Type 0} {cell : CellWords C} where
   }
 
 -- one turn more
-pub more_turns : (over : WorldView → Bool) (turns : ℕ) (first before now : WorldView) → CameTo over turns first before → over before ≡ false → IsWorldTurn before now → CameTo over (turns + 1) first now
-more_turns over turns first before now came goes_on turn =
+pub more_turns : (over : WorldView → Bool) (nodes turns : ℕ) (first before now : WorldView) → CameTo over nodes turns first before → over before ≡ false → IsWorldTurn (turn_node nodes turns) before now → CameTo over nodes (turns + 1) first now
+more_turns over nodes turns first before now came goes_on turn =
     let next : suc turns ≡ turns + 1 = omega arith in
-    subst (λ (n : ℕ). CameTo over n first now) next (before, came, goes_on, turn)
+    subst (λ (n : ℕ). CameTo over nodes n first now) next (before, came, goes_on, turn)
 
 -- The first world
 
@@ -89,26 +94,27 @@ module _ {O : Type 0} (taken : O → List ℤ) (failures : O → ℕ) (none : (o
       ∙ ap (λ (rest : List OutletView). opening_outlet (unused_outlet output.channel) ∷ rest) (unused_outlets outputs unused.1)
 
   pub opens_first : (net other : Network) (inputs others : List (List ℤ)) (outputs : List (Output O)) (first : WorldView) → other ≡ net → others ≡ inputs
-      → (failed : ℕ) → failed ≡ 0 → first ≡ opening_world other others failed (outlet_views taken failures outputs)
+      → (failed : List ℕ) → failed ≡ replicate (node_count net) 0 → first ≡ opening_world other others failed (outlet_views taken failures outputs)
       → map (λ (output : Output O). output.channel) outputs ≡ output_channels 0 net.channels → AllByRecursion (IsUnused taken) outputs → first ≡ first_world net inputs
   opens_first net other inputs others outputs first same_net same_inputs failed never opening listed unused =
       let views = outlet_views taken failures outputs in
       opening
-      ∙ (ap (λ (n : ℕ). opening_world other others n views) never
-      ∙ (ap (λ (n : Network). opening_world n others 0 views) same_net
-      ∙ (ap (λ (i : List (List ℤ)). opening_world net i 0 views) same_inputs
-      ∙ ap (λ (outlets : List OutletView). record { net = net; inputs = inputs; stations = opening_station net 0 outlets ∷ []; round = 0 })
+      ∙ (ap (λ (list : List ℕ). opening_world other others list views) never
+      ∙ (ap (λ (n : Network). opening_world n others (replicate (node_count net) 0) views) same_net
+      ∙ (ap (λ (i : List (List ℤ)). opening_world net i (replicate (node_count net) 0) views) same_inputs
+      ∙ ap (λ (outlets : List OutletView). record { net = net; inputs = inputs; stations = opening_stations net (replicate (node_count net) 0) outlets; traffic = opening_traffic; round = 0 })
       (unused_outlets outputs unused ∙ ap (λ (channels : List ℕ). map opening_outlet (map unused_outlet channels)) listed))))
 
 -- The last one
 
-pub last_world : (net : Network) (inputs : List (List ℤ)) (given : List Channel) (rounds : ℕ) (items : Option ℕ) (first now : WorldView) → given ≡ net.channels → first ≡ first_world net inputs
-    → (turns : ℕ) × CameTo (is_over (output_channels 0 given) rounds items) turns first now × ((is_over (output_channels 0 given) rounds items now ≡ true) ⊎ (MAX_TURNS ≤ turns))
+pub last_world : (net : Network) (inputs : List (List ℤ)) (given : List Channel) (rounds nodes : ℕ) (items : Option ℕ) (first now : WorldView) → given ≡ net.channels → nodes ≡ node_count net → first ≡ first_world net inputs
+    → (turns : ℕ) × CameTo (is_over (output_channels 0 given) rounds items) nodes turns first now × ((is_over (output_channels 0 given) rounds items now ≡ true) ⊎ (MAX_TURNS ≤ turns))
     → IsLast net inputs rounds items now
-last_world net inputs given rounds items first now channels opened came =
-    let same = subst (λ (cs : List Channel). CameTo (is_over (output_channels 0 cs) rounds items) came.0 first now) channels came.1 in
+last_world net inputs given rounds nodes items first now channels all opened came =
+    let counted = subst (λ (n : ℕ). CameTo (is_over (output_channels 0 given) rounds items) n came.0 first now) all came.1 in
+    let same = subst (λ (cs : List Channel). CameTo (is_over (output_channels 0 cs) rounds items) (node_count net) came.0 first now) channels counted in
     record {
       turns = came.0;
-      came = subst (λ (world : WorldView). CameTo (is_over (output_channels 0 net.channels) rounds items) came.0 world now) opened same;
+      came = subst (λ (world : WorldView). CameTo (is_over (output_channels 0 net.channels) rounds items) (node_count net) came.0 world now) opened same;
       over = subst (λ (cs : List Channel). (is_over (output_channels 0 cs) rounds items now ≡ true) ⊎ (MAX_TURNS ≤ came.0)) channels came.2;
     }

@@ -4,7 +4,7 @@ use Rattle.std.specs.Fmt.{decimal}
 use Rattle.kahn_program.specs.declared.failure.Source.{Source}
 use Rattle.kahn_program.specs.declared.failure.Source.TheVariants.{Net, Inputs}
 use Rattle.kahn_program.specs.declared.failure.Failure.{Failure}
-use Rattle.kahn_program.specs.declared.failure.Failure.TheVariants.{Line, Whole, NotText, Unreadable, Approximation, Unsupported, NoMemory, Other}
+use Rattle.kahn_program.specs.declared.failure.Failure.TheVariants.{Line, Whole, NotText, Unreadable, Approximation, NoMemory, Other}
 
 abbrev pub source_text : Source → List ℕ
 source_text Net = codes "net"
@@ -16,7 +16,6 @@ failure_text (Whole source number) = source_text source ++ codes ": refusal " ++
 failure_text (NotText source) = source_text source ++ codes ": not text"
 failure_text (Unreadable source) = source_text source ++ codes ": cannot be read"
 failure_text (Approximation number) = codes "approx: refusal " ++ decimal number
-failure_text Unsupported = codes "run: several nodes are not supported yet; use --approx"
 failure_text NoMemory = codes "no memory"
 failure_text (Other number) = codes "refusal " ++ decimal number
 
@@ -31,6 +30,5 @@ status_of (Whole source number) = 2
 status_of (NotText source) = 2
 status_of (Unreadable source) = 1
 status_of (Approximation number) = 1
-status_of Unsupported = 1
 status_of NoMemory = 1
 status_of (Other number) = 1

@@ -17,7 +17,7 @@ use Rattle.net_check.specs.declared.fault.NetFault.{NetFault}
 use Rattle.net_check.specs.declared.fault.NetFault.TheVariants as fault
 use Rattle.net_check.specs.declared.net.Net.{Net}
 use Rattle.kahn_program.specs.declared.failure.Failure.{Failure}
-use Rattle.kahn_program.specs.declared.failure.Failure.TheVariants.{Line, Whole, NotText, Unreadable, Approximation, Unsupported, NoMemory, Other}
+use Rattle.kahn_program.specs.declared.failure.Failure.TheVariants.{Line, Whole, NotText, Unreadable, Approximation, NoMemory, Other}
 use Rattle.kahn_program.specs.Failures.{failure_line, status_of}
 use Rattle.kahn_program.specs.Runnable.{IsReportFailure}
 use Rattle.kahn_program.specs.declared.failure.Source.{Source}
@@ -80,7 +80,6 @@ IsReadFailure source known NoMemory = Unit {0}
 IsReadFailure source known (Line other line number) = ⊥
 IsReadFailure source known (Whole other number) = ⊥
 IsReadFailure source known (Approximation number) = ⊥
-IsReadFailure source known Unsupported = ⊥
 IsReadFailure source known (Other number) = ⊥
 
 -- want of memory, or a reader that isn't there or fails: no fault of a text

@@ -1,13 +1,12 @@
 -- Why a network on its inputs comes to no report.
 use Rattle.std.specs.Prelude.{◌≡◌, ◌⊎◌, ℕ, ℤ, List, Option, Some, None}
 use Rattle.kahn_net.specs.Syntax.{Network}
-use Rattle.protocol.specs.World.Runnable.{CanRun}
 use Rattle.stream_eq.specs.Limits.{HasLongHistory}
 use Rattle.ckpt_store.specs.StoreFault.{refusal_number}
 use Rattle.ckpt_store.specs.declared.fault.StoreFault.{StoreFault}
 use Rattle.ckpt_store.specs.declared.fault.StoreFault.TheVariants as fault
 use Rattle.kahn_program.specs.declared.failure.Failure.{Failure}
-use Rattle.kahn_program.specs.declared.failure.Failure.TheVariants.{Line, Whole, NotText, Unreadable, Approximation, Unsupported, NoMemory, Other}
+use Rattle.kahn_program.specs.declared.failure.Failure.TheVariants.{Line, Whole, NotText, Unreadable, Approximation, NoMemory, Other}
 
 -- an approximation up to the n-th has too long a history, or memory is missing
 abbrev pub IsApproximationFailure : Network → List (List ℤ) → ℕ → Failure → Type 0
@@ -35,12 +34,10 @@ IsStoreFailure (Whole source number) = ⊥
 IsStoreFailure (NotText source) = ⊥
 IsStoreFailure (Unreadable source) = ⊥
 IsStoreFailure (Approximation number) = ⊥
-IsStoreFailure Unsupported = ⊥
 IsStoreFailure NoMemory = Unit {0}
 IsStoreFailure (Other number) = (fault : StoreFault) × (number ≡ refusal_number fault)
 
--- why there is no report of this approximation, or of a run: that of a network that can't be run, and by a refusal of the store, as for want of
--- memory
+-- why there is no report of this approximation, or of a run: by a refusal of a store, as for want of memory
 abbrev pub IsReportFailure : Option ℕ → Network → List (List ℤ) → Failure → Type 0
 IsReportFailure (Some n) net inputs failure = IsApproximationFailure net inputs n failure
-IsReportFailure None net inputs failure = ((failure ≡ Unsupported) × ¬ (CanRun net)) ⊎ IsStoreFailure failure
+IsReportFailure None net inputs failure = IsStoreFailure failure

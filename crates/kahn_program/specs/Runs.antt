@@ -3,6 +3,7 @@ use Rattle.std.specs.Prelude.{◌≡◌, ◌⊎◌, ◌≤◌, ◌||◌, is_some
 use Rattle.std.specs.List.{list_all}
 use Rattle.std.specs.Io.KnownBytes.{Appends}
 use Rattle.kahn_net.specs.Streams.{history_of, IsPrefix}
+use Rattle.kahn_net.specs.Nodes.{node_count}
 use Rattle.kahn_net.specs.Syntax.{Network, network_of}
 use Rattle.kahn_net.specs.Approximations.{approximation, IsReached, IsSolution}
 use Rattle.net_check.specs.declared.net.Net.{Net}
@@ -12,7 +13,6 @@ use Rattle.protocol.specs.World.Released.{released_of}
 use Rattle.protocol.specs.World.StationView.{StationView}
 use Rattle.kahn_program.specs.Readings.{IsNetOf, AreInputsOf}
 use Rattle.kahn_program.specs.Report.{report_text}
-use Rattle.protocol.specs.World.Runnable.{CanRun}
 use Rattle.protocol.specs.World.Steps.{WorldView}
 use Rattle.kahn_program.specs.Turning.{CameTo, first_world}
 use Rattle.kahn_program.specs.declared.network_run.TheConstants.{MAX_TURNS}
@@ -65,7 +65,7 @@ is_over outputs rounds items now =
 -- for them.
 pub record IsLast (net : Network) (inputs : List (List ℤ)) (rounds : ℕ) (items : Option ℕ) (now : WorldView) : Type 0 where
   pub turns : ℕ
-  pub came : CameTo (is_over (output_channels 0 net.channels) rounds items) turns (first_world net inputs) now
+  pub came : CameTo (is_over (output_channels 0 net.channels) rounds items) (node_count net) turns (first_world net inputs) now
   pub over : (is_over (output_channels 0 net.channels) rounds items now ≡ true) ⊎ (MAX_TURNS ≤ turns)
 
 -- A text is the report of a run of this network on these inputs, and tells whether it is complete: of what has left in the world at its end.
@@ -84,10 +84,10 @@ pub record IsApproximated (net : Net) (inputs : List (List ℤ)) (n : ℕ) (text
       (map (λ (channel : ℕ). history_of (approximation (network_of net.program) inputs n) channel) (output_channels 0 net.program.channels.items)) told
   pub solution : IsTrue told ↔ IsSolution (network_of net.program) inputs (approximation (network_of net.program) inputs n)
 
--- a text is the report that is asked for: of an approximation, or of a run, cut at so many items; only a network that can be run is run
+-- a text is the report that is asked for: of an approximation, or of a run, cut at so many items
 abbrev pub IsReportOf : Option ℕ → ℕ → Option ℕ → Net → List (List ℤ) → List ℕ → Bool → Type 0
 IsReportOf (Some n) rounds items net inputs text told = IsApproximated net inputs n text told
-IsReportOf None rounds items net inputs text told = CanRun (network_of net.program) × IsReport net rounds items inputs text told
+IsReportOf None rounds items net inputs text told = IsReport net rounds items inputs text told
 
 -- The same of the network that a reader with these bytes describes, on the inputs that another gives, where the bytes are known.
 abbrev pub IsReported : Option ℕ → ℕ → Option ℕ → Option (List ℕ) → Option (List ℕ) → List ℕ → Bool → Type 0

@@ -1,12 +1,13 @@
 -- A run of a network, turn by turn.
-use Rattle.std.specs.Prelude.{◌≡◌, ℕ, zero, suc, Bool, false, ℤ, List, [], map, length, None}
+use Rattle.std.specs.Prelude.{◌≡◌, ℕ, zero, suc, ◌%◌, nat_lt, if◌then◌else◌, Bool, false, ℤ, List, [], map, length, replicate, None}
+use Rattle.kahn_net.specs.Nodes.{node_count}
 use Rattle.kahn_net.specs.Syntax.{Network}
 use Rattle.ckpt_store.specs.Spelling.{fits_in}
 use Rattle.protocol.specs.World.Choice.{choice}
 use Rattle.protocol.specs.World.DoneView.{DoneView}
 use Rattle.protocol.specs.World.EventView.{EventView, Install}
 use Rattle.protocol.specs.World.OpeningWorld.{opening_world}
-use Rattle.protocol.specs.World.ReplyView.{ReplyView, Granted, Installed, Discarded, Sent, Started, Decided, Refused, Released, OutletFailed, Crashed, Recovered, InDoubt, Down, Acted, Idled, NotDue}
+use Rattle.protocol.specs.World.ReplyView.{ReplyView, Delivered, Dropped, Granted, Installed, Discarded, Sent, Started, Decided, Refused, Released, OutletFailed, Crashed, Recovered, InDoubt, Down, Acted, Idled, NotDue}
 use Rattle.protocol.specs.World.Sound.{output_channels}
 use Rattle.protocol.specs.World.StationView.{OutletView}
 use Rattle.protocol.specs.World.Steps.{WorldView, IsStep}
@@ -20,6 +21,8 @@ pub record IsStepInRoom (event : EventView) (old : WorldView) (answer : ReplyVie
 -- behind an answer: the turn on a job that was granted is taken in, and nothing else happens
 abbrev pub Follows : ReplyView → WorldView → WorldView → Type 0
 Follows (Granted job) old new = (done : DoneView) × (done.job ≡ job) × (answer : ReplyView) × IsStepInRoom (Install done) old answer new
+Follows Delivered old new = new ≡ old
+Follows (Dropped refusal) old new = new ≡ old
 Follows Installed old new = new ≡ old
 Follows Discarded old new = new ≡ old
 Follows Sent old new = new ≡ old
@@ -36,22 +39,26 @@ Follows Acted old new = new ≡ old
 Follows Idled old new = new ≡ old
 Follows NotDue old new = new ≡ old
 
--- a turn: the event that is next for the one node, and what follows it
-pub record IsWorldTurn (old new : WorldView) : Type 0 where
+-- a turn of a node: the event that is next for it, and what follows it
+pub record IsWorldTurn (node : ℕ) (old new : WorldView) : Type 0 where
   pub answer : ReplyView
   pub between : WorldView
-  pub step : IsStepInRoom (choice old 0) old answer between
+  pub step : IsStepInRoom (choice old node) old answer between
   pub follows : Follows answer between new
 
--- so many turns lead from one world to another; none is taken where a run is over
-abbrev pub CameTo : (WorldView → Bool) → ℕ → WorldView → WorldView → Type 0
-CameTo over zero first now = now ≡ first
-CameTo over (suc turns) first now = (before : WorldView) × CameTo over turns first before × (over before ≡ false) × IsWorldTurn before now
+-- the node of a turn, the first one being 0: the nodes, so many, take their turns one after another
+abbrev pub turn_node : ℕ → ℕ → ℕ
+turn_node nodes turn = if nat_lt 0 nodes then turn % nodes else 0
+
+-- so many turns lead from one world of so many nodes to another; none is taken where a run is over
+abbrev pub CameTo : (WorldView → Bool) → ℕ → ℕ → WorldView → WorldView → Type 0
+CameTo over nodes zero first now = now ≡ first
+CameTo over nodes (suc turns) first now = (before : WorldView) × CameTo over nodes turns first before × (over before ≡ false) × IsWorldTurn (turn_node nodes turns) before now
 
 -- an outlet in memory that took nothing
 abbrev pub unused_outlet : ℕ → OutletView
 unused_outlet channel = record { channel = channel; taken = []; failed = None; failures = 0 }
 
--- the world of a network on these inputs before its first turn
+-- the world of a network on these inputs before its first turn; no disk has failed
 abbrev pub first_world : Network → List (List ℤ) → WorldView
-first_world net inputs = opening_world net inputs 0 (map unused_outlet (output_channels 0 net.channels))
+first_world net inputs = opening_world net inputs (replicate (node_count net) 0) (map unused_outlet (output_channels 0 net.channels))

@@ -34,8 +34,6 @@ pub enum Failure {
     Approximation {
         number: u8,
     },
-    /// A network has several nodes.
-    Unsupported,
     /// There is no memory.
     NoMemory,
     /// A refusal that is no text's.
@@ -69,9 +67,6 @@ impl fmt::Display for Failure {
             Failure::NotText(source) => write!(f, "{source}: not text"),
             Failure::Unreadable(source) => write!(f, "{source}: cannot be read"),
             Failure::Approximation { number } => write!(f, "approx: refusal {number}"),
-            Failure::Unsupported => f.write_str(
-                "run: several nodes are not supported yet; use --approx",
-            ),
             Failure::NoMemory => f.write_str("no memory"),
             Failure::Other { number } => write!(f, "refusal {number}"),
         }
@@ -87,7 +82,6 @@ impl Failure {
             Failure::Line { .. } | Failure::Whole { .. } | Failure::NotText(_) => 2,
             Failure::Unreadable(_)
             | Failure::Approximation { .. }
-            | Failure::Unsupported
             | Failure::NoMemory
             | Failure::Other { .. } => 1,
         }

@@ -1,20 +1,19 @@
 //! A network's run, and its report.
 
-ghost use Rattle.std.specs.Prelude.{◌≡◌, ◌⊎◌, ◌*◌, ◌^◌, ◌<◌, ◌≤◌, ◌++◌, ℕ, ◌∷◌, [], if◌then◌else◌, true, nat_le, length, map, IfErr, IfOk, OnOk};
+ghost use Rattle.std.specs.Prelude.{◌≡◌, ◌⊎◌, ◌*◌, ◌^◌, ◌<◌, ◌≤◌, ◌++◌, ℕ, ◌∷◌, [], if◌then◌else◌, true, nat_le, length, map, replicate, IfErr, IfOk, OnOk};
 ghost use Rattle.kahn_net.specs.Fits.{Fits};
 ghost use Rattle.kahn_net.specs.Syntax.{network_of};
 ghost use Rattle.std.specs.List.{list_all};
 ghost use Rattle.sector_disk.specs.MemDisk.{failures_of};
 ghost use Rattle.sector_disk.specs.declared.TheConstants.{SECTOR_BYTES};
 ghost use Rattle.protocol.specs.World.Released.{released_of};
-ghost use Rattle.protocol.specs.World.Runnable.{CanRun};
 ghost use Rattle.protocol.specs.World.Sound.{goes_outside, output_channels};
 ghost use Rattle.world.specs.ReplyView.{reply_view};
 ghost use Rattle.world.specs.WholeView.{world_of};
-ghost use Rattle.kahn_program.specs.Turning.{CameTo, Follows, IsWorldTurn};
+ghost use Rattle.kahn_program.specs.Turning.{CameTo, Follows, IsWorldTurn, turn_node};
 ghost use Rattle.kahn_program.specs.Runnable.{IsStoreFailure, store_failure};
 ghost use Rattle.kahn_program.specs.Runs.{IsReport, cut_at, first_items, is_over, is_whole};
-ghost use Rattle.kahn_net.specs.declared.limits.TheConstants.{MAX_CHANNELS};
+ghost use Rattle.kahn_net.specs.declared.limits.TheConstants.{MAX_CHANNELS, MAX_NODES};
 
 use crate::failure::Failure;
 use crate::reporting::{Stream, report};
@@ -26,18 +25,15 @@ use outlet::ListOutlet;
 use sector_disk::MemDisk;
 use std::alloc::{AllocError, Global};
 use std::sync::Arc;
-use world::{Event, Reply, World, list_outputs};
-
-/// The one node's number.
-const NODE: u8 = 0;
+use world::{Event, Reply, World, list_outputs, node_count};
 
 /// The most turns of a run, so many that nobody waits for them.
 pub(crate) const MAX_TURNS: u64 = u64::MAX;
 
-/// The sectors of the disk: room behind the gate for a record of 1,048,576 bytes in each of its two areas.
+/// The sectors of each disk: room behind the gate for a record of 1,048,576 bytes in each of its two areas.
 const SECTORS: usize = 4_101;
 
-/// The world of a run: of one node on a disk in memory, with outlets in memory.
+/// The world of a run: of nodes on disks in memory, with outlets in memory.
 type RunWorld = World<GateCell<MemDisk>, ListOutlet>;
 
 /// A disk in memory of so many sectors, which never failed. (What it holds is left out of the contract: of a given number, a
@@ -47,6 +43,18 @@ fn empty_disk(alloc: Global, sectors: usize) -> Result<MemDisk, AllocError>
     ensures { IfOk result (λ disk. failures_of disk ≡ 0) }
 {
     MemDisk::new(alloc, sectors)
+}
+
+/// Such a disk for each of so many nodes.
+fn empty_disks(alloc: Global, nodes: usize) -> Result<Vec<MemDisk>, AllocError>
+    ensures each { IfOk result (λ disks. length disks.items ≡ nodes) }
+    ensures unfailed { IfOk result (λ disks. map failures_of disks.items ≡ replicate nodes 0) }
+{
+    let mut disks = Vec::with_capacity(alloc, nodes)?;
+    for _node in 0..nodes {
+        disks.push(empty_disk(alloc, SECTORS)?)?;
+    }
+    Ok(disks)
 }
 
 /// A failure of the store in which the world keeps its record.
@@ -82,13 +90,24 @@ fn follow(alloc: Global, world: &mut RunWorld, answer: Reply) -> Result<(), Fail
     }
 }
 
-/// The event that is next. A job that it grants is run and comes back at once.
-fn take_turn(alloc: Global, world: &mut RunWorld) -> Result<(), Failure>
+/// The node of a turn, the first one being 0: the nodes, so many, take their turns one after another.
+fn turn_node(nodes: usize, turn: u64) -> u8
+    requires { nodes ≤ MAX_NODES }
+    ensures { result ≡ turn_node nodes turn }
+{
+    if nodes == 0 {
+        return 0;
+    }
+    (turn % nodes as u64) as u8
+}
+
+/// The event that is next for a node. A job that it grants is run and comes back at once.
+fn take_turn(alloc: Global, world: &mut RunWorld, node: u8) -> Result<(), Failure>
     ensures same { (world.new.net ≡ world.old.net) × (world.new.inputs ≡ world.old.inputs) }
-    ensures turn { OnOk result (IsWorldTurn (world_of world.old) (world_of world.new)) }
+    ensures turn { OnOk result (IsWorldTurn node (world_of world.old) (world_of world.new)) }
     ensures err { IfErr result (λ failure. failure ≡ Failure.NoMemory) }
 {
-    let event = world.pick(NODE);
+    let event = world.pick(node);
     match world.apply(alloc, event) {
         Ok(answer) => follow(alloc, world, answer),
         Err(_) => Err(Failure::NoMemory),
@@ -149,18 +168,20 @@ fn is_over(channels: &[Channel], world: &RunWorld, rounds: u64, items: Option<u6
     world.complete() || rounds <= world.round() || cut(channels, world, items).is_some()
 }
 
-/// Takes turns until the run is over.
+/// Takes turns until the run is over: of the nodes, so many, one after another.
 fn take_turns(
     alloc: Global,
     channels: &[Channel],
     world: &mut RunWorld,
+    nodes: usize,
     rounds: u64,
     items: Option<u64>,
 ) -> Result<(), Failure>
-    requires { length channels.now ≤ MAX_CHANNELS }
+    requires few { length channels.now ≤ MAX_CHANNELS }
+    requires nodes { nodes ≤ MAX_NODES }
     ensures same { (world.new.net ≡ world.old.net) × (world.new.inputs ≡ world.old.inputs) }
     ensures came { OnOk result ((turns : ℕ)
-        × CameTo (is_over (output_channels 0 channels.now) rounds items) turns
+        × CameTo (is_over (output_channels 0 channels.now) rounds items) nodes turns
         (world_of world.old) (world_of world.new)
         × ((is_over (output_channels 0 channels.now) rounds items (world_of world.new) ≡ true)
         ⊎ (MAX_TURNS ≤ turns))) }
@@ -170,7 +191,7 @@ fn take_turns(
         if is_over(channels, world, rounds, items) {
             return Ok(());
         }
-        take_turn(alloc, world)?;
+        take_turn(alloc, world, turn_node(nodes, turn))?;
     }
     Ok(())
 }
@@ -248,7 +269,6 @@ pub fn report_of_run(
     items: Option<u64>,
 ) -> Result<(Vec<u8>, bool), Failure>
     requires fitting { Fits (network_of net.program) inputs }
-    requires runnable { CanRun (network_of net.program) }
     ensures ok { IfOk result (λ report. IsReport net rounds items inputs report.0.items report.1) }
     // The store that was to keep its record refused, or memory is missing.
     ensures err { IfErr result IsStoreFailure }
@@ -256,6 +276,7 @@ pub fn report_of_run(
     let Ok(outputs) = list_outputs(alloc, &net) else {
         return Err(Failure::NoMemory);
     };
+    let nodes = node_count(&net);
     let Ok(net) = Arc::new(alloc, net) else {
         return Err(Failure::NoMemory);
     };
@@ -265,15 +286,15 @@ pub fn report_of_run(
     let Ok(share) = Arc::try_clone(&net) else {
         return Err(Failure::NoMemory);
     };
-    let Ok(disk) = empty_disk(alloc, SECTORS) else {
+    let Ok(disks) = empty_disks(alloc, nodes) else {
         return Err(Failure::NoMemory);
     };
-    let mut world = match World::new(alloc, share, inputs, disk, outputs) {
+    let mut world = match World::new(alloc, share, inputs, disks, outputs) {
         Ok(world) => world,
         Err(fault) => return Err(store_failure(fault)),
     };
     let channels = net.program.channels.as_slice();
-    take_turns(alloc, channels, &mut world, rounds, items)?;
+    take_turns(alloc, channels, &mut world, nodes, rounds, items)?;
     let cut = cut(channels, &world, items);
     let complete = is_whole(cut, world.complete());
     let Ok(streams) = streams(alloc, channels, &world, cut) else {

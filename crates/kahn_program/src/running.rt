@@ -17,10 +17,9 @@ use crate::reading::{read_inputs, read_net};
 use net_check::{Inputs, Net};
 use std::alloc::Global;
 use std::io::{Read, Write};
-use world::can_run;
 
 /// The report that is asked for of a network on its inputs, and whether it tells `complete`: of an approximation, or of a
-/// run, which is there so far for a network of one node.
+/// run.
 fn report_of(
     alloc: Global,
     options: &Options,
@@ -35,12 +34,7 @@ fn report_of(
 {
     match options.approx {
         Some(n) => report_of_approximation(alloc, &net, &inputs, n),
-        None => {
-            if !can_run(&net) {
-                return Err(Failure::Unsupported);
-            }
-            report_of_run(alloc, net, inputs, options.rounds, options.items)
-        }
+        None => report_of_run(alloc, net, inputs, options.rounds, options.items),
     }
 }
 
@@ -65,7 +59,7 @@ fn report_of_readers<N: Read + Drop, I: Read + Drop>(
 /// Runs the network of one reader on the inputs of the other, or prints an approximation of it, as the options say; no
 /// reader stands for a file that can't be opened. Writes the whole report to `out`, or the line of a failure to `err`, and
 /// gives the exit status: 0 where the report tells `complete`, 3 where it tells `partial`, 2 where a text is refused, 1 for
-/// any other failure, as where a network can't be run or a write fails.
+/// any other failure, as where memory is missing or a write fails.
 pub fn run<N: Read + Drop, I: Read + Drop, W: Write, E: Write>(
     alloc: Global,
     options: &Options,

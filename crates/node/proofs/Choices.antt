@@ -16,6 +16,7 @@ use Rattle.proc_step.specs.NextView.{next_view}
 use Rattle.proc_step.specs.declared.next.NextAct.{NextAct}
 use Rattle.record.specs.ProcessView.{SavedProcessView}
 use Rattle.record.specs.ImageView.{ImageView}
+use Rattle.protocol.specs.declared.links.Inbox.{Inbox}
 use Rattle.protocol.specs.Node.Choosing.{has_item, has_room, can_go, next_at, is_ready, ready_process}
 
 -- the code of a process, as it was looked up
@@ -32,24 +33,24 @@ code_not_found program ps m n are same past =
     ∙ (ap (λ (l : List Process). slice_get (map code_of l) m) (sym are) ∙ code_past ps m past)
 
 -- a process is ready where its next act can be done
-pub ready_at : (program : Program) (inputs : List (List ℤ)) (image : ImageView) (ps : List Process) (m number : ℕ) (p : Process) (standing : Standing) (saved : SavedProcessView) (next act : NextAct)
+pub ready_at : (program : Program) (inputs : List (List ℤ)) (image : ImageView) (inboxes : List Inbox) (ps : List Process) (m number : ℕ) (p : Process) (standing : Standing) (saved : SavedProcessView) (next act : NextAct)
     → ps ≡ program.processes.items → m ≡ number → m < length ps → p ≡ get_or ps m p → next_view next ≡ next_of (code_of p) standing → next ≡ act → record { number = number; standing = standing } ≡ saved
-    → can_go (network_of program) inputs image (next_view act) ≡ is_ready (network_of program) inputs image saved
-ready_at program inputs image ps m number p standing saved next act are same within there is here view =
+    → can_go (network_of program) inputs image inboxes (next_view act) ≡ is_ready (network_of program) inputs image inboxes saved
+ready_at program inputs image inboxes ps m number p standing saved next act are same within there is here view =
     let found : slice_get (network_of program).codes number ≡ Some (code_of p) = code_found program ps m number p are same within there in
-    ap (can_go (network_of program) inputs image) (ap next_view (sym here) ∙ (is ∙ ap (λ (code : Option Code). next_at code standing) (sym found)))
-    ∙ ap (is_ready (network_of program) inputs image) view
+    ap (can_go (network_of program) inputs image inboxes) (ap next_view (sym here) ∙ (is ∙ ap (λ (code : Option Code). next_at code standing) (sym found)))
+    ∙ ap (is_ready (network_of program) inputs image inboxes) view
 
 -- a process that the network doesn't have is not
-pub not_ready : (net : Network) (inputs : List (List ℤ)) (image : ImageView) (number : ℕ) (standing : Standing) (saved : SavedProcessView)
-    → slice_get net.codes number ≡ None → record { number = number; standing = standing } ≡ saved → false ≡ is_ready net inputs image saved
-not_ready net inputs image number standing saved found view =
-    ap (λ (there : Option Code). can_go net inputs image (next_at there standing)) (sym found) ∙ ap (is_ready net inputs image) view
+pub not_ready : (net : Network) (inputs : List (List ℤ)) (image : ImageView) (inboxes : List Inbox) (number : ℕ) (standing : Standing) (saved : SavedProcessView)
+    → slice_get net.codes number ≡ None → record { number = number; standing = standing } ≡ saved → false ≡ is_ready net inputs image inboxes saved
+not_ready net inputs image inboxes number standing saved found view =
+    ap (λ (there : Option Code). can_go net inputs image inboxes (next_at there standing)) (sym found) ∙ ap (is_ready net inputs image inboxes) view
 
 -- an item is at hand, or room, on a channel of these
-pub item_on : (channels : List Channel) (net : Network) (inputs : List (List ℤ)) (image : ImageView) (channel : ℕ) (has : Bool)
-    → has ≡ has_item inputs image channel (slice_get channels channel) → channels ≡ net.channels → has ≡ has_item inputs image channel (slice_get net.channels channel)
-item_on channels net inputs image channel has is are = is ∙ ap (λ (l : List Channel). has_item inputs image channel (slice_get l channel)) are
+pub item_on : (channels : List Channel) (net : Network) (inputs : List (List ℤ)) (image : ImageView) (inboxes : List Inbox) (channel : ℕ) (has : Bool)
+    → has ≡ has_item inputs image inboxes channel (slice_get channels channel) → channels ≡ net.channels → has ≡ has_item inputs image inboxes channel (slice_get net.channels channel)
+item_on channels net inputs image inboxes channel has is are = is ∙ ap (λ (l : List Channel). has_item inputs image inboxes channel (slice_get l channel)) are
 
 pub room_on : (channels : List Channel) (net : Network) (image : ImageView) (channel : ℕ) (has : Bool)
     → has ≡ has_room image channel (slice_get channels channel) → channels ≡ net.channels → has ≡ has_room image channel (slice_get net.channels channel)
@@ -68,32 +69,32 @@ second_too : (a b : Bool) → (a && b) ≡ true → b ≡ true
 second_too true b both = both
 second_too false b both = absurd (cc)
 
-code_there : (net : Network) (inputs : List (List ℤ)) (image : ImageView) (number : ℕ) (standing : Standing) (code : Option Code)
-    → slice_get net.codes number ≡ code → can_go net inputs image (next_at code standing) ≡ true → number < length net.codes
-code_there net inputs image number standing None is goes = absurd (cc)
-code_there net inputs image number standing (Some code) is goes = slice_get_within net.codes number code is
+code_there : (net : Network) (inputs : List (List ℤ)) (image : ImageView) (inboxes : List Inbox) (number : ℕ) (standing : Standing) (code : Option Code)
+    → slice_get net.codes number ≡ code → can_go net inputs image inboxes (next_at code standing) ≡ true → number < length net.codes
+code_there net inputs image inboxes number standing None is goes = absurd (cc)
+code_there net inputs image inboxes number standing (Some code) is goes = slice_get_within net.codes number code is
 
 -- there are few of them
 pub few_processes : (program : Program) → IsValid (network_of program) → length program.processes.items ≤ MAX_PROCESSES
 few_processes program valid = subst (λ (n : ℕ). n ≤ MAX_PROCESSES) (length-map program.processes.items code_of) valid.process_count
 
 -- a process that is ready is one of the network's
-pub goes_there : (program : Program) (inputs : List (List ℤ)) (image : ImageView) (saved : SavedProcessView)
-    → is_ready (network_of program) inputs image saved ≡ true → saved.number < length program.processes.items
-goes_there program inputs image saved goes =
+pub goes_there : (program : Program) (inputs : List (List ℤ)) (image : ImageView) (inboxes : List Inbox) (saved : SavedProcessView)
+    → is_ready (network_of program) inputs image inboxes saved ≡ true → saved.number < length program.processes.items
+goes_there program inputs image inboxes saved goes =
     let net = network_of program in
-    subst (λ (n : ℕ). saved.number < n) (length-map program.processes.items code_of) (code_there net inputs image saved.number saved.standing _ refl goes)
+    subst (λ (n : ℕ). saved.number < n) (length-map program.processes.items code_of) (code_there net inputs image inboxes saved.number saved.standing _ refl goes)
 
 -- and so is one that is found ready
-pub ready_there : (program : Program) (inputs : List (List ℤ)) (image : ImageView) (number : ℕ) (saved : SavedProcessView)
-    → ready_process (network_of program) inputs image number ≡ Some saved → saved.number < length program.processes.items
-ready_there program inputs image number saved is =
+pub ready_there : (program : Program) (inputs : List (List ℤ)) (image : ImageView) (inboxes : List Inbox) (number : ℕ) (saved : SavedProcessView)
+    → ready_process (network_of program) inputs image inboxes number ≡ Some saved → saved.number < length program.processes.items
+ready_there program inputs image inboxes number saved is =
     let net = network_of program in
-    let test : SavedProcessView → Bool = λ one. (one.number == number) && is_ready net inputs image one in
-    goes_there program inputs image saved (second_too (saved.number == number) (is_ready net inputs image saved) (found_passes test image.processes saved is))
+    let test : SavedProcessView → Bool = λ one. (one.number == number) && is_ready net inputs image inboxes one in
+    goes_there program inputs image inboxes saved (second_too (saved.number == number) (is_ready net inputs image inboxes saved) (found_passes test image.processes saved is))
 
 -- the process that is chosen is one of the network's
-pub chosen_there : (program : Program) (inputs : List (List ℤ)) (image : ImageView) (number : ℕ) (found : Option (Bor SavedProcessView))
-    → option_copied found ≡ ready_process (network_of program) inputs image number → IfSome found (λ saved. saved.now.number < length program.processes.items)
-chosen_there program inputs image number None is = tt
-chosen_there program inputs image number (Some saved) is = ready_there program inputs image number saved.now (sym is)
+pub chosen_there : (program : Program) (inputs : List (List ℤ)) (image : ImageView) (inboxes : List Inbox) (number : ℕ) (found : Option (Bor SavedProcessView))
+    → option_copied found ≡ ready_process (network_of program) inputs image inboxes number → IfSome found (λ saved. saved.now.number < length program.processes.items)
+chosen_there program inputs image inboxes number None is = tt
+chosen_there program inputs image inboxes number (Some saved) is = ready_there program inputs image inboxes number saved.now (sym is)

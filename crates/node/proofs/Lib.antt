@@ -3,8 +3,10 @@ mod Raising
 mod Checkpoints
 mod Recoveries
 mod Starts
+mod Walking
 mod Handing
 mod Slices
+mod Dues
 mod Installs
 mod Choices
 mod Marking

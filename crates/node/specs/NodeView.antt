@@ -9,7 +9,13 @@ use Rattle.node.specs.declared.running.Running.{Running}
 use Rattle.node.specs.declared.state.NodeState.{NodeState}
 
 abbrev pub running_view : Running → RunningView
-running_view running = record { current = running.current; out = option_map job_view running.out; last = running.last }
+running_view running = record {
+  current = running.current;
+  out = option_map job_view running.out;
+  last = running.last;
+  inboxes = running.inboxes.items;
+  outboxes = running.outboxes.items;
+}
 
 abbrev pub mode_view : Mode → ModeView
 mode_view mode.Down = Down

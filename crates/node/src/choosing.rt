@@ -1,22 +1,42 @@
 // Which process of a node goes on next.
 ghost use Rattle.std.specs.Prelude.{◌≡◌, ◌≤◌, ◌<◌, ◌&&◌, length, slice_get, take, IfSome, option_copied};
 ghost use Rattle.kahn_net.specs.Syntax.{network_of};
+ghost use Rattle.record.specs.Ends.{sent_in};
 ghost use Rattle.protocol.specs.Node.Sharing.{log_share};
 ghost use Rattle.protocol.specs.Node.Choosing.{has_item, has_room, is_ready, ready_process, ready_processes, next_process};
 ghost use Rattle.kahn_net.specs.declared.limits.TheConstants.{MAX_CHANNELS};
 
-use crate::granting::places;
+use crate::granting::{places, source};
 use crate::sharing::share_of;
 use kahn_net::{Channel, History, MAX_PROCESSES, Port};
 use net_check::Net;
 use proc_step::{NextAct, next_act};
+use protocol::Inbox;
 use record::{Image, SavedProcess};
+use retained::Log;
 use turns::next_ready;
 
+// How many items came up to the end of a log: none where there is no log.
+fn end_of(log: Option<&Log>) -> u64
+    ensures { result ≡ sent_in (option_copied log.entry) }
+{
+    match log {
+        Some(log) => log.end(),
+        None => 0,
+    }
+}
+
 // Whether a next item of this channel is at hand.
-fn has_item(channels: &[Channel], inputs: &[History], image: &Image, channel: usize) -> bool
+fn has_item(
+    channels: &[Channel],
+    inputs: &[History],
+    image: &Image,
+    inboxes: &[Inbox],
+    channel: usize,
+) -> bool
     requires { length channels.now ≤ MAX_CHANNELS }
-    ensures { result ≡ has_item inputs.now image.now channel (slice_get channels.now channel) }
+    ensures { result
+        ≡ has_item inputs.now image.now inboxes.now channel (slice_get channels.now channel) }
 {
     match channels.get(channel) {
         Some(ends) => match ends.producer {
@@ -24,7 +44,10 @@ fn has_item(channels: &[Channel], inputs: &[History], image: &Image, channel: us
                 Some(input) => image.received(channel as u8) < input.len() as u64,
                 None => false,
             },
-            Port::Process(_) => image.received(channel as u8) < image.sent(channel as u8),
+            Port::Process(_) => {
+                let source = source(image, inboxes, channel as u8);
+                image.received(channel as u8) < end_of(source)
+            }
         },
         None => false,
     }
@@ -44,16 +67,20 @@ fn is_ready(
     net: &Net,
     inputs: &[History],
     image: &Image,
+    inboxes: &[Inbox],
     share: usize,
     saved: &SavedProcess,
 ) -> bool
     requires { share ≡ log_share image.now }
-    ensures { result ≡ is_ready (network_of net.now.program) inputs.now image.now saved.now }
+    ensures { result
+        ≡ is_ready (network_of net.now.program) inputs.now image.now inboxes.now saved.now }
 {
     match net.program.processes.get(usize::from(saved.number)) {
         Some(process) => match next_act(process, &saved.state) {
             NextAct::Begin => true,
-            NextAct::Get { channel } => has_item(&net.program.channels, inputs, image, channel),
+            NextAct::Get { channel } => {
+                has_item(&net.program.channels, inputs, image, inboxes, channel)
+            },
             NextAct::Put { channel } => has_room(&net.program.channels, image, share, channel),
             NextAct::Nothing => false,
         },
@@ -66,15 +93,16 @@ fn ready_processes(
     net: &Net,
     inputs: &[History],
     image: &Image,
+    inboxes: &[Inbox],
     share: usize,
 ) -> [bool; MAX_PROCESSES]
     requires { share ≡ log_share image.now }
     ensures { take (length net.now.program.processes.items) result
-        ≡ ready_processes (network_of net.now.program) inputs.now image.now }
+        ≡ ready_processes (network_of net.now.program) inputs.now image.now inboxes.now }
 {
     let mut ready = [false; MAX_PROCESSES];
     for saved in &image.processes {
-        if is_ready(net, inputs, image, share, saved) {
+        if is_ready(net, inputs, image, inboxes, share, saved) {
             ready[usize::from(saved.number)] = true;
         }
     }
@@ -86,15 +114,16 @@ fn ready_process<'a>(
     net: &Net,
     inputs: &[History],
     image: &'a Image,
+    inboxes: &[Inbox],
     share: usize,
     number: u8,
 ) -> Option<&'a SavedProcess>
     requires { share ≡ log_share image.now }
     ensures { option_copied result
-        ≡ ready_process (network_of net.now.program) inputs.now image.now number }
+        ≡ ready_process (network_of net.now.program) inputs.now image.now inboxes.now number }
 {
     for saved in &image.processes {
-        if saved.number == number && is_ready(net, inputs, image, share, saved) {
+        if saved.number == number && is_ready(net, inputs, image, inboxes, share, saved) {
             return Some(saved);
         }
     }
@@ -106,17 +135,18 @@ pub(crate) fn next_process<'a>(
     net: &Net,
     inputs: &[History],
     image: &'a Image,
+    inboxes: &[Inbox],
     last: Option<u8>,
 ) -> Option<&'a SavedProcess>
     ensures chosen { option_copied result
-        ≡ next_process (network_of net.now.program) inputs.now image.now last }
+        ≡ next_process (network_of net.now.program) inputs.now image.now inboxes.now last }
     ensures there { IfSome result
         (λ saved. saved.now.number < length net.now.program.processes.items) }
 {
     let share = share_of(image);
-    let ready = ready_processes(net, inputs, image, share);
+    let ready = ready_processes(net, inputs, image, inboxes, share);
     match next_ready(last, &ready[..net.program.processes.len()]) {
-        Some(number) => ready_process(net, inputs, image, share, number),
+        Some(number) => ready_process(net, inputs, image, inboxes, share, number),
         None => None,
     }
 }

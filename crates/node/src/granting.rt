@@ -3,14 +3,14 @@ ghost use Rattle.std.specs.Prelude.{◌≡◌, ◌≤◌, ◌<◌, IfOk, length,
 ghost use Rattle.kahn_net.specs.Syntax.{network_of};
 ghost use Rattle.kahn_net.specs.States.{standing_of};
 ghost use Rattle.node.specs.JobView.{job_view};
-ghost use Rattle.protocol.specs.Node.Granting.{is_process, next_in_log, next_items, items_from, room_in, room_from, job_for};
+ghost use Rattle.protocol.specs.Node.Granting.{inbox_log, is_process, next_in_log, next_items, items_from, room_in, room_from, job_for, source_of};
 ghost use Rattle.kahn_net.specs.declared.limits.TheConstants.{MAX_CHANNELS};
 
 use crate::sharing::share_of;
 use kahn_net::{Channel, History, MAX_COUNT, Port, ProcState};
 use net_check::{Inputs, Net};
 use proc_step::Job;
-use protocol::MAX_JOB_ITEMS;
+use protocol::{Inbox, MAX_JOB_ITEMS};
 use record::Image;
 use retained::Log;
 use std::alloc::{AllocError, Global};
@@ -44,15 +44,39 @@ fn copy_logged(alloc: Global, log: Option<&Log>, received: u64) -> Result<Histor
     }
 }
 
+// The log of the inbox of a channel.
+fn inbox_log(inboxes: &[Inbox], channel: u8) -> Option<&Log>
+    ensures { option_copied result ≡ inbox_log inboxes.now channel }
+{
+    for inbox in inboxes {
+        if inbox.channel == channel {
+            return Some(&inbox.log);
+        }
+    }
+    None
+}
+
+// The log from which a process of the node gets the items of a channel.
+pub(crate) fn source<'a>(image: &'a Image, inboxes: &'a [Inbox], channel: u8) -> Option<&'a Log>
+    ensures { option_copied result ≡ source_of image.now inboxes.now channel }
+{
+    match image.log(channel) {
+        Some(log) => Some(log),
+        None => inbox_log(inboxes, channel),
+    }
+}
+
 // A copy of the items that are at hand of a channel whose items come from there.
 fn copy_next(
     alloc: Global,
     inputs: &[History],
     image: &Image,
+    inboxes: &[Inbox],
     channel: u8,
     producer: Port,
 ) -> Result<History, AllocError>
-    ensures { IfOk result (λ items. items ≡ next_items inputs.now image.now channel producer) }
+    ensures { IfOk result
+        (λ items. items ≡ next_items inputs.now image.now inboxes.now channel producer) }
 {
     match producer {
         Port::Outside => match inputs.get(usize::from(channel)) {
@@ -62,7 +86,11 @@ fn copy_next(
             )?)),
             None => Ok(History::new(alloc)),
         },
-        Port::Process(_) => copy_logged(alloc, image.log(channel), image.received(channel)),
+        Port::Process(_) => copy_logged(
+            alloc,
+            source(image, inboxes, channel),
+            image.received(channel),
+        ),
     }
 }
 
@@ -72,16 +100,24 @@ fn copy_items(
     channels: &[Channel],
     inputs: &[History],
     image: &Image,
+    inboxes: &[Inbox],
     process: usize,
 ) -> Result<Vec<History>, AllocError>
     requires { length channels.now ≤ MAX_CHANNELS }
     ensures { IfOk result (λ items. items.items
-        ≡ items_from inputs.now image.now process 0 channels.now) }
+        ≡ items_from inputs.now image.now inboxes.now process 0 channels.now) }
 {
     let mut items = Vec::with_capacity(alloc, channels.len())?;
     for (number, channel) in channels.iter().enumerate() {
         if is_at(channel.consumer, process) {
-            items.push(copy_next(alloc, inputs, image, number as u8, channel.producer)?)?;
+            items.push(copy_next(
+                alloc,
+                inputs,
+                image,
+                inboxes,
+                number as u8,
+                channel.producer,
+            )?)?;
         } else {
             items.push(History::new(alloc))?;
         }
@@ -130,6 +166,7 @@ pub(crate) fn make_job(
     net: &Arc<Net>,
     inputs: &Inputs,
     image: &Image,
+    inboxes: &[Inbox],
     process: usize,
     state: &ProcState,
     version: u64,
@@ -137,7 +174,7 @@ pub(crate) fn make_job(
     requires { process < length net.now.value.program.processes.items }
     ensures job { IfOk result
         (λ job. job_view job ≡ job_for
-        (network_of net.now.value.program) inputs.now image.now process
+        (network_of net.now.value.program) inputs.now image.now inboxes.now process
         (standing_of state.now) version) }
 {
     Ok(Job {
@@ -150,6 +187,7 @@ pub(crate) fn make_job(
             &net.program.channels,
             inputs.as_slice(),
             image,
+            inboxes,
             process,
         )?,
         room: list_room(alloc, &net.program.channels, image, process)?,

@@ -3,12 +3,13 @@ ghost use Rattle.std.specs.Prelude.{◌≡◌, ◌≤◌, ◌+◌, ◌-◌, ◌+
 ghost use Rattle.kahn_net.specs.States.{standing_of};
 ghost use Rattle.record.specs.Ends.{received_at, log_at};
 ghost use Rattle.record.specs.Changes.{LogTakes};
-ghost use Rattle.protocol.specs.Node.Installing.{taken_from, put_on, saved_pushed, saved_counted, moved, installed, ImageTakes};
+ghost use Rattle.protocol.specs.Node.Installing.{taken_from, put_on, saved_pushed, saved_counted, moved, installed, inbox_taken, inboxes_taken, ImageTakes};
 ghost use Rattle.record.specs.declared.image.SavedEnd.{SavedEnd};
 ghost use Rattle.kahn_net.specs.declared.limits.TheConstants.{MAX_COUNT};
 
 use crate::granting::is_at;
 use kahn_net::{Channel, History, ProcState};
+use protocol::Inbox;
 use record::{End, Image, SavedEnd, SavedProcess};
 use retained::LogFault;
 use std::alloc::Global;
@@ -91,6 +92,32 @@ fn count_all(ends: &mut Vec<SavedEnd>, channels: &[Channel], process: usize, tak
     for saved in ends.iter_mut() {
         let count = count_taken(channels, process, taken, saved.channel);
         saved.end.count(count);
+    }
+}
+
+// Takes what a process got out of an inbox.
+fn take_from(inbox: &mut Inbox, channels: &[Channel], process: usize, taken: &[usize])
+    ensures { inbox.new ≡ inbox_taken channels.now process taken.now inbox.old }
+{
+    let count = count_taken(channels, process, taken, inbox.channel);
+    let base = inbox.log.base();
+    if count as u64 <= inbox.log.end() - base {
+        inbox.log.trim(base + count as u64);
+    }
+}
+
+// Takes what a process got out of each inbox. Takes no memory.
+pub(crate) fn take_out(
+    inboxes: &mut Vec<Inbox>,
+    channels: &[Channel],
+    process: usize,
+    taken: &[usize],
+)
+    ensures { inboxes.new.items
+        ≡ inboxes_taken channels.now process taken.now inboxes.old.items }
+{
+    for inbox in inboxes.iter_mut() {
+        take_from(inbox, channels, process, taken);
     }
 }
 

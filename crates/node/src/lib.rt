@@ -3,25 +3,30 @@
 //! A node that is down has no more than what its store's cell holds; recovered, it runs from its permanent image.
 #![tactic(auto)]
 
+mod addresses;
 mod checkpoint;
 mod choosing;
+mod delivering;
 mod granting;
 mod installing;
 mod mode;
 mod node;
+mod nodes;
 mod opening;
 mod preparing;
 mod recover;
 mod releasing;
 mod restart;
 mod running;
+mod sending;
 mod sharing;
 mod state;
 
 pub use mode::Mode;
 pub use node::Node;
+pub use nodes::node_count;
 pub use opening::opening_record;
-pub use protocol::{ArmedRestart, MAX_JOB_ITEMS, Putting, Recovery};
+pub use protocol::{ArmedRestart, Delivery, MAX_JOB_ITEMS, Putting, Recovery};
 pub use restart::round_later;
 pub use running::Running;
 pub use sharing::share_law;

@@ -10,6 +10,8 @@ ghost use Rattle.ckpt_store.specs.Spelling.{fits_in};
 ghost use Rattle.ckpt_store.specs.StoreView.{cell_in, known_in, record_in};
 ghost use Rattle.protocol.specs.Node.ArmedRestarts.{with_armed};
 ghost use Rattle.protocol.specs.Node.Choosing.{node_job, with_grant};
+ghost use Rattle.protocol.specs.Node.Delivering.{IsDelivery};
+ghost use Rattle.protocol.specs.Node.Sending.{packets_of};
 ghost use Rattle.protocol.specs.Node.Installing.{IsInstall, IsOut, TakesTurn};
 ghost use Rattle.node.specs.JobView.{job_view};
 ghost use Rattle.node.specs.NodeView.{mode_view};
@@ -20,18 +22,21 @@ ghost use Rattle.node.specs.StoredView.{HasRecord, LeavesAsBefore, LeavesNext};
 ghost use Rattle.protocol.specs.Node.Trimming.{HasNext, TookNext, current_log, trimmed_node};
 
 use crate::checkpoint::{decide, start};
+use crate::delivering::deliver;
 use crate::mode::Mode;
+use crate::opening::{open_inboxes, open_outboxes};
 use crate::preparing::arm;
 use crate::recover::{crash, recover};
 use crate::running::Running;
 use crate::state::NodeState;
 use ckpt_store::Store;
+use datagram::Packet;
 use gate_cell::StableCell;
 use kahn_net::Channel;
 use net_check::{Inputs, Net};
 use outlet::{Outlet, OutletFault};
 use proc_step::{Done, Job};
-use protocol::{Putting, Recovery};
+use protocol::{Delivery, Putting, Recovery};
 use retained::LogFault;
 use sector_disk::ArmedFault;
 use std::alloc::{AllocError, Global};
@@ -51,12 +56,19 @@ pub struct Node<C: StableCell> {
 impl<C: StableCell> Node<C> {
     ghost use Rattle.node.specs.NodeOf.{view_of};
 
-    /// A node that runs from the permanent image of its store's record, and never went down.
-    pub fn run_from(alloc: Global, number: u8, store: Store<C>) -> Result<Node<C>, AllocError>
+    /// A node of a network that runs from the permanent image of its store's record, and never went down. Nothing has come to
+    /// its inboxes, and nothing of its outboxes is under way.
+    pub fn run_from(
+        alloc: Global,
+        net: &Net,
+        number: u8,
+        store: Store<C>,
+    ) -> Result<Node<C>, AllocError>
         requires known { IsSome (known_in store) }
         requires listed { number < length (record_in store).highest }
         requires named { (record_in store).node ≡ number }
-        ensures view { IfOk result (λ node. view_of node ≡ running_from (record_in store)) }
+        ensures view { IfOk result (λ node. view_of node
+            ≡ running_from (network_of net.now.program) number (record_in store)) }
         ensures same { IfOk result (λ node. (node.number ≡ number) × (node.store ≡ store)) }
     {
         let image = match store.record() {
@@ -70,6 +82,8 @@ impl<C: StableCell> Node<C> {
                     current: image,
                     out: None,
                     last: None,
+                    inboxes: open_inboxes(alloc, net, number)?,
+                    outboxes: open_outboxes(alloc, net, number)?,
                 }),
                 version: 0,
                 restart: 0,
@@ -131,6 +145,35 @@ impl<C: StableCell> Node<C> {
         ensures same { (self.new.store ≡ self.old.store) × (self.new.number ≡ self.old.number) }
     {
         self.state.install(alloc, channels, done)
+    }
+
+    /// Takes in bytes that came from another node. A node that is down takes none. Bytes that spell no packet for this
+    /// node, or one in which a name isn't right, are dropped. Refuses for want of memory alone, and then nothing is changed.
+    pub fn deliver(
+        &mut self,
+        alloc: Global,
+        net: &Net,
+        bytes: &[u8],
+    ) -> Result<Delivery, AllocError>
+        ensures step { IfOk result
+            (λ outcome. IsDelivery (network_of net.now.program) self.old.number bytes.now
+            (view_of self.old) outcome (view_of self.new)) }
+        ensures refused { OnErr result (view_of self.new ≡ view_of self.old) }
+        ensures same { (self.new.store ≡ self.old.store) × (self.new.number ≡ self.old.number) }
+    {
+        deliver(alloc, self.number, &mut self.state, net, bytes)
+    }
+
+    /// What the node sends now: of each channel from another node how far it has come, and then, unless a tentative image
+    /// is held, the items that are due. Refuses for want of memory alone.
+    pub fn packets(&self, alloc: Global, net: &Net) -> Result<Vec<Packet>, AllocError>
+        ensures { IfOk result (λ packets. packets.items
+            ≡ packets_of (network_of net.now.program) self.now.number (view_of self.now)) }
+    {
+        match self.store.record() {
+            Ok(kept) => self.state.packets(alloc, net, self.number, kept),
+            Err(_) => Ok(Vec::new(alloc)),
+        }
     }
 
     /// Takes a tentative image of where the node stands now, under its next number: the first half of a checkpoint.

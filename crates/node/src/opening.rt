@@ -1,15 +1,17 @@
 // A node before its first event.
 ghost use Rattle.std.specs.Prelude.{◌≡◌, ◌≤◌, map, length, IfOk};
 ghost use Rattle.kahn_net.specs.Syntax.{code_of, network_of};
-ghost use Rattle.protocol.specs.Node.Layout.{port_on};
-ghost use Rattle.protocol.specs.Node.Opening.{opening_processes, opening_end, opening_ends, opening_image, opening_record};
+ghost use Rattle.protocol.specs.Node.Layout.{is_incoming, is_outgoing, port_away, port_on};
+ghost use Rattle.protocol.specs.Node.Opening.{new_inbox, new_outbox, opening_processes, opening_end, opening_ends, opening_image, opening_inboxes, opening_outboxes, opening_record};
 ghost use Rattle.kahn_net.specs.declared.limits.TheConstants.{MAX_CHANNELS, MAX_PROCESSES};
 
 use kahn_net::{Channel, Mode, Port, ProcState, Process};
 use net_check::Net;
+use protocol::{Inbox, Outbox, WINDOW};
 use record::{End, Image, Record, SavedEnd, SavedProcess};
 use retained::Log;
 use std::alloc::{AllocError, Global};
+use window_link::{RecvWindow, SendWindow};
 
 // None of the node's processes has begun.
 fn open_processes(
@@ -37,7 +39,7 @@ fn open_processes(
 }
 
 // Whether there is a process of the node at this end of a channel.
-fn is_here(net: &Net, home: u8, port: Port) -> bool
+pub(crate) fn is_here(net: &Net, home: u8, port: Port) -> bool
     ensures { result ≡ port_on (network_of net.now.program) home port }
 {
     match port {
@@ -119,4 +121,84 @@ pub fn opening_record(
         permanent: open_image(alloc, net, number)?,
         tentative: None,
     })
+}
+
+// Whether there is a process at this end of a channel, but none of the node.
+fn is_away(net: &Net, home: u8, port: Port) -> bool
+    ensures { result ≡ port_away (network_of net.now.program) home port }
+{
+    match port {
+        Port::Outside => false,
+        Port::Process(number) => match net.program.processes.get(number) {
+            Some(process) => process.node != home,
+            None => true,
+        },
+    }
+}
+
+// Whether a channel comes to the node from another one.
+fn is_incoming(net: &Net, home: u8, channel: usize) -> bool
+    ensures { result ≡ is_incoming (network_of net.now.program) home channel }
+{
+    match net.program.channels.get(channel) {
+        Some(ends) => is_here(net, home, ends.consumer) && is_away(net, home, ends.producer),
+        None => false,
+    }
+}
+
+// Whether a channel goes from the node to another one.
+fn is_outgoing(net: &Net, home: u8, channel: usize) -> bool
+    ensures { result ≡ is_outgoing (network_of net.now.program) home channel }
+{
+    match net.program.channels.get(channel) {
+        Some(ends) => is_here(net, home, ends.producer) && is_away(net, home, ends.consumer),
+        None => false,
+    }
+}
+
+fn new_inbox(alloc: Global, channel: u8) -> Inbox
+    ensures { result ≡ new_inbox channel }
+{
+    Inbox {
+        channel,
+        window: RecvWindow::new(),
+        log: Log::new(alloc),
+    }
+}
+
+fn new_outbox(channel: u8) -> Outbox
+    ensures { result ≡ new_outbox channel }
+{
+    Outbox {
+        channel,
+        window: SendWindow::new(WINDOW),
+    }
+}
+
+/// The inboxes of a node, to which nothing has come.
+pub(crate) fn open_inboxes(alloc: Global, net: &Net, home: u8) -> Result<Vec<Inbox>, AllocError>
+    ensures { IfOk result
+        (λ inboxes. inboxes.items ≡ opening_inboxes (network_of net.now.program) home) }
+{
+    let mut inboxes = Vec::with_capacity(alloc, net.program.channels.len())?;
+    for number in 0..net.program.channels.len() {
+        if is_incoming(net, home, number) {
+            inboxes.push(new_inbox(alloc, number as u8))?;
+        }
+    }
+    Ok(inboxes)
+}
+
+/// The outboxes of a node, of which nothing is under way.
+pub(crate) fn open_outboxes(alloc: Global, net: &Net, home: u8) -> Result<Vec<Outbox>, AllocError>
+    ensures { IfOk result
+        (λ outboxes. outboxes.items ≡ opening_outboxes (network_of net.now.program) home) }
+{
+    let mut outboxes = Vec::with_capacity(alloc, net.program.channels.len())?;
+    for number in 0..net.program.channels.len() {
+        if is_outgoing(net, home, number) {
+            outboxes.push(new_outbox(number as u8))?;
+        }
+    }
+    Ok(outboxes)
 }

@@ -46,8 +46,8 @@ pub(crate) fn crash<C: StableCell>(
     true
 }
 
-// The mode in which a node comes back, with this permanent image.
-fn mode_from(image: Image, holds: bool) -> Mode
+// The mode in which a node comes back, with this permanent image. No ends of channels between nodes are restored so far.
+fn mode_from(alloc: Global, image: Image, holds: bool) -> Mode
     ensures { mode_view result ≡ restored_from image holds }
 {
     if holds {
@@ -57,6 +57,8 @@ fn mode_from(image: Image, holds: bool) -> Mode
             current: image,
             out: None,
             last: None,
+            inboxes: Vec::new(alloc),
+            outboxes: Vec::new(alloc),
         })
     }
 }
@@ -101,7 +103,12 @@ fn holds<C: StableCell>(store: &Store<C>) -> bool
 }
 
 // A node comes back, with its record's permanent image.
-fn come_back<C: StableCell>(image: Image, state: &mut NodeState, store: &Store<C>) -> Recovery
+fn come_back<C: StableCell>(
+    alloc: Global,
+    image: Image,
+    state: &mut NodeState,
+    store: &Store<C>,
+) -> Recovery
     requires known { IsSome (known_in store.now) }
     requires image { image ≡ (record_in store.now).permanent }
     ensures state { (kept : RecordView) → node_view kept state.new
@@ -109,7 +116,7 @@ fn come_back<C: StableCell>(image: Image, state: &mut NodeState, store: &Store<C
     ensures answer { result ≡ back_answer (restored_mode (record_in store.now)) }
 {
     let holds = holds(store);
-    state.mode = mode_from(image, holds);
+    state.mode = mode_from(alloc, image, holds);
     if holds {
         Recovery::Waiting
     } else {
@@ -145,7 +152,7 @@ pub(crate) fn recover<C: StableCell>(
         return Ok(Recovery::NotDue);
     }
     match raise(alloc, store) {
-        Ok(image) => Ok(come_back(image, state, store)),
+        Ok(image) => Ok(come_back(alloc, image, state, store)),
         Err(StoreFault::NoMemory) => Err(AllocError),
         Err(StoreFault::Device) => {
             store.crash(None);

@@ -1,17 +1,23 @@
 //! What a node has while it runs.
-ghost use Rattle.std.specs.Prelude.{◌≡◌, ◌↔◌, IfOk, IsErrOf, IsTrue, OnErr, Some, is_some, option_map};
+ghost use Rattle.std.specs.Prelude.{◌≡◌, ◌↔◌, ℕ, IfOk, IsErrOf, IsTrue, OnErr, OnOk, Some, is_some, option_map};
 ghost use Rattle.kahn_net.specs.Syntax.{network_of};
 ghost use Rattle.kahn_net.specs.States.{standing_of};
 ghost use Rattle.protocol.specs.Node.Choosing.{after_grant, may_grant, next_job};
+ghost use Rattle.protocol.specs.Node.Delivering.{hearing};
+ghost use Rattle.protocol.specs.Node.Sending.{packets_from};
 ghost use Rattle.protocol.specs.Node.Installing.{ImageTakes, IsTaken};
 ghost use Rattle.node.specs.JobView.{job_view};
 
 use crate::choosing::next_process;
+use crate::delivering::{hear_acknowledgement, hear_item};
 use crate::granting::make_job;
-use crate::installing::install_turn;
+use crate::installing::{install_turn, take_out};
+use crate::sending::{add_all_answers, add_all_outgoing};
+use datagram::{Body, Packet};
 use kahn_net::{Channel, MAX_COUNT};
 use net_check::{Inputs, Net};
 use proc_step::{Done, Job};
+use protocol::{Inbox, Outbox};
 use record::{Image, Record};
 use retained::LogFault;
 use std::alloc::{AllocError, Global};
@@ -26,6 +32,10 @@ pub struct Running {
     pub out: Option<Job>,
     /// The process to which the last job was granted: none at first, and once an image was restored.
     pub last: Option<u8>,
+    /// What came of each channel from another node, by their channels' numbers.
+    pub inboxes: Vec<Inbox>,
+    /// What is under way on each channel to another node, by their channels' numbers.
+    pub outboxes: Vec<Outbox>,
 }
 
 impl Running {
@@ -45,7 +55,14 @@ impl Running {
             (running_node kept.now version (running_view self.now))) }
     {
         self.can_grant(kept, version)
-            && next_process(net, inputs.as_slice(), &self.current, self.last).is_some()
+            && next_process(
+                net,
+                inputs.as_slice(),
+                &self.current,
+                &self.inboxes,
+                self.last,
+            )
+            .is_some()
     }
 
     // The job that is granted next.
@@ -64,12 +81,19 @@ impl Running {
         if !self.can_grant(kept, version) {
             return Ok(None);
         }
-        match next_process(net, inputs.as_slice(), &self.current, self.last) {
+        match next_process(
+            net,
+            inputs.as_slice(),
+            &self.current,
+            &self.inboxes,
+            self.last,
+        ) {
             Some(saved) => Ok(Some(make_job(
                 alloc,
                 net,
                 inputs,
                 &self.current,
+                &self.inboxes,
                 usize::from(saved.number),
                 &saved.state,
                 version,
@@ -145,7 +169,59 @@ impl Running {
             &done.taken,
             &done.sent,
         )?;
+        take_out(&mut self.inboxes, channels, done.job.process, &done.taken);
         self.out = None;
         Ok(true)
+    }
+
+    /// Hears what a packet says: an item goes to its inbox, and an acknowledgement to its window. Anything else changes
+    /// nothing, so far. Refuses for want of memory alone, and then nothing is changed.
+    pub fn hear(&mut self, body: &Body) -> Result<(), AllocError>
+        ensures ok { OnOk result (running_view self.new ≡ hearing body.now (running_view self.old)) }
+        ensures err { OnErr result (running_view self.new ≡ running_view self.old) }
+    {
+        match body {
+            Body::Data {
+                channel,
+                position,
+                item,
+            } => hear_item(&mut self.inboxes, *channel, *position, *item),
+            Body::Ack {
+                channel,
+                epoch,
+                next,
+            } => {
+                hear_acknowledgement(&mut self.outboxes, *channel, *epoch, *next);
+                Ok(())
+            }
+            _ => Ok(()),
+        }
+    }
+
+    /// What the node of this number and with this record sends.
+    pub fn packets(
+        &self,
+        alloc: Global,
+        net: &Net,
+        number: u8,
+        kept: &Record,
+    ) -> Result<Vec<Packet>, AllocError>
+        ensures { (version : ℕ) → IfOk result (λ packets. packets.items
+            ≡ packets_from (network_of net.now.program) number
+            (Some (running_node kept.now version (running_view self.now)))) }
+    {
+        let mut packets = Vec::new(alloc);
+        add_all_answers(&mut packets, net, number, &kept.permanent, &self.inboxes)?;
+        if kept.tentative.is_none() {
+            add_all_outgoing(
+                alloc,
+                &mut packets,
+                net,
+                number,
+                &self.current,
+                &self.outboxes,
+            )?;
+        }
+        Ok(packets)
     }
 }

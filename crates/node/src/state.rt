@@ -8,6 +8,8 @@ ghost use Rattle.outlet.specs.Faults.{failures_after};
 ghost use Rattle.record.specs.RecordView.{RecordView};
 ghost use Rattle.protocol.specs.Node.ArmedRestarts.{restart_after};
 ghost use Rattle.protocol.specs.Node.Choosing.{node_job, with_grant};
+ghost use Rattle.protocol.specs.Node.Delivering.{hearing};
+ghost use Rattle.protocol.specs.Node.Sending.{packets_of};
 ghost use Rattle.protocol.specs.Node.Installing.{IsOut, IsTakenIn, TakesTurn};
 ghost use Rattle.node.specs.JobView.{job_view};
 ghost use Rattle.protocol.specs.Node.Starting.{crashed, is_down, is_running, may_start, next_number};
@@ -16,6 +18,7 @@ ghost use Rattle.protocol.specs.Node.Trimming.{HasNext, TookNext, current_log, c
 use crate::mode::Mode;
 use crate::releasing::release_next;
 use crate::restart::{round_later, rounds_at};
+use datagram::{Body, Packet};
 use kahn_net::{Channel, MAX_COUNT};
 use net_check::{Inputs, Net};
 use outlet::{Outlet, OutletFault};
@@ -131,6 +134,39 @@ impl NodeState {
         match &mut self.mode {
             Mode::Running(running) => running.install(alloc, channels, done),
             Mode::Down | Mode::InDoubt => Ok(false),
+        }
+    }
+
+    // Hears what a packet says, if it runs.
+    pub(crate) fn hear(&mut self, body: &Body) -> Result<(), AllocError>
+        ensures ok { OnOk result
+            (mode_view self.new.mode ≡ on_mode (hearing body.now) (mode_view self.old.mode)) }
+        ensures err { OnErr result (mode_view self.new.mode ≡ mode_view self.old.mode) }
+        ensures same_mode { is_down (mode_view self.new.mode) ≡ is_down (mode_view self.old.mode) }
+        ensures same { (self.new.version ≡ self.old.version)
+            × (self.new.restart ≡ self.old.restart)
+            × (self.new.armed ≡ self.old.armed) }
+    {
+        match &mut self.mode {
+            Mode::Running(running) => running.hear(body),
+            Mode::Down | Mode::InDoubt => Ok(()),
+        }
+    }
+
+    // What the node of this number and with this record sends.
+    pub(crate) fn packets(
+        &self,
+        alloc: Global,
+        net: &Net,
+        number: u8,
+        kept: &Record,
+    ) -> Result<Vec<Packet>, AllocError>
+        ensures { IfOk result (λ packets. packets.items
+            ≡ packets_of (network_of net.now.program) number (node_view kept.now self.now)) }
+    {
+        match &self.mode {
+            Mode::Running(running) => running.packets(alloc, net, number, kept),
+            Mode::Down | Mode::InDoubt => Ok(Vec::new(alloc)),
         }
     }
 

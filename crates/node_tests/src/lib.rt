@@ -13,6 +13,12 @@ mod images;
 #[cfg(test)]
 mod jobs;
 #[cfg(test)]
+mod links;
+#[cfg(test)]
+mod nets;
+#[cfg(test)]
 mod nodes;
+#[cfg(test)]
+mod packets;
 #[cfg(test)]
 mod taking;

@@ -1,10 +1,12 @@
 //! Nodes for the tests, each opened on a disk whose record is spelled here by hand.
 
 use crate::asserting::same;
+use crate::nets::sum_net;
 use byteorder::{BigEndian, ByteOrder};
 use ckpt_store::Store;
 use gate_cell::GateCell;
 use kahn_net::{Mode, Place};
+use net_check::Net;
 use node::{Mode as NodeMode, Node, Running};
 use record::Image;
 use sector_disk::{ArmedFault, MemDisk};
@@ -33,7 +35,7 @@ pub(crate) const NOTHING: [u8; 3] = [0, 0, 0];
 /// What comes behind the permanent image where no other image is held.
 pub(crate) const NONE_HELD: [u8; 1] = [0];
 
-fn put_number(out: &mut Vec<u8>, number: u64) -> Result<(), AllocError> {
+pub(crate) fn put_number(out: &mut Vec<u8>, number: u64) -> Result<(), AllocError> {
     let mut bytes = [0; 8];
     BigEndian::write_u64(&mut bytes, number);
     out.extend_from_slice(&bytes)
@@ -66,7 +68,19 @@ pub(crate) fn record_of(
     permanent: &[u8],
     behind: &[u8],
 ) -> Result<Vec<u8>, Fail> {
-    let mut bytes = Vec::from_slice(alloc, &[1, 0])?;
+    record_at(alloc, 0, epoch, entries, permanent, behind)
+}
+
+/// The same of the node with this number.
+pub(crate) fn record_at(
+    alloc: Global,
+    number: u8,
+    epoch: u64,
+    entries: &[u64],
+    permanent: &[u8],
+    behind: &[u8],
+) -> Result<Vec<u8>, Fail> {
+    let mut bytes = Vec::from_slice(alloc, &[1, number])?;
     put_number(&mut bytes, epoch)?;
     match entries.len() {
         1 => bytes.push(1)?,
@@ -130,23 +144,47 @@ fn formatted(alloc: Global, sectors: usize, value: &[u8]) -> Result<GateCell<Mem
     }
 }
 
-// Node 0, which runs from the permanent image of its store's record.
-fn run(alloc: Global, store: Store<GateCell<MemDisk>>) -> Result<TestNode, Fail> {
+// The node of this number, which runs from the permanent image of its store's record.
+fn run(
+    alloc: Global,
+    net: &Net,
+    number: u8,
+    store: Store<GateCell<MemDisk>>,
+) -> Result<TestNode, Fail> {
     match store.record() {
         Ok(kept) => {
-            if kept.node != 0 || kept.highest.len() == 0 {
+            if kept.node != number || usize::from(number) >= kept.highest.len() {
                 return Err("another node's record".into());
             }
         }
         Err(_) => return Err("no record".into()),
     }
-    Ok(Node::run_from(alloc, 0, store)?)
+    Ok(Node::run_from(alloc, net, number, store)?)
+}
+
+// Node 0 of the running sum.
+fn run_sum(alloc: Global, store: Store<GateCell<MemDisk>>) -> Result<TestNode, Fail> {
+    let net = sum_net(alloc)?;
+    run(alloc, &net, 0, store)
+}
+
+/// The node of this number, opened and running, on a small disk with this record.
+pub(crate) fn node_in(
+    alloc: Global,
+    net: &Net,
+    number: u8,
+    bytes: &[u8],
+) -> Result<TestNode, Fail> {
+    match Store::open(alloc, formatted(alloc, 9, bytes)?) {
+        Ok(store) => run(alloc, net, number, store),
+        Err(_) => Err("not opened".into()),
+    }
 }
 
 /// Node 0, opened and running, on a disk of so many sectors with this record.
 pub(crate) fn node_on(alloc: Global, sectors: usize, bytes: &[u8]) -> Result<TestNode, Fail> {
     match Store::open(alloc, formatted(alloc, sectors, bytes)?) {
-        Ok(store) => run(alloc, store),
+        Ok(store) => run_sum(alloc, store),
         Err(_) => Err("not opened".into()),
     }
 }
@@ -168,7 +206,7 @@ pub(crate) fn failing_node(
             let mut store = opened;
             store.recount();
             store.arm(ArmedFault { call, fill })?;
-            run(alloc, store)
+            run_sum(alloc, store)
         }
         Err(_) => Err("not opened".into()),
     }

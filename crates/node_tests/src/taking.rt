@@ -8,10 +8,11 @@ ghost use Rattle.node.specs.NodeView.{mode_view};
 ghost use Rattle.record.specs.Changes.{LogTakes};
 ghost use Rattle.protocol.specs.Node.Installing.{taken_from, put_on, EndTakes, ImageTakes, TakesTurn};
 
+use crate::nets::{pair_net, sum_net};
 use crate::nodes::TestNode;
 use kahn_net::{Channel, History, MAX_COUNT, Port};
-use net_check::{Inputs, Net, bind, check};
-use net_text::{parse, parse_inputs};
+use net_check::{Inputs, Net, bind};
+use net_text::parse_inputs;
 use node::{Mode, Recovery};
 use proc_step::{Done, Job};
 use record::{End, Image, SavedEnd};
@@ -19,27 +20,6 @@ use retained::{Log, MAX_LOG_ITEMS};
 use std::alloc::Global;
 use std::sync::Arc;
 use std::test::Fail;
-
-// The running sum: input 0, output 1.
-const SUM: &str =
-    "kahn 1; input i; output o; process sum on 0 { var a; var v; loop { v = get i; a = a + v; put a to o; } }";
-
-// Two outputs, 0 and 1.
-const PAIR: &str =
-    "kahn 1; output a; output b; process pair on 0 { var v; put v to a; put v to b; }";
-
-fn net_of(alloc: Global, text: &str) -> Result<Arc<Net>, Fail> {
-    let net = check(alloc, parse(alloc, text)?)?;
-    Ok(Arc::new(alloc, net)?)
-}
-
-fn sum_net(alloc: Global) -> Result<Arc<Net>, Fail> {
-    net_of(alloc, SUM)
-}
-
-fn pair_net(alloc: Global) -> Result<Arc<Net>, Fail> {
-    net_of(alloc, PAIR)
-}
 
 /// A network and the items that come in. A test's node isn't among them: what a function owns is let go of at each of its `?`,
 /// so a test makes its node in one function and is handed it in another.
@@ -49,7 +29,7 @@ pub(crate) struct Feed {
     pub(crate) inputs: Inputs,
 }
 
-fn feed_of(alloc: Global, net: Arc<Net>, text: &str) -> Result<Feed, Fail> {
+pub(crate) fn feed_of(alloc: Global, net: Arc<Net>, text: &str) -> Result<Feed, Fail> {
     let inputs = bind(alloc, &net, parse_inputs(alloc, text)?)?;
     Ok(Feed { net, inputs })
 }
@@ -141,7 +121,7 @@ fn end_fits(channels: &[Channel], done: &Done, saved: &SavedEnd) -> bool
     taken <= MAX_COUNT && received_at(&saved.end) <= MAX_COUNT - taken && put_fits(&saved.end, put)
 }
 
-fn image_fits(channels: &[Channel], done: &Done, image: &Image) -> bool
+pub(crate) fn image_fits(channels: &[Channel], done: &Done, image: &Image) -> bool
     ensures { IsTrue result → ImageTakes channels.now done.now.job.process done.now.taken.items
         done.now.sent.items image.now }
 {

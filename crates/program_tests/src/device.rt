@@ -11,7 +11,7 @@ use sector_disk::{Disk, MemDisk};
 use std::alloc::{AllocError, Global};
 use std::sync::Arc;
 use std::test::Fail;
-use world::{Event, Reply, World, can_run, list_outputs};
+use world::{Event, Reply, World, list_outputs, node_count};
 
 const SUM: &str =
     "kahn 1; input i; output o; process sum on 0 { var a; var v; loop { v = get i; a = a + v; put a to o; } }";
@@ -31,15 +31,16 @@ fn empty_disk(alloc: Global, sectors: usize) -> Result<MemDisk, AllocError>
 /// The world of the running sum of 1 2 3.
 fn open(alloc: Global) -> Result<DiskWorld, Fail> {
     let net = check(alloc, parse(alloc, SUM)?)?;
-    if !can_run(&net) {
-        return Err(Fail::new("the running sum can be run"));
+    if node_count(&net) != 1 {
+        return Err(Fail::new("the running sum is on one node"));
     }
     let inputs = bind(alloc, &net, parse_inputs(alloc, "i: 1 2 3")?)?;
     let outputs = list_outputs(alloc, &net)?;
     let net = Arc::new(alloc, net)?;
     let inputs = Arc::new(alloc, inputs)?;
-    let disk = empty_disk(alloc, SECTORS)?;
-    match World::new(alloc, net, inputs, disk, outputs) {
+    let mut disks = Vec::with_capacity(alloc, 1)?;
+    disks.push(empty_disk(alloc, SECTORS)?)?;
+    match World::new(alloc, net, inputs, disks, outputs) {
         Ok(world) => Ok(world),
         Err(_) => Err(Fail::new("the disk has room for the opening record")),
     }

@@ -68,11 +68,6 @@ fn failures_and_their_statuses(rt: HostRuntime) -> Result<(), Fail> {
             "approx: refusal 19",
             1,
         ),
-        (
-            Failure::Unsupported,
-            "run: several nodes are not supported yet; use --approx",
-            1,
-        ),
         (Failure::NoMemory, "no memory", 1),
         (Failure::Other { number: 44 }, "refusal 44", 1),
     ] {

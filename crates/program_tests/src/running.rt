@@ -6,7 +6,6 @@ use std::io;
 use std::io::{Read, Write};
 use std::process::Abort;
 use std::test::Fail;
-use world::can_run;
 
 const SUM: &[u8] =
     b"kahn 1;\ninput i;\noutput o;\nprocess sum on 0 {\n  var a;\n  var v;\n  loop { v = get i; a = a + v; put a to o; }\n}\n";
@@ -161,15 +160,6 @@ fn a_run_of_one_round(rt: HostRuntime) -> Result<(), Fail> {
     text.push_str(zeros(alloc, 4_096, "\npartial\n")?.as_str())?;
     let texts = (SUM, inputs.as_bytes());
     comes_to(&rt, &options, texts, alloc, (text.as_bytes(), b""), 3);
-    Ok(())
-}
-
-#[test]
-fn which_networks_can_be_run(rt: HostRuntime) -> Result<(), Fail> {
-    let Ok(net) = read_net(rt.alloc(), Some(SUM)) else {
-        return Err(Fail::new("the running sum is a network"));
-    };
-    assert!(rt; can_run(&net));
     Ok(())
 }
 

@@ -12,3 +12,6 @@ pub mod Layout
 pub mod Reached
 pub mod Trimming
 pub mod Opening
+pub mod Addresses
+pub mod Delivering
+pub mod Sending

@@ -2,12 +2,15 @@
 pub mod ImageLaws
 pub mod NumberedLaws
 pub mod ReachedLaws
+pub mod PlaceLaws
 pub mod LogLaws
 pub mod CountLaws
 pub mod InnerLaws
+pub mod LinkLaws
 pub mod LiftLaws
 pub mod InstallLaws
 pub mod FitLaws
+pub mod InboxLaws
 pub mod TrimLaws
 pub mod StepLaws
 pub mod ReleaseLaws

@@ -14,10 +14,10 @@ pub mod Headline
 pub mod Pairs
 pub mod StationView
 pub mod Turns
+pub mod Traffic
 pub mod Steps
 pub mod Choice
 pub mod Quiet
 pub mod RecoveryLine
 pub mod Released
 pub mod OpeningWorld
-pub mod Runnable

@@ -7,6 +7,7 @@ pub mod SoundLaws
 pub mod OrderLaws
 pub mod HandedLaws
 pub mod BoundLaws
+pub mod KeptLaws
 pub mod StepKeeps
 pub mod RoomLaws
 pub mod ActLaws
@@ -14,4 +15,8 @@ pub mod GrowLaws
 pub mod OpenLaws
 pub mod PairLaws
 pub mod QuietLaws
+pub mod ShownLaws
 pub mod LineLaws
+pub mod TrafficLaws
+pub mod HearLaws
+pub mod SendLaws

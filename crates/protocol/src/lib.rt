@@ -7,7 +7,9 @@
 #![tactic(auto)]
 
 mod armed_restart;
+mod delivery;
 mod limits;
+mod links;
 mod one_node;
 mod putting;
 mod records;
@@ -16,7 +18,9 @@ mod runs;
 mod steps;
 
 pub use armed_restart::ArmedRestart;
-pub use limits::{MAX_GRANTS, MAX_JOB_ITEMS};
+pub use delivery::Delivery;
+pub use limits::{MAX_GRANTS, MAX_INBOX_ITEMS, MAX_JOB_ITEMS, WINDOW};
+pub use links::{Inbox, Outbox};
 pub use one_node::{node_law, node_line_law, node_opening_law, node_packet_law, node_sound_law};
 pub use putting::{Putting, Recovery};
 pub use records::record_law;

@@ -5,3 +5,9 @@ pub const MAX_JOB_ITEMS: usize = 64;
 
 /// The most jobs that are counted in a round.
 pub const MAX_GRANTS: u8 = 64;
+
+/// The most items of an inbox: what came of a channel from another node, and wasn't got yet.
+pub const MAX_INBOX_ITEMS: usize = 1_024;
+
+/// How many positions of a channel between nodes may be under way.
+pub const WINDOW: u64 = 64;

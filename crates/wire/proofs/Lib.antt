@@ -1,2 +1,4 @@
-pub mod Sending
+pub mod Posting
 pub mod Passing
+pub mod Seen
+pub mod Staged

@@ -1,3 +1,5 @@
 pub mod Rules
 pub mod Queue
 pub mod Wire
+pub mod Traffic
+pub mod Staging

@@ -1,7 +1,6 @@
 -- All that is in flight.
-use Rattle.std.specs.Prelude.{◌≡◌, ℕ, ◌+◌, Bool, false, List, [], replicate, slice_get, slice_set, slice_index, unwrap_or, Option, Some, None}
+use Rattle.std.specs.Prelude.{ℕ, ◌+◌, Bool, false, List, [], slice_get, slice_set, slice_index, unwrap_or, Option, Some, None}
 use Rattle.wire.specs.declared.rule.Rule.{Rule}
-use Rattle.wire.specs.declared.queue.TheConstants.{NODES}
 use Rattle.wire.specs.declared.queue.Flight.{Flight}
 use Rattle.wire.specs.Rules.{capped}
 use Rattle.wire.specs.Queue.{QueueState, is_due}
@@ -10,11 +9,6 @@ use Rattle.wire.specs.Queue.{QueueState, is_due}
 pub record WireState : Type 0 where
   pub queues : List QueueState
   pub rules : List Rule
-
--- nothing is in flight to the node, and nobody sent anything to it
-pub record IsEmptyQueue (queue : QueueState) : Type 0 where
-  pub flights : queue.flights ≡ []
-  pub counts : queue.counts ≡ replicate NODES 0
 
 -- the queue of a node
 abbrev pub queue_at : WireState → ℕ → QueueState
@@ -38,9 +32,12 @@ with_room wire node room =
     let queue = queue_at wire node in
     with_queue wire node (record { flights = queue.flights; counts = queue.counts; room = room })
 
--- which packet from a node the one is that is sent after so many others
+-- which packet from a node the one is that is sent after so many others, where these were sent before
+abbrev pub nth_in : List ℕ → ℕ → ℕ → ℕ
+nth_in counts from ahead = capped (capped (slice_index counts from + ahead) + 1)
+
 abbrev pub nth_of : QueueState → ℕ → ℕ → ℕ
-nth_of queue from ahead = capped (capped (slice_index queue.counts from + ahead) + 1)
+nth_of queue from ahead = nth_in queue.counts from ahead
 
 abbrev pub is_due_at : ℕ → Option Flight → Bool
 is_due_at round None = false

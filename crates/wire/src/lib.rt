@@ -9,10 +9,13 @@ mod bytes;
 mod laws;
 mod queue;
 mod rule;
+mod sending;
+mod staging;
 mod wire;
 
 pub use bytes::Bytes;
 pub use laws::nothing_is_made_up;
 pub use queue::{Flight, Letter, NODES};
 pub use rule::{Change, Rule};
+pub use sending::Sending;
 pub use wire::Wire;

@@ -136,6 +136,8 @@ impl Letter {
 
 impl Queue {
     ghost use Rattle.wire.specs.Wire.{is_due_at};
+    ghost use Rattle.wire.specs.Traffic.{queue_traffic};
+    ghost use Rattle.wire.specs.Staging.{joined, unsent, HasRoom};
 
     pub(crate) fn new(alloc: Global) -> Queue
         ensures { (result.flights ≡ []) × (result.counts ≡ replicate NODES 0) }
@@ -144,6 +146,26 @@ impl Queue {
             flights: Vec::new(alloc),
             counts: [0; NODES],
         }
+    }
+
+    // A queue that counts on from here, with nothing in flight.
+    pub(crate) fn unsent(&self, alloc: Global) -> Queue
+        ensures { queue_traffic result ≡ unsent (queue_traffic self.now) }
+    {
+        Queue {
+            flights: Vec::new(alloc),
+            counts: self.counts,
+        }
+    }
+
+    // Puts another queue's packets last, where there is room, and counts as it does.
+    pub(crate) fn join(&mut self, more: Queue)
+        requires { HasRoom self.old more }
+        ensures { queue_traffic self.new ≡ joined (queue_traffic self.old) (queue_traffic more) }
+    {
+        let counts = more.counts;
+        self.counts = counts;
+        put_last(&mut self.flights, more.flights);
     }
 
     pub(crate) fn len(&self) -> usize

@@ -1,13 +1,16 @@
 // All that is in flight.
-ghost use Rattle.std.specs.Prelude.{◌≡◌, ◌+◌, ◌≤◌, ◌<◌, ◌++◌, [], ◌∷◌, All, length, slice_get, option_map, Some, IfOk, OnOk, OnErr};
+ghost use Rattle.std.specs.Prelude.{◌≡◌, ◌+◌, ◌≤◌, ◌<◌, ◌++◌, [], ◌∷◌, All, replicate, length, slice_get, option_map, Some, IfOk, OnOk, OnErr};
 ghost use Rattle.std.specs.List.{position_from};
 ghost use Rattle.wire.specs.Rules.{fate_of};
 ghost use Rattle.wire.specs.Queue.{is_due, flights_of, without, with_delay, with_copy, counted};
-ghost use Rattle.wire.specs.Wire.{IsEmptyQueue, queue_at, in_flight, room_for, with_queue, with_room, nth_of, is_due_at};
+ghost use Rattle.wire.specs.Wire.{queue_at, in_flight, room_for, with_queue, with_room, nth_of, is_due_at};
+ghost use Rattle.wire.specs.Traffic.{AreNodes, empty_queue, queues_traffic, traffic_of, opening_traffic, traffic_without, traffic_delayed, traffic_repeated, traffic_armed, traffic_sent, all_sent};
 
 use crate::bytes::Bytes;
 use crate::queue::{Letter, NODES, Queue};
 use crate::rule::{Rule, capped_sum, fate_by};
+use crate::sending::Sending;
+use crate::staging::{post_all, staged};
 use std::alloc::{AllocError, Global};
 use std::marker::Model;
 
@@ -32,8 +35,7 @@ impl Model for Wire {
 
 // So many queues with nothing in them.
 fn empty_queues(alloc: Global) -> Result<Vec<Queue>, AllocError>
-    ensures count { IfOk result (λ queues. length queues.items ≡ NODES) }
-    ensures empty { IfOk result (λ queues. All IsEmptyQueue queues.items) }
+    ensures { IfOk result (λ queues. queues_traffic queues.items ≡ replicate NODES empty_queue) }
 {
     let mut queues = Vec::with_capacity(alloc, NODES)?;
     for _ in 0..NODES {
@@ -45,9 +47,7 @@ fn empty_queues(alloc: Global) -> Result<Vec<Queue>, AllocError>
 impl Wire {
     /// Nothing is in flight, and no rule is armed.
     pub fn new(alloc: Global) -> Result<Wire, AllocError>
-        ensures queues { IfOk result (λ wire. All IsEmptyQueue wire.queues) }
-        ensures nodes { IfOk result (λ wire. length wire.queues ≡ NODES) }
-        ensures rules { IfOk result (λ wire. wire.rules ≡ []) }
+        ensures { IfOk result (λ wire. traffic_of wire ≡ opening_traffic) }
     {
         Ok(Wire {
             queues: empty_queues(alloc)?,
@@ -95,6 +95,7 @@ impl Wire {
         ensures packet { option_map (λ f. f.packet) (slice_get (in_flight self.old to) place)
             ≡ Some result.items }
         ensures left { self.new ≡ with_queue self.old to (without (queue_at self.old to) place) }
+        ensures traffic { traffic_of self.new ≡ traffic_without (traffic_of self.old) to place }
     {
         let queue = &mut self.queues[to as usize];
         queue.take(place).packet.into_vec()
@@ -104,7 +105,8 @@ impl Wire {
     pub fn lose(&mut self, to: u8, place: usize)
         requires node { to < NODES }
         requires there { place < length (in_flight self.old to) }
-        ensures { self.new ≡ with_queue self.old to (without (queue_at self.old to) place) }
+        ensures left { self.new ≡ with_queue self.old to (without (queue_at self.old to) place) }
+        ensures traffic { traffic_of self.new ≡ traffic_without (traffic_of self.old) to place }
     {
         let queue = &mut self.queues[to as usize];
         let _lost = queue.take(place);
@@ -114,8 +116,10 @@ impl Wire {
     pub fn delay(&mut self, to: u8, place: usize, rounds: u64)
         requires node { to < NODES }
         requires there { place < length (in_flight self.old to) }
-        ensures { let queue = queue_at self.old to in self.new ≡ with_queue self.old to
+        ensures late { let queue = queue_at self.old to in self.new ≡ with_queue self.old to
             (record queue { flights = with_delay queue.flights place rounds }) }
+        ensures traffic { traffic_of self.new
+            ≡ traffic_delayed (traffic_of self.old) to place rounds }
     {
         let queue = &mut self.queues[to as usize];
         queue.delay(place, rounds);
@@ -133,6 +137,9 @@ impl Wire {
               room = room_for self.new to;
             })) }
         ensures err { OnErr result (self.new ≡ with_room self.old to (room_for self.new to)) }
+        ensures traffic { OnOk result (traffic_of self.new
+            ≡ traffic_repeated (traffic_of self.old) to place) }
+        ensures refused { OnErr result (traffic_of self.new ≡ traffic_of self.old) }
     {
         let queue = &mut self.queues[to as usize];
         queue.repeat(alloc, place)
@@ -144,6 +151,9 @@ impl Wire {
         ensures ok { OnOk result (self.new
             ≡ record (self.old) { rules = self.old.rules ++ rule ∷ [] }) }
         ensures err { OnErr result (self.new ≡ self.old) }
+        ensures traffic { OnOk result (traffic_of self.new
+            ≡ traffic_armed (traffic_of self.old) rule) }
+        ensures refused { OnErr result (traffic_of self.new ≡ traffic_of self.old) }
     {
         self.rules.push(rule)?;
         Ok(())
@@ -243,8 +253,28 @@ impl Wire {
               room = room_for self.new to;
             })) }
         ensures err { OnErr result (self.new ≡ with_room self.old to (room_for self.new to)) }
+        ensures traffic { OnOk result (traffic_of self.new
+            ≡ traffic_sent from to packet.items round (traffic_of self.old)) }
+        ensures refused { OnErr result (traffic_of self.new ≡ traffic_of self.old) }
     {
         let letter = self.letter(alloc, from, to, 0, packet, round)?;
         self.send_letter(letter)
+    }
+
+    /// Sends these packets in this round, one after the other, as the rules have it: all of them or none. Takes all memory
+    /// first, and refuses for want of memory alone: then the same is in flight as before.
+    pub fn send_all(
+        &mut self,
+        alloc: Global,
+        packets: Vec<Sending>,
+        round: u64,
+    ) -> Result<(), AllocError>
+        requires { All AreNodes packets.items }
+        ensures ok { OnOk result (traffic_of self.new
+            ≡ all_sent round packets.items (traffic_of self.old)) }
+        ensures err { OnErr result (traffic_of self.new ≡ traffic_of self.old) }
+    {
+        let more = staged(alloc, &self.queues, &self.rules, packets, round)?;
+        post_all(&mut self.queues, more)
     }
 }

@@ -1,10 +1,13 @@
 //! Packets in flight, by what lies where.
 
+ghost use Rattle.std.specs.Prelude.{◌<◌, All, OnOk};
+ghost use Rattle.wire.specs.Traffic.{AreNodes};
+
 use crate::asserting::{holds, same};
 use std::alloc::Global;
 use std::process::Abort;
 use std::test::Fail;
-use wire::{Change, Rule, Wire};
+use wire::{Bytes, Change, Rule, Sending, Wire};
 
 /// Sends a packet of one byte from node 0 to node 1.
 fn send(alloc: Global, wire: &mut Wire, byte: u8, round: u64) -> Result<(), Fail> {
@@ -147,5 +150,43 @@ fn made_ready_before(rt: HostRuntime) -> Result<(), Fail> {
     wire.reserve(1, second.places())?;
     wire.post(second);
     in_flight(&rt, &wire, b"\x14\x15\x15", "in order");
+    Ok(())
+}
+
+/// Adds a packet of one byte to those that are to be sent.
+fn add(alloc: Global, packets: &mut Vec<Sending>, from: u8, to: u8, byte: u8) -> Result<(), Fail>
+    requires nodes { (from < 16) × (to < 16) }
+    requires so_far { All AreNodes packets.old.items }
+    ensures { OnOk result (All AreNodes packets.new.items) }
+{
+    let mut packet = Vec::new(alloc);
+    packet.push(byte)?;
+    packets.push(Sending {
+        from,
+        to,
+        packet: Bytes::new(packet),
+    })?;
+    Ok(())
+}
+
+#[test]
+fn sent_together(rt: HostRuntime) -> Result<(), Fail> {
+    let alloc = rt.alloc();
+    let mut wire = Wire::new(alloc)?;
+    arm(&mut wire, 3, Change::Repeat)?;
+    send(alloc, &mut wire, 20, 0)?;
+    let mut packets = Vec::new(alloc);
+    add(alloc, &mut packets, 0, 1, 21)?;
+    add(alloc, &mut packets, 2, 1, 30)?;
+    add(alloc, &mut packets, 0, 1, 22)?;
+    add(alloc, &mut packets, 1, 2, 40)?;
+    wire.send_all(alloc, packets, 0)?;
+    in_flight(
+        &rt,
+        &wire,
+        b"\x14\x15\x1e\x16\x16",
+        "in order, the third of node 0 twice",
+    );
+    same(&rt, wire.len(2), 1, "to another node");
     Ok(())
 }

@@ -1,9 +1,11 @@
 mod Cells
 mod Lines
 mod Openings
+mod OpenedStations
 mod OpeningStores
 mod Views
 mod Stations
 mod Showing
 mod Rests
 mod Places
+mod Packets

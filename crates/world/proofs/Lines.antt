@@ -7,6 +7,7 @@ use Rattle.gate_cell.specs.declared.cell.StableCell.{Ghosts as CellWords}
 use Rattle.record.specs.RecordView.{RecordView}
 use Rattle.ckpt_store.specs.Spelling.{Spells}
 use Rattle.ckpt_store.specs.StoreView.{record_in}
+use Rattle.wire.specs.Traffic.{Traffic}
 use Rattle.protocol.specs.Node.Starting.{IsBehind}
 use Rattle.protocol.specs.World.Invariant.{outputs_of, WorldInvariant}
 use Rattle.protocol.specs.WorldLaws.LineLaws.{line_ahead, line_of, fit_undecided, kept_undecided}
@@ -31,8 +32,8 @@ module _ {C O : Type 0} {cell : CellWords C} (taken : O → List ℤ) (failures 
   -- these records fit what had left before and what has left by now, and aren't behind
   abbrev Follow : List (Station C O cell) → List (Station C O cell) → List RecordView → Type 0
   Follow olds news records =
-      AllZip (λ (station : StationView) (kept : RecordView). FitsOutputs net (outputs_of station.outlets) kept) (map (station_view taken failures) olds) records
-      × AllZip (λ (station : StationView) (kept : RecordView). FitsOutputs net (outputs_of station.outlets) kept) (map (station_view taken failures) news) records
+      AllZip (λ (station : StationView) (kept : RecordView). FitsOutputs net station.node.kept.node (outputs_of station.outlets) kept) (map (station_view taken failures) olds) records
+      × AllZip (λ (station : StationView) (kept : RecordView). FitsOutputs net station.node.kept.node (outputs_of station.outlets) kept) (map (station_view taken failures) news) records
       × AllZip (λ (old kept : RecordView). IsBehind old.permanent kept.permanent) (records_of (map (station_view taken failures) olds)) records
 
   all_follow : (olds news : List (Station C O cell)) (lefts : List (Option (List ℕ))) (records : List RecordView) → AllZip (StaysInLine taken failures net) olds news → AreLeftSince olds news lefts → AllZip Spells records lefts → Follow olds news records
@@ -57,22 +58,22 @@ module _ {C O : Type 0} {cell : CellWords C} (taken : O → List ℤ) (failures 
   all_go_on (old ∷ olds) (new ∷ news) stays = (stays.0.goes_on, all_go_on olds news stays.1)
 
   -- so an event keeps the line
-  pub keeps_line : (inputs : List (List ℤ)) (olds news : List (Station C O cell)) (before after : ℕ)
-      → WorldInvariant (record { net = net; inputs = inputs; stations = map (station_view taken failures) olds; round = before })
-      → WorldInvariant (record { net = net; inputs = inputs; stations = map (station_view taken failures) news; round = after })
+  pub keeps_line : (inputs : List (List ℤ)) (olds news : List (Station C O cell)) (before after : ℕ) (flying flown : Traffic)
+      → WorldInvariant (record { net = net; inputs = inputs; stations = map (station_view taken failures) olds; traffic = flying; round = before })
+      → WorldInvariant (record { net = net; inputs = inputs; stations = map (station_view taken failures) news; traffic = flown; round = after })
       → AllZip (StaysInLine taken failures net) olds news → KeepsLine taken failures net olds news
-  keeps_line inputs olds news before after was is stays = record {
+  keeps_line inputs olds news before after flying flown was is stays = record {
     spelled = λ lefts since. all_spelled olds news lefts stays since;
     in_line = λ lefts records since spelled. (
         let follow = all_follow olds news lefts records stays since spelled in
         record {
-          at_first = line_of net inputs was.valid was.alone (map (station_view taken failures) olds) records was.inhabited was.stations follow.0;
-          at_last = line_of net inputs was.valid was.alone (map (station_view taken failures) news) records is.inhabited is.stations follow.1;
-          not_behind = line_ahead net inputs was.valid was.alone (map (station_view taken failures) olds) records was.stations
-              (fit_undecided net inputs was.valid was.alone (map (station_view taken failures) olds) records follow.0) follow.2;
+          at_first = line_of net inputs was.valid (map (station_view taken failures) olds) records was.count was.numbered was.stations follow.0;
+          at_last = line_of net inputs was.valid (map (station_view taken failures) news) records is.count is.numbered is.stations follow.1;
+          not_behind = line_ahead net inputs was.valid (map (station_view taken failures) olds) records was.stations
+              (fit_undecided net inputs was.valid (map (station_view taken failures) olds) records follow.0) follow.2;
         });
-    goes_on = line_ahead net inputs was.valid was.alone (map (station_view taken failures) olds) (records_of (map (station_view taken failures) news)) was.stations
-        (kept_undecided net inputs was.valid was.alone (map (station_view taken failures) news) is.stations) (all_go_on olds news stays);
+    goes_on = line_ahead net inputs was.valid (map (station_view taken failures) olds) (records_of (map (station_view taken failures) news)) was.stations
+        (kept_undecided net inputs was.valid (map (station_view taken failures) news) is.stations) (all_go_on olds news stays);
   }
 
 module _ {C O : Type 0} {cell : CellWords C} (taken : O → List ℤ) (failures : O → ℕ) where

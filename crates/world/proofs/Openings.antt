@@ -3,7 +3,7 @@ use Rattle.std.proofs.Common.{◌≡◌, ℕ, zero, suc, ◌+◌, ◌<◌, Bool,
 use Rattle.std.specs.Prelude.{if◌then◌else◌}
 use Rattle.std.proofs.Math.Seq.{drop-cons}
 use Rattle.kahn_net.specs.declared.program.Channel.{Channel}
-use Rattle.kahn_net.specs.Syntax.{Network, network_of}
+use Rattle.kahn_net.specs.Syntax.{Network}
 use Rattle.record.specs.RecordView.{RecordView}
 use Rattle.protocol.specs.Node.NodeView.{NodeView}
 use Rattle.protocol.specs.Node.Opening.{opening_node, opening_record, running_from}
@@ -14,12 +14,10 @@ use Rattle.protocol.specs.World.OutputView.{OutputView}
 use Rattle.protocol.specs.World.Sound.{goes_outside, output_channels}
 use Rattle.protocol.specs.WorldLaws.OpenLaws.{NothingLeft}
 use Rattle.std.specs.List.{AllByRecursion}
-use Rattle.protocol.specs.World.OpeningWorld.{opening_outlet, opening_station, opening_world}
+use Rattle.protocol.specs.World.OpeningWorld.{opening_outlet, opening_station}
 use Rattle.world.specs.OpeningWorld.{fresh, IsUnused}
 use Rattle.protocol.specs.World.StationView.{OutletView, StationView}
 use Rattle.world.specs.StationView.{outlet_view, outlet_views}
-use Rattle.protocol.specs.World.Steps.{WorldView}
-use Rattle.net_check.specs.declared.net.Net.{Net}
 use Rattle.world.specs.declared.output.Output.{Output}
 
 one_listed : (b : Bool) (number : ℕ) (rest : List ℕ) → (if b then number ∷ [] else []) ++ rest ≡ (if b then number ∷ rest else rest)
@@ -65,25 +63,14 @@ opened_nothing taken failures (first ∷ outputs) none zero output is =
 opened_nothing taken failures (first ∷ outputs) none (suc j) output is = opened_nothing taken failures outputs none.1 j output is
 
 -- a station whose node runs from the opening record
-pub opened_station : (net : Network) (number failures before : ℕ) (kept : RecordView) (node : NodeView) (outlets : List OutletView) (turns : RoundTurns)
-    → number ≡ 0 → node ≡ running_from kept → kept ≡ opening_record net 1 0 → failures ≡ before → turns ≡ no_turns 0
-    → ◌≡◌ {A = StationView} (record { number = number; node = node; failures = failures; outlets = outlets; turns = turns }) (opening_station net before outlets)
-opened_station net number failures before kept node outlets turns first runs is same none =
+pub opened_station : (net : Network) (nodes home number failures before : ℕ) (kept : RecordView) (node : NodeView) (outlets : List OutletView) (turns : RoundTurns)
+    → number ≡ home → node ≡ running_from net home kept → kept ≡ opening_record net nodes home → failures ≡ before → turns ≡ no_turns 0
+    → ◌≡◌ {A = StationView} (record { number = number; node = node; failures = failures; outlets = outlets; turns = turns }) (opening_station net nodes home before outlets)
+opened_station net nodes home number failures before kept node outlets turns first runs is same none =
     ap (λ (n : ℕ). station_at n node failures turns) first
-    ∙ (ap (λ (state : NodeView). station_at 0 state failures turns) (runs ∙ ap running_from is)
-    ∙ (ap (λ (n : ℕ). station_at 0 (opening_node net 1 0) n turns) same
-    ∙ ap (λ (t : RoundTurns). station_at 0 (opening_node net 1 0) before t) none))
+    ∙ (ap (λ (state : NodeView). station_at home state failures turns) (runs ∙ ap (running_from net home) is)
+    ∙ (ap (λ (n : ℕ). station_at home (opening_node net nodes home) n turns) same
+    ∙ ap (λ (t : RoundTurns). station_at home (opening_node net nodes home) before t) none))
   where
     station_at : ℕ → NodeView → ℕ → RoundTurns → StationView
     station_at n state count t = record { number = n; node = state; failures = count; outlets = outlets; turns = t }
-
--- the world of one station that opened
-pub opened_world : {S : Type 0} (view : S → StationView) (given net : Net) (inputs : List (List ℤ)) (failures : ℕ) (before after : List OutletView) (stations earlier : List S) (station : S)
-    → earlier ≡ [] → stations ≡ earlier ++ station ∷ [] → given ≡ net → view station ≡ opening_station (network_of given.program) failures before → before ≡ map opening_outlet after
-    → record { net = network_of net.program; inputs = inputs; stations = map view stations; round = 0 } ≡ opening_world (network_of net.program) inputs failures after
-opened_world {S} view given net inputs failures before after stations earlier station none pushed same opening outlets =
-    ap (λ (list : List S). world (map view list)) (pushed ∙ ap (λ (list : List S). list ++ station ∷ []) none)
-    ∙ ap (λ (s : StationView). world (s ∷ [])) (opening ∙ (ap (λ (n : Net). opening_station (network_of n.program) failures before) same ∙ ap (opening_station (network_of net.program) failures) outlets))
-  where
-    world : List StationView → WorldView
-    world list = record { net = network_of net.program; inputs = inputs; stations = list; round = 0 }

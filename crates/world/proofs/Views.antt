@@ -1,10 +1,11 @@
 -- Views of stations.
 use Rattle.std.proofs.Common.{◌≡◌, ℕ, zero, suc, ◌<◌, Bool, List, ℤ, [], ◌∷◌, length, get_or, Option, Some, map, refl, sym, ap, subst, ◌∙◌}
 use Rattle.std.specs.Prelude.{Result, Ok, Err, IfOk, OnErr, slice_get, slice_set}
-use Rattle.std.proofs.lemmas.List.{map-set}
+use Rattle.std.proofs.lemmas.List.{length-map, map-set}
 use Rattle.std.proofs.lemmas.Option.{slice_get_read}
 use Rattle.std.specs.declared.alloc.AllocError.{AllocError}
 use Rattle.kahn_net.specs.Syntax.{Network}
+use Rattle.wire.specs.Traffic.{Traffic}
 use Rattle.protocol.specs.Node.NodeView.{NodeView}
 use Rattle.protocol.specs.Node.Trimming.{current_log, trimmed_node}
 use Rattle.protocol.specs.World.Invariant.{outputs_of}
@@ -13,7 +14,7 @@ use Rattle.protocol.specs.World.OutputView.{OutputView}
 use Rattle.world.specs.OutputView.{output_view, outputs_view}
 use Rattle.protocol.specs.World.StationView.{OutletView, StationView}
 use Rattle.world.specs.StationView.{outlet_view, outlet_views}
-use Rattle.protocol.specs.World.Steps.{next_release, IsHanded, IsRelease, IsStationStep, IsActOf, IsAct}
+use Rattle.protocol.specs.World.Steps.{may_restart, next_release, IsHanded, IsRelease, IsStationStep, IsActOf, IsAct}
 use Rattle.world.specs.WorldView.{IsCellUnchanged}
 use Rattle.protocol.specs.World.EventView.{EventView}
 use Rattle.world.specs.ReplyView.{reply_view}
@@ -73,17 +74,22 @@ module _ (round place : ℕ) (old : StationView) (outlet later : OutletView) (no
 -- Stations of a world
 
 -- an event at the station of this place is one of the list of stations
-pub acted : {S : Type 0} (net : Network) (inputs : List (List ℤ)) (view : S → StationView) (room : S → RecordView → Bool) (round : ℕ) (event : EventView) (xs : List S) (place : ℕ) (x y : S) (result : Result Reply AllocError) → place < length xs → x ≡ get_or xs place x
-    → IfOk result (λ reply. IsStationStep net inputs (room x) round event (view x) (reply_view reply) (view y))
-    → IfOk result (λ reply. IsAct net inputs place (map room xs) round event (map view xs) (reply_view reply) (map view (slice_set xs place y)))
-acted net inputs view room round event xs place x y (Err e) within is step = tt
-acted {S} net inputs view room round event xs place x y (Ok reply) within is step =
+pub acted : {S : Type 0} (net : Network) (inputs : List (List ℤ)) (traffic : Traffic) (view : S → StationView) (room : S → RecordView → Bool) (restarts : Bool) (round : ℕ) (event : EventView) (xs : List S) (place : ℕ) (x y : S) (result : Result Reply AllocError) (count : ℕ) → restarts ≡ may_restart count → count ≡ length xs
+    → place < length xs → x ≡ get_or xs place x
+    → IfOk result (λ reply. IsStationStep net inputs traffic (room x) restarts round event (view x) (reply_view reply) (view y))
+    → IfOk result (λ reply. IsAct net inputs traffic place (map room xs) round event (map view xs) (reply_view reply) (map view (slice_set xs place y)))
+acted net inputs traffic view room restarts round event xs place x y (Err e) count may many within is step = tt
+acted {S} net inputs traffic view room restarts round event xs place x y (Ok reply) count may many within is step =
     let there : slice_get xs place ≡ Some x = slice_get_read xs (length xs) place x refl within is in
     let fits : slice_get (map room xs) place ≡ Some (room x) = map_at room xs place x there in
     let seen : slice_get (map view xs) place ≡ Some (view x) = map_at view xs place x there in
-    subst (λ (f : Option (RecordView → Bool)). IsActOf net inputs place f (slice_get (map view xs) place) round event (map view xs) (reply_view reply) (map view (slice_set xs place y))) (sym fits)
-    (subst (λ (s : Option StationView). IsActOf net inputs place (Some (room x)) s round event (map view xs) (reply_view reply) (map view (slice_set xs place y))) (sym seen)
-    (record { later = view y; step = step; stations = map-set view xs place y }))
+    subst (λ (f : Option (RecordView → Bool)). IsActOf net inputs traffic place f (slice_get (map view xs) place) round event (map view xs) (reply_view reply) (map view (slice_set xs place y))) (sym fits)
+    (subst (λ (s : Option StationView). IsActOf net inputs traffic place (Some (room x)) s round event (map view xs) (reply_view reply) (map view (slice_set xs place y))) (sym seen)
+    (record {
+      later = view y;
+      step = subst (λ (b : Bool). IsStationStep net inputs traffic (room x) b round event (view x) (reply_view reply) (view y)) (may ∙ ap may_restart (many ∙ sym (length-map xs view))) step;
+      stations = map-set view xs place y;
+    }))
 
 -- what is true of the station of this place
 pub seen_at : {S : Type 0} (view : S → StationView) (xs : List S) (place : ℕ) (x : S) → place < length xs → x ≡ get_or xs place x → slice_get (map view xs) place ≡ Some (view x)

@@ -1,6 +1,9 @@
 -- What a world is opened with: outputs, and a disk with room for the opening record; and why it isn't opened.
-use Rattle.std.specs.Prelude.{◌≡◌, ◌≤◌, ℕ, ℤ, List, [], Option, None}
+use Rattle.std.specs.Prelude.{◌≡◌, ◌⊎◌, ◌≤◌, ℕ, suc, ℤ, List, [], ◌∷◌, filter, Option, None}
+use Rattle.kahn_net.specs.Nodes.{node_count}
 use Rattle.kahn_net.specs.Syntax.{Network}
+use Rattle.sector_disk.specs.declared.disk.Disk.{Ghosts as DiskWords}
+use Rattle.gate_cell.specs.declared.gate.GateCell.{GateCell}
 use Rattle.gate_cell.specs.Layout.{room_on, HasNoRoom}
 use Rattle.gate_cell.specs.declared.cell.StableCell.{Ghosts as CellWords}
 use Rattle.record.specs.RecordView.{RecordView}
@@ -12,6 +15,10 @@ use Rattle.ckpt_store.specs.declared.fault.StoreFault.TheVariants.{NoMemory, Dev
 use Rattle.world.specs.declared.output.Output.{Output}
 use Rattle.world.specs.declared.station.Station.{Station}
 use Rattle.protocol.specs.Node.Opening.{opening_record}
+use Rattle.protocol.specs.World.OpeningWorld.{outlets_on, opening_station}
+use Rattle.protocol.specs.World.Sound.{is_output}
+use Rattle.world.specs.StationView.{outlet_views}
+use Rattle.world.specs.WorldView.{station_view, HasOutlets}
 
 -- an output of which no failure is remembered
 abbrev pub fresh : {O : Type 0} → Output O → Output O
@@ -21,9 +28,20 @@ fresh output = record { channel = output.channel; outlet = output.outlet; failed
 abbrev pub IsUnused : {O : Type 0} → (O → List ℤ) → Output O → Type 0
 IsUnused taken output = taken output.outlet ≡ []
 
--- how many bytes spell the record with which the disk of a network on one node is formatted
-abbrev pub opening_length : Network → ℕ
-opening_length net = spelled_length (opening_record net 1 0)
+-- how many bytes spell the record with which the disk of the node of this number is formatted
+abbrev pub opening_length : Network → ℕ → ℕ
+opening_length net number = spelled_length (opening_record net (node_count net) number)
+
+-- of these outputs, those of the node
+abbrev pub own_outputs : {O : Type 0} → Network → ℕ → List (Output O) → List (Output O)
+own_outputs {O} net home outputs = filter (λ (output : Output O). is_output net home output.channel) outputs
+
+-- what holds of two lists place by place and of the number of the place, the first one having this number
+abbrev pub AllNumbered : {A B : Type 0} → (ℕ → A → B → Type 0) → ℕ → List A → List B → Type 0
+AllNumbered P number [] [] = Unit {0}
+AllNumbered P number [] (y ∷ ys) = ⊥
+AllNumbered P number (x ∷ xs) [] = ⊥
+AllNumbered P number (x ∷ xs) (y ∷ ys) = P number x y × AllNumbered P (suc number) xs ys
 
 -- a disk of so many sectors has room for a value of so many bytes
 abbrev pub HasRoom : ℕ → ℕ → Type 0
@@ -45,6 +63,36 @@ IsOpeningRefusal sectors value_len NotHeld = ⊥
 IsOpeningRefusal sectors value_len Unsettled = ⊥
 IsOpeningRefusal sectors value_len Spent = ⊥
 
+-- disks of so many sectors have room for the opening records of the nodes from this number on
+abbrev pub HaveRoom : Network → ℕ → List ℕ → Type 0
+HaveRoom net number [] = Unit {0}
+HaveRoom net number (sectors ∷ rest) = HasRoom sectors (opening_length net number) × HaveRoom net (suc number) rest
+
+-- Why no world is opened on disks of so many sectors, one for each node from this number on: one of them isn't opened with the record of its node,
+-- for a reason that is given above; or memory is missing.
+abbrev pub IsWorldRefusal : Network → ℕ → List ℕ → StoreFault → Type 0
+IsWorldRefusal net number [] fault = fault ≡ NoMemory
+IsWorldRefusal net number (sectors ∷ rest) fault = IsOpeningRefusal sectors (opening_length net number) fault ⊎ IsWorldRefusal net (suc number) rest fault
+
 -- a crash now leaves this record of a station, and no other
 abbrev pub LeavesOnlyRecord : {C O : Type 0} {cell : CellWords C} → RecordView → Station C O cell → Type 0
 LeavesOnlyRecord {C} {O} {cell} kept station = (left : Option (List ℕ)) → cell.may_leave (cell_in station.node.store) left → Spells kept left
+
+-- the same of each of these stations: of that of the node of this number the opening record, and so on
+abbrev pub LeaveOnlyRecords : {C O : Type 0} {cell : CellWords C} → Network → ℕ → List (Station C O cell) → Type 0
+LeaveOnlyRecords net number [] = Unit {0}
+LeaveOnlyRecords net number (station ∷ stations) = LeavesOnlyRecord (opening_record net (node_count net) number) station × LeaveOnlyRecords net (suc number) stations
+
+-- each of these stations, the first one being of the node of this number, has the outlets of those outputs that are its node's
+abbrev pub HaveOutlets : {C O : Type 0} {cell : CellWords C} → Network → ℕ → List (Output O) → List (Station C O cell) → Type 0
+HaveOutlets net number outputs [] = Unit {0}
+HaveOutlets net number outputs (station ∷ stations) = HasOutlets (own_outputs net number outputs) station × HaveOutlets net (suc number) outputs stations
+
+-- The station of the node of this number was opened on a disk, with those of the outputs that are its node's: it is as it is said of an opening one,
+-- a crash leaves the opening record, and its cell has the room of the disk, which that record fits.
+pub record IsOpened {D O : Type 0} {disk : DiskWords D} {cell : CellWords (GateCell D disk)} (taken : O → List ℤ) (failures : O → ℕ) (net : Network) (outputs : List (Output O)) (number : ℕ) (given : D) (station : Station (GateCell D disk) O cell) : Type 0 where
+  pub view : station_view taken failures station ≡ opening_station net (node_count net) number (disk.failure_count given) (outlets_on net number (outlet_views taken failures outputs))
+  pub outlets : HasOutlets (own_outputs net number outputs) station
+  pub left : LeavesOnlyRecord (opening_record net (node_count net) number) station
+  pub room : cell.capacity (cell_in station.node.store) ≡ room_on (disk.sector_count given)
+  pub fits : HasRoom (disk.sector_count given) (opening_length net number)

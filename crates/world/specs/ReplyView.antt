@@ -1,11 +1,13 @@
 -- Answers as data.
 use Rattle.std.specs.Prelude.{Option, Some, None, Result, Ok, Err}
-use Rattle.protocol.specs.World.ReplyView.{ReplyView, Granted, Installed, Discarded, Sent, Started, Decided, Refused, Released, OutletFailed, Crashed, Recovered, InDoubt, Down, Acted, Idled, NotDue}
+use Rattle.protocol.specs.World.ReplyView.{ReplyView, Delivered, Dropped, Granted, Installed, Discarded, Sent, Started, Decided, Refused, Released, OutletFailed, Crashed, Recovered, InDoubt, Down, Acted, Idled, NotDue}
 use Rattle.node.specs.JobView.{job_view}
 use Rattle.world.specs.declared.event.Reply.{Reply}
 use Rattle.world.specs.declared.event.Reply.TheVariants as reply
 
 abbrev pub reply_view : Reply → ReplyView
+reply_view reply.Delivered = Delivered
+reply_view (reply.Dropped refusal) = Dropped refusal
 reply_view (reply.Granted job) = Granted (job_view job)
 reply_view reply.Installed = Installed
 reply_view reply.Discarded = Discarded

@@ -15,6 +15,7 @@ use Rattle.protocol.specs.World.Pairs.{HasGrown}
 use Rattle.protocol.specs.World.StationView.{StationView}
 use Rattle.world.specs.StationView.{outlet_views}
 use Rattle.protocol.specs.World.Steps.{WorldView}
+use Rattle.wire.specs.Traffic.{Traffic}
 use Rattle.world.specs.declared.output.Output.{Output}
 use Rattle.world.specs.declared.station.Station.{Station}
 
@@ -28,9 +29,9 @@ station_view {C} {O} {cell} taken failures station = record {
   turns = station.turns;
 }
 
--- a world by its parts: shares of its network and of the inputs, its stations, and the round
-abbrev pub world_view : {C O : Type 0} {cell : CellWords C} → (O → List ℤ) → (O → ℕ) → Arc Net Global → Arc Inputs Global → List (Station C O cell) → ℕ → WorldView
-world_view taken failures net inputs stations round = record { net = network_of net.value.program; inputs = inputs.value; stations = map (station_view taken failures) stations; round = round }
+-- a world by its parts: shares of its network and of the inputs, its stations, what is in flight, and the round
+abbrev pub world_view : {C O : Type 0} {cell : CellWords C} → (O → List ℤ) → (O → ℕ) → Arc Net Global → Arc Inputs Global → List (Station C O cell) → Traffic → ℕ → WorldView
+world_view taken failures net inputs stations traffic round = record { net = network_of net.value.program; inputs = inputs.value; stations = map (station_view taken failures) stations; traffic = traffic; round = round }
 
 -- what each station's cell has room for
 abbrev pub rooms : {C O : Type 0} {cell : CellWords C} → List (Station C O cell) → List (RecordView → Bool)
@@ -48,6 +49,6 @@ IsCellUnchanged old new = cell_in new.node.store ≡ cell_in old.node.store
 abbrev pub IsGrown : {C O : Type 0} {cell : CellWords C} → (O → List ℤ) → Station C O cell → Station C O cell → Type 0
 IsGrown {C} {O} {cell} taken old new = HasGrown cell.moment cell.left_since (cell_in old.node.store) (cell_in new.node.store) (outputs_view taken old.outputs.items) (outputs_view taken new.outputs.items)
 
--- a station with the outlets of these outputs
+-- a station has the outlets of these outputs
 abbrev pub HasOutlets : {C O : Type 0} {cell : CellWords C} → List (Output O) → Station C O cell → Type 0
 HasOutlets {C} {O} outputs station = map (λ (output : Output O). output.outlet) station.outputs.items ≡ map (λ (output : Output O). output.outlet) outputs

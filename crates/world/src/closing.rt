@@ -41,8 +41,8 @@ fn add_station<D: Disk, O: Outlet>(
 }
 
 impl<D: Disk, O: Outlet> World<GateCell<D>, O> {
-    /// Ends the world: its disks, by node number, and its outlets, in order of the outputs, as they stand. No device call
-    /// is made. Refuses for want of memory alone (1), and then they are gone.
+    /// Ends the world: its disks, by node number, and its outlets, station by station and in order of the outputs at each,
+    /// as they stand. No device call is made. Refuses for want of memory alone (1), and then they are gone.
     pub fn close(self, alloc: Global) -> Result<(Vec<D>, Vec<O>), AllocError>
         ensures disks { IfOk result (λ closed. closed.0.items ≡ disks_of self.stations.items) }
         ensures outlets { IfOk result

@@ -6,11 +6,16 @@ use sector_disk::ArmedFault;
 /// What can happen. Each names its node, and `Install` that of its job's process.
 #[derive(Drop)]
 pub enum Event {
+    /// The packet at this place, from 0, of those in flight to the node comes to it.
+    Deliver {
+        node: u8,
+        place: usize,
+    },
     /// The process that is next is given a job.
     Grant(u8),
     /// What came of a job comes back.
     Install(Done),
-    /// The node sends what is due to the others. There is no other yet.
+    /// The node sends what is due: how far it has come on each channel from another node, and items of its own.
     Send(u8),
     /// The node begins a checkpoint: it takes a tentative image.
     Start(u8),
@@ -36,6 +41,22 @@ pub enum Event {
     },
     /// The node lets its turn pass.
     Idle(u8),
+    /// The network loses the packet at this place, of those in flight to the node.
+    Lose {
+        node: u8,
+        place: usize,
+    },
+    /// A copy of it is put in flight, behind all others, and is due in the round of its original.
+    Repeat {
+        node: u8,
+        place: usize,
+    },
+    /// It is due so many rounds later.
+    Delay {
+        node: u8,
+        place: usize,
+        rounds: u64,
+    },
 }
 
 /// How far an output's items have left the system: so many of this channel.
@@ -48,6 +69,11 @@ pub struct Freed {
 /// What came of an event.
 #[derive(Drop)]
 pub enum Reply {
+    /// The packet came to the node. It is no longer in flight, and may have changed nothing.
+    Delivered,
+    /// It spells no packet, or one that isn't for this node or names what isn't there: it is gone (33). In a world this can't
+    /// happen, since all that is in flight was sent by its nodes.
+    Dropped(u8),
     /// The job that was granted.
     Granted(Job),
     /// The turn was taken in.
@@ -70,7 +96,7 @@ pub enum Reply {
     InDoubt,
     /// The device failed in this event, and the node is down.
     Down,
-    /// What was to be prepared is.
+    /// What was to be prepared is, or the network has done so.
     Acted,
     Idled,
     /// The event can't happen now, or its node isn't of this world. Nothing is changed.

@@ -10,7 +10,8 @@ mod checkpoints;
 mod closing;
 mod event;
 mod laws;
-mod one_node;
+mod network;
+mod nodes;
 mod opening;
 mod output;
 mod picking;
@@ -24,7 +25,7 @@ mod world;
 
 pub use event::{Event, Freed, Refused, Reply};
 pub use laws::line_law;
-pub use one_node::can_run;
+pub use node::node_count;
 pub use opening::list_outputs;
 pub use output::Output;
 pub use protocol::RoundTurns;

@@ -1,5 +1,5 @@
 // Which event is next for a node.
-ghost use Rattle.std.specs.Prelude.{◌≡◌, ◌||◌, ◌&&◌, nat_lt, not, is_some};
+ghost use Rattle.std.specs.Prelude.{◌≡◌, ◌<◌, ◌||◌, ◌&&◌, nat_lt, not, is_some, option_map};
 ghost use Rattle.kahn_net.specs.Syntax.{network_of};
 ghost use Rattle.record.specs.Ends.{received_of, sent_of};
 ghost use Rattle.protocol.specs.Node.Choosing.{node_job};
@@ -7,13 +7,17 @@ ghost use Rattle.node.specs.NodeOf.{view_of};
 ghost use Rattle.protocol.specs.Node.NodeView.{running_of};
 ghost use Rattle.node.specs.NodeView.{node_view};
 ghost use Rattle.protocol.specs.Node.Starting.{is_down, is_own, may_decide};
-ghost use Rattle.protocol.specs.World.Choice.{counts_rose, has_more, has_sent, has_turn, may_recover, station_choice, wants_checkpoint, choice};
+ghost use Rattle.protocol.specs.World.Choice.{counts_rose, has_more, has_sent, has_turn, due_place, flying_to, may_recover, own_choice, station_choice, wants_checkpoint, choice};
 ghost use Rattle.protocol.specs.World.Turns.{turns_of};
 ghost use Rattle.world.specs.EventView.{event_view};
 ghost use Rattle.world.specs.WholeView.{world_of};
+ghost use Rattle.wire.specs.Traffic.{traffic_of};
+ghost use Rattle.wire.specs.declared.queue.TheConstants.{NODES};
 ghost use Rattle.world.specs.WorldView.{station_view};
 
 use crate::event::Event;
+use crate::network::{first_due, packet_at};
+use crate::nodes::may_restart;
 use crate::station::Station;
 use crate::world::World;
 use gate_cell::StableCell;
@@ -22,6 +26,7 @@ use node::{Mode, NodeState};
 use outlet::Outlet;
 use protocol::MAX_GRANTS;
 use record::{Image, Record};
+use wire::Wire;
 
 // Whether a node holds its own tentative image.
 fn holds_own(kept: &Record, number: u8) -> bool
@@ -71,12 +76,12 @@ fn has_new(state: &NodeState, kept: &Record) -> bool
 }
 
 impl<C: StableCell, O: Outlet> Station<C, O> {
-    // Whether its node is down and may be recovered by now.
-    fn may_recover(&self, round: u64) -> bool
-        ensures { result ≡ may_recover round (station_view O.taken O.failures self.now) }
+    // Whether its node is down and may be recovered by now, where nodes may restart.
+    fn may_recover(&self, restarts: bool, round: u64) -> bool
+        ensures { result ≡ may_recover restarts round (station_view O.taken O.failures self.now) }
     {
         let state = &self.node.state;
-        state.is_down() && state.restart <= round
+        restarts && state.is_down() && state.restart <= round
     }
 
     // Whether a job is next: a process is ready, and fewer were granted in this round than may be.
@@ -132,15 +137,26 @@ impl<C: StableCell, O: Outlet> Station<C, O> {
         }
     }
 
-    // The event that is next for its node.
-    fn pick(&self, net: &Net, inputs: &Inputs, nodes: usize, round: u64) -> Event
-        ensures { event_view result ≡ station_choice (network_of net.now.program) inputs.now
+    // The place of the first packet that is due to its node, if that is up.
+    fn due_place(&self, wire: &Wire, round: u64) -> Option<usize>
+        requires { self.now.node.number < NODES }
+        ensures { result ≡ due_place (traffic_of wire.now) round
+            (station_view O.taken O.failures self.now) }
+    {
+        let node = &self.node;
+        if node.state.is_down() {
+            return None;
+        }
+        first_due(wire, node.number, round)
+    }
+
+    // The event that is next for its node, where no packet is due to it.
+    fn pick_own(&self, net: &Net, inputs: &Inputs, nodes: usize, round: u64) -> Event
+        ensures { event_view result ≡ own_choice (network_of net.now.program) inputs.now
             nodes round (station_view O.taken O.failures self.now) }
     {
         let number = self.node.number;
-        if self.may_recover(round) {
-            Event::Recover(number)
-        } else if self.next_release(round).is_some() {
+        if self.next_release(round).is_some() {
             Event::Release(number)
         } else if self.has_grant(net, inputs, round) {
             Event::Grant(number)
@@ -154,17 +170,49 @@ impl<C: StableCell, O: Outlet> Station<C, O> {
             Event::Idle(number)
         }
     }
+
+    // The event that is next for its node.
+    fn pick(&self, net: &Net, inputs: &Inputs, wire: &Wire, nodes: usize, round: u64) -> Event
+        requires { self.now.node.number < NODES }
+        ensures { event_view result ≡ station_choice (network_of net.now.program) inputs.now
+            (traffic_of wire.now) nodes round (station_view O.taken O.failures self.now) }
+    {
+        let node = self.node.number;
+        if self.may_recover(may_restart(nodes), round) {
+            return Event::Recover(node);
+        }
+        match self.due_place(wire, round) {
+            Some(place) => Event::Deliver { node, place },
+            None => self.pick_own(net, inputs, nodes, round),
+        }
+    }
 }
 
 impl<C: StableCell, O: Outlet> World<C, O> {
-    /// The event that is next for a node: a recovery, a release, a grant (at most 64 a round), a decision, a start, a send, or else
-    /// letting its turn pass. Takes no memory.
+    /// The event that is next for a node: a recovery, the delivery of the first packet that is due, a release, a grant (at most
+    /// 64 a round), a decision, a start, a send, or else letting its turn pass. Takes no memory.
     pub fn pick(&self, node: u8) -> Event
         ensures { event_view result ≡ choice (world_of self.now) node }
     {
         match self.stations.get(usize::from(node)) {
-            Some(station) => station.pick(&self.net, &self.inputs, self.stations.len(), self.round),
+            Some(station) => station.pick(
+                &self.net,
+                &self.inputs,
+                &self.wire,
+                self.stations.len(),
+                self.round,
+            ),
             None => Event::Idle(node),
         }
+    }
+
+    /// The bytes of the packet at a place, from 0, of those in flight to a node; none where there is none. Takes no memory.
+    pub fn packet(&self, node: u8, place: usize) -> Option<&[u8]>
+        ensures { option_map (λ bytes. bytes.now) result ≡ flying_to (world_of self.now) node place }
+    {
+        if usize::from(node) >= self.stations.len() {
+            return None;
+        }
+        packet_at(&self.wire, node, place)
     }
 }

@@ -1,13 +1,14 @@
 // When nothing is left to do.
-ghost use Rattle.std.specs.Prelude.{◌≡◌, ◌≤◌, length, slice_get, IsTrue};
+ghost use Rattle.std.specs.Prelude.{◌≡◌, ◌≤◌, length, map, slice_get, IsTrue};
 ghost use Rattle.kahn_net.specs.Streams.{history_of};
 ghost use Rattle.kahn_net.specs.Syntax.{network_of};
 ghost use Rattle.node.specs.NodeOf.{view_of};
 ghost use Rattle.protocol.specs.Node.NodeView.{running_of};
 ghost use Rattle.protocol.specs.World.Invariant.{outputs_of};
-ghost use Rattle.protocol.specs.World.Quiet.{has_got_all, is_at_rest, are_at_rest, have_all_left, is_quiet_at, are_quiet, AreWhole};
+ghost use Rattle.protocol.specs.World.Quiet.{sent_by, put_on_by, has_got_all, is_at_rest, are_at_rest, has_been_put, have_been_put, have_all_left, is_quiet_at, are_quiet, AreWhole};
 ghost use Rattle.world.specs.StationView.{outlet_views};
 ghost use Rattle.world.specs.WholeView.{world_of};
+ghost use Rattle.world.specs.WorldView.{station_view};
 ghost use Rattle.kahn_net.specs.declared.limits.TheConstants.{MAX_CHANNELS};
 
 use crate::output::Output;
@@ -31,28 +32,84 @@ fn count_of(inputs: &[History], channel: usize) -> usize
     }
 }
 
-// Whether each item of a channel was received: of an input all that there are, of any other all that was put.
-fn has_got_all(channels: &[Channel], inputs: &[History], image: &Image, channel: usize) -> bool
+impl<C: StableCell, O: Outlet> Station<C, O> {
+    // How many items its node has put on a channel by now; none where it doesn't run.
+    fn sent(&self, channel: u8) -> u64
+        ensures { result ≡ sent_by channel (running_of (view_of self.now.node)) }
+    {
+        match &self.node.state.mode {
+            Mode::Running(running) => running.current.sent(channel),
+            Mode::Down | Mode::InDoubt => 0,
+        }
+    }
+}
+
+// How many items a process has put on a channel by now, as its own node says.
+fn put_on_by<C: StableCell, O: Outlet>(
+    net: &Net,
+    stations: &[Station<C, O>],
+    channel: u8,
+    number: usize,
+) -> u64
+    ensures { result ≡ put_on_by (map (station_view O.taken O.failures) stations.now) channel
+        (slice_get (network_of net.now.program).codes number) }
+{
+    match net.program.processes.get(number) {
+        Some(process) => match stations.get(usize::from(process.node)) {
+            Some(station) => station.sent(channel),
+            None => 0,
+        },
+        None => 0,
+    }
+}
+
+// Whether each item of a channel was received: of an input all that there are, of any other all that were put by now.
+fn has_got_all<C: StableCell, O: Outlet>(
+    net: &Net,
+    channels: &[Channel],
+    inputs: &[History],
+    stations: &[Station<C, O>],
+    image: &Image,
+    channel: usize,
+) -> bool
     requires { length channels.now ≤ MAX_CHANNELS }
-    ensures { result ≡ has_got_all inputs.now image.now channel (slice_get channels.now channel) }
+    ensures { result ≡ has_got_all (network_of net.now.program) inputs.now
+        (map (station_view O.taken O.failures) stations.now) image.now channel
+        (slice_get channels.now channel) }
 {
     match channels.get(channel) {
         Some(ends) => match ends.producer {
             Port::Outside => image.received(channel as u8) == count_of(inputs, channel) as u64,
-            Port::Process(_) => image.received(channel as u8) == image.sent(channel as u8),
+            Port::Process(number) => {
+                image.received(channel as u8) == put_on_by(net, stations, channel as u8, number)
+            }
         },
         None => false,
     }
 }
 
 // Whether a process can do nothing more: it has finished, or it gets from a channel of which every item was received.
-fn is_at_rest(net: &Net, inputs: &[History], image: &Image, saved: &SavedProcess) -> bool
-    ensures { result ≡ is_at_rest (network_of net.now.program) inputs.now image.now saved.now }
+fn is_at_rest<C: StableCell, O: Outlet>(
+    net: &Net,
+    inputs: &[History],
+    stations: &[Station<C, O>],
+    image: &Image,
+    saved: &SavedProcess,
+) -> bool
+    ensures { result ≡ is_at_rest (network_of net.now.program) inputs.now
+        (map (station_view O.taken O.failures) stations.now) image.now saved.now }
 {
     match net.program.processes.get(usize::from(saved.number)) {
         Some(process) => match next_act(process, &saved.state) {
             NextAct::Begin => false,
-            NextAct::Get { channel } => has_got_all(&net.program.channels, inputs, image, channel),
+            NextAct::Get { channel } => has_got_all(
+                net,
+                &net.program.channels,
+                inputs,
+                stations,
+                image,
+                channel,
+            ),
             NextAct::Put { .. } => false,
             NextAct::Nothing => true,
         },
@@ -61,12 +118,56 @@ fn is_at_rest(net: &Net, inputs: &[History], image: &Image, saved: &SavedProcess
 }
 
 // Whether no process can do anything more.
-fn are_at_rest(net: &Net, inputs: &[History], image: &Image) -> bool
-    ensures { result ≡ are_at_rest
-        (network_of net.now.program) inputs.now image.now image.now.processes }
+fn are_at_rest<C: StableCell, O: Outlet>(
+    net: &Net,
+    inputs: &[History],
+    stations: &[Station<C, O>],
+    image: &Image,
+) -> bool
+    ensures { result ≡ are_at_rest (network_of net.now.program) inputs.now
+        (map (station_view O.taken O.failures) stations.now) image.now image.now.processes }
 {
     for saved in &image.processes {
-        if !is_at_rest(net, inputs, image, saved) {
+        if !is_at_rest(net, inputs, stations, image, saved) {
+            return false;
+        }
+    }
+    true
+}
+
+// Whether no more was received of a channel between processes than was put there by now.
+fn has_been_put<C: StableCell, O: Outlet>(
+    net: &Net,
+    stations: &[Station<C, O>],
+    image: &Image,
+    channel: u8,
+) -> bool
+    ensures { result ≡ has_been_put (network_of net.now.program)
+        (map (station_view O.taken O.failures) stations.now) image.now channel
+        (slice_get (network_of net.now.program).channels channel) }
+{
+    match net.program.channels.get(usize::from(channel)) {
+        Some(ends) => match ends.producer {
+            Port::Outside => true,
+            Port::Process(number) => {
+                image.received(channel) <= put_on_by(net, stations, channel, number)
+            }
+        },
+        None => true,
+    }
+}
+
+// The same of each channel of which the node has an end.
+fn have_been_put<C: StableCell, O: Outlet>(
+    net: &Net,
+    stations: &[Station<C, O>],
+    image: &Image,
+) -> bool
+    ensures { result ≡ have_been_put (network_of net.now.program)
+        (map (station_view O.taken O.failures) stations.now) image.now image.now.ends }
+{
+    for saved in &image.ends {
+        if !has_been_put(net, stations, image, saved.channel) {
             return false;
         }
     }
@@ -87,17 +188,19 @@ fn have_all_left<O: Outlet>(image: &Image, outputs: &[Output<O>]) -> bool
 }
 
 impl<C: StableCell, O: Outlet> Station<C, O> {
-    // Whether nothing is left to do here: the node runs, no job is out, and no process can do more than it did, all of
-    // which has left.
-    fn is_complete(&self, net: &Net, inputs: &[History]) -> bool
+    // Whether nothing is left to do here, beside these stations: the node runs, no job is out, no process can do more than
+    // it did, nothing was received that wasn't put, and all that was put has left.
+    fn is_complete(&self, net: &Net, inputs: &[History], stations: &[Station<C, O>]) -> bool
         ensures { result ≡ is_quiet_at (network_of net.now.program) inputs.now
+            (map (station_view O.taken O.failures) stations.now)
             (running_of (view_of self.now.node))
             (outputs_of (outlet_views O.taken O.failures self.now.outputs.items)) }
     {
         match &self.node.state.mode {
             Mode::Running(running) => {
                 running.out.is_none()
-                    && are_at_rest(net, inputs, &running.current)
+                    && are_at_rest(net, inputs, stations, &running.current)
+                    && have_been_put(net, stations, &running.current)
                     && have_all_left(&running.current, &self.outputs)
             }
             Mode::Down | Mode::InDoubt => false,
@@ -106,8 +209,8 @@ impl<C: StableCell, O: Outlet> Station<C, O> {
 }
 
 impl<C: StableCell, O: Outlet> World<C, O> {
-    /// Whether nothing is left to do: each process has finished or waits for an item that nobody will put, no job is
-    /// out, and each outlet has all that was put. Takes no memory.
+    /// Whether nothing is left to do: each node runs, each process has finished or waits for an item that nobody will
+    /// put, no job is out, and each outlet has all that was put. Takes no memory.
     pub fn complete(&self) -> bool
         // It says just that, of each station.
         ensures quiet { result ≡ are_quiet (world_of self.now) }
@@ -117,7 +220,7 @@ impl<C: StableCell, O: Outlet> World<C, O> {
     {
         let inputs = self.inputs.as_slice();
         for station in &self.stations {
-            if !station.is_complete(&self.net, inputs) {
+            if !station.is_complete(&self.net, inputs, &self.stations) {
                 return false;
             }
         }

@@ -1,20 +1,24 @@
 //! A world, and its events.
-ghost use Rattle.std.specs.Prelude.{◌≡◌, map, IfOk, IfErr, OnErr};
+ghost use Rattle.std.specs.Prelude.{◌≡◌, length, map, slice_get, IfOk, IfErr, OnErr};
 ghost use Rattle.std.specs.List.{AllZip};
 ghost use Rattle.kahn_net.specs.Fits.{Fits};
 ghost use Rattle.kahn_net.specs.Syntax.{network_of};
 ghost use Rattle.protocol.specs.World.EventView.{event_node};
 ghost use Rattle.world.specs.EventView.{event_view};
 ghost use Rattle.protocol.specs.World.Headline.{AreApproximated};
-ghost use Rattle.protocol.specs.World.Invariant.{AreSound, WorldInvariant};
+ghost use Rattle.kahn_net.specs.Nodes.{node_count};
+ghost use Rattle.protocol.specs.World.Invariant.{AreSound, IsNumbered, WorldInvariant};
+ghost use Rattle.protocol.specs.World.Traffic.{TrafficIsSound};
+ghost use Rattle.wire.specs.Traffic.{traffic_of};
 ghost use Rattle.world.specs.RecoveryLine.{StaysInLine, KeepsLine, HasOneLine};
 ghost use Rattle.protocol.specs.World.Replies.{IsTooLarge, LeavesCells, TakesMemory};
 ghost use Rattle.world.specs.ReplyView.{answer_view, reply_view};
 ghost use Rattle.protocol.specs.World.Roomy.{HasFullRoom};
-ghost use Rattle.protocol.specs.World.Steps.{is_done_with, are_done_with, round_after, IsAct, IsStep};
+ghost use Rattle.protocol.specs.World.Steps.{traffic_after, is_done_with, are_done_with, round_after, IsAct, IsStep};
 ghost use Rattle.world.specs.WorldView.{capacities, rooms, station_view, world_view, IsCellUnchanged, IsGrown};
 
 use crate::event::{Event, Refused, Reply};
+use crate::nodes::may_restart;
 use crate::station::Station;
 use gate_cell::StableCell;
 use net_check::{Inputs, Net};
@@ -22,11 +26,11 @@ use node::next_after;
 use outlet::Outlet;
 use std::alloc::{AllocError, Global};
 use std::sync::Arc;
+use wire::Wire;
 
-/// A network that runs on its inputs: shares of both, its stations, by node number, and the round. A world has one
-/// station as yet.
+/// A network that runs on its inputs: shares of both, its stations, one a node, by node number, and the round.
 ///
-/// Its type keeps that the inputs fit the network, that the images of each station stand where its processes have come
+/// Its type keeps that the inputs fit the network, that each station is of the node of its number, that the images of each station stand where its processes have come
 /// on one approximation of the network's histories, that what its outlets took is a beginning of what the processes put
 /// there, and that its permanent image covers all of that.
 #[derive(Drop)]
@@ -34,9 +38,10 @@ pub struct World<C: StableCell, O: Outlet> {
     pub net: Arc<Net>,
     pub inputs: Arc<Inputs>,
     pub stations: Vec<Station<C, O>>,
+    pub wire: Wire,
     pub round: u64,
     pub ghost sound: { WorldInvariant
-        (world_view O.taken O.failures net inputs stations.items round) },
+        (world_view O.taken O.failures net inputs stations.items (traffic_of wire) round) },
 }
 
 // The node of an event.
@@ -45,6 +50,7 @@ fn node_of(event: &Event) -> u8
 {
     match event {
         Event::Install(done) => done.job.node(),
+        Event::Deliver { node, .. } => *node,
         Event::Grant(node) => *node,
         Event::Send(node) => *node,
         Event::Start(node) => *node,
@@ -54,6 +60,9 @@ fn node_of(event: &Event) -> u8
         Event::Recover(node) => *node,
         Event::Arm { node, .. } => *node,
         Event::Idle(node) => *node,
+        Event::Lose { node, .. } => *node,
+        Event::Repeat { node, .. } => *node,
+        Event::Delay { node, .. } => *node,
     }
 }
 
@@ -63,6 +72,7 @@ fn act_at<C: StableCell, O: Outlet>(
     net: &Arc<Net>,
     inputs: &Inputs,
     stations: &mut Vec<Station<C, O>>,
+    wire: &mut Wire,
     number: usize,
     round: u64,
     event: &Event,
@@ -70,6 +80,11 @@ fn act_at<C: StableCell, O: Outlet>(
     requires fits { Fits (network_of net.now.value.program) inputs.now }
     requires sound { AreSound (network_of net.now.value.program) inputs.now
         (map (station_view O.taken O.failures) stations.old.items) }
+    requires flying { TrafficIsSound (network_of net.now.value.program) inputs.now
+        (traffic_of wire.old) }
+    requires numbered { IsNumbered (map (station_view O.taken O.failures) stations.old.items) }
+    requires count { length stations.old.items ≡ node_count (network_of net.now.value.program) }
+    requires at { event_node (event_view event.now) ≡ number }
     ensures grown { AllZip (IsGrown O.taken) stations.old.items stations.new.items }
     ensures line { AllZip (StaysInLine O.taken O.failures
         (network_of net.now.value.program)) stations.old.items stations.new.items }
@@ -78,10 +93,16 @@ fn act_at<C: StableCell, O: Outlet>(
         ≡ map (station_view O.taken O.failures) stations.old.items)
         × TakesMemory (event_view event.now)) }
     ensures step { IfOk result
-        (λ reply. IsAct (network_of net.now.value.program) inputs.now number
+        (λ reply. IsAct (network_of net.now.value.program) inputs.now (traffic_of wire.old) number
         (rooms stations.old.items) round (event_view event.now)
         (map (station_view O.taken O.failures) stations.old.items) (reply_view reply)
         (map (station_view O.taken O.failures) stations.new.items)) }
+    ensures traffic { IfOk result
+        (λ reply. traffic_of wire.new ≡ traffic_after (network_of net.now.value.program) round
+        (event_view event.now) (reply_view reply)
+        (slice_get (map (station_view O.taken O.failures) stations.old.items) number)
+        (traffic_of wire.old)) }
+    ensures same_traffic { OnErr result (traffic_of wire.new ≡ traffic_of wire.old) }
     ensures same_rooms { capacities stations.new.items ≡ capacities stations.old.items }
     ensures unchanged { LeavesCells (event_view event.now) (answer_view result)
         → AllZip IsCellUnchanged stations.old.items stations.new.items }
@@ -89,24 +110,32 @@ fn act_at<C: StableCell, O: Outlet>(
     if number >= stations.len() {
         return Ok(Reply::NotDue);
     }
-    stations[number].act(alloc, net, inputs, round, event)
+    let restarts = may_restart(stations.len());
+    stations[number].act(alloc, net, inputs, wire, restarts, round, event)
 }
 
 impl<C: StableCell, O: Outlet> Station<C, O> {
-    // Whether the round need not wait for this node: it has idled, or it is down and not to be recovered yet.
-    fn is_done_with(&self, round: u64) -> bool
-        ensures { result ≡ is_done_with round (station_view O.taken O.failures self.now) }
+    // Whether the round need not wait for this node: it has idled, or it is down and not to be recovered yet, or not at
+    // all.
+    fn is_done_with(&self, restarts: bool, round: u64) -> bool
+        ensures { result ≡ is_done_with restarts round (station_view O.taken O.failures self.now) }
     {
         let node = &self.node;
-        self.turns.of(round).idled || (node.state.is_down() && node.state.restart > round)
+        self.turns.of(round).idled
+            || (node.state.is_down() && (!restarts || node.state.restart > round))
     }
 }
 
-fn are_done_with<C: StableCell, O: Outlet>(stations: &[Station<C, O>], round: u64) -> bool
-    ensures { result ≡ are_done_with round (map (station_view O.taken O.failures) stations.now) }
+fn are_done_with<C: StableCell, O: Outlet>(
+    stations: &[Station<C, O>],
+    restarts: bool,
+    round: u64,
+) -> bool
+    ensures { result ≡ are_done_with restarts round
+        (map (station_view O.taken O.failures) stations.now) }
 {
     for station in stations {
-        if !station.is_done_with(round) {
+        if !station.is_done_with(restarts, round) {
             return false;
         }
     }
@@ -123,7 +152,9 @@ fn round_after<C: StableCell, O: Outlet>(
         (map (station_view O.taken O.failures) stations.now) }
 {
     match reply {
-        Reply::Idled if are_done_with(stations, round) => next_after(round),
+        Reply::Idled if are_done_with(stations, may_restart(stations.len()), round) => {
+            next_after(round)
+        }
         _ => round,
     }
 }
@@ -145,7 +176,8 @@ impl<C: StableCell, O: Outlet> World<C, O> {
         // event leaves covers all that has left; and no event both lets an item leave and writes a record.
         ensures grown { HaveGrown self.old self.new }
         // Whatever a crash of all nodes leaves at moments of the event spells a record of each, and the line from which
-        // they would then restart is sound, covers all that has left, and isn't behind the line before the event.
+        // they would then restart covers all that has left, isn't behind the line before the event, and is sound where
+        // the network is on one node.
         ensures line { KeepsLine O.taken O.failures (network_of self.old.net.value.program)
             self.old.stations.items self.new.stations.items }
         // By the end of the event one line alone is possible: that of the records which the nodes keep.
@@ -181,6 +213,7 @@ impl<C: StableCell, O: Outlet> World<C, O> {
             &self.net,
             &self.inputs,
             &mut self.stations,
+            &mut self.wire,
             number,
             self.round,
             &event,

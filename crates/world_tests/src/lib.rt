@@ -9,6 +9,10 @@ mod crashes;
 #[cfg(test)]
 mod events;
 #[cfg(test)]
+mod nodes;
+#[cfg(test)]
+mod packets;
+#[cfg(test)]
 mod pipes;
 #[cfg(test)]
 mod stops;

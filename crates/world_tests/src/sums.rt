@@ -4,7 +4,7 @@ ghost use Rattle.std.specs.Prelude.{◌≡◌, IfOk, [], map};
 ghost use Rattle.std.specs.List.{AllByRecursion};
 ghost use Rattle.kahn_net.specs.Fits.{Fits};
 ghost use Rattle.kahn_net.specs.Syntax.{network_of};
-ghost use Rattle.protocol.specs.World.Runnable.{CanRun};
+ghost use Rattle.kahn_net.specs.Nodes.{node_count};
 ghost use Rattle.world.specs.OpeningWorld.{IsUnused};
 ghost use Rattle.protocol.specs.World.Sound.{output_channels};
 
@@ -21,7 +21,7 @@ use std::alloc::Global;
 use std::process::Abort;
 use std::sync::Arc;
 use std::test::Fail;
-use world::{Event, Freed, Output, Reply, World, can_run, list_outputs};
+use world::{Event, Freed, Output, Reply, World, list_outputs, node_count};
 
 // The running sum: input 0, output 1.
 const SUM: &str =
@@ -34,16 +34,16 @@ pub(crate) const ITEMS: &str = "i: 1 2 3";
 pub(crate) type TestCell = GateCell<MemDisk>;
 
 fn net_of(alloc: Global, text: &str) -> Result<Net, Fail>
-    ensures { IfOk result (λ net. CanRun (network_of net.program)) }
+    ensures { IfOk result (λ net. node_count (network_of net.program) ≡ 1) }
 {
     let net = check(alloc, parse(alloc, text)?)?;
-    if !can_run(&net) {
-        return Err("the network can't be run".into());
+    if node_count(&net) != 1 {
+        return Err("the network is on several nodes".into());
     }
     Ok(net)
 }
 
-fn items_in(alloc: Global, net: &Net, text: &str) -> Result<Inputs, Fail>
+pub(crate) fn items_in(alloc: Global, net: &Net, text: &str) -> Result<Inputs, Fail>
     ensures { IfOk result (Fits (network_of net.now.program)) }
 {
     Ok(bind(alloc, net, parse_inputs(alloc, text)?)?)
@@ -69,7 +69,9 @@ fn world_of(
     let outputs = list_outputs(alloc, &net)?;
     let net = Arc::new(alloc, net)?;
     let inputs = Arc::new(alloc, inputs)?;
-    Ok(World::new(alloc, net, inputs, disk, outputs))
+    let mut disks = Vec::with_capacity(alloc, 1)?;
+    disks.push(disk)?;
+    Ok(World::new(alloc, net, inputs, disks, outputs))
 }
 
 /// The world of the running sum on these items, on this disk.
@@ -138,6 +140,8 @@ pub(crate) enum Happens {
     Recover,
     Arm(u64, u8, u64),
     Idle,
+    /// Something with a packet, of which there is none between the processes of one node.
+    Packet,
 }
 
 /// What was answered, without the job that was granted.
@@ -158,6 +162,8 @@ pub(crate) enum Answer {
     Down,
     Acted,
     Idled,
+    Delivered,
+    Dropped(u8),
     NotDue,
 }
 
@@ -178,6 +184,8 @@ fn answer_of(reply: &Reply) -> Answer {
         Reply::Down => Answer::Down,
         Reply::Acted => Answer::Acted,
         Reply::Idled => Answer::Idled,
+        Reply::Delivered => Answer::Delivered,
+        Reply::Dropped(number) => Answer::Dropped(*number),
         Reply::NotDue => Answer::NotDue,
     }
 }
@@ -204,6 +212,7 @@ fn usual(happens: Happens, number: u64) -> Answer {
         Happens::Recover => Answer::Recovered,
         Happens::Arm(_, _, _) => Answer::Acted,
         Happens::Idle => Answer::Idled,
+        Happens::Packet => Answer::Delivered,
     }
 }
 
@@ -246,6 +255,10 @@ pub(crate) fn choice<O: Outlet>(world: &World<TestCell, O>, node: u8) -> (Happen
             rounds,
         } => (Happens::Arm(fault.call, fault.fill, rounds), node),
         Event::Idle(node) => (Happens::Idle, node),
+        Event::Deliver { node, .. }
+        | Event::Lose { node, .. }
+        | Event::Repeat { node, .. }
+        | Event::Delay { node, .. } => (Happens::Packet, node),
     }
 }
 
@@ -321,6 +334,7 @@ impl<O: Outlet> Run<O> {
                 rounds,
             }),
             Happens::Idle => Ok(Event::Idle(0)),
+            Happens::Packet => Ok(Event::Deliver { node: 0, place: 0 }),
         }
     }
 
@@ -401,7 +415,9 @@ pub(crate) fn weak_outlet_run(
     let outputs = weak_outputs(alloc, &net, fails_at, takes_it)?;
     let net = Arc::new(alloc, net)?;
     let inputs = Arc::new(alloc, inputs)?;
-    let world = World::new(alloc, net, inputs, disk_of(alloc, 5)?, outputs)?;
+    let mut disks = Vec::with_capacity(alloc, 1)?;
+    disks.push(disk_of(alloc, 5)?)?;
+    let world = World::new(alloc, net, inputs, disks, outputs)?;
     Ok(Run {
         world,
         done: None,

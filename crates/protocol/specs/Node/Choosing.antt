@@ -10,22 +10,23 @@ use Rattle.kahn_net.specs.declared.program.Port.{Port}
 use Rattle.kahn_net.specs.declared.program.Port.TheVariants.{Outside, Process}
 use Rattle.record.specs.ProcessView.{SavedProcessView}
 use Rattle.record.specs.ImageView.{ImageView}
-use Rattle.record.specs.Ends.{received_of, sent_of}
+use Rattle.record.specs.Ends.{sent_in, received_of}
 use Rattle.turns.specs.Turns.{next_in_turn}
 use Rattle.protocol.specs.Node.JobView.{JobView}
 use Rattle.protocol.specs.Node.NodeView.{NodeView, RunningView, RunningNode, running_of, on_running}
-use Rattle.protocol.specs.Node.Granting.{room_of, job_for}
+use Rattle.protocol.specs.Node.Granting.{source_of, room_of, job_for}
 use Rattle.protocol.specs.Node.Starting.{is_none}
+use Rattle.protocol.specs.declared.links.Inbox.{Inbox}
 use Rattle.kahn_net.specs.declared.limits.TheConstants.{MAX_COUNT}
 
--- a next item is at hand of a channel whose items come from there: of an input, or of what a process put
-abbrev pub has_next : List (List ℤ) → ImageView → ℕ → Port → Bool
-has_next inputs image channel Outside = nat_lt (received_of image channel) (length (history_of inputs channel))
-has_next inputs image channel (Process p) = nat_lt (received_of image channel) (sent_of image channel)
+-- a next item is at hand of a channel whose items come from there: of an input, or of the log from which the channel is got
+abbrev pub has_next : List (List ℤ) → ImageView → List Inbox → ℕ → Port → Bool
+has_next inputs image inboxes channel Outside = nat_lt (received_of image channel) (length (history_of inputs channel))
+has_next inputs image inboxes channel (Process p) = nat_lt (received_of image channel) (sent_in (source_of image inboxes channel))
 
-abbrev pub has_item : List (List ℤ) → ImageView → ℕ → Option Channel → Bool
-has_item inputs image channel None = false
-has_item inputs image channel (Some ends) = has_next inputs image channel ends.producer
+abbrev pub has_item : List (List ℤ) → ImageView → List Inbox → ℕ → Option Channel → Bool
+has_item inputs image inboxes channel None = false
+has_item inputs image inboxes channel (Some ends) = has_next inputs image inboxes channel ends.producer
 
 -- there is room on a channel
 abbrev pub has_room : ImageView → ℕ → Option Channel → Bool
@@ -33,35 +34,35 @@ has_room image channel None = false
 has_room image channel (Some ends) = nat_lt 0 (room_of image channel)
 
 -- this can be done: the process hasn't begun, or gets where an item is at hand, or puts where there is room
-abbrev pub can_go : Network → List (List ℤ) → ImageView → Next → Bool
-can_go net inputs image Begins = true
-can_go net inputs image (Gets channel) = has_item inputs image channel (slice_get net.channels channel)
-can_go net inputs image (Puts channel) = has_room image channel (slice_get net.channels channel)
-can_go net inputs image NoNext = false
+abbrev pub can_go : Network → List (List ℤ) → ImageView → List Inbox → Next → Bool
+can_go net inputs image inboxes Begins = true
+can_go net inputs image inboxes (Gets channel) = has_item inputs image inboxes channel (slice_get net.channels channel)
+can_go net inputs image inboxes (Puts channel) = has_room image channel (slice_get net.channels channel)
+can_go net inputs image inboxes NoNext = false
 
 abbrev pub next_at : Option Code → Standing → Next
 next_at None standing = NoNext
 next_at (Some code) standing = next_of code standing
 
 -- a process is ready
-abbrev pub is_ready : Network → List (List ℤ) → ImageView → SavedProcessView → Bool
-is_ready net inputs image saved = can_go net inputs image (next_at (slice_get net.codes saved.number) saved.standing)
+abbrev pub is_ready : Network → List (List ℤ) → ImageView → List Inbox → SavedProcessView → Bool
+is_ready net inputs image inboxes saved = can_go net inputs image inboxes (next_at (slice_get net.codes saved.number) saved.standing)
 
 -- the process of this number, if it is here and ready
-abbrev pub ready_process : Network → List (List ℤ) → ImageView → ℕ → Option SavedProcessView
-ready_process net inputs image number = find (λ (saved : SavedProcessView). (saved.number == number) && is_ready net inputs image saved) image.processes
+abbrev pub ready_process : Network → List (List ℤ) → ImageView → List Inbox → ℕ → Option SavedProcessView
+ready_process net inputs image inboxes number = find (λ (saved : SavedProcessView). (saved.number == number) && is_ready net inputs image inboxes saved) image.processes
 
 -- whether each of the network's processes is here and ready, in order of their numbers
-unfoldable pub ready_processes : Network → List (List ℤ) → ImageView → List Bool
-ready_processes net inputs image = map (λ (number : ℕ). is_some (ready_process net inputs image number)) (range_with_len 0 (length net.codes))
+unfoldable pub ready_processes : Network → List (List ℤ) → ImageView → List Inbox → List Bool
+ready_processes net inputs image inboxes = map (λ (number : ℕ). is_some (ready_process net inputs image inboxes number)) (range_with_len 0 (length net.codes))
 
-abbrev pub process_at : Network → List (List ℤ) → ImageView → Option ℕ → Option SavedProcessView
-process_at net inputs image None = None
-process_at net inputs image (Some number) = ready_process net inputs image number
+abbrev pub process_at : Network → List (List ℤ) → ImageView → List Inbox → Option ℕ → Option SavedProcessView
+process_at net inputs image inboxes None = None
+process_at net inputs image inboxes (Some number) = ready_process net inputs image inboxes number
 
 -- the ready process that is next in turn behind the one granted last
-abbrev pub next_process : Network → List (List ℤ) → ImageView → Option ℕ → Option SavedProcessView
-next_process net inputs image last = process_at net inputs image (next_in_turn last (ready_processes net inputs image))
+abbrev pub next_process : Network → List (List ℤ) → ImageView → List Inbox → Option ℕ → Option SavedProcessView
+next_process net inputs image inboxes last = process_at net inputs image inboxes (next_in_turn last (ready_processes net inputs image inboxes))
 
 -- a node that runs may grant a job: it holds no tentative image, has no job out, and its version isn't the greatest
 abbrev pub may_grant : RunningNode → Bool
@@ -69,11 +70,11 @@ may_grant node = is_none node.kept.tentative && (is_none node.out && nat_lt node
 
 abbrev pub job_of : Network → List (List ℤ) → RunningNode → Option SavedProcessView → Option JobView
 job_of net inputs node None = None
-job_of net inputs node (Some saved) = Some (job_for net inputs node.current saved.number saved.standing node.version)
+job_of net inputs node (Some saved) = Some (job_for net inputs node.current node.inboxes saved.number saved.standing node.version)
 
 -- the job that it grants next, if it may grant one and a process is ready
 abbrev pub next_job : Network → List (List ℤ) → RunningNode → Option JobView
-next_job net inputs node = if may_grant node then job_of net inputs node (next_process net inputs node.current node.last) else None
+next_job net inputs node = if may_grant node then job_of net inputs node (next_process net inputs node.current node.inboxes node.last) else None
 
 -- and then, where a job was granted
 abbrev pub after_grant : Option JobView → RunningNode → RunningNode

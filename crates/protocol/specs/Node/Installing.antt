@@ -3,13 +3,14 @@ use Rattle.std.specs.Prelude.{◌≡◌, ℕ, ◌+◌, ◌≤◌, Bool, true, fa
 use Rattle.kahn_net.specs.Streams.{history_of}
 use Rattle.kahn_net.specs.Processes.{Standing}
 use Rattle.kahn_net.specs.declared.program.Channel.{Channel}
-use Rattle.record.specs.Changes.{pushed, counted, LogTakes}
+use Rattle.record.specs.Changes.{pushed, counted, trimmed_log, LogTakes}
 use Rattle.record.specs.ProcessView.{SavedProcessView}
 use Rattle.record.specs.ImageView.{ImageView}
 use Rattle.record.specs.Ends.{received_at, log_at}
 use Rattle.protocol.specs.Node.JobView.{JobView}
 use Rattle.protocol.specs.Node.NodeView.{NodeView, ModeView, Down, InDoubt, Runs, RunningView, RunningNode, on_mode, on_running}
 use Rattle.protocol.specs.Node.Granting.{is_process}
+use Rattle.protocol.specs.declared.links.Inbox.{Inbox}
 use Rattle.record.specs.declared.image.SavedEnd.{SavedEnd}
 use Rattle.kahn_net.specs.declared.limits.TheConstants.{MAX_COUNT}
 
@@ -48,6 +49,13 @@ installed channels process standing taken sent image = record {
   ends = map (saved_counted channels process taken) (map (saved_pushed channels process sent) image.ends);
 }
 
+-- an inbox without what this process took of its channel
+abbrev pub inbox_taken : List Channel → ℕ → List ℕ → Inbox → Inbox
+inbox_taken channels process taken inbox = record { channel = inbox.channel; window = inbox.window; log = trimmed_log (inbox.log.base + taken_from channels process taken inbox.channel) inbox.log }
+
+abbrev pub inboxes_taken : List Channel → ℕ → List ℕ → List Inbox → List Inbox
+inboxes_taken channels process taken inboxes = map (inbox_taken channels process taken) inboxes
+
 -- an end takes what the turn took and put
 pub record EndTakes (channels : List Channel) (process : ℕ) (taken : List ℕ) (sent : List (List ℤ)) (saved : SavedEnd) : Type 0 where
   pub received : received_at (Some (saved.end)) + taken_from channels process taken saved.channel ≤ MAX_COUNT
@@ -59,11 +67,19 @@ ImageTakes channels process taken sent image = (k : ℕ) (saved : SavedEnd) → 
 
 -- a node that runs after the turn on the job that was out
 abbrev pub with_turn : List Channel → ℕ → Standing → List ℕ → List (List ℤ) → RunningNode → RunningNode
-with_turn channels process standing taken sent node = record node { current = installed channels process standing taken sent node.current; out = None }
+with_turn channels process standing taken sent node = record node {
+  current = installed channels process standing taken sent node.current;
+  out = None;
+  inboxes = inboxes_taken channels process taken node.inboxes;
+}
 
 -- the same of what it has in memory; and how what comes back is taken in there, or left
 abbrev pub turned : List Channel → ℕ → Standing → List ℕ → List (List ℤ) → RunningView → RunningView
-turned channels process standing taken sent running = record running { current = installed channels process standing taken sent running.current; out = None }
+turned channels process standing taken sent running = record running {
+  current = installed channels process standing taken sent running.current;
+  out = None;
+  inboxes = inboxes_taken channels process taken running.inboxes;
+}
 
 abbrev pub IsTaken : List Channel → JobView → Standing → List ℕ → List (List ℤ) → RunningView → Bool → RunningView → Type 0
 IsTaken channels job standing taken sent old true new = (old.out ≡ Some job) × (new ≡ turned channels job.process standing taken sent old)

@@ -1,5 +1,5 @@
 -- What of a network lies on a node: its processes, and its ends of channels.
-use Rattle.std.specs.Prelude.{◌≡◌, ℕ, zero, suc, Bool, true, false, ◌==◌, ◌||◌, if◌then◌else◌, List, [], ◌∷◌, length, Option, Some, None, slice_get, IsTrue}
+use Rattle.std.specs.Prelude.{◌≡◌, ℕ, zero, suc, Bool, true, false, ◌==◌, ◌||◌, ◌&&◌, not, if◌then◌else◌, List, [], ◌∷◌, length, Option, Some, None, slice_get, IsTrue}
 use Rattle.kahn_net.specs.Syntax.{Code, Network}
 use Rattle.kahn_net.specs.declared.program.Channel.{Channel}
 use Rattle.kahn_net.specs.declared.program.Port.{Port}
@@ -31,6 +31,26 @@ channel_on net node (Some channel) = port_on net node channel.producer || port_o
 abbrev pub has_end : Network → ℕ → ℕ → Bool
 has_end net node c = channel_on net node (slice_get net.channels c)
 
+-- at this end of a channel there is a process, but none of the node
+abbrev pub port_away : Network → ℕ → Port → Bool
+port_away net node Outside = false
+port_away net node (Process p) = not (has_process net node p)
+
+-- the channel comes to a process of the node from one of another node, or goes to one there
+abbrev pub comes_in : Network → ℕ → Option Channel → Bool
+comes_in net node None = false
+comes_in net node (Some channel) = port_on net node channel.consumer && port_away net node channel.producer
+
+abbrev pub goes_out : Network → ℕ → Option Channel → Bool
+goes_out net node None = false
+goes_out net node (Some channel) = port_on net node channel.producer && port_away net node channel.consumer
+
+abbrev pub is_incoming : Network → ℕ → ℕ → Bool
+is_incoming net node c = comes_in net node (slice_get net.channels c)
+
+abbrev pub is_outgoing : Network → ℕ → ℕ → Bool
+is_outgoing net node c = goes_out net node (slice_get net.channels c)
+
 -- the role of the node's end: it receives (0), sends (1), or does both (2)
 abbrev pub role_by : Bool → Bool → ℕ
 role_by true true = 2
@@ -46,6 +66,13 @@ processes_on net node = numbers_where (has_process net node) 0 (length net.codes
 
 abbrev pub ends_on : Network → ℕ → List ℕ
 ends_on net node = numbers_where (has_end net node) 0 (length net.channels)
+
+-- the numbers of the channels that come from other nodes, and of those that go there
+abbrev pub incoming_on : Network → ℕ → List ℕ
+incoming_on net node = numbers_where (is_incoming net node) 0 (length net.channels)
+
+abbrev pub outgoing_on : Network → ℕ → List ℕ
+outgoing_on net node = numbers_where (is_outgoing net node) 0 (length net.channels)
 
 -- each process of the network is on the node
 abbrev pub AllHere : Network → ℕ → Type 0

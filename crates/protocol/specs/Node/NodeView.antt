@@ -4,12 +4,17 @@ use Rattle.record.specs.ImageView.{ImageView}
 use Rattle.record.specs.RecordView.{RecordView}
 use Rattle.protocol.specs.Node.JobView.{JobView}
 use Rattle.protocol.specs.declared.armed_restart.ArmedRestart.{ArmedRestart}
+use Rattle.protocol.specs.declared.links.Inbox.{Inbox}
+use Rattle.protocol.specs.declared.links.Outbox.{Outbox}
 
--- what a node has in memory while it runs: where it stands, the job that is out, and the process to which the last job was granted
+-- what a node has in memory while it runs: where it stands, the job that is out, the process to which the last job was granted, and its ends of
+-- channels from other nodes and to them
 pub record RunningView : Type 0 where
   pub current : ImageView
   pub out : Option JobView
   pub last : Option ℕ
+  pub inboxes : List Inbox
+  pub outboxes : List Outbox
 
 -- A node is down, and has no more than its record; or it holds another's tentative image and waits for the verdict; or it runs.
 pub data ModeView : Type 0 where
@@ -33,9 +38,11 @@ pub record RunningNode : Type 0 where
   pub current : ImageView
   pub out : Option JobView
   pub last : Option ℕ
+  pub inboxes : List Inbox
+  pub outboxes : List Outbox
 
 abbrev pub running_node : RecordView → ℕ → RunningView → RunningNode
-running_node kept version running = record { kept = kept; version = version; current = running.current; out = running.out; last = running.last }
+running_node kept version running = record { kept = kept; version = version; current = running.current; out = running.out; last = running.last; inboxes = running.inboxes; outboxes = running.outboxes }
 
 abbrev pub running_in : RecordView → ℕ → ModeView → Option RunningNode
 running_in kept version Down = None

@@ -1,13 +1,16 @@
 -- A node before its first event.
-use Rattle.std.specs.Prelude.{ℕ, suc, Bool, true, false, ◌==◌, if◌then◌else◌, List, [], ◌∷◌, replicate, Some, None}
+use Rattle.std.specs.Prelude.{ℕ, suc, Bool, true, false, ◌==◌, if◌then◌else◌, List, [], ◌∷◌, map, replicate, Some, None}
 use Rattle.kahn_net.specs.Syntax.{Code, Network}
 use Rattle.kahn_net.specs.Processes.{NotBegun}
 use Rattle.kahn_net.specs.declared.program.Channel.{Channel}
 use Rattle.record.specs.ProcessView.{SavedProcessView}
 use Rattle.record.specs.ImageView.{ImageView}
 use Rattle.record.specs.RecordView.{RecordView}
-use Rattle.protocol.specs.Node.Layout.{port_on, channel_on}
+use Rattle.protocol.specs.Node.Layout.{port_on, channel_on, incoming_on, outgoing_on}
 use Rattle.protocol.specs.Node.NodeView.{NodeView, Runs, RunningNode}
+use Rattle.protocol.specs.declared.limits.TheConstants.{WINDOW}
+use Rattle.protocol.specs.declared.links.Inbox.{Inbox}
+use Rattle.protocol.specs.declared.links.Outbox.{Outbox}
 use Rattle.record.specs.declared.image.SavedEnd.{SavedEnd}
 use Rattle.record.specs.declared.image.End.{End}
 use Rattle.record.specs.declared.image.End.TheVariants.{Receives, Sends, Both}
@@ -39,13 +42,41 @@ opening_image net home = record { processes = opening_processes home 0 net.codes
 abbrev pub opening_record : Network → ℕ → ℕ → RecordView
 opening_record net nodes number = record { node = number; epoch = 0; highest = replicate nodes 0; decision = None; permanent = opening_image net number; tentative = None }
 
--- a node that runs from its record's permanent image, and never went down
-abbrev pub running_from : RecordView → NodeView
-running_from kept = record { kept = kept; version = 0; restart = 0; armed = []; mode = Runs (record { current = kept.permanent; out = None; last = None }) }
+-- an inbox to which nothing has come, and an outbox of which nothing is under way
+abbrev pub new_inbox : ℕ → Inbox
+new_inbox channel = record { channel = channel; window = record { epoch = 0; next = 0 }; log = record { base = 0; items = [] } }
+
+abbrev pub new_outbox : ℕ → Outbox
+new_outbox channel = record { channel = channel; window = record { size = WINDOW; epoch = 0; acknowledged = 0 } }
+
+-- those of a node, in order of their channels
+abbrev pub opening_inboxes : Network → ℕ → List Inbox
+opening_inboxes net home = map new_inbox (incoming_on net home)
+
+abbrev pub opening_outboxes : Network → ℕ → List Outbox
+opening_outboxes net home = map new_outbox (outgoing_on net home)
+
+-- a node of this number that runs from its record's permanent image, and never went down
+abbrev pub running_from : Network → ℕ → RecordView → NodeView
+running_from net home kept = record {
+  kept = kept;
+  version = 0;
+  restart = 0;
+  armed = [];
+  mode = Runs (record { current = kept.permanent; out = None; last = None; inboxes = opening_inboxes net home; outboxes = opening_outboxes net home });
+}
 
 -- the node of this number, of so many; and as one that runs
 abbrev pub opening_node : Network → ℕ → ℕ → NodeView
-opening_node net nodes number = running_from (opening_record net nodes number)
+opening_node net nodes number = running_from net number (opening_record net nodes number)
 
 abbrev pub opening_running : Network → ℕ → ℕ → RunningNode
-opening_running net nodes number = record { kept = opening_record net nodes number; version = 0; current = opening_image net number; out = None; last = None }
+opening_running net nodes number = record {
+  kept = opening_record net nodes number;
+  version = 0;
+  current = opening_image net number;
+  out = None;
+  last = None;
+  inboxes = opening_inboxes net number;
+  outboxes = opening_outboxes net number;
+}

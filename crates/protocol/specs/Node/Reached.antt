@@ -1,20 +1,20 @@
 -- How far a node has come: its images stand where its processes stand after so many acts, on one approximation of the network's histories.
-use Rattle.std.specs.Prelude.{◌≡◌, ℕ, ◌≤◌, ◌==◌, Bool, true, false, ℤ, List, [], map, length, take, find, Option, Some, None, slice_get, slice_index}
-use Rattle.kahn_net.specs.Streams.{history_of}
+use Rattle.std.specs.Prelude.{◌≡◌, ℕ, ◌≤◌, ◌==◌, Bool, true, false, ℤ, List, [], map, length, take, drop, find, Option, Some, None, slice_get, slice_index}
+use Rattle.kahn_net.specs.Streams.{history_of, IsPrefix}
 use Rattle.kahn_net.specs.Syntax.{Code, Network}
 use Rattle.kahn_net.specs.Statements.{Step}
 use Rattle.kahn_net.specs.Processes.{Standing, StandsAt, process_trace, sent_on, got_on}
 use Rattle.kahn_net.specs.Approximations.{approximation}
 use Rattle.kahn_net.specs.declared.program.Channel.{Channel}
-use Rattle.kahn_net.specs.declared.program.Port.TheVariants.{Process}
+use Rattle.kahn_net.specs.declared.program.Port.TheVariants.{Outside, Process}
 use Rattle.proc_step.specs.Turns.{IsTurn}
-use Rattle.retained.specs.LogState.{LogState, IsLogOf, IsInLog}
+use Rattle.retained.specs.LogState.{LogState, IsLogOf, IsInLog, log_end}
 use Rattle.record.specs.ProcessView.{SavedProcessView}
 use Rattle.record.specs.ImageView.{ImageView}
-use Rattle.record.specs.Ends.{received_at, log_at}
+use Rattle.record.specs.Ends.{received_at, received_of, log_at}
 use Rattle.ckpt_codec.specs.RecordText.{role_of}
 use Rattle.protocol.specs.Node.JobView.{JobView}
-use Rattle.protocol.specs.Node.Layout.{role_here, processes_on, ends_on}
+use Rattle.protocol.specs.Node.Layout.{role_here, processes_on, ends_on, incoming_on, outgoing_on}
 use Rattle.protocol.specs.Node.NodeView.{RunningNode}
 use Rattle.protocol.specs.Node.Sharing.{log_share, IsWithinShare}
 use Rattle.protocol.specs.Node.Granting.{items_from, room_from}
@@ -22,6 +22,10 @@ use Rattle.record.specs.declared.image.SavedEnd.{SavedEnd}
 use Rattle.record.specs.declared.image.End.{End}
 use Rattle.record.specs.declared.image.End.TheVariants.{Receives, Sends, Both}
 use Rattle.record.specs.declared.record.Tentative.{Tentative}
+use Rattle.protocol.specs.declared.links.Inbox.{Inbox}
+use Rattle.protocol.specs.declared.links.Outbox.{Outbox}
+use Rattle.protocol.specs.declared.limits.TheConstants.{MAX_INBOX_ITEMS}
+use Rattle.kahn_net.specs.declared.limits.TheConstants.{MAX_COUNT}
 
 -- the first m acts of a process on these histories
 abbrev pub first_acts : Option Code → List (List ℤ) → ℕ → List Step
@@ -74,24 +78,48 @@ pub record IsLaidOut (net : Network) (home : ℕ) (image : ImageView) : Type 0 w
   pub roles : (k : ℕ) (saved : SavedEnd) (channel : Channel) → slice_get image.ends k ≡ Some saved → slice_get net.channels saved.channel ≡ Some channel
       → role_of saved.end ≡ role_here net home channel
 
--- no more was received of a channel than there is: of an input than it has, and of a channel that stays on the node than was put, and so
--- much that its log has what comes next
-pub record CountIsWithin (inputs : List (List ℤ)) (channel : ℕ) (end : End) : Type 0 where
-  pub of_input : (received : ℕ) → end ≡ Receives received → received ≤ length (history_of inputs channel)
+-- No more was received of a channel than there is: of an input than it has, of a channel from another node than may be counted, and of one
+-- that stays on the node than was put, and so much that its log has what comes next.
+pub record CountIsWithin (net : Network) (inputs : List (List ℤ)) (number : ℕ) (end : End) : Type 0 where
+  pub of_input : (channel : Channel) (received : ℕ) → slice_get net.channels number ≡ Some channel → channel.producer ≡ Outside → end ≡ Receives received → received ≤ length (history_of inputs number)
+  pub of_link : (channel : Channel) (q received : ℕ) → slice_get net.channels number ≡ Some channel → channel.producer ≡ Process q → end ≡ Receives received → received ≤ MAX_COUNT
   pub in_log : (received : ℕ) (log : LogState) → end ≡ Both received log → IsInLog log received
 
-abbrev pub CountsAreWithin : List (List ℤ) → ImageView → Type 0
-CountsAreWithin inputs image = (k : ℕ) (saved : SavedEnd) → slice_get image.ends k ≡ Some saved → CountIsWithin inputs saved.channel saved.end
+abbrev pub CountsAreWithin : Network → List (List ℤ) → ImageView → Type 0
+CountsAreWithin net inputs image = (k : ℕ) (saved : SavedEnd) → slice_get image.ends k ≡ Some saved → CountIsWithin net inputs saved.channel saved.end
 
 -- each log has at most its share, and ends at a count
 abbrev pub LogsAreWithin : ImageView → Type 0
 LogsAreWithin image = (k : ℕ) (saved : SavedEnd) (log : LogState) → slice_get image.ends k ≡ Some saved → log_at (Some (saved.end)) ≡ Some log → IsWithinShare (log_share image) log
 
--- the job that is out is of where its process stands now: with the items that come next, and no more room than there is
-pub record IsJobOf (net : Network) (inputs : List (List ℤ)) (image : ImageView) (job : JobView) : Type 0 where
+-- An inbox holds what was not got yet of a channel: it begins behind what the image says was received, and ends where the window goes on.
+pub record InboxIsSound (image : ImageView) (inbox : Inbox) : Type 0 where
+  pub begins : inbox.log.base ≡ received_of image inbox.channel
+  pub next : inbox.window.next ≡ log_end inbox.log
+  pub count : length inbox.log.items ≤ MAX_INBOX_ITEMS
+  pub last : log_end inbox.log ≤ MAX_COUNT
+  pub epoch : inbox.window.epoch ≤ MAX_COUNT
+
+-- A node has an inbox for each channel that comes from another node, and an outbox for each that goes to one, in order of their numbers.
+pub record LinksAreLaidOut (net : Network) (home : ℕ) (node : RunningNode) : Type 0 where
+  pub incoming : map (λ (inbox : Inbox). inbox.channel) node.inboxes ≡ incoming_on net home
+  pub outgoing : map (λ (outbox : Outbox). outbox.channel) node.outboxes ≡ outgoing_on net home
+  pub inboxes : (k : ℕ) (inbox : Inbox) → slice_get node.inboxes k ≡ Some inbox → InboxIsSound node.current inbox
+
+-- what an inbox holds comes next of its channel's history
+pub record InboxStands (histories : List (List ℤ)) (inbox : Inbox) : Type 0 where
+  pub within : log_end inbox.log ≤ length (history_of histories inbox.channel)
+  pub items : inbox.log.items ≡ take (length inbox.log.items) (drop inbox.log.base (history_of histories inbox.channel))
+
+abbrev pub InboxesStand : List (List ℤ) → List Inbox → Type 0
+InboxesStand histories inboxes = (k : ℕ) (inbox : Inbox) → slice_get inboxes k ≡ Some inbox → InboxStands histories inbox
+
+-- The job that is out is of where its process stands now: with items that come next, and no more room than there is. More may have come to an
+-- inbox since.
+pub record IsJobOf (net : Network) (inputs : List (List ℤ)) (image : ImageView) (inboxes : List Inbox) (job : JobView) : Type 0 where
   pub process : find (λ (saved : SavedProcessView). saved.number == job.process) image.processes ≡ Some (record { number = job.process; standing = job.standing })
   pub code : job.code ≡ slice_get net.codes job.process
-  pub items : job.items ≡ items_from inputs image job.process 0 net.channels
+  pub items : (c : ℕ) → IsPrefix (history_of job.items c) (history_of (items_from inputs image inboxes job.process 0 net.channels) c)
   pub room : (c : ℕ) → slice_index job.room c ≤ slice_index (room_from image job.process 0 net.channels) c
 
 -- what came back is a turn of the job's process, from where the job says that it stands

@@ -1,5 +1,5 @@
 -- How a node crashes, and how it comes back.
-use Rattle.std.specs.Prelude.{◌≡◌, ◌⊎◌, ℕ, ◌<◌, ◌≤◌, Bool, true, false, IsTrue, Option, Some, None}
+use Rattle.std.specs.Prelude.{◌≡◌, ◌⊎◌, ℕ, ◌<◌, ◌≤◌, Bool, true, false, IsTrue, [], Option, Some, None}
 use Rattle.record.specs.ImageView.{ImageView}
 use Rattle.record.specs.RecordView.{RecordView}
 use Rattle.record.specs.Moves.{with_epoch}
@@ -16,8 +16,9 @@ abbrev pub IsCrash : ℕ → NodeView → Bool → NodeView → Type 0
 IsCrash restart old false new = IsTrue (is_down old.mode) × (new ≡ old)
 IsCrash restart old true new = (is_down old.mode ≡ false) × (new ≡ crashed restart old)
 
+-- The node has no ends of channels between nodes then: none is restored so far.
 abbrev pub restored_with : RecordView → Option Tentative → ModeView
-restored_with kept None = Runs (record { current = kept.permanent; out = None; last = None })
+restored_with kept None = Runs (record { current = kept.permanent; out = None; last = None; inboxes = []; outboxes = [] })
 restored_with kept (Some held) = InDoubt
 
 -- the mode in which a node with this record comes back: with another's tentative image it waits for the verdict, else it runs from the permanent one
@@ -37,7 +38,7 @@ restored node = with_mode (restored_mode (with_epoch node.kept)) (with_kept (wit
 -- the same where it is known whether a tentative image is held
 abbrev pub restored_from : ImageView → Bool → ModeView
 restored_from image true = InDoubt
-restored_from image false = Runs (record { current = image; out = None; last = None })
+restored_from image false = Runs (record { current = image; out = None; last = None; inboxes = []; outboxes = [] })
 
 -- it stays down, and may be recovered from the round `restart` on
 abbrev pub put_off : ℕ → NodeView → NodeView

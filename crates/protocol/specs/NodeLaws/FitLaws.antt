@@ -22,19 +22,22 @@ use Rattle.protocol.specs.Node.JobView.{JobView}
 use Rattle.protocol.specs.Node.NodeView.{RunningNode}
 use Rattle.record.specs.Ends.{received_of, received_at, log_of, log_at, sent_in, end_of, base_in, base_of}
 use Rattle.protocol.specs.Node.Sharing.{is_logging, log_share, IsWithinShare}
-use Rattle.protocol.specs.Node.Granting.{is_process, items_by, next_items, room_in, room_of, room_from}
+use Rattle.protocol.specs.Node.Granting.{first_log, inbox_log, source_of, is_process, items_by, next_in_log, next_items, items_from, room_in, room_of, room_from}
 use Rattle.record.specs.Changes.{log_with, trimmed_log, pushed, counted, LogTakes}
 use Rattle.protocol.specs.Node.Installing.{is_consumer, is_producer, taken_from, put_on, saved_pushed, saved_counted, moved, installed, ImageTakes}
 use Rattle.protocol.specs.Node.Starting.{IsBehind}
 use Rattle.protocol.specs.Node.Layout.{port_on, role_by, role_here}
-use Rattle.protocol.specs.Node.Reached.{ImageStands, HasReached, IsLaidOut, CountIsWithin, CountsAreWithin, LogsAreWithin, IsJobOf, IsTurnOf}
-use Rattle.protocol.specs.NodeLaws.ImageLaws.{received_is, log_is, map_got, map_keeps, map_twice, end_of_changed}
-use Rattle.protocol.specs.NodeLaws.CountLaws.{receives_within, sends_within, both_within}
+use Rattle.protocol.specs.Node.Reached.{ImageStands, HasReached, IsLaidOut, CountIsWithin, CountsAreWithin, LogsAreWithin, InboxIsSound, IsJobOf, IsTurnOf}
+use Rattle.protocol.specs.NodeLaws.ImageLaws.{channel_of_entry, received_is, log_is, map_got, map_keeps, map_twice, end_of_changed}
+use Rattle.protocol.specs.NodeLaws.CountLaws.{count_limit, receives_within, sends_within, both_within}
+use Rattle.kahn_net.specs.Laws.Prefixes.{prefix_length}
 use Rattle.protocol.specs.NodeLaws.LiftLaws.{IsAtHand}
+use Rattle.protocol.specs.NodeLaws.LinkLaws.{inbox_of}
 use Rattle.protocol.specs.NodeLaws.LogLaws.{trimmed_end_stays, base_after, in_trimmed}
 use Rattle.protocol.specs.NodeLaws.ReachedLaws.{items_of_channel}
 use Rattle.protocol.specs.NodeLaws.SharingLaws.{share_within, share_kept}
 use Rattle.protocol.specs.NodeLaws.InstallLaws.{turn_of_job, job_has_code, log_then}
+use Rattle.protocol.specs.declared.links.Inbox.{Inbox}
 use Rattle.record.specs.declared.image.SavedEnd.{SavedEnd}
 use Rattle.record.specs.declared.image.End.{End}
 use Rattle.record.specs.declared.image.End.TheVariants.{Receives, Sends, Both}
@@ -44,17 +47,6 @@ use Rattle.retained.specs.declared.log.TheConstants.{MAX_LOG_ITEMS}
 
 -- What a turn takes
 
--- as far as the count of an end can go by a turn: to the end of the input, or of the log of a channel that stays on the node
-abbrev pub count_limit : List (List ℤ) → ℕ → End → ℕ
-count_limit inputs c (Receives received) = length (history_of inputs c)
-count_limit inputs c (Sends log) = MAX_JOB_ITEMS
-count_limit inputs c (Both received log) = log_end log
-
-count_below : (inputs : List (List ℤ)) (c : ℕ) (end : End) → CountIsWithin inputs c end → received_at (Some end) ≤ count_limit inputs c end
-count_below inputs c (Receives received) within = within.of_input received refl
-count_below inputs c (Sends log) within = omega arith
-count_below inputs c (Both received log) within = (within.in_log received log refl).to_end
-
 -- no more is at hand than is left
 input_left : (input : List ℤ) (received : ℕ) → received ≤ length input → received + length (take MAX_JOB_ITEMS (drop received input)) ≤ length input
 input_left input received within =
@@ -63,7 +55,7 @@ input_left input received within =
     let left = length-drop received input in
     omega (arith, within, some, few, left)
 
-log_left : (received : ℕ) (log : LogState) → IsInLog log received → received + length (take MAX_JOB_ITEMS (items_since log received)) ≤ log_end log
+pub log_left : (received : ℕ) (log : LogState) → IsInLog log received → received + length (take MAX_JOB_ITEMS (items_since log received)) ≤ log_end log
 log_left received log within =
     let some = length-take MAX_JOB_ITEMS (items_since log received) in
     let few = min-le_right MAX_JOB_ITEMS (length (items_since log received)) in
@@ -78,58 +70,71 @@ few_taken items =
     let few = min-le_left MAX_JOB_ITEMS (length items) in
     omega (arith, some, few)
 
-left_by_end : (net : Network) (home : ℕ) (inputs : List (List ℤ)) (c : ℕ) (end : End) (producer consumer : Port) → CountIsWithin inputs c end → role_of end ≡ role_by (port_on net home producer) (port_on net home consumer)
-    → received_at (Some end) + length (items_by inputs c producer (received_at (Some end)) (log_at (Some end))) ≤ count_limit inputs c end
-left_by_end net home inputs c (Receives received) Outside consumer within role = input_left (history_of inputs c) received (within.of_input received refl)
-left_by_end net home inputs c (Receives received) (Process q) consumer within role = let few = within.of_input received refl in omega (arith, few)
-left_by_end net home inputs c (Sends log) Outside consumer within role = let few = few_taken (drop 0 (history_of inputs c)) in omega (arith, few)
-left_by_end net home inputs c (Sends log) (Process q) consumer within role = let few = few_taken (items_since log 0) in omega (arith, few)
-left_by_end net home inputs c (Both received log) Outside consumer within role = absurd (cc)
-left_by_end net home inputs c (Both received log) (Process q) consumer within role = log_left received log (within.in_log received log refl)
-
--- what a turn takes from a channel is there
-pub taken_is_there : (net : Network) (home : ℕ) (inputs : List (List ℤ)) (n : ℕ) (made : ℕ → ℕ) (image : ImageView) (job : JobView) (code : Code) (after : Standing) (taken : List ℕ) (sent : List (List ℤ))
-    → ImageStands net (approximation net inputs n) made image → IsLaidOut net home image → IsAtHand net inputs (approximation net inputs n) made image job.process → CountsAreWithin inputs image → IsJobOf net inputs image job
-    → slice_get net.codes job.process ≡ Some code → IsTurn code job.standing job.items job.room after taken sent
-    → (k : ℕ) (saved : SavedEnd) → slice_get image.ends k ≡ Some saved
-    → received_at (Some (saved.end)) + taken_from net.channels job.process taken saved.channel ≤ count_limit inputs saved.channel saved.end
-taken_is_there net home inputs n made image job code after taken sent stands laid hand counts of there turn k saved is = at (slice_get_cases net.channels saved.channel).1
+-- of a channel from another node no more is at hand than its inbox has
+inbox_left : (image : ImageView) (inboxes : List Inbox) (c received : ℕ) → ((k : ℕ) (inbox : Inbox) → slice_get inboxes k ≡ Some inbox → InboxIsSound image inbox) → received_of image c ≡ received → received ≤ MAX_COUNT
+    → received + length (next_in_log received (inbox_log inboxes c)) ≤ MAX_COUNT
+inbox_left image inboxes c received begin same within = at (inbox_log inboxes c) refl
   where
-    below : received_at (Some (saved.end)) ≤ count_limit inputs saved.channel saved.end
-    below = count_below inputs saved.channel saved.end (counts k saved is)
+    at : (o : Option LogState) → inbox_log inboxes c ≡ o → received + length (next_in_log received o) ≤ MAX_COUNT
+    at None has = omega (arith, within)
+    at (Some log) has =
+        let of = inbox_of inboxes c log has in
+        let sound = begin of.at of.inbox of.there in
+        let begins : log.base ≡ received = sym (ap (λ (l : LogState). l.base) of.is_log) ∙ (sound.begins ∙ (ap (received_of image) of.is_channel ∙ same)) in
+        let end : log_end log ≡ log_end of.inbox.log = ap log_end (sym of.is_log) in
+        let last = sound.last in
+        let left = log_left received log (record { from_base = omega (arith, begins); to_end = omega (arith, begins) }) in
+        omega (arith, left, end, last)
 
-    same : received_of image saved.channel ≡ received_at (Some (saved.end))
-    same = received_is net home image k saved laid is
+left_by_end : (net : Network) (home : ℕ) (inputs : List (List ℤ)) (image : ImageView) (inboxes : List Inbox) (c : ℕ) (channel : Channel) (end : End) (producer consumer : Port)
+    → ((k : ℕ) (inbox : Inbox) → slice_get inboxes k ≡ Some inbox → InboxIsSound image inbox) → received_of image c ≡ received_at (Some end)
+    → slice_get net.channels c ≡ Some channel → channel.producer ≡ producer → CountIsWithin net inputs c end → role_of end ≡ role_by (port_on net home producer) (port_on net home consumer)
+    → received_at (Some end) + length (items_by inputs c producer (received_at (Some end)) (first_log (log_at (Some end)) (inbox_log inboxes c))) ≤ count_limit inputs c producer end
+left_by_end net home inputs image inboxes c channel (Receives received) Outside consumer begin same on from within role = input_left (history_of inputs c) received (within.of_input channel received on from refl)
+left_by_end net home inputs image inboxes c channel (Receives received) (Process q) consumer begin same on from within role = inbox_left image inboxes c received begin same (within.of_link channel q received on from refl)
+left_by_end net home inputs image inboxes c channel (Sends log) Outside consumer begin same on from within role = let few = few_taken (drop 0 (history_of inputs c)) in omega (arith, few)
+left_by_end net home inputs image inboxes c channel (Sends log) (Process q) consumer begin same on from within role = let few = few_taken (items_since log 0) in omega (arith, few)
+left_by_end net home inputs image inboxes c channel (Both received log) Outside consumer begin same on from within role = absurd (cc)
+left_by_end net home inputs image inboxes c channel (Both received log) (Process q) consumer begin same on from within role = log_left received log (within.in_log received log refl)
 
-    same_log : log_of image saved.channel ≡ log_at (Some (saved.end))
-    same_log = log_is net home image k saved laid is
+-- what a turn takes from a channel was at hand
+pub taken_at_hand : (net : Network) (inputs : List (List ℤ)) (n : ℕ) (made : ℕ → ℕ) (image : ImageView) (inboxes : List Inbox) (job : JobView) (code : Code) (after : Standing) (taken : List ℕ) (sent : List (List ℤ))
+    → ImageStands net (approximation net inputs n) made image → IsAtHand net inputs (approximation net inputs n) made image inboxes job.process → IsJobOf net inputs image inboxes job
+    → slice_get net.codes job.process ≡ Some code → IsTurn code job.standing job.items job.room after taken sent
+    → (c : ℕ) (channel : Channel) → slice_get net.channels c ≡ Some channel → taken_from net.channels job.process taken c ≤ length (next_items inputs image inboxes c channel.producer)
+taken_at_hand net inputs n made image inboxes job code after taken sent stands hand of there turn c channel on =
+    let all = by_test (is_process job.process channel.consumer) refl in
+    let tested : taken_from net.channels job.process taken c ≡ cond (is_process job.process channel.consumer) (slice_index taken c) 0 =
+    ap (λ (o : Option Channel). cond (is_consumer job.process o) (slice_index taken c) 0) on in
+    omega (arith, all, tested)
+  where
+    by_test : (gets : Bool) → is_process job.process channel.consumer ≡ gets → cond gets (slice_index taken c) 0 ≤ length (next_items inputs image inboxes c channel.producer)
+    by_test false test = omega arith
+    by_test true test =
+        let done = turn_of_job net inputs n made image inboxes job code after taken sent stands hand of there turn in
+        let few = taken_fits code (approximation net inputs n) (made job.process) job.items job.room after taken sent done c in
+        let given = prefix_length (history_of job.items c) (history_of (items_from inputs image inboxes job.process 0 net.channels) c) (of.items c) in
+        let items : history_of (items_from inputs image inboxes job.process 0 net.channels) c ≡ next_items inputs image inboxes c channel.producer =
+        items_of_channel net inputs image inboxes job.process c channel on
+        ∙ ap (λ (b : Bool). cond b (next_items inputs image inboxes c channel.producer) []) test in
+        omega (arith, few, given, ap (length {A = ℤ}) items)
 
-    by_test : (channel : Channel) → slice_get net.channels saved.channel ≡ Some channel → (gets : Bool) → is_process job.process channel.consumer ≡ gets
-        → received_at (Some (saved.end)) + cond gets (slice_index taken saved.channel) 0 ≤ count_limit inputs saved.channel saved.end
-    by_test channel on false test = omega (arith, below)
-    by_test channel on true test =
-        let done = turn_of_job net inputs n made image job code after taken sent stands hand of there turn in
-        let few = taken_fits code (approximation net inputs n) (made job.process) job.items job.room after taken sent done saved.channel in
-        let items : history_of job.items saved.channel ≡ next_items inputs image saved.channel channel.producer =
-        ap (λ (items : List (List ℤ)). history_of items saved.channel) of.items
-        ∙ (items_of_channel net inputs image job.process saved.channel channel on
-        ∙ ap (λ (b : Bool). cond b (next_items inputs image saved.channel channel.producer) []) test) in
-        let by_end : next_items inputs image saved.channel channel.producer ≡ items_by inputs saved.channel channel.producer (received_at (Some (saved.end))) (log_at (Some (saved.end))) =
-        ap (λ (r : ℕ). items_by inputs saved.channel channel.producer r (log_of image saved.channel)) same
-        ∙ ap (items_by inputs saved.channel channel.producer (received_at (Some (saved.end)))) same_log in
-        let left = left_by_end net home inputs saved.channel saved.end channel.producer channel.consumer (counts k saved is) (laid.roles k saved channel is on) in
-        omega (arith, few, ap (length {A = ℤ}) items, ap (length {A = ℤ}) by_end, left)
-
-    at : ((x : Channel) × (saved.channel < length net.channels) × (slice_get net.channels saved.channel ≡ Some x) × (get_or net.channels saved.channel x ≡ x)) ⊎ ((length net.channels ≤ saved.channel) × (slice_get net.channels saved.channel ≡ None))
-        → received_at (Some (saved.end)) + taken_from net.channels job.process taken saved.channel ≤ count_limit inputs saved.channel saved.end
-    at (inl here) =
-        let all = by_test here.0 here.2 (is_process job.process here.0.consumer) refl in
-        let tested : taken_from net.channels job.process taken saved.channel ≡ cond (is_process job.process here.0.consumer) (slice_index taken saved.channel) 0 =
-        ap (λ (o : Option Channel). cond (is_consumer job.process o) (slice_index taken saved.channel) 0) here.2 in
-        omega (arith, all, tested)
-    at (inr past) =
-        let tested : taken_from net.channels job.process taken saved.channel ≡ 0 = ap (λ (o : Option Channel). cond (is_consumer job.process o) (slice_index taken saved.channel) 0) past.1 in
-        omega (arith, below, tested)
+-- so it is there
+pub taken_is_there : (net : Network) (home : ℕ) (inputs : List (List ℤ)) (n : ℕ) (made : ℕ → ℕ) (image : ImageView) (inboxes : List Inbox) (job : JobView) (code : Code) (after : Standing) (taken : List ℕ) (sent : List (List ℤ))
+    → ImageStands net (approximation net inputs n) made image → IsLaidOut net home image → IsAtHand net inputs (approximation net inputs n) made image inboxes job.process → CountsAreWithin net inputs image
+    → ((k : ℕ) (inbox : Inbox) → slice_get inboxes k ≡ Some inbox → InboxIsSound image inbox) → IsJobOf net inputs image inboxes job
+    → slice_get net.codes job.process ≡ Some code → IsTurn code job.standing job.items job.room after taken sent
+    → (k : ℕ) (saved : SavedEnd) (channel : Channel) → slice_get image.ends k ≡ Some saved → slice_get net.channels saved.channel ≡ Some channel
+    → received_at (Some (saved.end)) + taken_from net.channels job.process taken saved.channel ≤ count_limit inputs saved.channel channel.producer saved.end
+taken_is_there net home inputs n made image inboxes job code after taken sent stands laid hand counts begin of there turn k saved channel is on =
+    let few = taken_at_hand net inputs n made image inboxes job code after taken sent stands hand of there turn saved.channel channel on in
+    let same : received_of image saved.channel ≡ received_at (Some (saved.end)) = received_is net home image k saved laid is in
+    let same_log : log_of image saved.channel ≡ log_at (Some (saved.end)) = log_is net home image k saved laid is in
+    let by_end : next_items inputs image inboxes saved.channel channel.producer ≡ items_by inputs saved.channel channel.producer (received_at (Some (saved.end))) (first_log (log_at (Some (saved.end))) (inbox_log inboxes saved.channel)) =
+    ap (λ (r : ℕ). items_by inputs saved.channel channel.producer r (source_of image inboxes saved.channel)) same
+    ∙ ap (λ (o : Option LogState). items_by inputs saved.channel channel.producer (received_at (Some (saved.end))) (first_log o (inbox_log inboxes saved.channel))) same_log in
+    let left = left_by_end net home inputs image inboxes saved.channel channel saved.end channel.producer channel.consumer begin same on refl (counts k saved is) (laid.roles k saved channel is on) in
+    omega (arith, few, ap (length {A = ℤ}) by_end, left)
 
 -- What a turn puts
 
@@ -146,15 +151,15 @@ room_from-at image process number (x ∷ channels) (suc c) channel is =
     room_from-at image process (suc number) channels c channel is ∙ ap (λ (n : ℕ). cond (is_process process channel.producer) (room_of image n) 0) there
 
 -- what a turn puts on a channel has room in its log
-pub put_has_room : (net : Network) (inputs : List (List ℤ)) (n : ℕ) (made : ℕ → ℕ) (image : ImageView) (job : JobView) (code : Code) (after : Standing) (taken : List ℕ) (sent : List (List ℤ))
-    → ImageStands net (approximation net inputs n) made image → IsAtHand net inputs (approximation net inputs n) made image job.process → IsJobOf net inputs image job → slice_get net.codes job.process ≡ Some code
+pub put_has_room : (net : Network) (inputs : List (List ℤ)) (n : ℕ) (made : ℕ → ℕ) (image : ImageView) (inboxes : List Inbox) (job : JobView) (code : Code) (after : Standing) (taken : List ℕ) (sent : List (List ℤ))
+    → ImageStands net (approximation net inputs n) made image → IsAtHand net inputs (approximation net inputs n) made image inboxes job.process → IsJobOf net inputs image inboxes job → slice_get net.codes job.process ≡ Some code
     → IsTurn code job.standing job.items job.room after taken sent → (c : ℕ) → length (put_on net.channels job.process sent c) ≤ room_of image c
-put_has_room net inputs n made image job code after taken sent stands hand of there turn c = at (slice_get_cases net.channels c).1
+put_has_room net inputs n made image inboxes job code after taken sent stands hand of there turn c = at (slice_get_cases net.channels c).1
   where
     by_test : (channel : Channel) → slice_get net.channels c ≡ Some channel → (puts : Bool) → is_process job.process channel.producer ≡ puts → length (cond puts (history_of sent c) []) ≤ room_of image c
     by_test channel on false test = omega arith
     by_test channel on true test =
-        let done = turn_of_job net inputs n made image job code after taken sent stands hand of there turn in
+        let done = turn_of_job net inputs n made image inboxes job code after taken sent stands hand of there turn in
         let few = sent_fits code (approximation net inputs n) (made job.process) job.items job.room after taken sent done c in
         let sum : 0 + c ≡ c = omega arith in
         let room : slice_index (room_from image job.process 0 net.channels) c ≡ room_of image c =
@@ -208,27 +213,30 @@ history_is_short net inputs c fits = at (slice_get_cases inputs c).1
     at (inr past) = omega (arith, ap (length {A = ℤ}) (get_or_past inputs c [] past.0))
 
 -- the turn fits the image: no count and no log comes past its limit
-pub image_takes_turn : (net : Network) (home : ℕ) (inputs : List (List ℤ)) (n : ℕ) (made : ℕ → ℕ) (image : ImageView) (job : JobView) (code : Code) (after : Standing) (taken : List ℕ) (sent : List (List ℤ))
-    → ImageStands net (approximation net inputs n) made image → IsLaidOut net home image → IsAtHand net inputs (approximation net inputs n) made image job.process → CountsAreWithin inputs image → LogsAreWithin image → Fits net inputs
-    → IsJobOf net inputs image job → slice_get net.codes job.process ≡ Some code → IsTurn code job.standing job.items job.room after taken sent
+pub image_takes_turn : (net : Network) (home : ℕ) (inputs : List (List ℤ)) (n : ℕ) (made : ℕ → ℕ) (image : ImageView) (inboxes : List Inbox) (job : JobView) (code : Code) (after : Standing) (taken : List ℕ) (sent : List (List ℤ))
+    → ImageStands net (approximation net inputs n) made image → IsLaidOut net home image → IsAtHand net inputs (approximation net inputs n) made image inboxes job.process → CountsAreWithin net inputs image → LogsAreWithin image
+    → ((k : ℕ) (inbox : Inbox) → slice_get inboxes k ≡ Some inbox → InboxIsSound image inbox) → Fits net inputs
+    → IsJobOf net inputs image inboxes job → slice_get net.codes job.process ≡ Some code → IsTurn code job.standing job.items job.room after taken sent
     → ImageTakes net.channels job.process taken sent image
-image_takes_turn net home inputs n made image job code after taken sent stands laid hand counts logs fits of there turn k saved is = record {
+image_takes_turn net home inputs n made image inboxes job code after taken sent stands laid hand counts logs begin fits of there turn k saved is = record {
   received =
-      let sum = taken_is_there net home inputs n made image job code after taken sent stands laid hand counts of there turn k saved is in
-      let most = limit_is_count saved.end (logs k saved) in
+      let channel = channel_of_entry net home image k saved laid is in
+      let sum = taken_is_there net home inputs n made image inboxes job code after taken sent stands laid hand counts begin of there turn k saved channel.0 is channel.1 in
+      let most = limit_is_count channel.0.producer saved.end (logs k saved) in
       omega (arith, sum, most);
   put = at (log_at (Some (saved.end))) refl;
 }
   where
-    limit_is_count : (end : End) → ((log : LogState) → slice_get image.ends k ≡ Some saved → log_at (Some end) ≡ Some log → IsWithinShare (log_share image) log) → count_limit inputs saved.channel end ≤ MAX_COUNT
-    limit_is_count (Receives received) logs = let short = history_is_short net inputs saved.channel fits in omega (arith, short)
-    limit_is_count (Sends log) logs = omega arith
-    limit_is_count (Both received log) logs = let within = logs log is refl in within.last
+    limit_is_count : (producer : Port) (end : End) → ((log : LogState) → slice_get image.ends k ≡ Some saved → log_at (Some end) ≡ Some log → IsWithinShare (log_share image) log) → count_limit inputs saved.channel producer end ≤ MAX_COUNT
+    limit_is_count Outside (Receives received) logs = let short = history_is_short net inputs saved.channel fits in omega (arith, short)
+    limit_is_count (Process q) (Receives received) logs = omega arith
+    limit_is_count producer (Sends log) logs = omega arith
+    limit_is_count producer (Both received log) logs = let within = logs log is refl in within.last
 
     at : (o : Option LogState) → log_at (Some (saved.end)) ≡ o → LogTakes (length (put_on net.channels job.process sent saved.channel)) o
     at None e = tt
     at (Some log) e =
-        let room = put_has_room net inputs n made image job code after taken sent stands hand of there turn saved.channel in
+        let room = put_has_room net inputs n made image inboxes job code after taken sent stands hand of there turn saved.channel in
         let same : log_of image saved.channel ≡ Some log = log_is net home image k saved laid is ∙ e in
         let share = share_within image in
         fits_log (log_share image) log (put_on net.channels job.process sent saved.channel) (omega (arith, share)) (logs k saved log is e)
@@ -284,24 +292,33 @@ laid_out_installed net home process after taken sent image laid = record {
         ∙ laid.roles k old.0 channel old.1 (ap (slice_get net.channels) number ∙ on))
 
 -- a count that goes no further than its limit is within what there is
-counted_within : (inputs : List (List ℤ)) (c : ℕ) (end : End) (items : List ℤ) (count : ℕ) → CountIsWithin inputs c end → received_at (Some end) + count ≤ count_limit inputs c end
-    → CountIsWithin inputs c (counted count (pushed items end))
-counted_within inputs c (Receives received) items count within few = receives_within inputs c (received + count) few
-counted_within inputs c (Sends log) items count within few = sends_within inputs c (log_with items log)
-counted_within inputs c (Both received log) items count within few =
+counted_within : (net : Network) (inputs : List (List ℤ)) (c : ℕ) (channel : Channel) (end : End) (items : List ℤ) (count : ℕ) → slice_get net.channels c ≡ Some channel → CountIsWithin net inputs c end
+    → received_at (Some end) + count ≤ count_limit inputs c channel.producer end → CountIsWithin net inputs c (counted count (pushed items end))
+counted_within net inputs c channel (Receives received) items count on within few = receives_within net inputs c (received + count) (λ other is. (
+    let both : Some channel ≡ Some other = sym on ∙ is in
+    let same : channel ≡ other = cc in
+    subst (λ (x : Channel). received + count ≤ count_limit inputs c x.producer (Receives (received + count))) same (any_end channel.producer few)))
+  where
+    any_end : (producer : Port) → received + count ≤ count_limit inputs c producer (Receives received) → received + count ≤ count_limit inputs c producer (Receives (received + count))
+    any_end Outside few = few
+    any_end (Process q) few = few
+counted_within net inputs c channel (Sends log) items count on within few = sends_within net inputs c (log_with items log)
+counted_within net inputs c channel (Both received log) items count on within few =
     let sum = length-append log.items items in
     let low = (within.in_log received log refl).from_base in
-    both_within inputs c (received + count) (trimmed_log (received + count) (log_with items log))
+    both_within net inputs c (received + count) (trimmed_log (received + count) (log_with items log))
     (in_trimmed (received + count) (log_with items log) (record { from_base = omega (arith, low); to_end = omega (arith, few, sum) }))
 
-pub counts_after_turn : (net : Network) (home : ℕ) (inputs : List (List ℤ)) (n : ℕ) (made : ℕ → ℕ) (image : ImageView) (job : JobView) (code : Code) (after : Standing) (taken : List ℕ) (sent : List (List ℤ))
-    → ImageStands net (approximation net inputs n) made image → IsLaidOut net home image → IsAtHand net inputs (approximation net inputs n) made image job.process → CountsAreWithin inputs image → IsJobOf net inputs image job
-    → slice_get net.codes job.process ≡ Some code → IsTurn code job.standing job.items job.room after taken sent → CountsAreWithin inputs (installed net.channels job.process after taken sent image)
-counts_after_turn net home inputs n made image job code after taken sent stands laid hand counts of there turn k saved is =
+pub counts_after_turn : (net : Network) (home : ℕ) (inputs : List (List ℤ)) (n : ℕ) (made : ℕ → ℕ) (image : ImageView) (inboxes : List Inbox) (job : JobView) (code : Code) (after : Standing) (taken : List ℕ) (sent : List (List ℤ))
+    → ImageStands net (approximation net inputs n) made image → IsLaidOut net home image → IsAtHand net inputs (approximation net inputs n) made image inboxes job.process → CountsAreWithin net inputs image
+    → ((k : ℕ) (inbox : Inbox) → slice_get inboxes k ≡ Some inbox → InboxIsSound image inbox) → IsJobOf net inputs image inboxes job
+    → slice_get net.codes job.process ≡ Some code → IsTurn code job.standing job.items job.room after taken sent → CountsAreWithin net inputs (installed net.channels job.process after taken sent image)
+counts_after_turn net home inputs n made image inboxes job code after taken sent stands laid hand counts begin of there turn k saved is =
     let old = end_before net.channels job.process after taken sent image k saved is in
-    let sum = taken_is_there net home inputs n made image job code after taken sent stands laid hand counts of there turn k old.0 old.1 in
-    subst (λ (s : SavedEnd). CountIsWithin inputs s.channel s.end) old.2
-    (counted_within inputs old.0.channel old.0.end (put_on net.channels job.process sent old.0.channel) (taken_from net.channels job.process taken old.0.channel) (counts k old.0 old.1) sum)
+    let channel = channel_of_entry net home image k old.0 laid old.1 in
+    let sum = taken_is_there net home inputs n made image inboxes job code after taken sent stands laid hand counts begin of there turn k old.0 channel.0 old.1 channel.1 in
+    subst (λ (s : SavedEnd). CountIsWithin net inputs s.channel s.end) old.2
+    (counted_within net inputs old.0.channel channel.0 old.0.end (put_on net.channels job.process sent old.0.channel) (taken_from net.channels job.process taken old.0.channel) channel.1 (counts k old.0 old.1) sum)
 
 -- as many ends have a log as before
 share_installed : (channels : List Channel) (process : ℕ) (after : Standing) (taken : List ℕ) (sent : List (List ℤ)) (image : ImageView)
@@ -319,15 +336,15 @@ share_of_log share position one log (inr same) within =
     let last = within.last in
     subst (IsWithinShare share) same (record { count = omega (arith, stays.1, many); last = omega (arith, stays.0, last) })
 
-logs_after_turn : (net : Network) (home : ℕ) (inputs : List (List ℤ)) (n : ℕ) (made : ℕ → ℕ) (image : ImageView) (job : JobView) (code : Code) (after : Standing) (taken : List ℕ) (sent : List (List ℤ))
-    → ImageStands net (approximation net inputs n) made image → IsLaidOut net home image → IsAtHand net inputs (approximation net inputs n) made image job.process → LogsAreWithin image → IsJobOf net inputs image job
+logs_after_turn : (net : Network) (home : ℕ) (inputs : List (List ℤ)) (n : ℕ) (made : ℕ → ℕ) (image : ImageView) (inboxes : List Inbox) (job : JobView) (code : Code) (after : Standing) (taken : List ℕ) (sent : List (List ℤ))
+    → ImageStands net (approximation net inputs n) made image → IsLaidOut net home image → IsAtHand net inputs (approximation net inputs n) made image inboxes job.process → LogsAreWithin image → IsJobOf net inputs image inboxes job
     → slice_get net.codes job.process ≡ Some code → IsTurn code job.standing job.items job.room after taken sent → LogsAreWithin (installed net.channels job.process after taken sent image)
-logs_after_turn net home inputs n made image job code after taken sent stands laid hand logs of there turn k saved log is at_end =
+logs_after_turn net home inputs n made image inboxes job code after taken sent stands laid hand logs of there turn k saved log is at_end =
     let old = end_before net.channels job.process after taken sent image k saved is in
     let put : List ℤ = put_on net.channels job.process sent old.0.channel in
     let same : log_at (Some (counted (taken_from net.channels job.process taken old.0.channel) (pushed put old.0.end))) ≡ Some log = ap (λ (s : SavedEnd). log_at (Some (s.end))) old.2 ∙ at_end in
     let before = log_then old.0.end put (taken_from net.channels job.process taken old.0.channel) log same in
-    let room = put_has_room net inputs n made image job code after taken sent stands hand of there turn old.0.channel in
+    let room = put_has_room net inputs n made image inboxes job code after taken sent stands hand of there turn old.0.channel in
     let found : log_of image old.0.channel ≡ Some before.0 = log_is net home image k old.0 laid old.1 ∙ before.2 in
     let within : IsWithinShare (log_share image) (log_with put before.0) =
     log_with_room (log_share image) before.0 put (logs k old.0 before.0 old.1 before.2)
@@ -357,7 +374,7 @@ same_base (Receives received) items count apart = refl
 same_base (Sends log) items count apart = refl
 same_base (Both received log) items count apart = absurd (apart received log refl)
 
-end_installed : (channels : List Channel) (process : ℕ) (after : Standing) (taken : List ℕ) (sent : List (List ℤ)) (image : ImageView) (c : ℕ)
+pub end_installed : (channels : List Channel) (process : ℕ) (after : Standing) (taken : List ℕ) (sent : List (List ℤ)) (image : ImageView) (c : ℕ)
     → end_of (installed channels process after taken sent image) c ≡ option_map (λ (s : SavedEnd). (saved_counted channels process taken (saved_pushed channels process sent s)).end) (find (λ (s : SavedEnd). eqb s.channel c) image.ends)
 end_installed channels process after taken sent image c =
     end_of_changed image (installed channels process after taken sent image) c (λ (s : SavedEnd). saved_counted channels process taken (saved_pushed channels process sent s)) (λ s. refl)
@@ -419,26 +436,26 @@ behind_installed channels process after taken sent image = record {
 
 -- a turn on the job that was out fits what the node has now
 pub turn_fits : (net : Network) (home : ℕ) (inputs : List (List ℤ)) (node : RunningNode) (job : JobView) (after : Standing) (taken : List ℕ) (sent : List (List ℤ))
-    → (reached : HasReached net inputs node) → IsLaidOut net home node.current → IsAtHand net inputs (approximation net inputs reached.n) reached.current_acts node.current job.process → CountsAreWithin inputs node.current → LogsAreWithin node.current
-    → Fits net inputs → IsJobOf net inputs node.current job → IsTurnOf net job after taken sent → ImageTakes net.channels job.process taken sent node.current
-turn_fits net home inputs node job after taken sent reached laid hand counts logs fits of turn =
-    let code = job_has_code net home inputs node.current job laid of in
-    image_takes_turn net home inputs reached.n reached.current_acts node.current job code.0 after taken sent reached.current laid hand counts logs fits of code.1 (turn code.0 code.1)
+    → (reached : HasReached net inputs node) → IsLaidOut net home node.current → IsAtHand net inputs (approximation net inputs reached.n) reached.current_acts node.current node.inboxes job.process → CountsAreWithin net inputs node.current → LogsAreWithin node.current
+    → ((k : ℕ) (inbox : Inbox) → slice_get node.inboxes k ≡ Some inbox → InboxIsSound node.current inbox) → Fits net inputs → IsJobOf net inputs node.current node.inboxes job → IsTurnOf net job after taken sent → ImageTakes net.channels job.process taken sent node.current
+turn_fits net home inputs node job after taken sent reached laid hand counts logs begin fits of turn =
+    let code = job_has_code net home inputs node.current node.inboxes job laid of in
+    image_takes_turn net home inputs reached.n reached.current_acts node.current node.inboxes job code.0 after taken sent reached.current laid hand counts logs begin fits of code.1 (turn code.0 code.1)
 
 -- and then no more was received than there is
 pub counts_installed : (net : Network) (home : ℕ) (inputs : List (List ℤ)) (node : RunningNode) (job : JobView) (after : Standing) (taken : List ℕ) (sent : List (List ℤ))
-    → (reached : HasReached net inputs node) → IsLaidOut net home node.current → IsAtHand net inputs (approximation net inputs reached.n) reached.current_acts node.current job.process → CountsAreWithin inputs node.current
-    → IsJobOf net inputs node.current job → IsTurnOf net job after taken sent
-    → CountsAreWithin inputs (installed net.channels job.process after taken sent node.current)
-counts_installed net home inputs node job after taken sent reached laid hand counts of turn =
-    let code = job_has_code net home inputs node.current job laid of in
-    counts_after_turn net home inputs reached.n reached.current_acts node.current job code.0 after taken sent reached.current laid hand counts of code.1 (turn code.0 code.1)
+    → (reached : HasReached net inputs node) → IsLaidOut net home node.current → IsAtHand net inputs (approximation net inputs reached.n) reached.current_acts node.current node.inboxes job.process → CountsAreWithin net inputs node.current
+    → ((k : ℕ) (inbox : Inbox) → slice_get node.inboxes k ≡ Some inbox → InboxIsSound node.current inbox) → IsJobOf net inputs node.current node.inboxes job → IsTurnOf net job after taken sent
+    → CountsAreWithin net inputs (installed net.channels job.process after taken sent node.current)
+counts_installed net home inputs node job after taken sent reached laid hand counts begin of turn =
+    let code = job_has_code net home inputs node.current node.inboxes job laid of in
+    counts_after_turn net home inputs reached.n reached.current_acts node.current node.inboxes job code.0 after taken sent reached.current laid hand counts begin of code.1 (turn code.0 code.1)
 
 -- and each log is within its share
 pub logs_installed : (net : Network) (home : ℕ) (inputs : List (List ℤ)) (node : RunningNode) (job : JobView) (after : Standing) (taken : List ℕ) (sent : List (List ℤ))
-    → (reached : HasReached net inputs node) → IsLaidOut net home node.current → IsAtHand net inputs (approximation net inputs reached.n) reached.current_acts node.current job.process → LogsAreWithin node.current
-    → IsJobOf net inputs node.current job → IsTurnOf net job after taken sent
+    → (reached : HasReached net inputs node) → IsLaidOut net home node.current → IsAtHand net inputs (approximation net inputs reached.n) reached.current_acts node.current node.inboxes job.process → LogsAreWithin node.current
+    → IsJobOf net inputs node.current node.inboxes job → IsTurnOf net job after taken sent
     → LogsAreWithin (installed net.channels job.process after taken sent node.current)
 logs_installed net home inputs node job after taken sent reached laid hand logs of turn =
-    let code = job_has_code net home inputs node.current job laid of in
-    logs_after_turn net home inputs reached.n reached.current_acts node.current job code.0 after taken sent reached.current laid hand logs of code.1 (turn code.0 code.1)
+    let code = job_has_code net home inputs node.current node.inboxes job laid of in
+    logs_after_turn net home inputs reached.n reached.current_acts node.current node.inboxes job code.0 after taken sent reached.current laid hand logs of code.1 (turn code.0 code.1)

@@ -1,13 +1,15 @@
 -- Laws of images that are laid out: an end is found at its channel's number, and what a step changes of an end is found there.
-use Rattle.std.proofs.Common.{◌≡◌, ◌≢◌, ◌⊎◌, inl, inr, ℕ, zero, suc, Bool, true, false, eqb, cond, List, [], ◌∷◌, length, map, Option, Some, None, option_map, refl, sym, ap, ◌∙◌}
+use Rattle.std.proofs.Common.{◌≡◌, ◌≢◌, ◌⊎◌, inl, inr, ℕ, zero, suc, ◌+◌, ◌<◌, ◌≤◌, Bool, true, false, eqb, cond, List, [], ◌∷◌, length, map, get_or, Option, Some, None, option_map, refl, sym, ap, ◌∙◌, arith}
 use Rattle.std.specs.Prelude.{slice_get, find}
 use Rattle.std.proofs.lemmas.Bool.Decides.{eqb_tells}
+use Rattle.std.proofs.lemmas.Option.{slice_get_cases}
 use Rattle.kahn_net.specs.Syntax.{Network}
+use Rattle.kahn_net.specs.declared.program.Channel.{Channel}
 use Rattle.record.specs.ImageView.{ImageView}
 use Rattle.record.specs.Ends.{end_of, received_of, received_at, log_of, log_at}
 use Rattle.protocol.specs.Node.Layout.{has_end}
 use Rattle.protocol.specs.Node.Reached.{IsLaidOut}
-use Rattle.protocol.specs.NodeLaws.NumberedLaws.{where_find}
+use Rattle.protocol.specs.NodeLaws.NumberedLaws.{where_find, where_mark}
 use Rattle.record.specs.declared.image.SavedEnd.{SavedEnd}
 use Rattle.record.specs.declared.image.End.{End}
 
@@ -73,6 +75,19 @@ received_is net home image k saved laid is = ap received_at (end_at net home ima
 
 pub log_is : (net : Network) (home : ℕ) (image : ImageView) (k : ℕ) (saved : SavedEnd) → IsLaidOut net home image → slice_get image.ends k ≡ Some saved → log_of image saved.channel ≡ log_at (Some (saved.end))
 log_is net home image k saved laid is = ap log_at (end_at net home image k saved laid is)
+
+-- an entry is of one of the network's channels
+pub channel_of_entry : (net : Network) (home : ℕ) (image : ImageView) (k : ℕ) (saved : SavedEnd) → IsLaidOut net home image → slice_get image.ends k ≡ Some saved
+    → (channel : Channel) × (slice_get net.channels saved.channel ≡ Some channel)
+channel_of_entry net home image k saved laid is = at (slice_get_cases net.channels saved.channel).1
+  where
+    within : saved.channel < 0 + length net.channels
+    within = (where_mark (λ (s : SavedEnd). s.channel) (has_end net home) 0 (length net.channels) image.ends k saved laid.ends is).2
+
+    at : ((x : Channel) × (saved.channel < length net.channels) × (slice_get net.channels saved.channel ≡ Some x) × (get_or net.channels saved.channel x ≡ x)) ⊎ ((length net.channels ≤ saved.channel) × (slice_get net.channels saved.channel ≡ None))
+        → (channel : Channel) × (slice_get net.channels saved.channel ≡ Some channel)
+    at (inl here) = (here.0, here.2)
+    at (inr past) = absurd (omega (arith, within, past.0))
 
 -- what an image says of a channel is what one of its entries says
 pub record Entry (image : ImageView) (c : ℕ) (end : End) : Type 0 where

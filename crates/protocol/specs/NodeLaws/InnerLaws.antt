@@ -80,22 +80,23 @@ logs_there net home p channel end from here role =
     logs_by end (port_on net home channel.consumer) (role ∙ ap (λ (b : Bool). role_by b (port_on net home channel.consumer)) (ap (port_on net home) from ∙ here))
 
 -- and its count is within what there is
-pub count_there : (net : Network) (home : ℕ) (inputs : List (List ℤ)) (image : ImageView) (c : ℕ) (channel : Channel) → CountsAreWithin inputs image → (of : EndOf net home image c channel) → CountIsWithin inputs c of.end
+pub count_there : (net : Network) (home : ℕ) (inputs : List (List ℤ)) (image : ImageView) (c : ℕ) (channel : Channel) → CountsAreWithin net inputs image → (of : EndOf net home image c channel) → CountIsWithin net inputs c of.end
 count_there net home inputs image c channel counts of =
-    subst (λ (d : ℕ). CountIsWithin inputs d of.end) of.is_channel (subst (CountIsWithin inputs of.saved.channel) of.is_end (counts of.at of.saved of.entry))
+    subst (λ (d : ℕ). CountIsWithin net inputs d of.end) of.is_channel (subst (CountIsWithin net inputs of.saved.channel) of.is_end (counts of.at of.saved of.entry))
 
 -- no more was received of an input than it has
-outer_count : (inputs : List (List ℤ)) (c : ℕ) (gets : Bool) (end : End) → role_of end ≡ role_by false gets → CountIsWithin inputs c end → received_at (Some end) ≤ length (history_of inputs c)
-outer_count inputs c gets (Receives received) role within = within.of_input received refl
-outer_count inputs c gets (Sends log) role within = absurd (cc)
-outer_count inputs c gets (Both received log) role within = absurd (cc)
+outer_count : (net : Network) (inputs : List (List ℤ)) (c : ℕ) (channel : Channel) (gets : Bool) (end : End) → slice_get net.channels c ≡ Some channel → channel.producer ≡ Outside → role_of end ≡ role_by false gets → CountIsWithin net inputs c end
+    → received_at (Some end) ≤ length (history_of inputs c)
+outer_count net inputs c channel gets (Receives received) is from role within = within.of_input channel received is from refl
+outer_count net inputs c channel gets (Sends log) is from role within = absurd (cc)
+outer_count net inputs c channel gets (Both received log) is from role within = absurd (cc)
 
-pub outer_within : (net : Network) (home : ℕ) (inputs : List (List ℤ)) (image : ImageView) (c p : ℕ) (channel : Channel) → IsLaidOut net home image → CountsAreWithin inputs image → slice_get net.channels c ≡ Some channel
+pub outer_within : (net : Network) (home : ℕ) (inputs : List (List ℤ)) (image : ImageView) (c p : ℕ) (channel : Channel) → IsLaidOut net home image → CountsAreWithin net inputs image → slice_get net.channels c ≡ Some channel
     → channel.producer ≡ Outside → channel.consumer ≡ Process p → IsTrue (has_process net home p) → received_of image c ≤ length (history_of inputs c)
 outer_within net home inputs image c p channel laid counts is from to here =
     let of = end_there net home image c channel laid is (consumer_on net home p channel to here) in
     let role : role_of of.end ≡ role_by false (port_on net home channel.consumer) = of.role ∙ ap (λ (port : Port). role_by (port_on net home port) (port_on net home channel.consumer)) from in
-    let few = outer_count inputs c (port_on net home channel.consumer) of.end role (count_there net home inputs image c channel counts of) in
+    let few = outer_count net inputs c channel (port_on net home channel.consumer) of.end is from role (count_there net home inputs image c channel counts of) in
     let same : received_of image c ≡ received_at (Some (of.end)) = ap received_at of.there in
     omega (arith, few, same)
 
@@ -106,16 +107,16 @@ pub record StaysHere (image : ImageView) (c : ℕ) : Type 0 where
   pub there : end_of image c ≡ Some (Both received log)
   pub within : IsInLog log received
 
-both_there : (inputs : List (List ℤ)) (image : ImageView) (c : ℕ) (end : End) → end_of image c ≡ Some end → role_of end ≡ 2 → CountIsWithin inputs c end → StaysHere image c
-both_there inputs image c (Receives received) there role within = absurd (cc)
-both_there inputs image c (Sends log) there role within = absurd (cc)
-both_there inputs image c (Both received log) there role within = record { received = received; log = log; there = there; within = within.in_log received log refl }
+both_there : (net : Network) (inputs : List (List ℤ)) (image : ImageView) (c : ℕ) (end : End) → end_of image c ≡ Some end → role_of end ≡ 2 → CountIsWithin net inputs c end → StaysHere image c
+both_there net inputs image c (Receives received) there role within = absurd (cc)
+both_there net inputs image c (Sends log) there role within = absurd (cc)
+both_there net inputs image c (Both received log) there role within = record { received = received; log = log; there = there; within = within.in_log received log refl }
 
-pub inner_there : (net : Network) (home : ℕ) (inputs : List (List ℤ)) (image : ImageView) (c p q : ℕ) (channel : Channel) → IsLaidOut net home image → CountsAreWithin inputs image → slice_get net.channels c ≡ Some channel
+pub inner_there : (net : Network) (home : ℕ) (inputs : List (List ℤ)) (image : ImageView) (c p q : ℕ) (channel : Channel) → IsLaidOut net home image → CountsAreWithin net inputs image → slice_get net.channels c ≡ Some channel
     → channel.producer ≡ Process p → IsTrue (has_process net home p) → channel.consumer ≡ Process q → IsTrue (has_process net home q) → StaysHere image c
 inner_there net home inputs image c p q channel laid counts is from puts to gets =
     let of = end_there net home image c channel laid is (producer_on net home p channel from puts) in
-    both_there inputs image c of.end of.there
+    both_there net inputs image c of.end of.there
     (of.role ∙ (ap (λ (b : Bool). role_by b (port_on net home channel.consumer)) (ap (port_on net home) from ∙ puts) ∙ ap (role_by true) (ap (port_on net home) to ∙ gets)))
     (count_there net home inputs image c channel counts of)
 

@@ -11,6 +11,7 @@ use Rattle.kahn_net.specs.Statements.{Step}
 use Rattle.kahn_net.specs.Processes.{Standing, StandsAt, process_trace, sent_on, got_on}
 use Rattle.kahn_net.specs.Approximations.{approximation}
 use Rattle.kahn_net.specs.Laws.Got.{got_on-append}
+use Rattle.kahn_net.specs.Laws.Prefixes.{prefix_trans}
 use Rattle.kahn_net.specs.Laws.Puts.{sent_on-append}
 use Rattle.kahn_net.specs.declared.program.Channel.{Channel}
 use Rattle.kahn_net.specs.declared.program.Port.{Port}
@@ -31,6 +32,7 @@ use Rattle.protocol.specs.NodeLaws.ImageLaws.{find_within, map_got}
 use Rattle.protocol.specs.NodeLaws.NumberedLaws.{StandOnce, where_mark, where_once}
 use Rattle.protocol.specs.NodeLaws.LiftLaws.{IsAtHand}
 use Rattle.protocol.specs.NodeLaws.LogLaws.{trimmed_is_log_of}
+use Rattle.protocol.specs.declared.links.Inbox.{Inbox}
 use Rattle.record.specs.declared.image.SavedEnd.{SavedEnd}
 use Rattle.record.specs.declared.image.End.{End}
 use Rattle.record.specs.declared.image.End.TheVariants.{Receives, Sends, Both}
@@ -110,16 +112,18 @@ as_far_then process acts made q = at (eqb q process)
     at false = omega arith
 
 -- the turn on a job of an image that stands there
-pub turn_of_job : (net : Network) (inputs : List (List ℤ)) (n : ℕ) (made : ℕ → ℕ) (image : ImageView) (job : JobView) (code : Code) (after : Standing) (taken : List ℕ) (sent : List (List ℤ))
-    → ImageStands net (approximation net inputs n) made image → IsAtHand net inputs (approximation net inputs n) made image job.process → IsJobOf net inputs image job → slice_get net.codes job.process ≡ Some code
+pub turn_of_job : (net : Network) (inputs : List (List ℤ)) (n : ℕ) (made : ℕ → ℕ) (image : ImageView) (inboxes : List Inbox) (job : JobView) (code : Code) (after : Standing) (taken : List ℕ) (sent : List (List ℤ))
+    → ImageStands net (approximation net inputs n) made image → IsAtHand net inputs (approximation net inputs n) made image inboxes job.process → IsJobOf net inputs image inboxes job → slice_get net.codes job.process ≡ Some code
     → IsTurn code job.standing job.items job.room after taken sent → Turn code (approximation net inputs n) (made job.process) job.items job.room after taken sent
-turn_of_job net inputs n made image job code after taken sent stands hand of there turn =
+turn_of_job net inputs n made image inboxes job code after taken sent stands hand of there turn =
     let found = find_within (λ (saved : SavedProcessView). eqb saved.number job.process) image.processes (record { number = job.process; standing = job.standing }) of.process in
     let before : StandsAt code (approximation net inputs n) (made job.process) job.standing = stands.processes found.0 (record { number = job.process; standing = job.standing }) code found.1 there in
-    let next : AreNext (items_from inputs image job.process 0 net.channels) (approximation net inputs n) (acts_of net (approximation net inputs n) made job.process) = hand in
+    let at_hand : List (List ℤ) = items_from inputs image inboxes job.process 0 net.channels in
+    let next : AreNext (items_from inputs image inboxes job.process 0 net.channels) (approximation net inputs n) (acts_of net (approximation net inputs n) made job.process) = hand in
+    let next_all : AreNext (items_from inputs image inboxes job.process 0 net.channels) (approximation net inputs n) (take (made job.process) (process_trace code (approximation net inputs n)).steps) =
+    subst (λ (o : Option Code). AreNext (items_from inputs image inboxes job.process 0 net.channels) (approximation net inputs n) (first_acts o (approximation net inputs n) (made job.process))) there next in
     let next_here : AreNext job.items (approximation net inputs n) (take (made job.process) (process_trace code (approximation net inputs n)).steps) =
-    subst (λ (items : List (List ℤ)). AreNext items (approximation net inputs n) (take (made job.process) (process_trace code (approximation net inputs n)).steps)) (sym of.items)
-    (subst (λ (o : Option Code). AreNext (items_from inputs image job.process 0 net.channels) (approximation net inputs n) (first_acts o (approximation net inputs n) (made job.process))) there next) in
+    (λ c. prefix_trans (history_of job.items c) (history_of at_hand c) _ (of.items c) (next_all c)) in
     turn (approximation net inputs n) (made job.process) before next_here
 
 -- each process has made its acts of before, and those of the turn
@@ -261,32 +265,32 @@ image_installed net home histories made image process code items room after take
                 (log_with_more old.0 (sent_on s.channel (acts_of net histories made q)) (put_on net.channels process sent s.channel) (before.retained q old.0 from old.2)))
 
 -- the process of the job that is out is one of the node's, and of the network
-job_marks : (net : Network) (home : ℕ) (inputs : List (List ℤ)) (image : ImageView) (job : JobView) → IsLaidOut net home image → IsJobOf net inputs image job
+job_marks : (net : Network) (home : ℕ) (inputs : List (List ℤ)) (image : ImageView) (inboxes : List Inbox) (job : JobView) → IsLaidOut net home image → IsJobOf net inputs image inboxes job
     → IsTrue (has_process net home job.process) × (0 ≤ job.process) × (job.process < 0 + length net.codes)
-job_marks net home inputs image job laid of =
+job_marks net home inputs image inboxes job laid of =
     let found = find_within (λ (saved : SavedProcessView). eqb saved.number job.process) image.processes (record { number = job.process; standing = job.standing }) of.process in
     where_mark (λ (s : SavedProcessView). s.number) (has_process net home) 0 (length net.codes) image.processes found.0 (record { number = job.process; standing = job.standing }) laid.processes found.1
 
-pub job_here : (net : Network) (home : ℕ) (inputs : List (List ℤ)) (image : ImageView) (job : JobView) → IsLaidOut net home image → IsJobOf net inputs image job → IsTrue (has_process net home job.process)
-job_here net home inputs image job laid of = (job_marks net home inputs image job laid of).0
+pub job_here : (net : Network) (home : ℕ) (inputs : List (List ℤ)) (image : ImageView) (inboxes : List Inbox) (job : JobView) → IsLaidOut net home image → IsJobOf net inputs image inboxes job → IsTrue (has_process net home job.process)
+job_here net home inputs image inboxes job laid of = (job_marks net home inputs image inboxes job laid of).0
 
-pub job_has_code : (net : Network) (home : ℕ) (inputs : List (List ℤ)) (image : ImageView) (job : JobView) → IsLaidOut net home image → IsJobOf net inputs image job → (code : Code) × (slice_get net.codes job.process ≡ Some code)
-job_has_code net home inputs image job laid of = at (slice_get_cases net.codes job.process).1
+pub job_has_code : (net : Network) (home : ℕ) (inputs : List (List ℤ)) (image : ImageView) (inboxes : List Inbox) (job : JobView) → IsLaidOut net home image → IsJobOf net inputs image inboxes job → (code : Code) × (slice_get net.codes job.process ≡ Some code)
+job_has_code net home inputs image inboxes job laid of = at (slice_get_cases net.codes job.process).1
   where
     at : ((x : Code) × (job.process < length net.codes) × (slice_get net.codes job.process ≡ Some x) × (get_or net.codes job.process x ≡ x)) ⊎ ((length net.codes ≤ job.process) × (slice_get net.codes job.process ≡ None))
         → (code : Code) × (slice_get net.codes job.process ≡ Some code)
     at (inl here) = (here.0, here.2)
-    at (inr past) = (let below = (job_marks net home inputs image job laid of).2 in absurd (omega (arith, below, past.0)))
+    at (inr past) = (let below = (job_marks net home inputs image inboxes job laid of).2 in absurd (omega (arith, below, past.0)))
 
 -- a node has come further by the turn on the job that was out
 pub reached_install : (net : Network) (home : ℕ) (inputs : List (List ℤ)) (node : RunningNode) (job : JobView) (after : Standing) (taken : List ℕ) (sent : List (List ℤ))
-    → (reached : HasReached net inputs node) → IsLaidOut net home node.current → IsAtHand net inputs (approximation net inputs reached.n) reached.current_acts node.current job.process → IsJobOf net inputs node.current job → IsTurnOf net job after taken sent
+    → (reached : HasReached net inputs node) → IsLaidOut net home node.current → IsAtHand net inputs (approximation net inputs reached.n) reached.current_acts node.current node.inboxes job.process → IsJobOf net inputs node.current node.inboxes job → IsTurnOf net job after taken sent
     → HasReached net inputs (with_turn net.channels job.process after taken sent node)
 reached_install net home inputs node job after taken sent reached laid hand of turn =
-    let code = job_has_code net home inputs node.current job laid of in
+    let code = job_has_code net home inputs node.current node.inboxes job laid of in
     let found = find_within (λ (saved : SavedProcessView). eqb saved.number job.process) node.current.processes (record { number = job.process; standing = job.standing }) of.process in
     let before = reached.current.processes found.0 (record { number = job.process; standing = job.standing }) code.0 found.1 code.1 in
-    let done = turn_of_job net inputs reached.n reached.current_acts node.current job code.0 after taken sent reached.current hand of code.1 (turn code.0 code.1) in
+    let done = turn_of_job net inputs reached.n reached.current_acts node.current node.inboxes job code.0 after taken sent reached.current hand of code.1 (turn code.0 code.1) in
     record {
       n = reached.n;
       permanent_acts = reached.permanent_acts;
@@ -300,11 +304,11 @@ reached_install net home inputs node job after taken sent reached laid hand of t
     }
 
 pub on_install : (net : Network) (home : ℕ) (inputs : List (List ℤ)) (node : RunningNode) (job : JobView) (after : Standing) (taken : List ℕ) (sent : List (List ℤ))
-    → (reached : HasReached net inputs node) (laid : IsLaidOut net home node.current) (hand : IsAtHand net inputs (approximation net inputs reached.n) reached.current_acts node.current job.process)
-    → (of : IsJobOf net inputs node.current job) (turn : IsTurnOf net job after taken sent)
+    → (reached : HasReached net inputs node) (laid : IsLaidOut net home node.current) (hand : IsAtHand net inputs (approximation net inputs reached.n) reached.current_acts node.current node.inboxes job.process)
+    → (of : IsJobOf net inputs node.current node.inboxes job) (turn : IsTurnOf net job after taken sent)
     → HasComeOn net inputs node (with_turn net.channels job.process after taken sent node) reached (reached_install net home inputs node job after taken sent reached laid hand of turn)
 unfolding reached_install
 on_install net home inputs node job after taken sent reached laid hand of turn =
-    let code = job_has_code net home inputs node.current job laid of in
-    let done = turn_of_job net inputs reached.n reached.current_acts node.current job code.0 after taken sent reached.current hand of code.1 (turn code.0 code.1) in
+    let code = job_has_code net home inputs node.current node.inboxes job laid of in
+    let done = turn_of_job net inputs reached.n reached.current_acts node.current node.inboxes job code.0 after taken sent reached.current hand of code.1 (turn code.0 code.1) in
     record { same = refl; further = as_far_then job.process done.acts reached.current_acts }

@@ -13,6 +13,8 @@ use Rattle.kahn_net.specs.Processes.{Standing}
 use Rattle.kahn_net.specs.Processes.Standing.{NotBegun, At, Done}
 use Rattle.kahn_net.specs.Approximations.{approximation}
 use Rattle.kahn_net.specs.declared.program.Channel.{Channel}
+use Rattle.kahn_net.specs.declared.program.Port.{Port}
+use Rattle.kahn_net.specs.declared.program.Port.TheVariants.{Outside, Process}
 use Rattle.kahn_net.specs.declared.limits.TheConstants.{MAX_COUNT, MAX_NODES, MAX_PROCESSES, MAX_CHANNELS, MAX_VARIABLES}
 use Rattle.retained.specs.LogState.{LogState, IsWithinLimits, IsInLog, log_end}
 use Rattle.retained.specs.declared.log.TheConstants.{MAX_LOG_ITEMS}
@@ -33,6 +35,7 @@ use Rattle.protocol.specs.Node.Layout.{numbers_where, has_process, has_end}
 use Rattle.protocol.specs.Node.Reached.{ImageStands, IsLaidOut, CountIsWithin, CountsAreWithin, LogsAreWithin}
 use Rattle.protocol.specs.Node.Opening.{opening_image, opening_record}
 use Rattle.protocol.specs.NodeLaws.OpeningLaws.{reached_opening, laid_out_opening, counts_opening, logs_opening}
+use Rattle.protocol.specs.NodeLaws.ImageLaws.{channel_of_entry}
 use Rattle.protocol.specs.NodeLaws.NumberedLaws.{where_mark, where_count}
 use Rattle.protocol.specs.NodeLaws.SharingLaws.{share_within}
 use Rattle.protocol.specs.NodeLaws.VariableLaws.{variables_stay}
@@ -192,19 +195,6 @@ code_of_entry net home image k saved laid is = at (slice_get_cases net.codes sav
     at (inl here) = (here.0, here.2)
     at (inr past) = absurd (omega (arith, within, past.0))
 
--- the channel of an end of an image
-channel_of_entry : (net : Network) (home : ℕ) (image : ImageView) (k : ℕ) (saved : SavedEnd) → IsLaidOut net home image → slice_get image.ends k ≡ Some saved
-    → (channel : Channel) × (slice_get net.channels saved.channel ≡ Some channel)
-channel_of_entry net home image k saved laid is = at (slice_get_cases net.channels saved.channel).1
-  where
-    within : saved.channel < 0 + length net.channels
-    within = (where_mark (λ (s : SavedEnd). s.channel) (has_end net home) 0 (length net.channels) image.ends k saved laid.ends is).2
-
-    at : ((x : Channel) × (saved.channel < length net.channels) × (slice_get net.channels saved.channel ≡ Some x) × (get_or net.channels saved.channel x ≡ x)) ⊎ ((length net.channels ≤ saved.channel) × (slice_get net.channels saved.channel ≡ None))
-        → (channel : Channel) × (slice_get net.channels saved.channel ≡ Some channel)
-    at (inl here) = (here.0, here.2)
-    at (inr past) = absurd (omega (arith, within, past.0))
-
 site_written : (net : Network) (p : ℕ) (code : Code) (standing : Standing) → IsValid net → slice_get net.codes p ≡ Some code → StandsBelow (code_sites code) standing → HasShortSite standing
 site_written net p code (NotBegun vars) valid here below = tt
 site_written net p code (At point vars) valid here below = (site_short net p code point valid here below, below.left)
@@ -235,9 +225,12 @@ input_short inputs c short = at (slice_get_cases inputs c).1
     at (inr past) = let none = ap (length {A = ℤ}) (get_or_past inputs c [] past.0) in omega (arith, none)
 
 -- each end may be written
-end_short : (inputs : List (List ℤ)) (image : ImageView) → AreShort inputs → CountsAreWithin inputs image → LogsAreWithin image → (k : ℕ) (saved : SavedEnd) → slice_get image.ends k ≡ Some saved → IsShortEnd saved.end
-end_short inputs image short counts logs k saved is = at saved.end (counts k saved is) (λ log has. limits log has)
+end_short : (net : Network) (home : ℕ) (inputs : List (List ℤ)) (image : ImageView) → AreShort inputs → IsLaidOut net home image → CountsAreWithin net inputs image → LogsAreWithin image → (k : ℕ) (saved : SavedEnd) → slice_get image.ends k ≡ Some saved → IsShortEnd saved.end
+end_short net home inputs image short laid counts logs k saved is = at saved.end (counts k saved is) (λ log has. limits log has)
   where
+    channel : (channel : Channel) × (slice_get net.channels saved.channel ≡ Some channel)
+    channel = channel_of_entry net home image k saved laid is
+
     limits : (log : LogState) → log_at (Some (saved.end)) ≡ Some log → IsWithinLimits log
     limits log has =
         let within = logs k saved log is has in
@@ -245,14 +238,18 @@ end_short inputs image short counts logs k saved is = at saved.end (counts k sav
         let many = within.count in
         record { count = omega (arith, share, many); last = within.last }
 
-    at : (end : End) → CountIsWithin inputs saved.channel end → ((log : LogState) → log_at (Some end) ≡ Some log → IsWithinLimits log) → IsShortEnd end
-    at (Receives received) within of = let few = input_short inputs saved.channel short in let count = within.of_input received refl in omega (arith, few, count)
+    at : (end : End) → CountIsWithin net inputs saved.channel end → ((log : LogState) → log_at (Some end) ≡ Some log → IsWithinLimits log) → IsShortEnd end
+    at (Receives received) within of = by_producer channel.0.producer refl
+      where
+        by_producer : (port : Port) → channel.0.producer ≡ port → received ≤ MAX_COUNT
+        by_producer Outside from = let few = input_short inputs saved.channel short in let count = within.of_input channel.0 received channel.1 from refl in omega (arith, few, count)
+        by_producer (Process q) from = within.of_link channel.0 q received channel.1 from refl
     at (Sends log) within of = of log refl
     at (Both received log) within of = (of log refl, within.in_log received log refl)
 
 -- What a node has of a valid network may be written alone.
 pub image_allowed : (net : Network) (home : ℕ) (inputs histories : List (List ℤ)) (made : ℕ → ℕ) (image : ImageView) → IsValid net → AreShort inputs → IsLaidOut net home image → ImageStands net histories made image
-    → CountsAreWithin inputs image → LogsAreWithin image → AreAllowed (image_fields None image)
+    → CountsAreWithin net inputs image → LogsAreWithin image → AreAllowed (image_fields None image)
 image_allowed net home inputs histories made image valid short laid stands counts logs =
     let processes = where_count (λ (s : SavedProcessView). s.number) (has_process net home) 0 (length net.codes) image.processes laid.processes in
     let ends = where_count (λ (s : SavedEnd). s.channel) (has_end net home) 0 (length net.channels) image.ends laid.ends in
@@ -264,7 +261,7 @@ image_allowed net home inputs histories made image valid short laid stands count
     (All-cons IsAllowed one (processes_fields None 0 image.processes) (limited_allowed 1 MAX_PROCESSES (length image.processes) (omega arith) (omega (arith, processes, codes)))
     (processes_allowed (has_process net home) 0 (length net.codes) 0 image.processes laid.processes (omega arith) (omega (arith, codes)) (standing_short net home histories made image valid laid stands)))
     (All-cons IsAllowed other (ends_fields None 0 image.ends) (limited_allowed 2 MAX_CHANNELS (length image.ends) (omega arith) (omega (arith, ends, channels)))
-    (ends_allowed (has_end net home) 0 (length net.channels) 0 image.ends laid.ends (omega arith) (omega (arith, channels)) (end_short inputs image short counts logs)))
+    (ends_allowed (has_end net home) 0 (length net.channels) 0 image.ends laid.ends (omega arith) (omega (arith, channels)) (end_short net home inputs image short laid counts logs)))
 
 -- ---- shapes
 
@@ -326,7 +323,7 @@ same_shape net home histories later made come permanent image first stands secon
 -- So one that may be written alone may be written beside another.
 pub image_like : (net : Network) (home : ℕ) (inputs histories later : List (List ℤ)) (made come : ℕ → ℕ) (permanent image : ImageView)
     → IsValid net → AreShort inputs → IsLaidOut net home permanent → ImageStands net histories made permanent → IsLaidOut net home image → ImageStands net later come image
-    → CountsAreWithin inputs image → LogsAreWithin image → IsLike permanent image
+    → CountsAreWithin net inputs image → LogsAreWithin image → IsLike permanent image
 image_like net home inputs histories later made come permanent image valid short first stands second goes counts logs =
     like_of permanent image (image_allowed net home inputs later come image valid short second goes counts logs) (same_shape net home histories later made come permanent image first stands second goes)
 

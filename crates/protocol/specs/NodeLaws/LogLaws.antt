@@ -1,6 +1,6 @@
 -- Laws of logs that let go of items.
 use Rattle.std.proofs.Common.{◌≡◌, ◌⊎◌, inl, inr, ℕ, ◌+◌, ◌-◌, ◌≤◌, Bool, true, false, ltb, cond, ℤ, List, length, drop, refl, sym, ap, subst, ◌∙◌, arith}
-use Rattle.std.proofs.lemmas.Bool.{ltb-false}
+use Rattle.std.proofs.lemmas.Bool.{ltb-false, ltb-true}
 use Rattle.std.proofs.lemmas.List.{length-drop, drop-drop}
 use Rattle.retained.specs.LogState.{LogState, IsLogOf, IsInLog, log_end, trimmed}
 use Rattle.record.specs.Changes.{trimmed_log}
@@ -14,6 +14,15 @@ trimmed_cases position log = at (ltb position log.base) (ltb (log_end log) posit
     at true d h k = inl refl
     at false true h k = inl refl
     at false false h k = inr (ltb-false position log.base h, ltb-false (log_end log) position k, refl)
+
+-- where the position is one of the log or its end, it begins there
+pub trimmed_within : (position : ℕ) (log : LogState) → IsInLog log position → trimmed_log position log ≡ trimmed log position
+trimmed_within position log within = at (ltb position log.base) (ltb (log_end log) position) refl refl
+  where
+    at : (b d : Bool) → ltb position log.base ≡ b → ltb (log_end log) position ≡ d → cond b log (cond d log (trimmed log position)) ≡ trimmed log position
+    at true d h k = (let below = ltb-true position log.base h in let low = within.from_base in absurd (omega (arith, below, low)))
+    at false true h k = (let above = ltb-true (log_end log) position k in let high = within.to_end in absurd (omega (arith, above, high)))
+    at false false h k = refl
 
 -- it ends where it ended, with no more items
 pub trimmed_end_stays : (position : ℕ) (log : LogState) → (log_end (trimmed_log position log) ≡ log_end log) × (length ((trimmed_log position log).items) ≤ length log.items)

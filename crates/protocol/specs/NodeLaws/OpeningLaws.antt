@@ -1,19 +1,26 @@
 -- Laws of a node before its first event: no process has made an act.
-use Rattle.std.proofs.Common.{◌≡◌, ℕ, zero, suc, ◌+◌, Bool, true, false, cond, ℤ, List, [], ◌∷◌, length, drop, map, Option, Some, None, refl, sym, ap, subst, ◌∙◌, arith}
-use Rattle.std.specs.Prelude.{slice_get, ◌==◌}
+use Rattle.std.proofs.Common.{◌≡◌, ℕ, zero, suc, ◌+◌, ◌≤◌, Bool, true, false, eqb, cond, ℤ, List, [], ◌∷◌, length, drop, map, Option, Some, None, option_map, refl, sym, ap, subst, ◌∙◌, arith}
+use Rattle.std.specs.Prelude.{slice_get, find, ◌==◌}
 use Rattle.kahn_net.specs.Syntax.{Code, Network}
 use Rattle.kahn_net.specs.Processes.{Standing, NotBegun, StandsAt, got_on, sent_on}
 use Rattle.kahn_net.specs.declared.program.Channel.{Channel}
+use Rattle.kahn_net.specs.declared.program.Port.{Port}
+use Rattle.kahn_net.specs.declared.program.Port.TheVariants.{Outside, Process}
 use Rattle.retained.specs.LogState.{LogState, IsLogOf}
 use Rattle.record.specs.ProcessView.{SavedProcessView}
-use Rattle.record.specs.Ends.{received_at, log_at}
+use Rattle.record.specs.ImageView.{ImageView}
+use Rattle.record.specs.Ends.{received_at, received_of, log_at}
 use Rattle.ckpt_codec.specs.RecordText.{role_of}
-use Rattle.protocol.specs.Node.Opening.{opening_processes, opening_end, opening_ends, opening_image, opening_running}
-use Rattle.protocol.specs.Node.Layout.{numbers_where, is_on, has_process, port_on, channel_on, has_end, role_by}
-use Rattle.protocol.specs.NodeLaws.CountLaws.{receives_within, sends_within, both_within}
-use Rattle.protocol.specs.Node.Reached.{first_acts, EndStands, ImageStands, HasReached, IsLaidOut, CountIsWithin, CountsAreWithin, LogsAreWithin}
+use Rattle.protocol.specs.Node.Opening.{opening_processes, opening_end, opening_ends, opening_image, new_inbox, new_outbox, opening_inboxes, opening_running}
+use Rattle.protocol.specs.Node.Layout.{numbers_where, is_on, has_process, port_on, channel_on, has_end, role_by, incoming_on, outgoing_on}
+use Rattle.protocol.specs.NodeLaws.CountLaws.{count_limit, receives_within, sends_within, both_within}
+use Rattle.protocol.specs.Node.Reached.{first_acts, EndStands, ImageStands, HasReached, IsLaidOut, LinksAreLaidOut, CountIsWithin, CountsAreWithin, LogsAreWithin, InboxIsSound, InboxStands, InboxesStand}
+use Rattle.protocol.specs.NodeLaws.ImageLaws.{map_got}
+use Rattle.protocol.specs.declared.links.Inbox.{Inbox}
+use Rattle.protocol.specs.declared.links.Outbox.{Outbox}
 use Rattle.record.specs.declared.image.SavedEnd.{SavedEnd}
 use Rattle.record.specs.declared.image.End.{End}
+use Rattle.record.specs.declared.image.End.TheVariants.{Receives}
 
 -- which entry stands where
 record OwnProcess (home number : ℕ) (codes : List Code) (saved : SavedProcessView) : Type 0 where
@@ -182,15 +189,19 @@ laid_out_opening net home = record {
   roles = λ k saved channel is on. ap role_of (own_end net home k saved channel is on) ∙ role_there (port_on net home channel.producer) (port_on net home channel.consumer);
 }
 
-pub counts_opening : (net : Network) (home : ℕ) (inputs : List (List ℤ)) → CountsAreWithin inputs (opening_image net home)
+pub counts_opening : (net : Network) (home : ℕ) (inputs : List (List ℤ)) → CountsAreWithin net inputs (opening_image net home)
 counts_opening net home inputs k saved is =
     let entry = end_of_number net home 0 net.channels k saved is in
-    subst (CountIsWithin inputs saved.channel) (sym entry.is) (at (port_on net home entry.channel.producer) (port_on net home entry.channel.consumer))
+    subst (CountIsWithin net inputs saved.channel) (sym entry.is) (at (port_on net home entry.channel.producer) (port_on net home entry.channel.consumer))
   where
-    at : (puts gets : Bool) → CountIsWithin inputs saved.channel (opening_end puts gets)
-    at false gets = receives_within inputs saved.channel 0 (omega arith)
-    at true false = sends_within inputs saved.channel (record { base = 0; items = [] })
-    at true true = both_within inputs saved.channel 0 (record { base = 0; items = [] }) (record { from_base = omega arith; to_end = omega arith })
+    none_below : (port : Port) → 0 ≤ count_limit inputs saved.channel port (Receives 0)
+    none_below Outside = omega arith
+    none_below (Process q) = omega arith
+
+    at : (puts gets : Bool) → CountIsWithin net inputs saved.channel (opening_end puts gets)
+    at false gets = receives_within net inputs saved.channel 0 (λ channel on. none_below channel.producer)
+    at true false = sends_within net inputs saved.channel (record { base = 0; items = [] })
+    at true true = both_within net inputs saved.channel 0 (record { base = 0; items = [] }) (record { from_base = omega arith; to_end = omega arith })
 
 pub logs_opening : (net : Network) (home : ℕ) → LogsAreWithin (opening_image net home)
 logs_opening net home k saved log is has =
@@ -199,3 +210,46 @@ logs_opening net home k saved log is has =
     let base : log.base ≡ 0 = none.0 in
     let items : length log.items ≡ 0 = ap (length {A = ℤ}) none.1 in
     record { count = omega (arith, items); last = omega (arith, items, base) }
+
+-- ---- ends of channels between nodes
+
+-- nothing was received of any channel
+received_from : (net : Network) (home number c : ℕ) (channels : List Channel) → received_at (option_map (λ (s : SavedEnd). s.end) (find (λ (s : SavedEnd). eqb s.channel c) (opening_ends net home number channels))) ≡ 0
+received_from net home number c [] = refl
+received_from net home number c (x ∷ channels) = at (channel_on net home (Some x)) (received_from net home (suc number) c channels)
+  where
+    at : (a : Bool) → received_at (option_map (λ (s : SavedEnd). s.end) (find (λ (s : SavedEnd). eqb s.channel c) (opening_ends net home (suc number) channels))) ≡ 0
+        → received_at (option_map (λ (s : SavedEnd). s.end) (find (λ (s : SavedEnd). eqb s.channel c)
+        (cond a (record { channel = number; end = opening_end (port_on net home x.producer) (port_on net home x.consumer) } ∷ opening_ends net home (suc number) channels) (opening_ends net home (suc number) channels)))) ≡ 0
+    at false later = later
+    at true later = by_number (eqb number c)
+      where
+        by_number : (b : Bool) → received_at (option_map (λ (s : SavedEnd). s.end) (cond b (Some (record { channel = number; end = opening_end (port_on net home x.producer) (port_on net home x.consumer) })) (find (λ (s : SavedEnd). eqb s.channel c) (opening_ends net home (suc number) channels)))) ≡ 0
+        by_number true = none_received (port_on net home x.producer) (port_on net home x.consumer)
+        by_number false = later
+
+inbox_numbers : (numbers : List ℕ) → map (λ (inbox : Inbox). inbox.channel) (map new_inbox numbers) ≡ numbers
+inbox_numbers [] = refl
+inbox_numbers (n ∷ numbers) = ap (λ (ns : List ℕ). n ∷ ns) (inbox_numbers numbers)
+
+outbox_numbers : (numbers : List ℕ) → map (λ (outbox : Outbox). outbox.channel) (map new_outbox numbers) ≡ numbers
+outbox_numbers [] = refl
+outbox_numbers (n ∷ numbers) = ap (λ (ns : List ℕ). n ∷ ns) (outbox_numbers numbers)
+
+-- an inbox to which nothing has come is sound where nothing was received, and stands on whatever history
+new_inbox_sound : (image : ImageView) (c : ℕ) → received_of image c ≡ 0 → InboxIsSound image (new_inbox c)
+new_inbox_sound image c none = record { begins = sym none; next = refl; count = omega arith; last = omega arith; epoch = omega arith }
+
+pub links_opening : (net : Network) (nodes number : ℕ) → LinksAreLaidOut net number (opening_running net nodes number)
+links_opening net nodes number = record {
+  incoming = inbox_numbers (incoming_on net number);
+  outgoing = outbox_numbers (outgoing_on net number);
+  inboxes = λ k inbox is. (
+      let old = map_got new_inbox (incoming_on net number) k inbox is in
+      subst (InboxIsSound (opening_image net number)) old.2 (new_inbox_sound (opening_image net number) old.0 (received_from net number 0 old.0 net.channels)));
+}
+
+pub inboxes_opening : (net : Network) (home : ℕ) (histories : List (List ℤ)) → InboxesStand histories (opening_inboxes net home)
+inboxes_opening net home histories k inbox is =
+    let old = map_got new_inbox (incoming_on net home) k inbox is in
+    subst (InboxStands histories) old.2 (record { within = omega arith; items = refl })

@@ -16,6 +16,7 @@ use Rattle.protocol.specs.Node.Layout.{has_process}
 use Rattle.protocol.specs.Node.Reached.{acts_of, is_counting, ImageStands, IsLaidOut}
 use Rattle.protocol.specs.NodeLaws.InnerLaws.{end_there, consumer_on, counts_there}
 use Rattle.record.specs.declared.image.End.{End}
+use Rattle.protocol.specs.declared.links.Inbox.{Inbox}
 
 -- an input is the same in each approximation
 pub input_stays : (net : Network) (inputs : List (List ℤ)) (n c : ℕ) (channel : Channel) → slice_get net.channels c ≡ Some channel → channel.producer ≡ Outside
@@ -25,29 +26,29 @@ input_stays net inputs (suc n) c channel is from =
     next_histories-at net inputs (approximation net inputs n) c channel is ∙ ap (λ (port : Port). next_history net.codes inputs (approximation net inputs n) c port) from
 
 -- what is at hand of a channel
-abbrev pub items_at_hand : List (List ℤ) → ImageView → ℕ → ℕ → Channel → List ℤ
-items_at_hand inputs image process number channel = cond (is_process process channel.consumer) (next_items inputs image number channel.producer) []
+abbrev pub items_at_hand : List (List ℤ) → ImageView → List Inbox → ℕ → ℕ → Channel → List ℤ
+items_at_hand inputs image inboxes process number channel = cond (is_process process channel.consumer) (next_items inputs image inboxes number channel.producer) []
 
-pub items_from-at : (inputs : List (List ℤ)) (image : ImageView) (process number : ℕ) (channels : List Channel) (c : ℕ) (channel : Channel) → slice_get channels c ≡ Some channel
-    → history_of (items_from inputs image process number channels) c ≡ items_at_hand inputs image process (number + c) channel
-items_from-at inputs image process number [] c channel is = absurd (cc)
-items_from-at inputs image process number (x ∷ channels) zero channel is =
+pub items_from-at : (inputs : List (List ℤ)) (image : ImageView) (inboxes : List Inbox) (process number : ℕ) (channels : List Channel) (c : ℕ) (channel : Channel) → slice_get channels c ≡ Some channel
+    → history_of (items_from inputs image inboxes process number channels) c ≡ items_at_hand inputs image inboxes process (number + c) channel
+items_from-at inputs image inboxes process number [] c channel is = absurd (cc)
+items_from-at inputs image inboxes process number (x ∷ channels) zero channel is =
     let same : x ≡ channel = cc in
     let here : number ≡ number + 0 = omega arith in
-    ap (λ (y : Channel). items_at_hand inputs image process number y) same ∙ ap (λ (n : ℕ). items_at_hand inputs image process n channel) here
-items_from-at inputs image process number (x ∷ channels) (suc c) channel is =
+    ap (λ (y : Channel). items_at_hand inputs image inboxes process number y) same ∙ ap (λ (n : ℕ). items_at_hand inputs image inboxes process n channel) here
+items_from-at inputs image inboxes process number (x ∷ channels) (suc c) channel is =
     let there : suc number + c ≡ number + suc c = omega arith in
-    items_from-at inputs image process (suc number) channels c channel is ∙ ap (λ (n : ℕ). items_at_hand inputs image process n channel) there
+    items_from-at inputs image inboxes process (suc number) channels c channel is ∙ ap (λ (n : ℕ). items_at_hand inputs image inboxes process n channel) there
 
-pub length-items_from : (inputs : List (List ℤ)) (image : ImageView) (process number : ℕ) (channels : List Channel) → length (items_from inputs image process number channels) ≡ length channels
-length-items_from inputs image process number [] = refl
-length-items_from inputs image process number (x ∷ channels) = ap suc (length-items_from inputs image process (suc number) channels)
+pub length-items_from : (inputs : List (List ℤ)) (image : ImageView) (inboxes : List Inbox) (process number : ℕ) (channels : List Channel) → length (items_from inputs image inboxes process number channels) ≡ length channels
+length-items_from inputs image inboxes process number [] = refl
+length-items_from inputs image inboxes process number (x ∷ channels) = ap suc (length-items_from inputs image inboxes process (suc number) channels)
 
-pub items_of_channel : (net : Network) (inputs : List (List ℤ)) (image : ImageView) (process c : ℕ) (channel : Channel) → slice_get net.channels c ≡ Some channel
-    → history_of (items_from inputs image process 0 net.channels) c ≡ items_at_hand inputs image process c channel
-items_of_channel net inputs image process c channel is =
+pub items_of_channel : (net : Network) (inputs : List (List ℤ)) (image : ImageView) (inboxes : List Inbox) (process c : ℕ) (channel : Channel) → slice_get net.channels c ≡ Some channel
+    → history_of (items_from inputs image inboxes process 0 net.channels) c ≡ items_at_hand inputs image inboxes process c channel
+items_of_channel net inputs image inboxes process c channel is =
     let sum : 0 + c ≡ c = omega arith in
-    items_from-at inputs image process 0 net.channels c channel is ∙ ap (λ (n : ℕ). items_at_hand inputs image process n channel) sum
+    items_from-at inputs image inboxes process 0 net.channels c channel is ∙ ap (λ (n : ℕ). items_at_hand inputs image inboxes process n channel) sum
 
 -- where the image's count is that of the items that a process of its node got
 pub received_stands : (net : Network) (home : ℕ) (histories : List (List ℤ)) (made : ℕ → ℕ) (image : ImageView) (c p : ℕ) (channel : Channel) → ImageStands net histories made image → IsLaidOut net home image

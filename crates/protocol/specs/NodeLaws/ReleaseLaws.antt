@@ -40,7 +40,7 @@ acts_put_prefix net inputs n made c p channel is from =
     (put_is_prefix (slice_get net.codes p) (approximation net inputs n) (made p) c)
 
 -- the log of an image holds what its producer's acts put
-log_entry : (image : ImageView) (c : ℕ) (log : LogState) → log_of image c ≡ Some log → (end : End) × (end_of image c ≡ Some end) × (log_at (Some end) ≡ Some log)
+pub log_entry : (image : ImageView) (c : ℕ) (log : LogState) → log_of image c ≡ Some log → (end : End) × (end_of image c ≡ Some end) × (log_at (Some end) ≡ Some log)
 log_entry image c log has = at (end_of image c) refl has
   where
     at : (o : Option End) → end_of image c ≡ o → log_at o ≡ Some log → (end : End) × (end_of image c ≡ Some end) × (log_at (Some end) ≡ Some log)

@@ -4,6 +4,7 @@ use Rattle.std.specs.Prelude.{slice_get, slice_index, find, min}
 use Rattle.std.proofs.Math.Nat.{min-le_left, min-le_right, le-min}
 use Rattle.std.proofs.lemmas.Bool.{ne_eqb}
 use Rattle.std.proofs.lemmas.Bool.Decides.{eqb_tells}
+use Rattle.kahn_net.specs.Streams.{history_of, IsPrefix}
 use Rattle.kahn_net.specs.Syntax.{Network}
 use Rattle.kahn_net.specs.Processes.{sent_on}
 use Rattle.kahn_net.specs.declared.program.Channel.{Channel}
@@ -13,18 +14,21 @@ use Rattle.retained.specs.LogState.{LogState, IsLogOf, log_end}
 use Rattle.record.specs.ImageView.{ImageView}
 use Rattle.ckpt_codec.specs.RecordText.{role_of}
 use Rattle.protocol.specs.Node.JobView.{JobView}
+use Rattle.protocol.specs.Node.NodeView.{RunningNode}
+use Rattle.protocol.specs.Node.Trimming.{with_current}
 use Rattle.record.specs.Ends.{received_of, received_at, log_of, log_at, sent_in, sent_of, end_of, base_in, base_of}
 use Rattle.protocol.specs.Node.Sharing.{is_logging, log_share, IsWithinShare}
-use Rattle.protocol.specs.Node.Granting.{is_process, items_by, next_items, items_from, room_in, room_of, room_from}
+use Rattle.protocol.specs.Node.Granting.{first_log, inbox_log, is_process, items_by, next_items, items_from, room_in, room_of, room_from}
 use Rattle.record.specs.Changes.{trimmed_log, trimmed_end, trimmed_saved, trimmed_image}
 use Rattle.protocol.specs.Node.Layout.{role_here}
-use Rattle.protocol.specs.Node.Reached.{acts_of, EndStands, ImageStands, is_counting, IsLaidOut, CountIsWithin, CountsAreWithin, LogsAreWithin, IsJobOf}
+use Rattle.protocol.specs.Node.Reached.{acts_of, EndStands, ImageStands, is_counting, IsLaidOut, LinksAreLaidOut, CountIsWithin, CountsAreWithin, LogsAreWithin, IsJobOf}
 use Rattle.protocol.specs.NodeLaws.CountLaws.{sends_within}
 use Rattle.protocol.specs.NodeLaws.LogLaws.{trimmed_end_stays, trimmed_is_log_of, base_at, base_after}
 use Rattle.protocol.specs.NodeLaws.ImageLaws.{map_got, map_keeps, end_at, end_of_changed, found_is}
 use Rattle.protocol.specs.NodeLaws.InnerLaws.{output_apart}
 use Rattle.protocol.specs.NodeLaws.SharingLaws.{share_kept}
 use Rattle.protocol.specs.Node.Starting.{IsBehind}
+use Rattle.protocol.specs.declared.links.Inbox.{Inbox}
 use Rattle.record.specs.declared.image.SavedEnd.{SavedEnd}
 use Rattle.record.specs.declared.image.End.{End}
 use Rattle.record.specs.declared.image.End.TheVariants.{Receives, Sends, Both}
@@ -176,29 +180,39 @@ laid_out_trimmed net home c position image laid = record {
         ap (λ (s : SavedEnd). role_of s.end) (sym old.2)
         ∙ (still_its_role position (eqb old.0.channel c) old.0.end ∙ laid.roles k old.0 channel old.1 (ap (slice_get net.channels) number ∙ on))
 
+-- an inbox begins where it began
+pub links_trimmed : (net : Network) (home c position : ℕ) (node : RunningNode) → LinksAreLaidOut net home node → LinksAreLaidOut net home (with_current (trimmed_image c position node.current) node)
+links_trimmed net home c position node links = record {
+  incoming = links.incoming;
+  outgoing = links.outgoing;
+  inboxes = λ k inbox is. (
+      let sound = links.inboxes k inbox is in
+      record { begins = sound.begins ∙ sym (received_trimmed c position node.current inbox.channel); next = sound.next; count = sound.count; last = sound.last; epoch = sound.epoch });
+}
+
 -- what was received is as much as before; where the log is of a channel that goes elsewhere, no count is any other
-count_trimmed : (inputs : List (List ℤ)) (c position : ℕ) (saved : SavedEnd) → ((received : ℕ) (log : LogState) → saved.channel ≡ c → ¬ (saved.end ≡ Both received log))
-    → CountIsWithin inputs saved.channel saved.end → CountIsWithin inputs saved.channel (cond (eqb saved.channel c) (trimmed_end position saved.end) saved.end)
-count_trimmed inputs c position saved apart within = at (eqb_tells saved.channel c)
+count_trimmed : (net : Network) (inputs : List (List ℤ)) (c position : ℕ) (saved : SavedEnd) → ((received : ℕ) (log : LogState) → saved.channel ≡ c → ¬ (saved.end ≡ Both received log))
+    → CountIsWithin net inputs saved.channel saved.end → CountIsWithin net inputs saved.channel (cond (eqb saved.channel c) (trimmed_end position saved.end) saved.end)
+count_trimmed net inputs c position saved apart within = at (eqb_tells saved.channel c)
   where
-    by_end : (end : End) → ((received : ℕ) (log : LogState) → ¬ (end ≡ Both received log)) → CountIsWithin inputs saved.channel end → CountIsWithin inputs saved.channel (trimmed_end position end)
+    by_end : (end : End) → ((received : ℕ) (log : LogState) → ¬ (end ≡ Both received log)) → CountIsWithin net inputs saved.channel end → CountIsWithin net inputs saved.channel (trimmed_end position end)
     by_end (Receives received) apart within = within
-    by_end (Sends log) apart within = sends_within inputs saved.channel (trimmed_log position log)
+    by_end (Sends log) apart within = sends_within net inputs saved.channel (trimmed_log position log)
     by_end (Both received log) apart within = absurd (apart received log refl)
 
     at : ((eqb saved.channel c ≡ true) × (saved.channel ≡ c)) ⊎ ((eqb saved.channel c ≡ false) × (saved.channel ≢ c))
-        → CountIsWithin inputs saved.channel (cond (eqb saved.channel c) (trimmed_end position saved.end) saved.end)
-    at (inr other) = subst (λ (b : Bool). CountIsWithin inputs saved.channel (cond b (trimmed_end position saved.end) saved.end)) (sym other.0) within
+        → CountIsWithin net inputs saved.channel (cond (eqb saved.channel c) (trimmed_end position saved.end) saved.end)
+    at (inr other) = subst (λ (b : Bool). CountIsWithin net inputs saved.channel (cond b (trimmed_end position saved.end) saved.end)) (sym other.0) within
     at (inl same) =
-        subst (λ (b : Bool). CountIsWithin inputs saved.channel (cond b (trimmed_end position saved.end) saved.end)) (sym same.0)
+        subst (λ (b : Bool). CountIsWithin net inputs saved.channel (cond b (trimmed_end position saved.end) saved.end)) (sym same.0)
         (by_end saved.end (λ received log. apart received log same.1) within)
 
 pub counts_trimmed : (net : Network) (home : ℕ) (inputs : List (List ℤ)) (c position : ℕ) (channel : Channel) (image : ImageView) → IsLaidOut net home image → slice_get net.channels c ≡ Some channel → channel.consumer ≡ Outside
-    → CountsAreWithin inputs image → CountsAreWithin inputs (trimmed_image c position image)
+    → CountsAreWithin net inputs image → CountsAreWithin net inputs (trimmed_image c position image)
 counts_trimmed net home inputs c position channel image laid on to counts k saved is =
     let old = map_got (trimmed_saved c position) image.ends k saved is in
-    subst (λ (s : SavedEnd). CountIsWithin inputs s.channel s.end) old.2
-    (count_trimmed inputs c position old.0 (λ received log here both. output_apart net home image c received channel log laid on to (found old.0 old.1 here ∙ ap Some both)) (counts k old.0 old.1))
+    subst (λ (s : SavedEnd). CountIsWithin net inputs s.channel s.end) old.2
+    (count_trimmed net inputs c position old.0 (λ received log here both. output_apart net home image c received channel log laid on to (found old.0 old.1 here ∙ ap Some both)) (counts k old.0 old.1))
   where
     found : (s : SavedEnd) → slice_get image.ends k ≡ Some s → s.channel ≡ c → end_of image c ≡ Some (s.end)
     found s there here = ap (end_of image) (sym here) ∙ end_at net home image k s laid there
@@ -221,31 +235,31 @@ logs_trimmed c position image logs k saved log is at_end =
 -- Jobs
 
 -- what a process has at hand of each channel, where no log from which it gets was trimmed
-items_same : (inputs : List (List ℤ)) (image later : ImageView) (process number : ℕ) (channels : List Channel)
+items_same : (inputs : List (List ℤ)) (image later : ImageView) (inboxes : List Inbox) (process number : ℕ) (channels : List Channel)
     → ((k : ℕ) (channel : Channel) → slice_get channels k ≡ Some channel → channel.consumer ≡ Process process → end_of later (number + k) ≡ end_of image (number + k))
-    → items_from inputs later process number channels ≡ items_from inputs image process number channels
-items_same inputs image later process number [] same = refl
-items_same inputs image later process number (x ∷ channels) same =
-    ap (λ (first : List ℤ). first ∷ items_from inputs later process (suc number) channels) (by_consumer x.consumer refl)
-    ∙ ap (λ (rest : List (List ℤ)). cond (is_process process x.consumer) (next_items inputs image number x.producer) [] ∷ rest) (items_same inputs image later process (suc number) channels further)
+    → items_from inputs later inboxes process number channels ≡ items_from inputs image inboxes process number channels
+items_same inputs image later inboxes process number [] same = refl
+items_same inputs image later inboxes process number (x ∷ channels) same =
+    ap (λ (first : List ℤ). first ∷ items_from inputs later inboxes process (suc number) channels) (by_consumer x.consumer refl)
+    ∙ ap (λ (rest : List (List ℤ)). cond (is_process process x.consumer) (next_items inputs image inboxes number x.producer) [] ∷ rest) (items_same inputs image later inboxes process (suc number) channels further)
   where
     further : (k : ℕ) (channel : Channel) → slice_get channels k ≡ Some channel → channel.consumer ≡ Process process → end_of later (suc number + k) ≡ end_of image (suc number + k)
     further k channel is to =
         let sum : suc number + k ≡ number + suc k = omega arith in
         ap (end_of later) sum ∙ (same (suc k) channel is to ∙ ap (end_of image) (sym sum))
 
-    by_end : end_of later number ≡ end_of image number → next_items inputs later number x.producer ≡ next_items inputs image number x.producer
-    by_end e = ap (λ (o : Option End). items_by inputs number x.producer (received_at o) (log_at o)) e
+    by_end : end_of later number ≡ end_of image number → next_items inputs later inboxes number x.producer ≡ next_items inputs image inboxes number x.producer
+    by_end e = ap (λ (o : Option End). items_by inputs number x.producer (received_at o) (first_log (log_at o) (inbox_log inboxes number))) e
 
     by_number : (q : ℕ) → x.consumer ≡ Process q → ((eqb q process ≡ true) × (q ≡ process)) ⊎ ((eqb q process ≡ false) × (q ≢ process))
-        → cond (eqb q process) (next_items inputs later number x.producer) [] ≡ cond (eqb q process) (next_items inputs image number x.producer) []
+        → cond (eqb q process) (next_items inputs later inboxes number x.producer) [] ≡ cond (eqb q process) (next_items inputs image inboxes number x.producer) []
     by_number q to (inr other) =
-        ap (λ (b : Bool). cond b (next_items inputs later number x.producer) []) other.0 ∙ sym (ap (λ (b : Bool). cond b (next_items inputs image number x.producer) []) other.0)
+        ap (λ (b : Bool). cond b (next_items inputs later inboxes number x.producer) []) other.0 ∙ sym (ap (λ (b : Bool). cond b (next_items inputs image inboxes number x.producer) []) other.0)
     by_number q to (inl here) =
         let sum : number + 0 ≡ number = omega arith in
         ap (λ (items : List ℤ). cond (eqb q process) items []) (by_end (ap (end_of later) (sym sum) ∙ (same 0 x refl (to ∙ ap Process here.1) ∙ ap (end_of image) sum)))
 
-    by_consumer : (port : Port) → x.consumer ≡ port → cond (is_process process port) (next_items inputs later number x.producer) [] ≡ cond (is_process process port) (next_items inputs image number x.producer) []
+    by_consumer : (port : Port) → x.consumer ≡ port → cond (is_process process port) (next_items inputs later inboxes number x.producer) [] ≡ cond (is_process process port) (next_items inputs image inboxes number x.producer) []
     by_consumer Outside to = refl
     by_consumer (Process q) to = by_number q to (eqb_tells q process)
 
@@ -271,12 +285,13 @@ end_elsewhere c position image d apart =
         ap (λ (b : Bool). Some (cond b (trimmed_end position s.end) s.end)) (ne_eqb s.channel c (λ e. apart (sym here ∙ e)))
 
 -- the job that is out stays one of an image whose log of an output was trimmed: there is no less room
-pub job_trimmed : (net : Network) (inputs : List (List ℤ)) (c position : ℕ) (channel : Channel) (image : ImageView) (job : JobView) → slice_get net.channels c ≡ Some channel → channel.consumer ≡ Outside
-    → IsJobOf net inputs image job → IsJobOf net inputs (trimmed_image c position image) job
-job_trimmed net inputs c position channel image job on to of = record {
+pub job_trimmed : (net : Network) (inputs : List (List ℤ)) (c position : ℕ) (channel : Channel) (image : ImageView) (inboxes : List Inbox) (job : JobView) → slice_get net.channels c ≡ Some channel → channel.consumer ≡ Outside
+    → IsJobOf net inputs image inboxes job → IsJobOf net inputs (trimmed_image c position image) inboxes job
+job_trimmed net inputs c position channel image inboxes job on to of = record {
   process = of.process;
   code = of.code;
-  items = of.items ∙ sym (items_same inputs image (trimmed_image c position image) job.process 0 net.channels same);
+  items = λ d.
+      subst (λ (items : List (List ℤ)). IsPrefix (history_of job.items d) (history_of items d)) (sym (items_same inputs image (trimmed_image c position image) inboxes job.process 0 net.channels same)) (of.items d);
   room = λ d. (
       let given = of.room d in
       let more = room_grows image (trimmed_image c position image) job.process 0 net.channels d (room_trimmed c position image) in

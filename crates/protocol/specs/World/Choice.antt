@@ -1,5 +1,5 @@
 -- Which event is next for a node: the first one of a list that is due.
-use Rattle.std.specs.Prelude.{◌==◌, ℕ, ◌%◌, nat_le, nat_lt, Bool, false, ◌&&◌, ◌||◌, not, if◌then◌else◌, List, [], ◌∷◌, length, Option, Some, None, is_some, slice_get, ℤ}
+use Rattle.std.specs.Prelude.{◌==◌, ℕ, ◌%◌, nat_le, nat_lt, Bool, false, ◌&&◌, ◌||◌, not, if◌then◌else◌, List, [], ◌∷◌, length, Option, Some, None, is_some, option_map, slice_get, ℤ}
 use Rattle.kahn_net.specs.Syntax.{Network}
 use Rattle.record.specs.ImageView.{ImageView}
 use Rattle.record.specs.Ends.{received_of, sent_of}
@@ -7,10 +7,14 @@ use Rattle.protocol.specs.Node.Choosing.{node_job}
 use Rattle.protocol.specs.Node.NodeView.{RunningNode, running_of}
 use Rattle.protocol.specs.Node.Starting.{is_none, is_down, may_start, may_decide}
 use Rattle.record.specs.declared.image.SavedEnd.{SavedEnd}
+use Rattle.std.specs.List.{position_from}
+use Rattle.wire.specs.declared.queue.Flight.{Flight}
+use Rattle.wire.specs.Queue.{is_due}
+use Rattle.wire.specs.Traffic.{Traffic, flights_to}
 use Rattle.protocol.specs.World.Turns.{turns_of}
 use Rattle.protocol.specs.World.StationView.{StationView}
-use Rattle.protocol.specs.World.Steps.{WorldView, next_release}
-use Rattle.protocol.specs.World.EventView.{EventView, Grant, Send, Start, Decide, Release, Recover, Idle}
+use Rattle.protocol.specs.World.Steps.{WorldView, may_restart, next_release}
+use Rattle.protocol.specs.World.EventView.{EventView, Deliver, Grant, Send, Start, Decide, Release, Recover, Idle}
 use Rattle.protocol.specs.declared.limits.TheConstants.{MAX_GRANTS}
 
 -- a count of one of these channels is above what it is in an earlier image
@@ -37,25 +41,43 @@ wants_checkpoint nodes round station =
 abbrev pub has_sent : ℕ → StationView → Bool
 has_sent round station = (turns_of round station.turns).sent && not ((turns_of round station.turns).sent_holding && is_none station.node.kept.tentative)
 
--- it is down, and may be recovered by now
-abbrev pub may_recover : ℕ → StationView → Bool
-may_recover round station = is_down station.node.mode && nat_le station.node.restart round
+-- it is down, and may be recovered by now, where nodes may restart
+abbrev pub may_recover : Bool → ℕ → StationView → Bool
+may_recover restarts round station = restarts && (is_down station.node.mode && nat_le station.node.restart round)
 
--- the first that is due: it is recovered, an item leaves, a job is granted (64 at most a round), a checkpoint is decided or begun, the node sends, or its turn passes
-abbrev pub station_choice : Network → List (List ℤ) → ℕ → ℕ → StationView → EventView
-station_choice net inputs nodes round station =
-    if may_recover round station then Recover station.number
-    else (if is_some (next_release round station) then Release station.number
+-- the place of the first packet that is due to a node that is up
+abbrev pub due_place : Traffic → ℕ → StationView → Option ℕ
+due_place traffic round station = if is_down station.node.mode then None else position_from (is_due round) 0 (flights_to traffic station.number)
+
+abbrev pub deliver_or : ℕ → Option ℕ → EventView → EventView
+deliver_or number None other = other
+deliver_or number (Some place) other = Deliver number place
+
+-- the first that is due where no packet is: an item leaves, a job is granted (64 at most a round), a checkpoint is decided or begun, the node
+-- sends, or its turn passes
+abbrev pub own_choice : Network → List (List ℤ) → ℕ → ℕ → StationView → EventView
+own_choice net inputs nodes round station =
+    if is_some (next_release round station) then Release station.number
     else (if nat_lt (turns_of round station.turns).granted MAX_GRANTS && is_some (node_job net inputs station.node) then Grant station.number
     else (if may_decide station.number station.node then Decide station.number
     else (if wants_checkpoint nodes round station then Start station.number
     else (if not (is_down station.node.mode) && not (has_sent round station) then Send station.number
-    else Idle station.number)))))
+    else Idle station.number))))
+
+-- the first that is due: the node is recovered, a packet comes to it, or one of those
+abbrev pub station_choice : Network → List (List ℤ) → Traffic → ℕ → ℕ → StationView → EventView
+station_choice net inputs traffic nodes round station =
+    if may_recover (may_restart nodes) round station then Recover station.number
+    else deliver_or station.number (due_place traffic round station) (own_choice net inputs nodes round station)
 
 abbrev pub choice_of : WorldView → ℕ → Option StationView → EventView
 choice_of world node None = Idle node
-choice_of world node (Some station) = station_choice world.net world.inputs (length world.stations) world.round station
+choice_of world node (Some station) = station_choice world.net world.inputs world.traffic (length world.stations) world.round station
 
 -- the event that is next for this node
 abbrev pub choice : WorldView → ℕ → EventView
 choice world node = choice_of world node (slice_get world.stations node)
+
+-- the bytes of the packet at a place of those in flight to a node of the world
+abbrev pub flying_to : WorldView → ℕ → ℕ → Option (List ℕ)
+flying_to world node place = if nat_lt node (length world.stations) then option_map (λ (flight : Flight). flight.packet) (slice_get (flights_to world.traffic node) place) else None

@@ -10,15 +10,12 @@ use Rattle.kahn_net.specs.Processes.{sent_on}
 use Rattle.kahn_net.specs.Approximations.{approximation}
 use Rattle.kahn_net.specs.Laws.Approximations.{approximations_grow}
 use Rattle.kahn_net.specs.Laws.Prefixes.{prefix_trans}
-use Rattle.kahn_net.specs.declared.program.Channel.{Channel}
-use Rattle.kahn_net.specs.declared.program.Port.{Port}
-use Rattle.kahn_net.specs.declared.program.Port.TheVariants.{Outside, Process}
 use Rattle.record.specs.RecordView.{RecordView}
 use Rattle.protocol.specs.Node.Reached.{acts_of}
 use Rattle.protocol.specs.NodeLaws.ReleaseLaws.{acts_put_prefix}
 use Rattle.protocol.specs.World.OutputView.{OutputView}
 use Rattle.protocol.specs.World.RecordSound.{RecordHasCome, RecordIsSound}
-use Rattle.protocol.specs.WorldLaws.OutputLaws.{output_channel}
+use Rattle.protocol.specs.WorldLaws.OutputLaws.{output_here}
 use Rattle.protocol.specs.World.Invariant.{outputs_of, AreSound, WorldInvariant}
 use Rattle.protocol.specs.World.StationView.{StationView}
 use Rattle.protocol.specs.World.Steps.{WorldView}
@@ -32,25 +29,16 @@ abbrev pub AreApproximated : WorldView → Type 0
 AreApproximated world = ∥ ((n : ℕ) × ((i : ℕ) (station : StationView) → slice_get world.stations i ≡ Some station → AreWithin world.net world.inputs (outputs_of station.outlets) n)) ∥₁
 
 module _ (net : Network) (inputs : List (List ℤ)) (kept : RecordView) (outputs : List OutputView) where
-  -- a channel whose items go outside is one on which a process puts
-  from_process : IsValid net → (c : ℕ) (channel : Channel) → slice_get net.channels c ≡ Some channel → channel.consumer ≡ Outside → (p : ℕ) × (channel.producer ≡ Process p)
-  from_process valid c channel on to = at channel.producer refl
-    where
-      at : (port : Port) → channel.producer ≡ port → (p : ℕ) × (channel.producer ≡ Process p)
-      at Outside from = absurd (valid.joined c channel on from to)
-      at (Process p) from = (p, from)
-
   -- the approximation behind the one on which the record stands
-  within_next : IsValid net → RecordIsSound net inputs kept outputs → (come : RecordHasCome net inputs kept outputs) → AreWithin net inputs outputs (suc come.n)
-  within_next valid sound come j output is =
-      let there = output_channel net outputs sound.listed j output is in
-      let from = from_process valid output.channel there.0 there.1 there.2 in
-      prefix_trans output.taken (sent_on output.channel (acts_of net (approximation net inputs come.n) come.permanent_acts from.0)) (history_of (approximation net inputs (suc come.n)) output.channel)
-      (come.released j from.0 output there.0 is there.1 from.1)
-      (acts_put_prefix net inputs come.n come.permanent_acts output.channel from.0 there.0 there.1 from.1)
+  within_next : RecordIsSound net inputs kept outputs → (come : RecordHasCome net inputs kept outputs) → AreWithin net inputs outputs (suc come.n)
+  within_next sound come j output is =
+      let there = output_here net kept.node outputs sound.listed j output is in
+      prefix_trans output.taken (sent_on output.channel (acts_of net (approximation net inputs come.n) come.permanent_acts there.process)) (history_of (approximation net inputs (suc come.n)) output.channel)
+      (come.released j there.process output there.channel is there.there there.producer)
+      (acts_put_prefix net inputs come.n come.permanent_acts output.channel there.process there.channel there.there there.producer)
 
-  station_within : IsValid net → RecordIsSound net inputs kept outputs → ∥ ((n : ℕ) × AreWithin net inputs outputs n) ∥₁
-  station_within valid sound = ∥∥₁_map sound.come (λ come. (suc come.n, within_next valid sound come))
+  station_within : RecordIsSound net inputs kept outputs → ∥ ((n : ℕ) × AreWithin net inputs outputs n) ∥₁
+  station_within sound = ∥∥₁_map sound.come (λ come. (suc come.n, within_next sound come))
 
   -- and in each later one
   within_later : IsValid net → Fits net inputs → (m n : ℕ) → m ≤ n → AreWithin net inputs outputs m → AreWithin net inputs outputs n
@@ -63,7 +51,7 @@ all_within : (net : Network) (inputs : List (List ℤ)) → IsValid net → Fits
     → ∥ ((n : ℕ) × ((i : ℕ) (station : StationView) → slice_get stations i ≡ Some station → AreWithin net inputs (outputs_of station.outlets) n)) ∥₁
 all_within net inputs valid fits [] sound = ∣ (0, λ i station is. absurd (cc)) ∣₁
 all_within net inputs valid fits (s ∷ stations) sound =
-    ∥∥₁_map₂ (station_within net inputs s.node.kept (outputs_of s.outlets) valid (sound 0 s refl).kept) (all_within net inputs valid fits stations (λ i station is. sound (suc i) station is))
+    ∥∥₁_map₂ (station_within net inputs s.node.kept (outputs_of s.outlets) (sound 0 s refl).kept) (all_within net inputs valid fits stations (λ i station is. sound (suc i) station is))
     (λ one others. (one.0 + others.0, at one.0 others.0 one.1 others.1))
   where
     at : (m k : ℕ) → AreWithin net inputs (outputs_of s.outlets) m → ((i : ℕ) (station : StationView) → slice_get stations i ≡ Some station → AreWithin net inputs (outputs_of station.outlets) k)

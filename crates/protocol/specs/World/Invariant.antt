@@ -1,7 +1,7 @@
 -- What is true of a world, whatever events came before.
-use Rattle.std.specs.Prelude.{◌≡◌, ◌<◌, ℕ, ℤ, List, length, map, Some, slice_get}
+use Rattle.std.specs.Prelude.{◌≡◌, ℕ, ℤ, List, length, map, Some, slice_get}
 use Rattle.kahn_net.specs.Fits.{Fits}
-use Rattle.kahn_net.specs.Nodes.{IsOnOneNode}
+use Rattle.kahn_net.specs.Nodes.{node_count}
 use Rattle.kahn_net.specs.Syntax.{Network}
 use Rattle.kahn_net.specs.Valid.{IsValid}
 use Rattle.protocol.specs.Node.NodeView.{RunningNode, running_of}
@@ -11,6 +11,7 @@ use Rattle.protocol.specs.World.RecordSound.{RecordIsSound}
 use Rattle.protocol.specs.World.Sound.{IsSound}
 use Rattle.protocol.specs.World.StationView.{OutletView, StationView}
 use Rattle.protocol.specs.World.Steps.{WorldView}
+use Rattle.protocol.specs.World.Traffic.{TrafficIsSound}
 
 -- what has left by an outlet
 abbrev pub output_of : OutletView → OutputView
@@ -34,10 +35,16 @@ pub record StationInvariant (net : Network) (inputs : List (List ℤ)) (station 
 abbrev pub AreSound : Network → List (List ℤ) → List StationView → Type 0
 AreSound net inputs stations = (i : ℕ) (station : StationView) → slice_get stations i ≡ Some station → StationInvariant net inputs station
 
--- A world: its network is valid, the inputs fit it, each process is on the first node, there is a station, and each one is sound.
+-- each of these stations has its place as its number, and the record of the node of that number
+abbrev pub IsNumbered : List StationView → Type 0
+IsNumbered stations = (i : ℕ) (station : StationView) → slice_get stations i ≡ Some station → (station.number ≡ i) × (station.node.kept.node ≡ i)
+
+-- A world: its network is valid, the inputs fit it, there is one station a node, by their numbers, and each one is sound; and
+-- so is what is in flight between them.
 pub record WorldInvariant (world : WorldView) : Type 0 where
   pub valid : IsValid world.net
   pub fits : Fits world.net world.inputs
-  pub alone : IsOnOneNode world.net
-  pub inhabited : 0 < length world.stations
+  pub count : length world.stations ≡ node_count world.net
+  pub numbered : IsNumbered world.stations
   pub stations : AreSound world.net world.inputs world.stations
+  pub traffic : TrafficIsSound world.net world.inputs world.traffic

@@ -13,16 +13,15 @@ use Rattle.record.specs.declared.record.Tentative.{Tentative}
 use Rattle.ckpt_codec.specs.SizeLaws.{IsRecordWithin}
 use Rattle.ckpt_codec.specs.declared.lengths.TheConstants.{MAX_RETAINED_ITEMS}
 use Rattle.protocol.specs.Node.Reached.{ImageStands, IsAsFar, IsLaidOut, CountsAreWithin, LogsAreWithin, acts_of}
-use Rattle.protocol.specs.Node.Layout.{AllHere}
 use Rattle.protocol.specs.Node.Starting.{IsBehind}
 use Rattle.protocol.specs.World.OutputView.{OutputView}
-use Rattle.protocol.specs.World.Sound.{output_channels}
+use Rattle.protocol.specs.World.Sound.{outputs_on}
 
 -- an image has the processes and ends of its node, no more was received than there is, its logs are within their limits, and those of outputs go back to
 -- what has left
 pub record ImageIsSound (net : Network) (home : ℕ) (inputs : List (List ℤ)) (image : ImageView) (outputs : List OutputView) : Type 0 where
   pub laid_out : IsLaidOut net home image
-  pub counts : CountsAreWithin inputs image
+  pub counts : CountsAreWithin net inputs image
   pub logs : LogsAreWithin image
   pub no_gap : (j : ℕ) (output : OutputView) → slice_get outputs j ≡ Some output → base_of image output.channel ≤ length output.taken
 
@@ -42,12 +41,11 @@ pub record RecordHasCome (net : Network) (inputs : List (List ℤ)) (kept : Reco
   pub released : (j p : ℕ) (output : OutputView) (channel : Channel) → slice_get outputs j ≡ Some output → slice_get net.channels output.channel ≡ Some channel → channel.producer ≡ Process p
       → IsPrefix output.taken (sent_on output.channel (acts_of net (approximation net inputs n) permanent_acts p))
 
--- All of it: each process is on the record's node, there is an outlet for each output of the network, the permanent image covers what has left, the tentative one isn't behind it, no
+-- All of it: there is an outlet for each output of the record's node, in order, the permanent image covers what has left, the tentative one isn't behind it, no
 -- decision waits to be confirmed, since a node alone asks nobody, the record is within the bounds in which it fits `MAX_RECORD_BYTES`, and what
 -- is said above.
 pub record RecordIsSound (net : Network) (inputs : List (List ℤ)) (kept : RecordView) (outputs : List OutputView) : Type 0 where
-  pub here : AllHere net kept.node
-  pub listed : map (λ (output : OutputView). output.channel) outputs ≡ output_channels 0 net.channels
+  pub listed : map (λ (output : OutputView). output.channel) outputs ≡ outputs_on net kept.node
   pub permanent : ImageIsSound net kept.node inputs kept.permanent outputs
   pub held : (tentative : Tentative) → kept.tentative ≡ Some tentative → ImageIsSound net kept.node inputs tentative.image outputs
   pub ahead : (tentative : Tentative) → kept.tentative ≡ Some tentative → IsBehind kept.permanent tentative.image

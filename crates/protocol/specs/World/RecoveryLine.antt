@@ -1,6 +1,7 @@
 -- The recovery line of a world: what all nodes restart from, if they crash together. The words of the line are those of the abstract machine
 -- (specs/Machine); here stands how a world is seen there, and what it is for a line to be in order.
 use Rattle.std.specs.Prelude.{◌≡◌, ℕ, ◌≤◌, List, map, length, Option, Some, None, option_map, slice_get}
+use Rattle.kahn_net.specs.Nodes.{IsOnOneNode}
 use Rattle.kahn_net.specs.Syntax.{Code, Network}
 use Rattle.kahn_net.specs.declared.program.Channel.{Channel}
 use Rattle.kahn_net.specs.declared.program.Port.{Port}
@@ -10,7 +11,7 @@ use Rattle.record.specs.Moves.{with_epoch}
 use Rattle.record.specs.RecordView.{RecordView}
 use Rattle.ckpt_store.specs.Spelling.{Spells, SpellsSome}
 use Rattle.protocol.specs.Node.Starting.{IsBehind, with_own_now, decided}
-use Rattle.protocol.specs.Machine.Images.{Net}
+use Rattle.protocol.specs.Machine.Images.{Net, IsOutput}
 use Rattle.protocol.specs.Machine.Line.{Sound, Covers, NotBehind}
 use Rattle.protocol.specs.Machine.Observers.{record_seen}
 use Rattle.protocol.specs.Machine.Records.{Record, new_record, effective}
@@ -28,6 +29,7 @@ use Rattle.protocol.specs.World.StationView.{StationView}
 -- begins an epoch. No other event puts a record; with those it is the one that is kept. It is said of every station, also of one where the event
 -- isn't due or is refused, so that it is all that such an event may leave, and no more than that.
 abbrev pub next_kept : EventView → StationView → RecordView
+next_kept (event.Deliver k place) station = station.node.kept
 next_kept (event.Grant k) station = station.node.kept
 next_kept (event.Install done) station = station.node.kept
 next_kept (event.Send k) station = station.node.kept
@@ -38,6 +40,9 @@ next_kept (event.Crash k fill rounds) station = station.node.kept
 next_kept (event.Recover k) station = with_epoch station.node.kept
 next_kept (event.Arm k fault rounds) station = station.node.kept
 next_kept (event.Idle k) station = station.node.kept
+next_kept (event.Lose k place) station = station.node.kept
+next_kept (event.Repeat k place) station = station.node.kept
+next_kept (event.Delay k place rounds) station = station.node.kept
 
 -- ---- a world as the abstract machine sees it
 
@@ -76,14 +81,16 @@ records_of stations = map (λ (station : StationView). station.node.kept) statio
 
 -- ---- lines in order
 
--- The line that follows from these records is sound, and covers what has left these stations: no node has received what another would have to
--- put again, nothing is lost that is still to be received or to leave, and nothing has left that the line hasn't put.
+-- The line that follows from these records covers what has left these stations: nothing has left that it hasn't put; and nothing is lost that
+-- is still to leave. Of a network on one node it is sound: nobody has received what another would have to put again, and nothing is lost that is
+-- still to be received either. (Of several nodes that isn't said, as their checkpoints aren't coordinated yet.)
 pub record IsLineOf (net : Network) (stations : List StationView) (records : List RecordView) : Type 0 where
-  pub sound : Sound (net_seen net) (effective (records_seen records)) (outlets_seen stations)
+  pub sound : IsOnOneNode net → Sound (net_seen net) (effective (records_seen records)) (outlets_seen stations)
   pub covers : Covers (net_seen net) (records_seen records) (outlets_seen stations)
+  pub no_gap : (c p : ℕ) → IsOutput (net_seen net) c p → (effective (records_seen records) p).base c ≤ outlets_seen stations c
 
--- What a crash in an event left is in line: the line of these records is sound and covers what had left before the event, and what has left by
--- its end; and it isn't behind the line before the event.
+-- What a crash in an event left is in line: the line of these records is one of what had left before the event, and of what has left by its end;
+-- and it isn't behind the line before the event.
 pub record AreInLine (net : Network) (before after : List StationView) (records : List RecordView) : Type 0 where
   pub at_first : IsLineOf net before records
   pub at_last : IsLineOf net after records
@@ -95,12 +102,12 @@ LinesFollow = (first second third : ℕ → Record) → NotBehind first second �
 
 -- ---- the same of one station
 
--- With this record a station's part of the line is sound and covers what has left: no decision stands, so that its permanent image is the
--- effective one, of a channel between two processes that image has received no more than it put and no less than its log let go of, the log of
--- each output begins no later than the outlet ends, and that image has put all that has left.
-pub record FitsOutputs (net : Network) (outputs : List OutputView) (kept : RecordView) : Type 0 where
+-- With this record the part of the line that is of the station of this node is sound and covers what has left: no decision stands, so that its
+-- permanent image is the effective one, of a channel between two processes of the node that image has received no more than it put and no less
+-- than its log let go of, the log of each output begins no later than the outlet ends, and that image has put all that has left.
+pub record FitsOutputs (net : Network) (home : ℕ) (outputs : List OutputView) (kept : RecordView) : Type 0 where
   pub undecided : kept.decision ≡ None
-  pub inside : (c p q : ℕ) → producer_of net (slice_get net.channels c) ≡ Some p → consumer_of net (slice_get net.channels c) ≡ Some q
+  pub inside : (c : ℕ) → producer_of net (slice_get net.channels c) ≡ Some home → consumer_of net (slice_get net.channels c) ≡ Some home
       → (base_of kept.permanent c ≤ received_of kept.permanent c) × (received_of kept.permanent c ≤ sent_of kept.permanent c)
   pub no_gap : (j : ℕ) (output : OutputView) → slice_get outputs j ≡ Some output → base_of kept.permanent output.channel ≤ length output.taken
   pub covered : CoversAll kept.permanent outputs
@@ -109,6 +116,6 @@ pub record FitsOutputs (net : Network) (outputs : List OutputView) (kept : Recor
 -- behind the one of before.
 pub record LeavesInLine (net : Network) (old new : StationView) (left : Option (List ℕ)) : Type 0 where
   pub something : SpellsSome left
-  pub at_first : (kept : RecordView) → Spells kept left → FitsOutputs net (outputs_of old.outlets) kept
-  pub at_last : (kept : RecordView) → Spells kept left → FitsOutputs net (outputs_of new.outlets) kept
+  pub at_first : (kept : RecordView) → Spells kept left → FitsOutputs net old.node.kept.node (outputs_of old.outlets) kept
+  pub at_last : (kept : RecordView) → Spells kept left → FitsOutputs net new.node.kept.node (outputs_of new.outlets) kept
   pub not_behind : (kept : RecordView) → Spells kept left → IsBehind old.node.kept.permanent kept.permanent

@@ -1,13 +1,26 @@
 -- What is answered, and what an answer and an event tell of memory and cells.
 use Rattle.std.specs.Prelude.{◌≡◌, Bool, true, false, Option, Some, None}
 use Rattle.protocol.specs.Node.JobView.{JobView}
+use Rattle.protocol.specs.declared.delivery.Delivery.{Delivery}
+use Rattle.protocol.specs.declared.delivery.Delivery.TheVariants as delivery
 use Rattle.protocol.specs.declared.putting.Putting.{Putting}
 use Rattle.protocol.specs.declared.putting.Putting.TheVariants as putting
 use Rattle.protocol.specs.declared.putting.Recovery.{Recovery}
 use Rattle.protocol.specs.declared.putting.Recovery.TheVariants as recovery
 use Rattle.protocol.specs.World.EventView.{EventView}
 use Rattle.protocol.specs.World.EventView as event
-use Rattle.protocol.specs.World.ReplyView.{ReplyView, Granted, Installed, Discarded, Sent, Started, Decided, Refused, Released, OutletFailed, Crashed, Recovered, InDoubt, Down, Acted, Idled, NotDue}
+use Rattle.protocol.specs.World.ReplyView.{ReplyView, Delivered, Dropped, Granted, Installed, Discarded, Sent, Started, Decided, Refused, Released, OutletFailed, Crashed, Recovered, InDoubt, Down, Acted, Idled, NotDue}
+
+-- what a node did with bytes that came to it
+abbrev pub delivery_reply : Delivery → ReplyView
+delivery_reply delivery.NotDue = NotDue
+delivery_reply delivery.Delivered = Delivered
+delivery_reply delivery.Dropped = Dropped 33
+
+-- an act of the network happened where there was a packet at the place
+abbrev pub act_reply : Bool → ReplyView
+act_reply true = Acted
+act_reply false = NotDue
 
 -- the job that can be granted is
 abbrev pub grant_reply : Option JobView → ReplyView
@@ -49,6 +62,8 @@ IsTooLarge answer = answer ≡ Refused 22
 -- no cell was touched by an event but a recovery, as this answer tells
 abbrev pub AnswerLeaves : Option ReplyView → Type 0
 AnswerLeaves None = Unit {0}
+AnswerLeaves (Some Delivered) = Unit {0}
+AnswerLeaves (Some (Dropped refusal)) = Unit {0}
 AnswerLeaves (Some (Granted job)) = Unit {0}
 AnswerLeaves (Some Installed) = Unit {0}
 AnswerLeaves (Some Discarded) = Unit {0}
@@ -69,6 +84,7 @@ AnswerLeaves (Some NotDue) = Unit {0}
 -- A recovery looks at the device before it can be refused, and what is prepared is prepared in the cell, so these leave it alone only where
 -- they can't happen.
 abbrev pub LeavesCells : EventView → Option ReplyView → Type 0
+LeavesCells (event.Deliver k place) answer = AnswerLeaves answer
 LeavesCells (event.Grant k) answer = AnswerLeaves answer
 LeavesCells (event.Install done) answer = AnswerLeaves answer
 LeavesCells (event.Send k) answer = AnswerLeaves answer
@@ -79,12 +95,16 @@ LeavesCells (event.Crash k fill rounds) answer = AnswerLeaves answer
 LeavesCells (event.Recover k) answer = answer ≡ Some NotDue
 LeavesCells (event.Arm k fault rounds) answer = answer ≡ Some NotDue
 LeavesCells (event.Idle k) answer = AnswerLeaves answer
+LeavesCells (event.Lose k place) answer = Unit {0}
+LeavesCells (event.Repeat k place) answer = Unit {0}
+LeavesCells (event.Delay k place rounds) answer = Unit {0}
 
--- an event that takes memory: any but a send, a crash and an idle turn
+-- an event that takes memory: any but a crash, an idle turn, a loss and a delay
 abbrev pub TakesMemory : EventView → Type 0
+TakesMemory (event.Deliver k place) = Unit {0}
 TakesMemory (event.Grant k) = Unit {0}
 TakesMemory (event.Install done) = Unit {0}
-TakesMemory (event.Send k) = ⊥
+TakesMemory (event.Send k) = Unit {0}
 TakesMemory (event.Start k) = Unit {0}
 TakesMemory (event.Decide k) = Unit {0}
 TakesMemory (event.Release k) = Unit {0}
@@ -92,3 +112,6 @@ TakesMemory (event.Crash k fill rounds) = ⊥
 TakesMemory (event.Recover k) = Unit {0}
 TakesMemory (event.Arm k fault rounds) = Unit {0}
 TakesMemory (event.Idle k) = ⊥
+TakesMemory (event.Lose k place) = ⊥
+TakesMemory (event.Repeat k place) = Unit {0}
+TakesMemory (event.Delay k place rounds) = ⊥

@@ -8,7 +8,7 @@ use Rattle.kahn_net.specs.Syntax.{Network}
 use Rattle.kahn_net.specs.Processes.{sent_on}
 use Rattle.kahn_net.specs.Approximations.{approximation}
 use Rattle.kahn_net.specs.declared.program.Channel.{Channel}
-use Rattle.kahn_net.specs.declared.program.Port.TheVariants.{Outside, Process}
+use Rattle.kahn_net.specs.declared.program.Port.TheVariants.{Process}
 use Rattle.retained.specs.LogState.{LogState, IsLogOf}
 use Rattle.record.specs.ImageView.{ImageView}
 use Rattle.protocol.specs.Node.NodeView.{RunningNode}
@@ -16,13 +16,13 @@ use Rattle.record.specs.Ends.{log_of, log_at, base_in, base_of, sent_in, sent_of
 use Rattle.record.specs.Changes.{trimmed_image}
 use Rattle.protocol.specs.Node.Trimming.{with_current, HasNext}
 use Rattle.protocol.specs.Node.Reached.{acts_of}
-use Rattle.protocol.specs.NodeLaws.TrimLaws.{laid_out_trimmed, counts_trimmed, logs_trimmed, job_trimmed, image_trimmed, base_trimmed, end_elsewhere}
+use Rattle.protocol.specs.NodeLaws.TrimLaws.{laid_out_trimmed, links_trimmed, counts_trimmed, logs_trimmed, job_trimmed, image_trimmed, base_trimmed, end_elsewhere}
 use Rattle.protocol.specs.NodeLaws.ReleaseLaws.{log_stands}
 use Rattle.record.specs.declared.image.End.{End}
 use Rattle.protocol.specs.World.OutputView.{OutputView}
 use Rattle.protocol.specs.Node.Starting.{AreInOrder}
 use Rattle.protocol.specs.World.Sound.{OutputIsSound, OutputsAreSound, HasCome, IsSound}
-use Rattle.protocol.specs.WorldLaws.OutputLaws.{output_channel, set_cases, set_keeps, same_output}
+use Rattle.protocol.specs.WorldLaws.OutputLaws.{IsOutputOf, output_here, set_cases, set_keeps, same_output}
 use Rattle.kahn_net.specs.Streams.{IsPrefix}
 
 -- Where a trimmed log begins
@@ -75,7 +75,7 @@ module _ (net : Network) (inputs : List (List ℤ)) (node : RunningNode) (output
             (record { no_gap = base_trimmed output.channel (length taken) node.current output.channel before; covered = covers })
         at (inr other) =
             let before = sound.covered i one other.1 in
-            let apart : one.channel ≢ output.channel = (λ e. other.0 (same_output net outputs sound.listed i j one output other.1 is e)) in
+            let apart : one.channel ≢ output.channel = (λ e. other.0 (same_output net node.kept.node outputs sound.listed i j one output other.1 is e)) in
             let base = base_elsewhere output.channel (length taken) node.current one.channel apart in
             let gap = before.no_gap in
             record { no_gap = omega (arith, base, gap); covered = before.covered }
@@ -102,8 +102,8 @@ module _ (net : Network) (inputs : List (List ℤ)) (node : RunningNode) (output
             (by_log (log_of node.current output.channel) refl (ap (slice_get net.channels) number ∙ on))
 
     -- it is of a channel that goes outside
-    there : (channel : Channel) × (slice_get net.channels output.channel ≡ Some channel) × (channel.consumer ≡ Outside)
-    there = output_channel net outputs sound.listed j output is
+    there : IsOutputOf net node.kept.node output.channel
+    there = output_here net node.kept.node outputs sound.listed j output is
 
     come_then : HasCome net inputs node outputs → HasCome net inputs (with_current (trimmed_image output.channel (length taken) node.current) node) (slice_set outputs j (record { channel = output.channel; taken = taken }))
     come_then come = record {
@@ -118,19 +118,20 @@ module _ (net : Network) (inputs : List (List ℤ)) (node : RunningNode) (output
         held_after = come.reached.held_after;
         current_after = come.reached.current_after;
       };
-      out = λ job out. job_trimmed net inputs output.channel (length taken) there.0 node.current job there.1 there.2 (come.out job out);
+      inboxes = come.inboxes;
+      out = λ job out. job_trimmed net inputs output.channel (length taken) there.channel node.current node.inboxes job there.there there.outside (come.out job out);
       released = released_then come;
     }
 
     -- what has left stays a beginning, and is covered; and no log begins behind it
     pub sound_released : IsSound net inputs (with_current (trimmed_image output.channel (length taken) node.current) node) (slice_set outputs j (record { channel = output.channel; taken = taken }))
     sound_released = record {
-      here = sound.here;
       listed = set_keeps (λ (o : OutputView). o.channel) outputs j output (record { channel = output.channel; taken = taken }) is refl ∙ sound.listed;
       kept = record {
         laid_out = laid_out_trimmed net node.kept.node output.channel (length taken) node.current sound.kept.laid_out;
-        counts = counts_trimmed net node.kept.node inputs output.channel (length taken) there.0 node.current sound.kept.laid_out there.1 there.2 sound.kept.counts;
+        counts = counts_trimmed net node.kept.node inputs output.channel (length taken) there.channel node.current sound.kept.laid_out there.there there.outside sound.kept.counts;
         logs = logs_trimmed output.channel (length taken) node.current sound.kept.logs;
+        links = links_trimmed net node.kept.node output.channel (length taken) node sound.kept.links;
       };
       covered = covered_then;
       come = ∥∥₁_map sound.come come_then;

@@ -1,46 +1,24 @@
--- Laws of a station's outputs: each is of a channel of its own, which goes outside.
-use Rattle.std.proofs.Common.{◌≡◌, ◌≢◌, ◌⊎◌, inl, inr, ℕ, zero, suc, ◌+◌, ◌≤◌, Bool, true, false, cond, List, [], ◌∷◌, map, Some, refl, sym, ap, ◌∙◌, arith}
-use Rattle.std.specs.Prelude.{slice_get, slice_set}
-use Rattle.kahn_net.specs.Syntax.{Network}
+-- Laws of a station's outputs: each is of a channel of its own, which goes outside from a process of the station's node.
+use Rattle.std.proofs.Common.{◌≡◌, ◌≢◌, ◌⊎◌, inl, inr, ℕ, zero, suc, ◌+◌, ◌&&◌, Bool, true, false, cond, List, [], ◌∷◌, length, map, Option, Some, None, refl, sym, ap, ◌∙◌, arith}
+use Rattle.std.specs.Prelude.{slice_get, slice_set, IsTrue}
+use Rattle.std.proofs.lemmas.Bool.{and_parts, eqb-true}
+use Rattle.kahn_net.specs.Syntax.{Code, Network}
 use Rattle.kahn_net.specs.declared.program.Channel.{Channel}
 use Rattle.kahn_net.specs.declared.program.Port.{Port}
 use Rattle.kahn_net.specs.declared.program.Port.TheVariants.{Outside, Process}
+use Rattle.protocol.specs.Node.Layout.{is_on, has_process, port_on}
+use Rattle.protocol.specs.NodeLaws.NumberedLaws.{where_mark, where_once}
 use Rattle.protocol.specs.World.OutputView.{OutputView}
-use Rattle.protocol.specs.World.Sound.{goes_outside, output_channels}
+use Rattle.protocol.specs.World.Sound.{goes_outside, leaves_from, is_output, output_channels, outputs_on}
 
 -- The numbers of the outputs' channels
-
--- none is below the first number
-from_first : (number : ℕ) (channels : List Channel) (j c : ℕ) → slice_get (output_channels number channels) j ≡ Some c → number ≤ c
-from_first number [] j c is = absurd (cc)
-from_first number (x ∷ channels) j c is = at (goes_outside x.consumer) j (λ i there. from_first (suc number) channels i c there) is
-  where
-    at : (b : Bool) (j : ℕ) → ((i : ℕ) → slice_get (output_channels (suc number) channels) i ≡ Some c → suc number ≤ c)
-        → slice_get (cond b (number ∷ output_channels (suc number) channels) (output_channels (suc number) channels)) j ≡ Some c → number ≤ c
-    at false j later e = let l = later j e in omega (arith, l)
-    at true zero later e = let same : number ≡ c = cc in omega (arith, same)
-    at true (suc i) later e = let l = later i e in omega (arith, l)
-
--- and each stands there once
-one_place : (number : ℕ) (channels : List Channel) (i j c : ℕ) → slice_get (output_channels number channels) i ≡ Some c → slice_get (output_channels number channels) j ≡ Some c → i ≡ j
-one_place number [] i j c a b = absurd (cc)
-one_place number (x ∷ channels) i j c a b = at (goes_outside x.consumer) i j (λ m n. one_place (suc number) channels m n c) a b
-  where
-    at : (t : Bool) (i j : ℕ) → ((m n : ℕ) → slice_get (output_channels (suc number) channels) m ≡ Some c → slice_get (output_channels (suc number) channels) n ≡ Some c → m ≡ n)
-        → slice_get (cond t (number ∷ output_channels (suc number) channels) (output_channels (suc number) channels)) i ≡ Some c
-        → slice_get (cond t (number ∷ output_channels (suc number) channels) (output_channels (suc number) channels)) j ≡ Some c → i ≡ j
-    at false i j later a b = later i j a b
-    at true zero zero later a b = refl
-    at true zero (suc j) later a b = let same : number ≡ c = cc in let more = from_first (suc number) channels j c b in absurd (omega (arith, same, more))
-    at true (suc i) zero later a b = let same : number ≡ c = cc in let more = from_first (suc number) channels i c a in absurd (omega (arith, same, more))
-    at true (suc i) (suc j) later a b = ap suc (later i j a b)
 
 outside_there : (port : Port) → goes_outside port ≡ true → port ≡ Outside
 outside_there Outside h = refl
 outside_there (Process p) h = absurd (cc)
 
 -- each is of a channel whose items go outside
-channel_there : (number : ℕ) (channels : List Channel) (j c : ℕ) → slice_get (output_channels number channels) j ≡ Some c
+pub channel_there : (number : ℕ) (channels : List Channel) (j c : ℕ) → slice_get (output_channels number channels) j ≡ Some c
     → (k : ℕ) × (channel : Channel) × (c ≡ number + k) × (slice_get channels k ≡ Some channel) × (channel.consumer ≡ Outside)
 channel_there number [] j c is = absurd (cc)
 channel_there number (x ∷ channels) j c is = at (goes_outside x.consumer) refl j (λ i there. channel_there (suc number) channels i c there) is
@@ -94,19 +72,69 @@ set_same {A} (z ∷ xs) (suc j) x is = ap (λ (ws : List A). z ∷ ws) (set_same
 
 -- Outputs
 
-module _ (net : Network) (outputs : List OutputView) (listed : map (λ (o : OutputView). o.channel) outputs ≡ output_channels 0 net.channels) where
-  listed_at : (j : ℕ) (output : OutputView) → slice_get outputs j ≡ Some output → slice_get (output_channels 0 net.channels) j ≡ Some (output.channel)
-  listed_at j output is = ap (λ (numbers : List ℕ). slice_get numbers j) (sym listed) ∙ map_at (λ (o : OutputView). o.channel) outputs j output is
+-- an output of a node is a channel of the network, whose items go outside from a process of that node
+pub record IsOutputOf (net : Network) (home c : ℕ) : Type 0 where
+  pub channel : Channel
+  pub there : slice_get net.channels c ≡ Some channel
+  pub outside : channel.consumer ≡ Outside
+  pub process : ℕ
+  pub producer : channel.producer ≡ Process process
+  pub here : IsTrue (has_process net home process)
+
+pub output_of_node : (net : Network) (home c : ℕ) → IsTrue (is_output net home c) → IsOutputOf net home c
+output_of_node net home c passes = at (slice_get net.channels c) refl passes
+  where
+    by_producer : (channel : Channel) → slice_get net.channels c ≡ Some channel → channel.consumer ≡ Outside → (port : Port) → channel.producer ≡ port → IsTrue (port_on net home port) → IsOutputOf net home c
+    by_producer channel is to Outside from passes = absurd (cc)
+    by_producer channel is to (Process p) from passes = record { channel = channel; there = is; outside = to; process = p; producer = from; here = passes }
+
+    at : (o : Option Channel) → slice_get net.channels c ≡ o → IsTrue (leaves_from net home o) → IsOutputOf net home c
+    at None is passes = absurd (cc)
+    at (Some channel) is passes =
+        let parts = and_parts (goes_outside channel.consumer) (port_on net home channel.producer) passes in
+        by_producer channel is (outside_there channel.consumer parts.0) channel.producer refl parts.1
+
+-- and the other way round
+pub output_there : (net : Network) (home c p : ℕ) (channel : Channel) → slice_get net.channels c ≡ Some channel → channel.consumer ≡ Outside → channel.producer ≡ Process p → IsTrue (has_process net home p)
+    → IsTrue (is_output net home c)
+output_there net home c p channel is to from here =
+    ap (leaves_from net home) is ∙ (ap (λ (port : Port). goes_outside port && port_on net home channel.producer) to ∙ (ap (port_on net home) from ∙ here))
+
+-- a process is on one node
+pub process_once : (net : Network) (home other p : ℕ) → IsTrue (has_process net home p) → IsTrue (has_process net other p) → home ≡ other
+process_once net home other p one two = at (slice_get net.codes p) one two
+  where
+    at : (o : Option Code) → IsTrue (is_on home o) → IsTrue (is_on other o) → home ≡ other
+    at None one two = absurd (cc)
+    at (Some code) one two = sym (eqb-true code.node home one) ∙ eqb-true code.node other two
+
+-- so a channel is an output of one node
+pub output_once : (net : Network) (home other c : ℕ) → IsTrue (is_output net home c) → IsTrue (is_output net other c) → home ≡ other
+output_once net home other c one two =
+    let here = output_of_node net home c one in
+    let there = output_of_node net other c two in
+    let both : Some here.channel ≡ Some there.channel = sym here.there ∙ there.there in
+    let same : here.channel ≡ there.channel = cc in
+    let ports : Process here.process ≡ Process there.process = sym here.producer ∙ (ap (λ (c : Channel). c.producer) same ∙ there.producer) in
+    let number : here.process ≡ there.process = cc in
+    process_once net home other here.process here.here (ap (has_process net other) number ∙ there.here)
+
+module _ (net : Network) (home : ℕ) (outputs : List OutputView) (listed : map (λ (o : OutputView). o.channel) outputs ≡ outputs_on net home) where
+  -- each is of an output of the node
+  pub output_here : (j : ℕ) (output : OutputView) → slice_get outputs j ≡ Some output → IsOutputOf net home output.channel
+  output_here j output is = output_of_node net home output.channel (where_mark (λ (o : OutputView). o.channel) (is_output net home) 0 (length net.channels) outputs j output listed is).0
 
   -- two outputs of one channel are the same one
   pub same_output : (i j : ℕ) (one other : OutputView) → slice_get outputs i ≡ Some one → slice_get outputs j ≡ Some other → one.channel ≡ other.channel → i ≡ j
-  same_output i j one other a b same =
-      one_place 0 net.channels i j other.channel (listed_at i one a ∙ ap (λ (c : ℕ). Some c) same) (listed_at j other b)
+  same_output i j one other a b same = where_once (λ (o : OutputView). o.channel) (is_output net home) 0 (length net.channels) outputs listed i j one other a b same
 
-  -- the channel of an output is one of the network, and its items go outside
-  pub output_channel : (j : ℕ) (output : OutputView) → slice_get outputs j ≡ Some output
-      → (channel : Channel) × (slice_get net.channels output.channel ≡ Some channel) × (channel.consumer ≡ Outside)
-  output_channel j output is =
-      let there = channel_there 0 net.channels j output.channel (listed_at j output is) in
-      let sum : 0 + there.0 ≡ there.0 = omega arith in
-      (there.1, ap (slice_get net.channels) (there.2 ∙ sum) ∙ there.3, there.4)
+  -- the process that puts on one is on the node
+  pub output_from : (j : ℕ) (output : OutputView) → slice_get outputs j ≡ Some output → (p : ℕ) (channel : Channel) → slice_get net.channels output.channel ≡ Some channel → channel.producer ≡ Process p
+      → IsTrue (has_process net home p)
+  output_from j output is p channel on from =
+      let here = output_here j output is in
+      let both : Some here.channel ≡ Some channel = sym here.there ∙ on in
+      let same : here.channel ≡ channel = cc in
+      let ports : Process here.process ≡ Process p = sym here.producer ∙ (ap (λ (c : Channel). c.producer) same ∙ from) in
+      let number : here.process ≡ p = cc in
+      ap (has_process net home) (sym number) ∙ here.here

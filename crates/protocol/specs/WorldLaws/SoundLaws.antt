@@ -1,11 +1,13 @@
 -- What is true of a station stays so as jobs are granted, and through its checkpoints.
-use Rattle.std.proofs.Common.{◌≡◌, ℕ, ◌≤◌, List, ℤ, Option, Some, None, subst, arith}
+use Rattle.std.proofs.Common.{◌≡◌, ℕ, ◌≤◌, List, ℤ, Option, Some, None, sym, subst, arith}
 use Rattle.std.proofs.Math.Logic.{∥∥₁_map}
 use Rattle.kahn_net.specs.Syntax.{Network}
 use Rattle.record.specs.Ends.{sent_of}
 use Rattle.protocol.specs.Node.JobView.{JobView}
 use Rattle.protocol.specs.Node.NodeView.{RunningNode}
-use Rattle.protocol.specs.Node.Reached.{IsJobOf}
+use Rattle.kahn_net.specs.Approximations.{approximation}
+use Rattle.protocol.specs.Node.Reached.{InboxesStand, IsJobOf}
+use Rattle.protocol.specs.NodeLaws.LinkLaws.{links_kept}
 use Rattle.protocol.specs.Node.Starting.{with_own, keeping, decided, IsBehind}
 use Rattle.protocol.specs.NodeLaws.StepLaws.{reached_start, reached_decide, reached_grant, on_start, on_decide, on_grant}
 use Rattle.protocol.specs.Node.Choosing.{next_job, after_grant}
@@ -18,19 +20,21 @@ module _ (net : Network) (inputs : List (List ℤ)) (outputs : List OutputView) 
   come_start : (number : ℕ) (old : RunningNode) → HasCome net inputs old outputs → HasCome net inputs (keeping (with_own number old.current old.kept) old) outputs
   come_start number old come = record {
     reached = reached_start net inputs number old come.reached;
+    inboxes = subst (λ (m : ℕ). InboxesStand (approximation net inputs m) old.inboxes) (sym (on_start net inputs number old come.reached).same) come.inboxes;
     out = come.out;
     released = λ j p output channel h at from. beginning_stays net inputs old _ come.reached _ output.channel p output.taken (on_start net inputs number old come.reached) (come.released j p output channel h at from);
   }
 
   -- a start
   pub stored_sound : (number : ℕ) (old : RunningNode) → IsSound net inputs old outputs → IsSound net inputs (keeping (with_own number old.current old.kept) old) outputs
-  stored_sound number old sound = record { here = sound.here; listed = sound.listed; kept = record { laid_out = sound.kept.laid_out; counts = sound.kept.counts; logs = sound.kept.logs }; covered = λ j output h. let at = sound.covered j output h in record { no_gap = at.no_gap; covered = at.covered }; come = ∥∥₁_map sound.come (come_start number old) }
+  stored_sound number old sound = record { listed = sound.listed; kept = record { laid_out = sound.kept.laid_out; counts = sound.kept.counts; logs = sound.kept.logs; links = links_kept net old.kept.node old.version _ _ _ old sound.kept.links }; covered = λ j output h. let at = sound.covered j output h in record { no_gap = at.no_gap; covered = at.covered }; come = ∥∥₁_map sound.come (come_start number old) }
 
   come_grant : (job : Option JobView) (old : RunningNode) → next_job net inputs old ≡ job → IsSound net inputs old outputs → HasCome net inputs old outputs → HasCome net inputs (after_grant job old) outputs
   come_grant None old is sound come = come
   come_grant (Some job) old is sound come = record {
     reached = reached_grant net inputs (Some job) old come.reached;
-    out = λ other h. subst (IsJobOf net inputs old.current) (same job other h) (job_granted net old.kept.node inputs old job sound.kept.laid_out is);
+    inboxes = subst (λ (m : ℕ). InboxesStand (approximation net inputs m) old.inboxes) (sym (on_grant net inputs (Some job) old come.reached).same) come.inboxes;
+    out = λ other h. subst (IsJobOf net inputs old.current old.inboxes) (same job other h) (job_granted net old.kept.node inputs old job sound.kept.laid_out is);
     released = λ j p output channel h at from. beginning_stays net inputs old _ come.reached _ output.channel p output.taken (on_grant net inputs (Some job) old come.reached) (come.released j p output channel h at from);
   }
     where
@@ -40,11 +44,12 @@ module _ (net : Network) (inputs : List (List ℤ)) (outputs : List OutputView) 
   -- whatever was granted
   pub granted_sound : (job : Option JobView) (old : RunningNode) → next_job net inputs old ≡ job → IsSound net inputs old outputs → IsSound net inputs (after_grant job old) outputs
   granted_sound None old is sound = sound
-  granted_sound (Some job) old is sound = record { here = sound.here; listed = sound.listed; kept = record { laid_out = sound.kept.laid_out; counts = sound.kept.counts; logs = sound.kept.logs }; covered = λ j output h. let at = sound.covered j output h in record { no_gap = at.no_gap; covered = at.covered }; come = ∥∥₁_map sound.come (come_grant (Some job) old is sound) }
+  granted_sound (Some job) old is sound = record { listed = sound.listed; kept = record { laid_out = sound.kept.laid_out; counts = sound.kept.counts; logs = sound.kept.logs; links = links_kept net old.kept.node old.version _ _ _ old sound.kept.links }; covered = λ j output h. let at = sound.covered j output h in record { no_gap = at.no_gap; covered = at.covered }; come = ∥∥₁_map sound.come (come_grant (Some job) old is sound) }
 
   come_decide : (old : RunningNode) → HasCome net inputs old outputs → HasCome net inputs (keeping (decided old.kept) old) outputs
   come_decide old come = record {
     reached = reached_decide net inputs old come.reached;
+    inboxes = subst (λ (m : ℕ). InboxesStand (approximation net inputs m) old.inboxes) (sym (on_decide net inputs old come.reached).same) come.inboxes;
     out = come.out;
     released = λ j p output channel h at from. beginning_stays net inputs old _ come.reached _ output.channel p output.taken (on_decide net inputs old come.reached) (come.released j p output channel h at from);
   }
@@ -52,9 +57,8 @@ module _ (net : Network) (inputs : List (List ℤ)) (outputs : List OutputView) 
   -- a decision
   pub decided_sound : (old : RunningNode) → IsBehind old.kept.permanent (decided old.kept).permanent → IsSound net inputs old outputs → IsSound net inputs (keeping (decided old.kept) old) outputs
   decided_sound old ahead sound = record {
-    here = sound.here;
     listed = sound.listed;
-    kept = record { laid_out = sound.kept.laid_out; counts = sound.kept.counts; logs = sound.kept.logs };
+    kept = record { laid_out = sound.kept.laid_out; counts = sound.kept.counts; logs = sound.kept.logs; links = links_kept net old.kept.node old.version _ _ _ old sound.kept.links };
     covered = λ j output h.
         let at = sound.covered j output h in
         let more : sent_of old.kept.permanent output.channel ≤ sent_of (decided old.kept).permanent output.channel = ahead.sent output.channel in

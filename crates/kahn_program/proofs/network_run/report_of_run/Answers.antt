@@ -1,4 +1,4 @@
-use Rattle.std.proofs.Common.{refl, ◌≡◌, ℕ, ℤ, List, length, sym, ap, subst, ◌∙◌}
+use Rattle.std.proofs.Common.{refl, ◌≡◌, ℕ, ℤ, List, length, sym, ap, ◌∙◌}
 use Rattle.kahn_net.specs.Syntax.{network_of}
 use Rattle.net_check.specs.declared.net.Net.{Net}
 use Rattle.protocol.specs.World.Released.{released_of}
@@ -7,8 +7,8 @@ use Rattle.kahn_program.specs.Report.{output_count, report_text}
 use Rattle.kahn_program.specs.Runs.{first_items}
 use Rattle.kahn_program.proofs.Released.{counted_streams, run_of, reported}
 use Rattle.kahn_program.proofs.Turns.{last_world, opens_first}
-use Rattle.protocol.specs.World.Runnable.{CanRun}
-use Rattle.kahn_net.specs.Syntax.{Network}
+use Rattle.std.specs.Prelude.{replicate}
+use Rattle.kahn_net.specs.Nodes.{node_count}
 use Rattle.kahn_program.proofs.network_run.report_of_run.Goals as goal
 
 pub report-requires : goal.report-requires
@@ -31,8 +31,8 @@ returns-in-Ok-report-clause-ok c =
     let run = run_of (world_of now) (network_of net.program) c.args.inputs c.complete.result network items now.sound c.complete.ensures.whole in
     let given : c.as_slice-channels.result.now ≡ net.program.channels.items = c.as_slice-channels.ensures.value ∙ ap (λ (n : Net). n.program.channels.items) (c.deref.ensures ∙ c.in-Ok-new.ensures.ok) in
     let opened = opens_first _ _ (λ outlet. refl) (network_of net.program) _ c.args.inputs _ c.in-Ok.outputs.items (world_of first) (ap (λ (n : Net). network_of n.program) shared) c.in-Ok-new-2.ensures.ok
-    _ c.in-Ok-empty_disk.ensures c.in-Ok-new-3.ensures.opening c.in-Ok.ensures.listed c.in-Ok.ensures.empty in
-    let last = last_world (network_of net.program) c.args.inputs c.as_slice-channels.result.now c.args.rounds c.args.items (world_of first) (world_of now) given opened c.in_ok-take_turns.ensures.came in
+    _ (c.in-Ok-empty_disks.ensures.unfailed ∙ ap (λ (n : ℕ). replicate n 0) c.node_count-nodes.ensures.count) c.in-Ok-new-3.ensures.opening c.in-Ok.ensures.listed c.in-Ok.ensures.empty in
+    let last = last_world (network_of net.program) c.args.inputs c.as_slice-channels.result.now c.args.rounds c.node_count-nodes.result c.args.items (world_of first) (world_of now) given c.node_count-nodes.ensures.count opened c.in_ok-take_turns.ensures.came in
     reported net c.args.inputs c.as_slice-channels.result.now c.args.rounds c.args.items c.cut-cut.result c.in-Ok-streams.streams.items (world_of now) c.in-Ok-report.bytes.items c.complete.result told
     given
     c.cut-cut.ensures
@@ -42,7 +42,7 @@ returns-in-Ok-report-clause-ok c =
     ∙ ap (λ (l : List (List ℤ)). report_text net.program.channels.items net.channel_names.items l told) c.deref-3.ensures.value))
     run c.complete.ensures.quiet last
 
-pub new-requires-3-clause-runnable : goal.new-requires-3-clause-runnable
-new-requires-3-clause-runnable c =
+pub new-requires-3-clause-each : goal.new-requires-3-clause-each
+new-requires-3-clause-each c =
     let shared = c.in-Ok-try_clone.ensures ∙ c.in-Ok-new.ensures.ok in
-    subst (λ (n : Network). CanRun n) (sym (ap (λ (n : Net). network_of n.program) shared)) c.requires.runnable
+    c.in-Ok-empty_disks.ensures.each ∙ (c.node_count-nodes.ensures.count ∙ sym (ap (λ (n : Net). node_count (network_of n.program)) shared))

@@ -20,7 +20,7 @@ returns-in-Ok-clause-turn c =
     (λ follows. record {
       answer = answer;
       between = later;
-      step = in_room (λ taken. taken) (λ outlet. 0) old.stations.items (choice view 0) view later answer refl step;
+      step = in_room (λ taken. taken) (λ outlet. 0) old.stations.items (choice view c.args.node) view later answer refl step;
       follows = follows;
     })
     c.follow.ensures.follows

@@ -9,6 +9,6 @@ abbrev pub invariant-loop-saved : goal.invariant-loop-saved
 invariant-loop-saved l = record {
   long : length l.ready ≡ MAX_PROCESSES;
   found : (p : ℕ) → p < MAX_PROCESSES
-      → (get_or l.ready p false || is_some (ready_process (network_of l.net.program) l.inputs (record { processes = drop l.saved-index l.saved-items; ends = l.image.ends }) p))
-      ≡ is_some (ready_process (network_of l.net.program) l.inputs l.image p);
+      → (get_or l.ready p false || is_some (ready_process (network_of l.net.program) l.inputs (record { processes = drop l.saved-index l.saved-items; ends = l.image.ends }) l.inboxes p))
+      ≡ is_some (ready_process (network_of l.net.program) l.inputs l.image l.inboxes p);
 }

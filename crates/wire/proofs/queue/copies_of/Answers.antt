@@ -1,6 +1,6 @@
 use Rattle.std.proofs.Common.{◌∙◌, arith}
 use Rattle.wire.specs.Queue.{flight}
-use Rattle.wire.proofs.Sending.{last_one}
+use Rattle.wire.proofs.Posting.{last_one}
 use Rattle.wire.proofs.queue.copies_of.Goals as goal
 
 pub returns : goal.returns

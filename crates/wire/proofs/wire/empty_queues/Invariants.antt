@@ -1,6 +1,6 @@
-use Rattle.std.proofs.Common.{◌≡◌, length, All}
-use Rattle.wire.specs.Wire.{IsEmptyQueue}
+use Rattle.std.proofs.Common.{◌≡◌, replicate}
+use Rattle.wire.specs.Traffic.{queues_traffic, empty_queue}
 use Rattle.wire.proofs.wire.empty_queues.Given as goal
 
 abbrev pub invariant-loop : goal.invariant-loop
-invariant-loop l = (length l.queues.items ≡ l.counter) × All IsEmptyQueue l.queues.items
+invariant-loop l = queues_traffic l.queues.items ≡ replicate l.counter empty_queue

@@ -1,4 +1,12 @@
-use Rattle.std.proofs.Common.{rules, refl}
+use Rattle.std.proofs.Common.{rules, refl, ◌≡◌, ◌<◌, ◌∙◌, ap, sym, subst, length, map, Option, arith}
+use Rattle.std.specs.Prelude.{IfOk}
+use Rattle.std.proofs.lemmas.List.{length-map}
+use Rattle.protocol.specs.NodeLaws.PlaceLaws.{nodes_few}
+use Rattle.protocol.specs.World.StationView.{StationView}
+use Rattle.protocol.specs.World.Steps.{may_restart, traffic_after}
+use Rattle.protocol.specs.WorldLaws.StepKeeps.{all_here}
+use Rattle.wire.specs.Traffic.{traffic_of}
+use Rattle.world.specs.ReplyView.{reply_view}
 use Rattle.std.proofs.lemmas.Option.{slice_get_read}
 use Rattle.kahn_net.specs.Syntax.{network_of}
 use Rattle.ckpt_store.specs.Spelling.{fits_in}
@@ -13,10 +21,20 @@ use Rattle.world.proofs.Views.{acted, cell_stays, refused_at, seen_at}
 use Rattle.world.proofs.world.act_at.Goals as goal
 
 pub act-requires : goal.act-requires
-act-requires g c = record {
-  fits = c.requires.fits;
-  sound = c.requires.sound c.args.number (station_view g.O.Outlet.taken g.O.Outlet.failures c.index_mut.result.now) (seen_at (station_view g.O.Outlet.taken g.O.Outlet.failures) c.args.stations.now.items c.args.number c.index_mut.result.now (search rules) c.index_mut.ensures.value);
-}
+act-requires g c =
+    let view = station_view g.O.Outlet.taken g.O.Outlet.failures c.index_mut.result.now in
+    let there = seen_at (station_view g.O.Outlet.taken g.O.Outlet.failures) c.args.stations.now.items c.args.number c.index_mut.result.now (search rules) c.index_mut.ensures.value in
+    let named = c.requires.numbered c.args.number view there in
+    let few = nodes_few (network_of c.args.net.now.value.program) c.args.net.now.value.valid in
+    let count = c.requires.count in
+    let at = c.requires.at in
+    let within : c.args.number < length c.args.stations.now.items = search rules in
+    record {
+      fits = c.requires.fits;
+      sound = c.requires.sound c.args.number view there;
+      named = named.1 ∙ sym named.0;
+      node = omega (arith, few, count, at, within);
+    }
 
 pub returns-then-number-len-clause-grown : goal.returns-then-number-len-clause-grown
 returns-then-number-len-clause-grown g c =
@@ -24,7 +42,7 @@ returns-then-number-len-clause-grown g c =
 
 pub returns-then-number-len-clause-line : goal.returns-then-number-len-clause-line
 returns-then-number-len-clause-line g c =
-    all_still_in_line {cell = g.C.StableCell} g.O.Outlet.taken g.O.Outlet.failures g.met.C.StableCell.only_now (network_of c.args.net.now.value.program) c.args.inputs.now c.args.stations.now.items c.args.net.now.value.valid c.requires.sound
+    all_still_in_line {cell = g.C.StableCell} g.O.Outlet.taken g.O.Outlet.failures g.met.C.StableCell.only_now (network_of c.args.net.now.value.program) c.args.inputs.now c.args.stations.now.items c.requires.sound
 
 pub returns-then-number-len-clause-unchanged : goal.returns-then-number-len-clause-unchanged
 returns-then-number-len-clause-unchanged g c = λ h. pairs_refl _ _ (λ i station is. cell_stays station)
@@ -33,14 +51,22 @@ pub returns-clause-grown : goal.returns-clause-grown
 returns-clause-grown g c =
     let net = c.args.net.now.value in
     let x = c.index_mut.result.now in
-    all_grown {cell = g.C.StableCell} g.O.Outlet.taken g.O.Outlet.failures g.met.C.StableCell.only_now (network_of net.program) c.args.inputs.now net.valid c.requires.fits (fits_in (g.C.StableCell.capacity (cell_in x.node.store))) c.args.round (event_view c.args.event.now) c.args.stations.now.items c.args.number x _ c.act.result
+    all_grown {cell = g.C.StableCell} g.O.Outlet.taken g.O.Outlet.failures g.met.C.StableCell.only_now (network_of net.program) c.args.inputs.now net.valid c.requires.fits (traffic_of c.args.wire.now) c.requires.flying (fits_in (g.C.StableCell.capacity (cell_in x.node.store))) c.may_restart-restarts.result c.args.round (event_view c.args.event.now) c.args.stations.now.items c.args.number x _ c.act.result
+    (λ alone. all_here (network_of net.program) (map (station_view g.O.Outlet.taken g.O.Outlet.failures) c.args.stations.now.items) (length-map c.args.stations.now.items (station_view g.O.Outlet.taken g.O.Outlet.failures) ∙ c.requires.count) c.requires.numbered c.args.number (station_view g.O.Outlet.taken g.O.Outlet.failures x)
+    (seen_at (station_view g.O.Outlet.taken g.O.Outlet.failures) c.args.stations.now.items c.args.number x (search rules) c.index_mut.ensures.value)
+    (let many : c.len-2.result ≡ length c.args.stations.now.items = search rules in
+    ap may_restart (length-map c.args.stations.now.items (station_view g.O.Outlet.taken g.O.Outlet.failures) ∙ sym many) ∙ (sym c.may_restart-restarts.ensures ∙ alone)))
     c.requires.sound (search rules) c.index_mut.ensures.value c.act.ensures.moved c.act.ensures.step (on_err_map c.act.result c.act.ensures.refused (λ same. same.0))
 
 pub returns-clause-line : goal.returns-clause-line
 returns-clause-line g c =
     let net = c.args.net.now.value in
     let x = c.index_mut.result.now in
-    all_in_line {cell = g.C.StableCell} g.O.Outlet.taken g.O.Outlet.failures g.met.C.StableCell.only_now (network_of net.program) c.args.inputs.now net.valid c.requires.fits (fits_in (g.C.StableCell.capacity (cell_in x.node.store))) c.args.round (event_view c.args.event.now) c.args.stations.now.items c.args.number x _ c.act.result
+    all_in_line {cell = g.C.StableCell} g.O.Outlet.taken g.O.Outlet.failures g.met.C.StableCell.only_now (network_of net.program) c.args.inputs.now net.valid c.requires.fits (traffic_of c.args.wire.now) c.requires.flying (fits_in (g.C.StableCell.capacity (cell_in x.node.store))) c.may_restart-restarts.result c.args.round (event_view c.args.event.now) c.args.stations.now.items c.args.number x _ c.act.result
+    (λ alone. all_here (network_of net.program) (map (station_view g.O.Outlet.taken g.O.Outlet.failures) c.args.stations.now.items) (length-map c.args.stations.now.items (station_view g.O.Outlet.taken g.O.Outlet.failures) ∙ c.requires.count) c.requires.numbered c.args.number (station_view g.O.Outlet.taken g.O.Outlet.failures x)
+    (seen_at (station_view g.O.Outlet.taken g.O.Outlet.failures) c.args.stations.now.items c.args.number x (search rules) c.index_mut.ensures.value)
+    (let many : c.len-2.result ≡ length c.args.stations.now.items = search rules in
+    ap may_restart (length-map c.args.stations.now.items (station_view g.O.Outlet.taken g.O.Outlet.failures) ∙ sym many) ∙ (sym c.may_restart-restarts.ensures ∙ alone)))
     c.requires.sound (search rules) c.index_mut.ensures.value c.act.ensures.moved c.act.ensures.step (on_err_map c.act.result c.act.ensures.refused (λ same. same.0))
 
 pub returns-clause-refused : goal.returns-clause-refused
@@ -49,8 +75,8 @@ returns-clause-refused g c =
 
 pub returns-clause-step : goal.returns-clause-step
 returns-clause-step g c =
-    acted (network_of c.args.net.now.value.program) c.args.inputs.now (station_view g.O.Outlet.taken g.O.Outlet.failures) (λ (station : Station g.row.C.Denot g.row.O.Denot g.C.StableCell). fits_in (g.C.StableCell.capacity (cell_in station.node.store)))
-    c.args.round (event_view c.args.event.now) c.args.stations.now.items c.args.number c.index_mut.result.now _ c.act.result (search rules) c.index_mut.ensures.value c.act.ensures.step
+    acted (network_of c.args.net.now.value.program) c.args.inputs.now (traffic_of c.args.wire.now) (station_view g.O.Outlet.taken g.O.Outlet.failures) (λ (station : Station g.row.C.Denot g.row.O.Denot g.C.StableCell). fits_in (g.C.StableCell.capacity (cell_in station.node.store)))
+    c.may_restart-restarts.result c.args.round (event_view c.args.event.now) c.args.stations.now.items c.args.number c.index_mut.result.now _ c.act.result c.len-2.result c.may_restart-restarts.ensures (search rules) (search rules) c.index_mut.ensures.value c.act.ensures.step
 
 pub returns-clause-same_rooms : goal.returns-clause-same_rooms
 returns-clause-same_rooms g c =
@@ -59,3 +85,8 @@ returns-clause-same_rooms g c =
 
 pub returns-clause-unchanged : goal.returns-clause-unchanged
 returns-clause-unchanged g c = λ leaves. pairs_set _ _ _ c.index_mut.result.now _ (λ i station is. cell_stays station) (search rules) c.index_mut.ensures.value (c.act.ensures.unchanged leaves)
+
+pub returns-clause-traffic : goal.returns-clause-traffic
+returns-clause-traffic g c =
+    let there = seen_at (station_view g.O.Outlet.taken g.O.Outlet.failures) c.args.stations.now.items c.args.number c.index_mut.result.now (search rules) c.index_mut.ensures.value in
+    subst (λ (station : Option StationView). IfOk c.act.result (λ reply. traffic_of c.act.new.wire ≡ traffic_after (network_of c.args.net.now.value.program) c.args.round (event_view c.args.event.now) (reply_view reply) station (traffic_of c.args.wire.now))) (sym there) c.act.ensures.traffic

@@ -4,6 +4,9 @@ use Rattle.net_check.specs.declared.net.Net.{Net}
 use Rattle.protocol.specs.Node.Installing.{TakesTurn}
 use Rattle.protocol.specs.WorldLaws.ActLaws.{takes_turn, like_now}
 use Rattle.world.specs.DoneView.{done_view}
+use Rattle.std.specs.Prelude.{All}
+use Rattle.protocol.specs.Node.Sending.{packets_of, IsWritable}
+use Rattle.protocol.specs.WorldLaws.StepKeeps.{station_writable}
 use Rattle.protocol.specs.WorldLaws.HandedLaws.{next_there}
 use Rattle.world.specs.WorldView.{station_view}
 use Rattle.world.proofs.station.Station.act.Goals as goal
@@ -13,7 +16,7 @@ install-requires g c = λ out.
     let net = c.args.net.now.value in
     let was = station_view g.O.Outlet.taken g.O.Outlet.failures c.args.self.now in
     let done = done_view c.in-Install.done in
-    subst (λ (n : Net). TakesTurn (network_of n.program).channels done.job.process done.taken done.sent was.node.mode) (sym c.deref.ensures)
+    subst (λ (n : Net). TakesTurn (network_of n.program).channels done.job.process done.taken done.sent was.node.mode) (sym c.deref-in-Install.ensures)
     (takes_turn (network_of net.program) c.args.inputs.now net.valid c.requires.fits was c.requires.sound done c.in-Install.done.turn out)
 
 pub start-requires : goal.start-requires
@@ -23,3 +26,10 @@ start-requires g c =
 pub release-requires : goal.release-requires
 release-requires g c = λ place outlet next there.
     next_there (network_of c.args.net.now.value.program) c.args.inputs.now (station_view g.O.Outlet.taken g.O.Outlet.failures c.args.self.now) c.args.round place outlet c.requires.sound next there
+
+pub send-requires : goal.send-requires
+send-requires g c =
+    let net = c.args.net.now.value in
+    let was = station_view g.O.Outlet.taken g.O.Outlet.failures c.args.self.now in
+    subst (λ (n : Net). All IsWritable (packets_of (network_of n.program) was.number was.node)) (sym c.deref-in-Send.ensures)
+    (station_writable (network_of net.program) c.args.inputs.now net.valid was c.requires.sound c.requires.named)

@@ -10,6 +10,7 @@ use Rattle.protocol.specs.WorldLaws.RoomLaws.{never_too_large, rooms_of}
 use Rattle.protocol.specs.World.StationView.{StationView}
 use Rattle.protocol.specs.World.Steps.{round_after}
 use Rattle.protocol.specs.WorldLaws.StepKeeps.{act_keeps_world}
+use Rattle.wire.specs.Traffic.{traffic_of}
 use Rattle.world.specs.WholeView.{world_of}
 use Rattle.world.specs.WorldView.{rooms, station_view, world_view}
 use Rattle.world.specs.declared.station.Station.{Station}
@@ -27,8 +28,8 @@ invariant_of-self g c =
     let was = c.args.self.now in
     let view = station_view {cell = g.C.StableCell} g.O.Outlet.taken g.O.Outlet.failures in
     record {
-      sound = act_keeps_world (rooms was.stations.items) (event_view c.args.event) (world_of was) (reply_view c.in-Ok.reply) c.deref.result.now c.from-number.result c.round_after-self.result (map view c.act_at.new.stations.items) was.sound
-          c.deref.ensures (c.from-number.ensures ∙ c.node_of.ensures) c.in-Ok.ensures.step
+      sound = act_keeps_world (rooms was.stations.items) (event_view c.args.event) (world_of was) (reply_view c.in-Ok.reply) c.deref.result.now c.from-number.result c.round_after-self.result (map view c.act_at.new.stations.items) (traffic_of c.act_at.new.wire) was.sound
+          c.deref.ensures (c.from-number.ensures ∙ c.node_of.ensures) c.in-Ok.ensures.step (c.in-Ok.ensures.traffic)
           (c.round_after-self.ensures ∙ ap (λ (l : List (Station g.row.C.Denot g.row.O.Denot g.C.StableCell)). round_after (reply_view c.in-Ok.reply) was.round (map view l)) c.deref-in-Ok.ensures.value);
     }
 
@@ -36,15 +37,15 @@ pub returns-in-Ok-clause-prefix : goal.returns-in-Ok-clause-prefix
 returns-in-Ok-clause-prefix g c =
     let was = c.args.self.now in
     let view = station_view {cell = g.C.StableCell} g.O.Outlet.taken g.O.Outlet.failures in
-    released_prefix (world_view {cell = g.C.StableCell} g.O.Outlet.taken g.O.Outlet.failures was.net was.inputs c.act_at.new.stations.items c.round_after-self.result)
-    (act_keeps_world (rooms was.stations.items) (event_view c.args.event) (world_of was) (reply_view c.in-Ok.reply) c.deref.result.now c.from-number.result c.round_after-self.result (map view c.act_at.new.stations.items) was.sound
-    c.deref.ensures (c.from-number.ensures ∙ c.node_of.ensures) c.in-Ok.ensures.step
+    released_prefix (world_view {cell = g.C.StableCell} g.O.Outlet.taken g.O.Outlet.failures was.net was.inputs c.act_at.new.stations.items (traffic_of c.act_at.new.wire) c.round_after-self.result)
+    (act_keeps_world (rooms was.stations.items) (event_view c.args.event) (world_of was) (reply_view c.in-Ok.reply) c.deref.result.now c.from-number.result c.round_after-self.result (map view c.act_at.new.stations.items) (traffic_of c.act_at.new.wire) was.sound
+    c.deref.ensures (c.from-number.ensures ∙ c.node_of.ensures) c.in-Ok.ensures.step (c.in-Ok.ensures.traffic)
     (c.round_after-self.ensures ∙ ap (λ (l : List (Station g.row.C.Denot g.row.O.Denot g.C.StableCell)). round_after (reply_view c.in-Ok.reply) was.round (map view l)) c.deref-in-Ok.ensures.value))
 
 pub returns-in-Err-clause-prefix : goal.returns-in-Err-clause-prefix
 returns-in-Err-clause-prefix g c =
     let was = c.args.self.now in
-    subst (λ (stations : List StationView). AreApproximated (record { net = network_of was.net.value.program; inputs = was.inputs.value; stations = stations; round = was.round })) (sym c.in-Err.ensures.refused.0)
+    subst (λ (stations : List StationView). AreApproximated (record { net = network_of was.net.value.program; inputs = was.inputs.value; stations = stations; traffic = traffic_of c.act_at.new.wire; round = was.round })) (sym c.in-Err.ensures.refused.0)
     (released_prefix (world_of was) was.sound)
 
 -- the line is kept, whether the event was made or refused
@@ -52,18 +53,17 @@ pub returns-in-Ok-clause-line : goal.returns-in-Ok-clause-line
 returns-in-Ok-clause-line g c =
     let was = c.args.self.now in
     let view = station_view {cell = g.C.StableCell} g.O.Outlet.taken g.O.Outlet.failures in
-    keeps_line {cell = g.C.StableCell} g.O.Outlet.taken g.O.Outlet.failures (network_of was.net.value.program) was.inputs.value was.stations.items c.act_at.new.stations.items was.round c.round_after-self.result was.sound
-    (act_keeps_world (rooms was.stations.items) (event_view c.args.event) (world_of was) (reply_view c.in-Ok.reply) c.deref.result.now c.from-number.result c.round_after-self.result (map view c.act_at.new.stations.items) was.sound
-    c.deref.ensures (c.from-number.ensures ∙ c.node_of.ensures) c.in-Ok.ensures.step
+    keeps_line {cell = g.C.StableCell} g.O.Outlet.taken g.O.Outlet.failures (network_of was.net.value.program) was.inputs.value was.stations.items c.act_at.new.stations.items was.round c.round_after-self.result (traffic_of was.wire) (traffic_of c.act_at.new.wire) was.sound
+    (act_keeps_world (rooms was.stations.items) (event_view c.args.event) (world_of was) (reply_view c.in-Ok.reply) c.deref.result.now c.from-number.result c.round_after-self.result (map view c.act_at.new.stations.items) (traffic_of c.act_at.new.wire) was.sound
+    c.deref.ensures (c.from-number.ensures ∙ c.node_of.ensures) c.in-Ok.ensures.step (c.in-Ok.ensures.traffic)
     (c.round_after-self.ensures ∙ ap (λ (l : List (Station g.row.C.Denot g.row.O.Denot g.C.StableCell)). round_after (reply_view c.in-Ok.reply) was.round (map view l)) c.deref-in-Ok.ensures.value))
     c.act_at.ensures.line
 
 pub returns-in-Err-clause-line : goal.returns-in-Err-clause-line
 returns-in-Err-clause-line g c =
     let was = c.args.self.now in
-    keeps_line {cell = g.C.StableCell} g.O.Outlet.taken g.O.Outlet.failures (network_of was.net.value.program) was.inputs.value was.stations.items c.act_at.new.stations.items was.round was.round was.sound
-    (subst (λ (stations : List StationView). WorldInvariant (record { net = network_of was.net.value.program; inputs = was.inputs.value; stations = stations; round = was.round })) (sym c.in-Err.ensures.refused.0) was.sound)
-    c.act_at.ensures.line
+    let kept = subst (λ (stations : List StationView). WorldInvariant (record { net = network_of was.net.value.program; inputs = was.inputs.value; stations = stations; traffic = traffic_of was.wire; round = was.round })) (sym c.in-Err.ensures.refused.0) was.sound in
+    keeps_line {cell = g.C.StableCell} g.O.Outlet.taken g.O.Outlet.failures (network_of was.net.value.program) was.inputs.value was.stations.items c.act_at.new.stations.items was.round was.round (traffic_of was.wire) (traffic_of was.wire) was.sound kept c.act_at.ensures.line
 
 pub returns-in-Ok-clause-settled : goal.returns-in-Ok-clause-settled
 returns-in-Ok-clause-settled g c = one_line {cell = g.C.StableCell} g.O.Outlet.taken g.O.Outlet.failures c.act_at.new.stations.items
@@ -86,6 +86,6 @@ pub returns-in-Ok-clause-roomy : goal.returns-in-Ok-clause-roomy
 returns-in-Ok-clause-roomy g c = λ room.
     let was = c.args.self.now in
     let view = station_view {cell = g.C.StableCell} g.O.Outlet.taken g.O.Outlet.failures in
-    never_too_large (network_of was.net.value.program) was.inputs.value c.deref.result.now (λ (station : Station g.row.C.Denot g.row.O.Denot g.C.StableCell). g.C.StableCell.capacity (cell_in station.node.store))
+    never_too_large (network_of was.net.value.program) (traffic_of was.wire) was.inputs.value c.deref.result.now (λ (station : Station g.row.C.Denot g.row.O.Denot g.C.StableCell). g.C.StableCell.capacity (cell_in station.node.store))
     was.stations.items c.from-number.result _ was.round (event_view c.args.event) (map view was.stations.items) (reply_view c.in-Ok.reply) (map view c.act_at.new.stations.items)
     was.sound.valid was.sound.stations c.deref.ensures (c.from-number.ensures ∙ c.node_of.ensures) room c.in-Ok.ensures.step

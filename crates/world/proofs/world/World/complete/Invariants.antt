@@ -1,11 +1,18 @@
-use Rattle.std.proofs.Common.{◌≡◌, drop}
-use Rattle.protocol.specs.World.Quiet.{are_quiet}
-use Rattle.world.specs.WorldView.{world_view}
+use Rattle.std.proofs.Common.{◌≡◌, drop, map}
+use Rattle.std.specs.List.{list_all}
+use Rattle.kahn_net.specs.Syntax.{network_of}
+use Rattle.protocol.specs.Node.NodeView.{running_of}
+use Rattle.protocol.specs.World.Invariant.{outputs_of}
+use Rattle.protocol.specs.World.Quiet.{are_quiet, is_quiet_at}
+use Rattle.protocol.specs.World.StationView.{StationView}
+use Rattle.wire.specs.Traffic.{traffic_of}
+use Rattle.world.specs.WorldView.{station_view, world_view}
 use Rattle.world.proofs.world.World.complete.Given as goal
 
 -- all are quiet where those are that weren't looked at yet
 abbrev pub invariant-loop-station : goal.invariant-loop-station
 invariant-loop-station g l =
     let O = g.O.Outlet in
-    are_quiet (world_view O.taken O.failures l.self.net l.self.inputs (drop l.station-index l.station-items) l.self.round)
-    ≡ are_quiet (world_view O.taken O.failures l.self.net l.self.inputs l.self.stations.items l.self.round)
+    list_all (λ (station : StationView). is_quiet_at (network_of l.self.net.value.program) l.self.inputs.value (map (station_view O.taken O.failures) l.self.stations.items) (running_of station.node) (outputs_of station.outlets))
+    (map (station_view O.taken O.failures) (drop l.station-index l.station-items))
+    ≡ are_quiet (world_view O.taken O.failures l.self.net l.self.inputs l.self.stations.items (traffic_of l.self.wire) l.self.round)

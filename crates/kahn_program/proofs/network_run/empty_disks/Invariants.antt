@@ -1,0 +1,8 @@
+use Rattle.std.proofs.Common.{◌≡◌, map, length}
+use Rattle.std.specs.Prelude.{replicate}
+use Rattle.sector_disk.specs.MemDisk.{failures_of}
+use Rattle.kahn_program.proofs.network_run.empty_disks.Given as goal
+
+-- so many disks, none of which failed
+abbrev pub invariant-loop-node : goal.invariant-loop-node
+invariant-loop-node l = (length l.disks.items ≡ l._node) × (map failures_of l.disks.items ≡ replicate l._node 0)

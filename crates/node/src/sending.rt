@@ -1,0 +1,195 @@
+// What a node sends to the others.
+ghost use Rattle.std.specs.Prelude.{◌≡◌, ◌+◌, ◌<◌, ◌≤◌, ◌++◌, length, IfOk, OnOk, option_copied};
+ghost use Rattle.std.specs.List.{flat_map};
+ghost use Rattle.kahn_net.specs.Syntax.{network_of};
+ghost use Rattle.protocol.specs.Node.Addresses.{consumer_node, port_node, producer_node};
+ghost use Rattle.protocol.specs.Node.Sending.{data_packets, first_due, inbox_packets, items_due, log_packets, outbox_packets};
+ghost use Rattle.kahn_net.specs.declared.limits.TheConstants.{MAX_COUNT};
+
+use datagram::{Body, Packet};
+use kahn_net::Port;
+use net_check::Net;
+use protocol::{Inbox, Outbox};
+use record::Image;
+use retained::Log;
+use std::alloc::{AllocError, Global};
+
+// The node of the process at an end of a channel, 0 where there is none.
+fn node_at(net: &Net, port: Port) -> u8
+    ensures { result ≡ port_node (network_of net.now.program) port }
+{
+    match port {
+        Port::Outside => 0,
+        Port::Process(number) => match net.program.processes.get(number) {
+            Some(process) => process.node,
+            None => 0,
+        },
+    }
+}
+
+// The node from which the items of a channel come.
+fn producer_node(net: &Net, channel: u8) -> u8
+    ensures { result ≡ producer_node (network_of net.now.program) channel }
+{
+    match net.program.channels.get(usize::from(channel)) {
+        Some(ends) => node_at(net, ends.producer),
+        None => 0,
+    }
+}
+
+// The node to which they go.
+fn consumer_node(net: &Net, channel: u8) -> u8
+    ensures { result ≡ consumer_node (network_of net.now.program) channel }
+{
+    match net.program.channels.get(usize::from(channel)) {
+        Some(ends) => node_at(net, ends.consumer),
+        None => 0,
+    }
+}
+
+// Adds what is said of a channel from another node.
+fn add_answers(
+    packets: &mut Vec<Packet>,
+    net: &Net,
+    home: u8,
+    permanent: &Image,
+    inbox: &Inbox,
+) -> Result<(), AllocError>
+    ensures { OnOk result (packets.new.items ≡ packets.old.items
+        ++ inbox_packets (network_of net.now.program) home permanent.now inbox.now) }
+{
+    let to = producer_node(net, inbox.channel);
+    let channel = u16::from(inbox.channel);
+    let ack = inbox.window.ack();
+    packets.push(Packet {
+        from: home,
+        to,
+        body: Body::Ack {
+            channel,
+            epoch: ack.epoch,
+            next: ack.next,
+        },
+    })?;
+    packets.push(Packet {
+        from: home,
+        to,
+        body: Body::Kept {
+            channel,
+            count: permanent.received(inbox.channel),
+        },
+    })?;
+    Ok(())
+}
+
+// Adds these items of a channel, the first one of this position.
+fn add_items(
+    packets: &mut Vec<Packet>,
+    home: u8,
+    to: u8,
+    channel: u8,
+    first: u64,
+    items: &[i64],
+) -> Result<(), AllocError>
+    requires { 0 < length items.now → first + length items.now ≤ MAX_COUNT }
+    ensures { OnOk result (packets.new.items ≡ packets.old.items
+        ++ data_packets home to channel first items.now) }
+{
+    for (offset, item) in items.iter().enumerate() {
+        packets.push(Packet {
+            from: home,
+            to,
+            body: Body::Data {
+                channel: u16::from(channel),
+                position: first + offset as u64,
+                item: *item,
+            },
+        })?;
+    }
+    Ok(())
+}
+
+// A copy of the items of a log that are due.
+fn copy_due(alloc: Global, outbox: &Outbox, log: &Log) -> Result<Vec<i64>, AllocError>
+    ensures due { IfOk result (λ items. items.items ≡ items_due outbox.now log.now) }
+    ensures within { IfOk result (λ items. 0 < length items.items
+        → first_due outbox.now log.now + length items.items ≤ MAX_COUNT) }
+{
+    let due = outbox.window.due(log.base(), log.end());
+    log.copy_since(alloc, due.start, (due.end - due.start) as usize)
+}
+
+// Adds the items of a log that are due.
+fn add_due(
+    alloc: Global,
+    packets: &mut Vec<Packet>,
+    home: u8,
+    to: u8,
+    outbox: &Outbox,
+    log: &Log,
+) -> Result<(), AllocError>
+    ensures { OnOk result (packets.new.items ≡ packets.old.items
+        ++ data_packets home to outbox.now.channel (first_due outbox.now log.now)
+        (items_due outbox.now log.now)) }
+{
+    let first = outbox.window.due(log.base(), log.end()).start;
+    let items = copy_due(alloc, outbox, log)?;
+    add_items(packets, home, to, outbox.channel, first, items.as_slice())
+}
+
+// Adds the items of a channel to another node that are due.
+fn add_outgoing(
+    alloc: Global,
+    packets: &mut Vec<Packet>,
+    net: &Net,
+    home: u8,
+    current: &Image,
+    outbox: &Outbox,
+) -> Result<(), AllocError>
+    ensures { OnOk result (packets.new.items ≡ packets.old.items
+        ++ outbox_packets (network_of net.now.program) home current.now outbox.now) }
+{
+    match current.log(outbox.channel) {
+        Some(log) => {
+            let to = consumer_node(net, outbox.channel);
+            add_due(alloc, packets, home, to, outbox, log)
+        }
+        None => Ok(()),
+    }
+}
+
+/// Adds what is said of the channels from other nodes.
+pub(crate) fn add_all_answers(
+    packets: &mut Vec<Packet>,
+    net: &Net,
+    home: u8,
+    permanent: &Image,
+    inboxes: &[Inbox],
+) -> Result<(), AllocError>
+    ensures { OnOk result (packets.new.items ≡ packets.old.items
+        ++ flat_map (inbox_packets (network_of net.now.program) home permanent.now)
+        inboxes.now) }
+{
+    for inbox in inboxes {
+        add_answers(packets, net, home, permanent, inbox)?;
+    }
+    Ok(())
+}
+
+/// Adds the items of the channels to other nodes that are due.
+pub(crate) fn add_all_outgoing(
+    alloc: Global,
+    packets: &mut Vec<Packet>,
+    net: &Net,
+    home: u8,
+    current: &Image,
+    outboxes: &[Outbox],
+) -> Result<(), AllocError>
+    ensures { OnOk result (packets.new.items ≡ packets.old.items
+        ++ flat_map (outbox_packets (network_of net.now.program) home current.now)
+        outboxes.now) }
+{
+    for outbox in outboxes {
+        add_outgoing(alloc, packets, net, home, current, outbox)?;
+    }
+    Ok(())
+}

@@ -1,0 +1,71 @@
+-- Between which nodes a channel runs, and which names in a packet are right.
+use Rattle.std.specs.Prelude.{◌≡◌, ◌==◌, ℕ, nat_lt, Bool, false, ◌&&◌, not, List, Option, Some, None, slice_get}
+use Rattle.std.specs.List.{list_all}
+use Rattle.kahn_net.specs.Nodes.{node_count}
+use Rattle.kahn_net.specs.Syntax.{Code, Network}
+use Rattle.kahn_net.specs.declared.program.Channel.{Channel}
+use Rattle.kahn_net.specs.declared.program.Port.{Port}
+use Rattle.kahn_net.specs.declared.program.Port.TheVariants.{Outside, Process}
+use Rattle.datagram.specs.declared.packet.Need.{Need}
+use Rattle.datagram.specs.declared.packet.Packet.{Packet}
+use Rattle.datagram.specs.declared.packet.Body.{Body}
+use Rattle.datagram.specs.declared.packet.Body.TheVariants.{Data, Ack, Kept, Ask, Took, Covered, Refused, Query, Commit, Ended, Settled, Undone}
+use Rattle.protocol.specs.Node.Layout.{is_incoming, is_outgoing, port_on}
+
+-- the node of a process, 0 where there is no such process
+abbrev pub code_node : Option Code → ℕ
+code_node None = 0
+code_node (Some code) = code.node
+
+-- the node of the process at an end of a channel, 0 where there is none
+abbrev pub port_node : Network → Port → ℕ
+port_node net Outside = 0
+port_node net (Process p) = code_node (slice_get net.codes p)
+
+abbrev pub producer_at : Network → Option Channel → ℕ
+producer_at net None = 0
+producer_at net (Some ends) = port_node net ends.producer
+
+abbrev pub consumer_at : Network → Option Channel → ℕ
+consumer_at net None = 0
+consumer_at net (Some ends) = port_node net ends.consumer
+
+-- the nodes from which the items of a channel come, and to which they go
+abbrev pub producer_node : Network → ℕ → ℕ
+producer_node net c = producer_at net (slice_get net.channels c)
+
+abbrev pub consumer_node : Network → ℕ → ℕ
+consumer_node net c = consumer_at net (slice_get net.channels c)
+
+abbrev pub ends_run : Network → ℕ → ℕ → Option Channel → Bool
+ends_run net from to None = false
+ends_run net from to (Some ends) = port_on net from ends.producer && port_on net to ends.consumer
+
+-- the channel runs from a process of one node to a process of another
+abbrev pub runs_between : Network → ℕ → ℕ → ℕ → Bool
+runs_between net from to c = not (from == to) && ends_run net from to (slice_get net.channels c)
+
+-- these are two nodes of the network
+abbrev pub are_nodes : Network → ℕ → ℕ → Bool
+are_nodes net from to = not (from == to) && (nat_lt from (node_count net) && nat_lt to (node_count net))
+
+-- The channels and nodes that are named are right. An item and an undoing go from the sender of the channel to its receiver, an
+-- acknowledgement and what was kept the other way. What is asked for was put by the node that is asked, and what it answers speaks of that; the
+-- channels of its own needs come to it from other nodes.
+abbrev pub names_run : Network → ℕ → ℕ → Body → Bool
+names_run net from to (Data channel position item) = runs_between net from to channel
+names_run net from to (Ack channel epoch next) = runs_between net to from channel
+names_run net from to (Kept channel count) = runs_between net to from channel
+names_run net from to (Ask number channel count) = are_nodes net from to && is_outgoing net to channel
+names_run net from to (Took number channel count needs) = are_nodes net from to && (is_outgoing net from channel && list_all (λ (need : Need). is_incoming net from need.channel) needs)
+names_run net from to (Covered number channel count) = are_nodes net from to && is_outgoing net from channel
+names_run net from to (Refused number channel reason) = are_nodes net from to && is_outgoing net from channel
+names_run net from to (Query number) = are_nodes net from to
+names_run net from to (Commit number) = are_nodes net from to
+names_run net from to (Ended number) = are_nodes net from to
+names_run net from to (Settled number) = are_nodes net from to
+names_run net from to (Undone channel epoch sent) = runs_between net from to channel
+
+-- a packet names two nodes of the network, and channels that run so
+abbrev pub names_right : Network → Packet → Bool
+names_right net packet = names_run net packet.from packet.to packet.body

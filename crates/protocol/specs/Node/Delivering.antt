@@ -1,0 +1,94 @@
+-- What a packet does to the node that it is for.
+use Rattle.std.specs.Prelude.{◌≡◌, ℕ, ◌==◌, ◌&&◌, nat_lt, Bool, false, true, IsTrue, if◌then◌else◌, List, [], ◌∷◌, ℤ, length, Option, Some, None, option_map, slice_get, slice_set}
+use Rattle.std.specs.List.{position_from}
+use Rattle.kahn_net.specs.Syntax.{Network}
+use Rattle.kahn_net.specs.declared.limits.TheConstants.{MAX_COUNT}
+use Rattle.retained.specs.LogState.{LogState, log_end}
+use Rattle.record.specs.Changes.{log_with}
+use Rattle.window_link.specs.Windows.{Sender, Receiver, Received, received, sender_after}
+use Rattle.window_link.specs.declared.receiving.Arrival.{Arrival}
+use Rattle.window_link.specs.declared.receiving.Arrival.TheVariants as arrival
+use Rattle.datagram.specs.PacketText.{IsPacketText}
+use Rattle.datagram.specs.declared.packet.Packet.{Packet}
+use Rattle.datagram.specs.declared.packet.Body.{Body}
+use Rattle.datagram.specs.declared.packet.Body.TheVariants.{Data, Ack, Kept, Ask, Took, Covered, Refused, Query, Commit, Ended, Settled, Undone}
+use Rattle.protocol.specs.Node.Addresses.{names_right}
+use Rattle.protocol.specs.Node.NodeView.{NodeView, RunningView, on_running}
+use Rattle.protocol.specs.Node.Starting.{is_down}
+use Rattle.protocol.specs.declared.delivery.Delivery.{Delivery}
+use Rattle.protocol.specs.declared.delivery.Delivery.TheVariants.{NotDue, Delivered, Dropped}
+use Rattle.protocol.specs.declared.links.Inbox.{Inbox}
+use Rattle.protocol.specs.declared.links.Outbox.{Outbox}
+use Rattle.protocol.specs.declared.limits.TheConstants.{MAX_INBOX_ITEMS}
+
+-- an inbox has a place for one item more
+abbrev pub has_place : LogState → Bool
+has_place log = nat_lt (length log.items) MAX_INBOX_ITEMS && nat_lt (log_end log) MAX_COUNT
+
+-- the inbox after an item came of which the window made this
+abbrev pub with_arrival : Arrival → Receiver → ℤ → Inbox → Inbox
+with_arrival arrival.Taken window item inbox = record { channel = inbox.channel; window = window; log = log_with (item ∷ []) inbox.log }
+with_arrival arrival.Held window item inbox = inbox
+with_arrival arrival.Dropped window item inbox = inbox
+
+abbrev pub after_arrival : Received → ℤ → Inbox → Inbox
+after_arrival received item inbox = with_arrival received.answer received.window item inbox
+
+-- the item of a position is taken where it is the next one and there is a place for it
+abbrev pub taking : ℕ → ℤ → Inbox → Inbox
+taking position item inbox = if has_place inbox.log then after_arrival (received inbox.window position item) item inbox else inbox
+
+-- what was acknowledged is noted
+abbrev pub acknowledged : ℕ → ℕ → Outbox → Outbox
+acknowledged epoch next outbox = record { channel = outbox.channel; window = sender_after outbox.window epoch next }
+
+-- a list with the element of a place so changed, where there is one
+abbrev pub put_at : {A : Type 0} → List A → ℕ → Option A → List A
+put_at list place None = list
+put_at list place (Some x) = slice_set list place x
+
+abbrev pub changed_at : {A : Type 0} → (A → A) → List A → Option ℕ → List A
+changed_at change list None = list
+changed_at change list (Some place) = put_at list place (option_map change (slice_get list place))
+
+abbrev pub inbox_place : List Inbox → ℕ → Option ℕ
+inbox_place inboxes channel = position_from (λ (inbox : Inbox). inbox.channel == channel) 0 inboxes
+
+abbrev pub outbox_place : List Outbox → ℕ → Option ℕ
+outbox_place outboxes channel = position_from (λ (outbox : Outbox). outbox.channel == channel) 0 outboxes
+
+-- what a node has in memory after it heard this: only an item and an acknowledgement change anything, so far
+abbrev pub hearing : Body → RunningView → RunningView
+hearing (Data channel position item) running = record running { inboxes = changed_at (taking position item) running.inboxes (inbox_place running.inboxes channel) }
+hearing (Ack channel epoch next) running = record running { outboxes = changed_at (acknowledged epoch next) running.outboxes (outbox_place running.outboxes channel) }
+hearing (Kept channel count) running = running
+hearing (Ask number channel count) running = running
+hearing (Took number channel count needs) running = running
+hearing (Covered number channel count) running = running
+hearing (Refused number channel reason) running = running
+hearing (Query number) running = running
+hearing (Commit number) running = running
+hearing (Ended number) running = running
+hearing (Settled number) running = running
+hearing (Undone channel epoch sent) running = running
+
+-- the node after it heard this, if it runs; else as it was
+abbrev pub heard : Body → NodeView → NodeView
+heard body node = on_running (hearing body) node
+
+-- bytes that spell a packet of this network for this node
+abbrev pub IsFor : Network → ℕ → Packet → List ℕ → Type 0
+IsFor net home packet bytes = IsPacketText packet bytes × (packet.to ≡ home) × IsTrue (names_right net packet)
+
+-- The bytes spell a packet for the node, which is up, and it heard that.
+pub record HasHeard (net : Network) (home : ℕ) (bytes : List ℕ) (old new : NodeView) : Type 0 where
+  pub packet : Packet
+  pub up : is_down old.mode ≡ false
+  pub is_for : IsFor net home packet bytes
+  pub same : new ≡ heard packet.body old
+
+-- how bytes that come are taken: not at all by a node that is down; they are dropped where they spell no packet, or one that isn't for the node
+abbrev pub IsDelivery : Network → ℕ → List ℕ → NodeView → Delivery → NodeView → Type 0
+IsDelivery net home bytes old NotDue new = IsTrue (is_down old.mode) × (new ≡ old)
+IsDelivery net home bytes old Dropped new = (is_down old.mode ≡ false) × ((packet : Packet) → ¬ (IsFor net home packet bytes)) × (new ≡ old)
+IsDelivery net home bytes old Delivered new = HasHeard net home bytes old new

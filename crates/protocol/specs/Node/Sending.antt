@@ -1,0 +1,76 @@
+-- What a node sends to the others.
+use Rattle.std.specs.Prelude.{ℕ, suc, max, if◌then◌else◌, List, [], ◌∷◌, ◌++◌, ℤ, take, Option, Some, None, slice_get, FitsSigned}
+use Rattle.std.specs.List.{flat_map}
+use Rattle.kahn_net.specs.Syntax.{Network}
+use Rattle.retained.specs.LogState.{LogState, items_since}
+use Rattle.record.specs.Ends.{received_of, log_of}
+use Rattle.record.specs.ImageView.{ImageView}
+use Rattle.record.specs.RecordView.{RecordView}
+use Rattle.std.specs.Int.{w64}
+use Rattle.datagram.specs.PacketText.{IsPacket}
+use Rattle.datagram.specs.declared.packet.Packet.{Packet}
+use Rattle.datagram.specs.declared.packet.Body.{Body}
+use Rattle.datagram.specs.declared.packet.Body.TheVariants.{Data, Ack, Kept, Ask, Took, Covered, Refused, Query, Commit, Ended, Settled, Undone}
+use Rattle.protocol.specs.Node.Addresses.{producer_node, consumer_node}
+use Rattle.protocol.specs.Node.NodeView.{NodeView, RunningNode, running_of}
+use Rattle.protocol.specs.Node.Starting.{is_none}
+use Rattle.protocol.specs.declared.links.Inbox.{Inbox}
+use Rattle.protocol.specs.declared.links.Outbox.{Outbox}
+
+-- of a channel from another node: the position that is taken next, and how many items the permanent image received
+abbrev pub inbox_packets : Network → ℕ → ImageView → Inbox → List Packet
+inbox_packets net home permanent inbox =
+    record { from = home; to = producer_node net inbox.channel; body = Ack inbox.channel inbox.window.epoch inbox.window.next }
+    ∷ record { from = home; to = producer_node net inbox.channel; body = Kept inbox.channel (received_of permanent inbox.channel) } ∷ []
+
+-- these items of a channel, the first one of this position
+abbrev pub data_packets : ℕ → ℕ → ℕ → ℕ → List ℤ → List Packet
+data_packets home to channel position [] = []
+data_packets home to channel position (item ∷ items) = record { from = home; to = to; body = Data channel position item } ∷ data_packets home to channel (suc position) items
+
+-- the position from which on items are due: what lies before it was acknowledged, or isn't in the log
+abbrev pub first_due : Outbox → LogState → ℕ
+first_due outbox log = max outbox.window.acknowledged log.base
+
+-- the items that are due: as many as the window has
+abbrev pub items_due : Outbox → LogState → List ℤ
+items_due outbox log = take outbox.window.size (items_since log (first_due outbox log))
+
+abbrev pub log_packets : Network → ℕ → Outbox → Option LogState → List Packet
+log_packets net home outbox None = []
+log_packets net home outbox (Some log) = data_packets home (consumer_node net outbox.channel) outbox.channel (first_due outbox log) (items_due outbox log)
+
+-- of a channel to another node: the items that are due
+abbrev pub outbox_packets : Network → ℕ → ImageView → Outbox → List Packet
+outbox_packets net home current outbox = log_packets net home outbox (log_of current outbox.channel)
+
+-- What a node that runs sends: first what it says of the channels that come to it, then items of those that go from it, unless it holds a
+-- tentative image; channels ascending.
+abbrev pub packets_from : Network → ℕ → Option RunningNode → List Packet
+packets_from net home None = []
+packets_from net home (Some node) =
+    flat_map (inbox_packets net home node.kept.permanent) node.inboxes
+    ++ (if is_none node.kept.tentative then flat_map (outbox_packets net home node.current) node.outboxes else [])
+
+-- what a node sends
+abbrev pub packets_of : Network → ℕ → NodeView → List Packet
+packets_of net home node = packets_from net home (running_of node)
+
+-- an item of a packet is one of 64 bits
+abbrev pub FitsItem : Body → Type 0
+FitsItem (Data channel position item) = FitsSigned w64 item
+FitsItem (Ack channel epoch next) = Unit {0}
+FitsItem (Kept channel count) = Unit {0}
+FitsItem (Ask number channel count) = Unit {0}
+FitsItem (Took number channel count needs) = Unit {0}
+FitsItem (Covered number channel count) = Unit {0}
+FitsItem (Refused number channel reason) = Unit {0}
+FitsItem (Query number) = Unit {0}
+FitsItem (Commit number) = Unit {0}
+FitsItem (Ended number) = Unit {0}
+FitsItem (Settled number) = Unit {0}
+FitsItem (Undone channel epoch sent) = Unit {0}
+
+-- a packet that has a spelling, as far as that is not a matter of its item's width
+abbrev pub IsWritable : Packet → Type 0
+IsWritable packet = FitsItem packet.body → IsPacket packet

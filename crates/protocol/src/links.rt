@@ -1,0 +1,25 @@
+//! The ends of channels between nodes, as a node has them in memory.
+
+use retained::Log;
+use window_link::{RecvWindow, SendWindow};
+
+/// What came of a channel from another node, and wasn't got yet.
+///
+/// The log begins behind what the node's process has got, and ends where the window goes on.
+#[derive(Drop)]
+pub struct Inbox {
+    pub channel: u8,
+    /// Which position of the channel is taken next.
+    pub window: RecvWindow,
+    /// What came, and wasn't got yet.
+    pub log: Log,
+}
+
+/// The end of a channel on which the node puts, and from which another node gets. The items to be sent lie in the log of the
+/// node's image.
+#[derive(Clone, Copy, Debug)]
+pub struct Outbox {
+    pub channel: u8,
+    /// Which positions of the channel are under way.
+    pub window: SendWindow,
+}

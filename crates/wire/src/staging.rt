@@ -1,0 +1,141 @@
+// Packets that are made ready in queues of their own, and then put last all at once.
+//
+// All memory is taken before the first queue changes: a refusal leaves each as it was.
+ghost use Rattle.std.specs.Prelude.{◌≡◌, ◌≤◌, ◌<◌, All, length, map, IfOk, OnOk, OnErr};
+ghost use Rattle.std.specs.List.{AllZip};
+ghost use Rattle.wire.specs.Traffic.{AreNodes, queues_traffic, next_flights, traffic_sent, all_sent};
+ghost use Rattle.wire.specs.Staging.{all_joined, behind, unsent, HasRoom, ruled};
+
+use crate::queue::{Letter, NODES, Queue};
+use crate::rule::{Rule, capped_sum, fate_by};
+use crate::sending::Sending;
+use std::alloc::{AllocError, Global};
+
+// A queue for each, which counts on from there, with nothing in flight.
+fn unsent_queues(alloc: Global, queues: &[Queue]) -> Result<Vec<Queue>, AllocError>
+    ensures { IfOk result (λ staged. queues_traffic staged.items
+        ≡ map unsent (queues_traffic queues.now)) }
+{
+    let mut staged = Vec::with_capacity(alloc, queues.len())?;
+    for queue in queues {
+        staged.push(queue.unsent(alloc))?;
+    }
+    Ok(staged)
+}
+
+// A packet made ready: the next one from its node, by what this queue counts.
+fn next_letter(
+    alloc: Global,
+    queue: &Queue,
+    rules: &[Rule],
+    sending: Sending,
+    round: u64,
+) -> Result<Letter, AllocError>
+    requires { AreNodes sending }
+    ensures { IfOk result (λ letter. letter.flights
+        ≡ next_flights rules.now queue.now.counts sending.from sending.to sending.packet round) }
+{
+    let Sending { from, to, packet } = sending;
+    let nth = capped_sum(capped_sum(queue.count(from), 0), 1);
+    let fate = fate_by(rules, from, to, nth);
+    Letter::new(alloc, from, to, packet, fate, round)
+}
+
+// One packet goes last.
+fn stage(
+    alloc: Global,
+    staged: &mut [Queue],
+    rules: &[Rule],
+    sending: Sending,
+    round: u64,
+) -> Result<(), AllocError>
+    requires nodes { AreNodes sending }
+    requires there { sending.to < length staged.old }
+    ensures len { length staged.new ≡ length staged.old }
+    ensures ok { OnOk result (ruled rules.now staged.new
+        ≡ traffic_sent sending.from sending.to sending.packet round (ruled rules.now staged.old)) }
+{
+    let (from, to) = (sending.from, sending.to as usize);
+    let letter = next_letter(alloc, &staged[to], rules, sending, round)?;
+    staged[to].send(from, letter)
+}
+
+// One after the other.
+fn stage_all(
+    alloc: Global,
+    staged: &mut [Queue],
+    rules: &[Rule],
+    packets: Vec<Sending>,
+    round: u64,
+) -> Result<(), AllocError>
+    requires nodes { All AreNodes packets.items }
+    requires there { NODES ≤ length staged.old }
+    ensures len { length staged.new ≡ length staged.old }
+    ensures ok { OnOk result (ruled rules.now staged.new
+        ≡ all_sent round packets.items (ruled rules.now staged.old)) }
+{
+    for sending in packets {
+        stage(alloc, staged, rules, sending, round)?;
+    }
+    Ok(())
+}
+
+// What is to go last in each of these queues, where these packets are sent.
+pub(crate) fn staged(
+    alloc: Global,
+    queues: &[Queue],
+    rules: &[Rule],
+    packets: Vec<Sending>,
+    round: u64,
+) -> Result<Vec<Queue>, AllocError>
+    requires nodes { All AreNodes packets.items }
+    requires there { length queues.now ≡ NODES }
+    ensures count { IfOk result (λ staged. length staged.items ≡ NODES) }
+    ensures sent { IfOk result (λ staged. behind (queues_traffic queues.now)
+        (ruled rules.now staged.items)
+        ≡ all_sent round packets.items (ruled rules.now queues.now)) }
+{
+    let mut staged = unsent_queues(alloc, queues)?;
+    stage_all(alloc, &mut staged, rules, packets, round)?;
+    Ok(staged)
+}
+
+// Makes room in each queue for what is to go last in it.
+fn reserve_all(queues: &mut [Queue], staged: &[Queue]) -> Result<(), AllocError>
+    requires { length queues.old ≡ length staged.now }
+    ensures same { queues_traffic queues.new ≡ queues_traffic queues.old }
+    ensures len { length queues.new ≡ length queues.old }
+    ensures room { OnOk result (AllZip HasRoom queues.new staged.now) }
+{
+    for place in 0..queues.len() {
+        queues[place].reserve(staged[place].len())?;
+    }
+    Ok(())
+}
+
+// Puts what is to go last in each queue there, where there is room.
+fn join_all(queues: &mut [Queue], staged: Vec<Queue>)
+    requires { AllZip HasRoom queues.old staged.items }
+    ensures traffic { queues_traffic queues.new
+        ≡ all_joined (queues_traffic queues.old) (queues_traffic staged.items) }
+    ensures len { length queues.new ≡ length queues.old }
+{
+    let mut place = 0;
+    for more in staged {
+        queues[place].join(more);
+        place += 1;
+    }
+}
+
+// Puts what is to go last in each queue there, or refuses for want of memory.
+pub(crate) fn post_all(queues: &mut [Queue], staged: Vec<Queue>) -> Result<(), AllocError>
+    requires { length queues.old ≡ length staged.items }
+    ensures len { length queues.new ≡ length queues.old }
+    ensures ok { OnOk result (queues_traffic queues.new
+        ≡ all_joined (queues_traffic queues.old) (queues_traffic staged.items)) }
+    ensures err { OnErr result (queues_traffic queues.new ≡ queues_traffic queues.old) }
+{
+    reserve_all(queues, &staged)?;
+    join_all(queues, staged);
+    Ok(())
+}

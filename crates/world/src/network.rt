@@ -1,0 +1,177 @@
+// What is in flight between the nodes.
+ghost use Rattle.std.specs.Prelude.{◌≡◌, ◌<◌, ◌++◌, All, IfErr, IfOk, IsSome, IsTrue, OnErr, OnOk, FitsSigned, if◌then◌else◌, is_some, length, map, option_map, slice_get};
+ghost use Rattle.std.specs.Int.{w64};
+ghost use Rattle.std.specs.List.{position_from};
+ghost use Rattle.datagram.specs.PacketText.{IsPacket};
+ghost use Rattle.protocol.specs.Node.Sending.{FitsItem, IsWritable};
+ghost use Rattle.protocol.specs.World.Replies.{act_reply, delivery_reply};
+ghost use Rattle.protocol.specs.World.Steps.{due_bytes, has_happened, sending_of};
+ghost use Rattle.world.specs.ReplyView.{reply_view};
+ghost use Rattle.wire.specs.Queue.{is_due};
+ghost use Rattle.wire.specs.Traffic.{flights_to, traffic_of, traffic_delayed, traffic_repeated, traffic_without};
+ghost use Rattle.wire.specs.Wire.{in_flight};
+ghost use Rattle.wire.specs.declared.queue.TheConstants.{NODES};
+
+use crate::event::Reply;
+use datagram::{Body, Packet, PacketFault, write_packet};
+use node::Delivery;
+use std::alloc::{AllocError, Global};
+use wire::{Bytes, Sending, Wire};
+
+// Whether there is a packet at a place, of those in flight to a node.
+fn is_there(wire: &Wire, to: u8, place: usize) -> bool
+    requires { to < NODES }
+    ensures there { result ≡ is_some (slice_get (flights_to (traffic_of wire.now) to) place) }
+    ensures below { IsTrue result → place < length (in_flight wire.now to) }
+{
+    place < wire.len(to)
+}
+
+/// The bytes of the packet at a place, if there is one.
+pub(crate) fn packet_at(wire: &Wire, to: u8, place: usize) -> Option<&[u8]>
+    requires { to < NODES }
+    ensures { option_map (λ bytes. bytes.now) result
+        ≡ option_map (λ flight. flight.packet)
+        (slice_get (flights_to (traffic_of wire.now) to) place) }
+{
+    wire.packet(to, place)
+}
+
+/// The place of the first packet that is due, if there is one.
+pub(crate) fn first_due(wire: &Wire, to: u8, round: u64) -> Option<usize>
+    requires { to < NODES }
+    ensures { result ≡ position_from (is_due round) 0 (flights_to (traffic_of wire.now) to) }
+{
+    wire.first_due(to, round)
+}
+
+/// The bytes of the packet at a place, if there is one and it is due.
+pub(crate) fn due_packet(wire: &Wire, to: u8, place: usize, round: u64) -> Option<&[u8]>
+    requires { to < NODES }
+    ensures bytes { option_map (λ bytes. bytes.now) result
+        ≡ due_bytes round (slice_get (flights_to (traffic_of wire.now) to) place) }
+    ensures below { IsSome result → place < length (in_flight wire.now to) }
+{
+    if wire.is_due(to, place, round) {
+        wire.packet(to, place)
+    } else {
+        None
+    }
+}
+
+/// What is answered to a packet that came, which is then no longer in flight.
+pub(crate) fn note_delivery(wire: &mut Wire, to: u8, place: usize, outcome: Delivery) -> Reply
+    requires node { to < NODES }
+    requires there { place < length (in_flight wire.old to) }
+    ensures reply { reply_view result ≡ delivery_reply outcome }
+    ensures traffic { traffic_of wire.new ≡ (if has_happened (delivery_reply outcome)
+        then traffic_without (traffic_of wire.old) to place else traffic_of wire.old) }
+{
+    match outcome {
+        Delivery::NotDue => Reply::NotDue,
+        Delivery::Delivered => {
+            wire.lose(to, place);
+            Reply::Delivered
+        }
+        Delivery::Dropped => {
+            wire.lose(to, place);
+            Reply::Dropped(PacketFault::BadPacket.number())
+        }
+    }
+}
+
+/// The packet at a place is gone.
+pub(crate) fn lose(wire: &mut Wire, to: u8, place: usize) -> Reply
+    requires { to < NODES }
+    ensures reply { reply_view result
+        ≡ act_reply (is_some (slice_get (flights_to (traffic_of wire.old) to) place)) }
+    ensures traffic { traffic_of wire.new ≡ (if has_happened (reply_view result)
+        then traffic_without (traffic_of wire.old) to place else traffic_of wire.old) }
+{
+    if !is_there(wire, to, place) {
+        return Reply::NotDue;
+    }
+    wire.lose(to, place);
+    Reply::Acted
+}
+
+/// A copy of the packet at a place goes last.
+pub(crate) fn repeat(
+    alloc: Global,
+    wire: &mut Wire,
+    to: u8,
+    place: usize,
+) -> Result<Reply, AllocError>
+    requires { to < NODES }
+    ensures reply { IfOk result (λ reply. reply_view reply
+        ≡ act_reply (is_some (slice_get (flights_to (traffic_of wire.old) to) place))) }
+    ensures traffic { IfOk result (λ reply. traffic_of wire.new
+        ≡ (if has_happened (reply_view reply)
+        then traffic_repeated (traffic_of wire.old) to place else traffic_of wire.old)) }
+    ensures refused { OnErr result (traffic_of wire.new ≡ traffic_of wire.old) }
+{
+    if !is_there(wire, to, place) {
+        return Ok(Reply::NotDue);
+    }
+    wire.repeat(alloc, to, place)?;
+    Ok(Reply::Acted)
+}
+
+/// The packet at a place is due so many rounds later.
+pub(crate) fn delay(wire: &mut Wire, to: u8, place: usize, rounds: u64) -> Reply
+    requires { to < NODES }
+    ensures reply { reply_view result
+        ≡ act_reply (is_some (slice_get (flights_to (traffic_of wire.old) to) place)) }
+    ensures traffic { traffic_of wire.new ≡ (if has_happened (reply_view result)
+        then traffic_delayed (traffic_of wire.old) to place rounds else traffic_of wire.old) }
+{
+    if !is_there(wire, to, place) {
+        return Reply::NotDue;
+    }
+    wire.delay(to, place, rounds);
+    Reply::Acted
+}
+
+// An item is a number of 64 bits, as its type says.
+fn note_item(item: i64)
+    ensures { FitsSigned w64 item }
+{
+    let _ = item;
+}
+
+// So is the item of a packet, if it has one.
+fn note_body(body: &Body)
+    ensures { FitsItem body.now }
+{
+    if let Body::Data { item, .. } = body {
+        note_item(*item);
+    }
+}
+
+// A packet as it is sent.
+fn spell(alloc: Global, packet: &Packet) -> Result<Sending, AllocError>
+    requires { IsWritable packet.now }
+    ensures sending { IfOk result (λ sending. sending ≡ sending_of packet.now) }
+    ensures allowed { IsPacket packet.now }
+{
+    note_body(&packet.body);
+    let bytes = write_packet(alloc, packet)?;
+    Ok(Sending {
+        from: packet.from,
+        to: packet.to,
+        packet: Bytes::new(bytes),
+    })
+}
+
+/// These packets as they are sent.
+pub(crate) fn spell_all(alloc: Global, packets: &[Packet]) -> Result<Vec<Sending>, AllocError>
+    requires { All IsWritable packets.now }
+    ensures sendings { IfOk result (λ sendings. sendings.items ≡ map sending_of packets.now) }
+    ensures allowed { OnOk result (All IsPacket packets.now) }
+{
+    let mut sendings = Vec::with_capacity(alloc, packets.len())?;
+    for packet in packets {
+        sendings.push(spell(alloc, packet)?)?;
+    }
+    Ok(sendings)
+}
