@@ -4,23 +4,11 @@ ghost use Rattle.std.specs.List.{list_all};
 ghost use Rattle.kahn_net.specs.Nodes.{node_count};
 ghost use Rattle.kahn_net.specs.Syntax.{network_of};
 ghost use Rattle.protocol.specs.Node.Addresses.{are_nodes, names_right, names_run, runs_between};
-ghost use Rattle.protocol.specs.Node.Layout.{is_incoming, is_outgoing, port_away};
+ghost use Rattle.protocol.specs.Node.Layout.{is_incoming};
 
-use crate::nodes::node_count;
-use crate::opening::is_here;
+use crate::nodes::{is_here, is_incoming, is_outgoing, node_count};
 use datagram::{Body, Need, Packet};
-use kahn_net::Port;
 use net_check::Net;
-
-// Whether there is a process of another node at this end of a channel.
-fn is_away(net: &Net, home: u8, port: Port) -> bool
-    ensures { result ≡ port_away (network_of net.now.program) home port }
-{
-    match port {
-        Port::Outside => false,
-        Port::Process(_) => !is_here(net, home, port),
-    }
-}
 
 // Whether a channel runs from a process of one node to a process of another.
 fn runs_between(net: &Net, from: u8, to: u8, channel: u16) -> bool
@@ -35,32 +23,12 @@ fn runs_between(net: &Net, from: u8, to: u8, channel: u16) -> bool
     }
 }
 
-// Whether a channel goes from a process of the node to one of another.
-fn is_outgoing(net: &Net, home: u8, channel: u16) -> bool
-    ensures { result ≡ is_outgoing (network_of net.now.program) home channel }
-{
-    match net.program.channels.get(usize::from(channel)) {
-        Some(ends) => is_here(net, home, ends.producer) && is_away(net, home, ends.consumer),
-        None => false,
-    }
-}
-
-// Whether a channel comes to a process of the node from one of another.
-fn is_incoming(net: &Net, home: u8, channel: u16) -> bool
-    ensures { result ≡ is_incoming (network_of net.now.program) home channel }
-{
-    match net.program.channels.get(usize::from(channel)) {
-        Some(ends) => is_here(net, home, ends.consumer) && is_away(net, home, ends.producer),
-        None => false,
-    }
-}
-
 // Whether each channel of which items are needed comes to the node.
 fn are_incoming(net: &Net, home: u8, needs: &[Need]) -> bool
     ensures { result ≡ list_all (λ (need : Need). is_incoming (network_of net.now.program) home need.channel) needs.now }
 {
     for need in needs {
-        if !is_incoming(net, home, need.channel) {
+        if !is_incoming(net, home, usize::from(need.channel)) {
             return false;
         }
     }
@@ -86,17 +54,18 @@ fn names_run(net: &Net, from: u8, to: u8, body: &Body) -> bool
         Body::Data { channel, .. } => runs_between(net, from, to, *channel),
         Body::Ack { channel, .. } => runs_between(net, to, from, *channel),
         Body::Kept { channel, .. } => runs_between(net, to, from, *channel),
-        Body::Ask { channel, .. } => are_nodes(net, from, to) && is_outgoing(net, to, *channel),
+        Body::Ask { channel, .. } => are_nodes(net, from, to)
+            && is_outgoing(net, to, usize::from(*channel)),
         Body::Took { channel, needs, .. } => {
             are_nodes(net, from, to)
-                && is_outgoing(net, from, *channel)
+                && is_outgoing(net, from, usize::from(*channel))
                 && are_incoming(net, from, needs.as_slice())
         }
         Body::Covered { channel, .. } => {
-            are_nodes(net, from, to) && is_outgoing(net, from, *channel)
+            are_nodes(net, from, to) && is_outgoing(net, from, usize::from(*channel))
         }
         Body::Refused { channel, .. } => {
-            are_nodes(net, from, to) && is_outgoing(net, from, *channel)
+            are_nodes(net, from, to) && is_outgoing(net, from, usize::from(*channel))
         }
         Body::Query { .. } => are_nodes(net, from, to),
         Body::Commit { .. } => are_nodes(net, from, to),

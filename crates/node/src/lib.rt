@@ -24,7 +24,7 @@ mod state;
 
 pub use mode::Mode;
 pub use node::Node;
-pub use nodes::node_count;
+pub use nodes::{is_here, node_count};
 pub use opening::opening_record;
 pub use protocol::{ArmedRestart, Delivery, MAX_JOB_ITEMS, Putting, Recovery};
 pub use restart::round_later;

@@ -1,11 +1,11 @@
 // A node before its first event.
 ghost use Rattle.std.specs.Prelude.{◌≡◌, ◌≤◌, map, length, IfOk};
 ghost use Rattle.kahn_net.specs.Syntax.{code_of, network_of};
-ghost use Rattle.protocol.specs.Node.Layout.{is_incoming, is_outgoing, port_away, port_on};
 ghost use Rattle.protocol.specs.Node.Opening.{new_inbox, new_outbox, opening_processes, opening_end, opening_ends, opening_image, opening_inboxes, opening_outboxes, opening_record};
 ghost use Rattle.kahn_net.specs.declared.limits.TheConstants.{MAX_CHANNELS, MAX_PROCESSES};
 
-use kahn_net::{Channel, Mode, Port, ProcState, Process};
+use crate::nodes::{is_here, is_incoming, is_outgoing};
+use kahn_net::{Channel, Mode, ProcState, Process};
 use net_check::Net;
 use protocol::{Inbox, Outbox, WINDOW};
 use record::{End, Image, Record, SavedEnd, SavedProcess};
@@ -36,19 +36,6 @@ fn open_processes(
         }
     }
     Ok(saved)
-}
-
-// Whether there is a process of the node at this end of a channel.
-pub(crate) fn is_here(net: &Net, home: u8, port: Port) -> bool
-    ensures { result ≡ port_on (network_of net.now.program) home port }
-{
-    match port {
-        Port::Outside => false,
-        Port::Process(number) => match net.program.processes.get(number) {
-            Some(process) => process.node == home,
-            None => false,
-        },
-    }
 }
 
 // Nothing was received or put.
@@ -121,39 +108,6 @@ pub fn opening_record(
         permanent: open_image(alloc, net, number)?,
         tentative: None,
     })
-}
-
-// Whether there is a process at this end of a channel, but none of the node.
-fn is_away(net: &Net, home: u8, port: Port) -> bool
-    ensures { result ≡ port_away (network_of net.now.program) home port }
-{
-    match port {
-        Port::Outside => false,
-        Port::Process(number) => match net.program.processes.get(number) {
-            Some(process) => process.node != home,
-            None => true,
-        },
-    }
-}
-
-// Whether a channel comes to the node from another one.
-fn is_incoming(net: &Net, home: u8, channel: usize) -> bool
-    ensures { result ≡ is_incoming (network_of net.now.program) home channel }
-{
-    match net.program.channels.get(channel) {
-        Some(ends) => is_here(net, home, ends.consumer) && is_away(net, home, ends.producer),
-        None => false,
-    }
-}
-
-// Whether a channel goes from the node to another one.
-fn is_outgoing(net: &Net, home: u8, channel: usize) -> bool
-    ensures { result ≡ is_outgoing (network_of net.now.program) home channel }
-{
-    match net.program.channels.get(channel) {
-        Some(ends) => is_here(net, home, ends.producer) && is_away(net, home, ends.consumer),
-        None => false,
-    }
 }
 
 fn new_inbox(alloc: Global, channel: u8) -> Inbox

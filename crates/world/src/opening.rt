@@ -11,7 +11,6 @@ ghost use Rattle.ckpt_codec.specs.SizeLaws.{IsRecordWithin};
 ghost use Rattle.ckpt_codec.specs.declared.lengths.TheConstants.{MAX_RETAINED_ITEMS};
 ghost use Rattle.ckpt_store.specs.StoreView.{cell_in, known_in, record_in, Holds};
 ghost use Rattle.protocol.specs.Node.Opening.{opening_record};
-ghost use Rattle.protocol.specs.Node.Layout.{port_on};
 ghost use Rattle.protocol.specs.World.Sound.{goes_outside, is_output, output_channels};
 ghost use Rattle.std.specs.List.{AllByRecursion};
 ghost use Rattle.protocol.specs.World.OpeningWorld.{opening_station, opening_world};
@@ -29,7 +28,7 @@ use ckpt_store::{Store, StoreFault};
 use gate_cell::GateCell;
 use kahn_net::{Channel, Port};
 use net_check::{Inputs, Net};
-use node::{Node, opening_record};
+use node::{Node, is_here, opening_record};
 use outlet::{ListOutlet, Outlet};
 use protocol::RoundTurns;
 use record::Record;
@@ -175,26 +174,13 @@ impl<D: Disk, O: Outlet> Station<GateCell<D>, O> {
     }
 }
 
-// Whether there is a process of the node at this end of a channel.
-fn is_at(net: &Net, home: u8, port: Port) -> bool
-    ensures { result ≡ port_on (network_of net.now.program) home port }
-{
-    match port {
-        Port::Outside => false,
-        Port::Process(number) => match net.program.processes.get(number) {
-            Some(process) => process.node == home,
-            None => false,
-        },
-    }
-}
-
 // Whether a channel is an output of the node: its items go outside, and its producer is there.
 fn is_output(net: &Net, home: u8, number: u8) -> bool
     ensures { result ≡ is_output (network_of net.now.program) home number }
 {
     match net.program.channels.get(usize::from(number)) {
         Some(channel) => match channel.consumer {
-            Port::Outside => is_at(net, home, channel.producer),
+            Port::Outside => is_here(net, home, channel.producer),
             Port::Process(_) => false,
         },
         None => false,
