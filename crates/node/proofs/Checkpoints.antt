@@ -94,9 +94,6 @@ is_answered (Some x) (Ok y) is P so = subst P (sym is) (so x refl)
 is_answered (Some x) (Err e) is P so = absurd is
 
 -- by the kinds of a put's result: done, without memory, too large, or the device failed
-abbrev ByKind : (Result (Unit {0}) StoreFault → Type 0) → Type 0
-ByKind P = P (Ok tt) × P (Err fault.NoMemory) × P (Err fault.TooLarge) × P (Err fault.Device)
-
 by_kind : (P : Result (Unit {0}) StoreFault → Type 0) → P (Ok tt) → P (Err fault.NoMemory) → P (Err fault.TooLarge) → P (Err fault.Device) → (put : Result (Unit {0}) StoreFault) → IfErr put IsOfPut → P put
 by_kind P done memory large device (Ok x) is = done
 by_kind P done memory large device (Err fault.NoMemory) is = memory

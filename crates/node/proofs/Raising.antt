@@ -8,10 +8,10 @@ use Rattle.record.specs.ImageView.{ImageView}
 use Rattle.record.specs.RecordView.{RecordView}
 use Rattle.record.specs.Moves.{with_epoch}
 use Rattle.kahn_net.specs.declared.limits.TheConstants.{MAX_COUNT}
-use Rattle.ckpt_store.specs.Spelling.{fits_in, IsLengthTold}
+use Rattle.ckpt_store.specs.Spelling.{fits_in}
 use Rattle.ckpt_store.specs.Loading.{IsOfReopening}
 use Rattle.ckpt_store.specs.Refusals.{refusal_to_raise, first_refusal, ComesFirst}
-use Rattle.ckpt_store.specs.StoreFault.{IsOfPut, HasFailures}
+use Rattle.ckpt_store.specs.StoreFault.{HasFailures}
 use Rattle.ckpt_store.specs.StoreView.{cell_in, known_in, record_in, record_spelled, Changes, Reopens}
 use Rattle.ckpt_store.specs.declared.store.Store.{Store}
 use Rattle.ckpt_store.specs.declared.fault.StoreFault.{StoreFault}
@@ -32,20 +32,6 @@ of_reopening fits kept fault.PastNumber is = absurd is
 of_reopening fits kept fault.NotHeld is = absurd is
 of_reopening fits kept fault.Unsettled is = absurd is
 of_reopening fits kept fault.Spent is = absurd is
-
-of_put : (fits : Bool) (kept : RecordView) (e : StoreFault) → kept.epoch < MAX_COUNT → IsOfPut e → IsLengthTold {T = Unit {0}} fits (Err e) → IsRaiseRefusal fits kept e
-of_put fits kept fault.NoMemory less is told = tt
-of_put fits kept fault.Device less is told = tt
-of_put fits kept fault.TooLarge less is told = (less, told)
-of_put fits kept fault.Reopen less is told = absurd is
-of_put fits kept fault.Truncated less is told = absurd is
-of_put fits kept fault.Version less is told = absurd is
-of_put fits kept fault.Malformed less is told = absurd is
-of_put fits kept fault.HoldsOther less is told = absurd is
-of_put fits kept fault.PastNumber less is told = absurd is
-of_put fits kept fault.NotHeld less is told = absurd is
-of_put fits kept fault.Unsettled less is told = absurd is
-of_put fits kept fault.Spent less is told = absurd is
 
 module _ {C : Type 0} (words : CellWords C)
     (includes_now : (cell : C) (t : ℕ) (left : Option (List ℕ)) → t ≤ words.moment cell → words.may_leave cell left → words.left_since cell t left)

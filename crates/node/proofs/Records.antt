@@ -21,22 +21,6 @@ abbrev record_left : Option (List ℕ) → RecordView
 record_left None = blank
 record_left (Some bytes) = record_spelled bytes
 
--- how the record came out of a put of the next one
-abbrev pub Came : Result (Unit {0}) StoreFault → RecordView → RecordView → RecordView → Type 0
-Came (Ok x) was next now = now ≡ next
-Came (Err fault.Device) was next now = (now ≡ was) ⊎ (now ≡ next)
-Came (Err fault.NoMemory) was next now = now ≡ was
-Came (Err fault.TooLarge) was next now = now ≡ was
-Came (Err fault.Reopen) was next now = ⊥
-Came (Err fault.Truncated) was next now = ⊥
-Came (Err fault.Version) was next now = ⊥
-Came (Err fault.Malformed) was next now = ⊥
-Came (Err fault.HoldsOther) was next now = ⊥
-Came (Err fault.PastNumber) was next now = ⊥
-Came (Err fault.NotHeld) was next now = ⊥
-Came (Err fault.Unsettled) was next now = ⊥
-Came (Err fault.Spent) was next now = ⊥
-
 module _ {C : Type 0} (words : CellWords C) where
   -- a record that is known is the one that is shown
   pub some_known : (store : Store C words) → IsSome (known_in store) → known_in store ≡ Some (record_in store)

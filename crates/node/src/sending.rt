@@ -1,9 +1,9 @@
 // What a node sends to the others.
-ghost use Rattle.std.specs.Prelude.{◌≡◌, ◌+◌, ◌<◌, ◌≤◌, ◌++◌, length, IfOk, OnOk, option_copied};
+ghost use Rattle.std.specs.Prelude.{◌≡◌, ◌+◌, ◌<◌, ◌≤◌, ◌++◌, length, IfOk, OnOk};
 ghost use Rattle.std.specs.List.{flat_map};
 ghost use Rattle.kahn_net.specs.Syntax.{network_of};
 ghost use Rattle.protocol.specs.Node.Addresses.{consumer_node, port_node, producer_node};
-ghost use Rattle.protocol.specs.Node.Sending.{data_packets, first_due, inbox_packets, items_due, log_packets, outbox_packets};
+ghost use Rattle.protocol.specs.Node.Sending.{data_packets, first_due, inbox_packets, items_due, outbox_packets};
 ghost use Rattle.kahn_net.specs.declared.limits.TheConstants.{MAX_COUNT};
 
 use datagram::{Body, Packet};

@@ -50,10 +50,6 @@ quietly net w v k ok at same here = record { grows = quiet_grows net w v s; agre
     s : Quiet w v
     s = record { records = records_stay w v k at same; live = live_before w v k at here }
 
--- a mode in which nothing is live
-nothing_live : (m m' : Mode) (live : Live) → live_of m ≡ None → live_of m ≡ Some live → live_of m' ≡ Some live
-nothing_live m m' live none is = absurd (some_not_none none is)
-
 -- an own image goes, of which the instance isn't decided
 forgets : (net : Net) (w v : World) (k n : ℕ) (image : Image) → Agreed net w → NodeOk net k (node_of w k) → OnlyAt w v k → Drops (w.records k) (v.records k) k n image → live_of (v.modes k) ≡ None → Advances net w v
 forgets net w v k n image ok node at drops none = record { grows = leaves_grows net w v k k n image ok s; agreed = leaves_agrees net w v k k n image ok s }

@@ -2,7 +2,7 @@
 use Rattle.std.proofs.Common.{◌≡◌, ℕ, zero, suc, ◌+◌, ◌<◌, ◌≤◌, List, [], ◌∷◌, ◌++◌, length, map, take, drop, get_or, unwrap_or, slice_get, refl, sym, ap, subst, ◌∙◌, append_assoc, arith, All}
 use Rattle.std.specs.Prelude.{slice_set}
 use Rattle.std.specs.List.{AllZip}
-use Rattle.std.proofs.lemmas.List.{append-nil, get_or_default, get_or-map, length-set, length-map, map-append, map-set, set-get_or, take-append-drop, take_all, take_more, take_more_set}
+use Rattle.std.proofs.lemmas.List.{append-nil, get_or_default, get_or-map, length-set, length-map, map-append, map-set, set-get_or, take-append-drop, take_more, take_more_set}
 use Rattle.std.proofs.lemmas.List.Elements.{All-head, All-tail, AllZip-push}
 use Rattle.std.proofs.lemmas.Option.{unwrap_or-slice_get}
 use Rattle.wire.specs.declared.queue.TheConstants.{NODES}
@@ -124,12 +124,6 @@ roomy_next queues staged place d later within below so_far room =
     subst (λ (xs : List QueueState). AllZip HasRoom xs (take (place + 1) staged)) (sym (take_more_set queues place later within))
     (subst (λ (ys : List QueueState). AllZip HasRoom (take place queues ++ later ∷ []) ys) (sym (take_more staged place d below))
     (AllZip-push HasRoom (take place queues) (take place staged) later (get_or staged place d) so_far room))
-
-pub roomy_all : (queues staged : List QueueState) (place : ℕ) → length queues ≤ place → length staged ≤ place
-    → AllZip HasRoom (take place queues) (take place staged) → AllZip HasRoom queues staged
-roomy_all queues staged place within below so_far =
-    subst (λ (xs : List QueueState). AllZip HasRoom xs staged) (take_all place queues within)
-    (subst (λ (ys : List QueueState). AllZip HasRoom (take place queues) ys) (take_all place staged below) so_far)
 
 joined_none : (queues : List QueueTraffic) → all_joined queues [] ≡ queues
 joined_none [] = refl

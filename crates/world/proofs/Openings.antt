@@ -38,10 +38,6 @@ listed_next channels k d before now whole within so_far added =
 
 -- Outputs of which no failure is remembered
 
-pub fresh_outlets : {O : Type 0} (outputs : List (Output O)) → map (λ (output : Output O). output.outlet) (map fresh outputs) ≡ map (λ (output : Output O). output.outlet) outputs
-fresh_outlets [] = refl
-fresh_outlets {O} (output ∷ outputs) = ap (λ (rest : List O). output.outlet ∷ rest) (fresh_outlets outputs)
-
 pub fresh_views : {O : Type 0} (taken : O → List ℤ) (failures : O → ℕ) (outputs : List (Output O)) → outlet_views taken failures (map fresh outputs) ≡ map opening_outlet (outlet_views taken failures outputs)
 fresh_views taken failures [] = refl
 fresh_views taken failures (output ∷ outputs) = ap (λ (rest : List OutletView). opening_outlet (outlet_view taken failures output) ∷ rest) (fresh_views taken failures outputs)

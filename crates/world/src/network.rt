@@ -1,5 +1,5 @@
 // What is in flight between the nodes.
-ghost use Rattle.std.specs.Prelude.{◌≡◌, ◌<◌, ◌++◌, All, IfErr, IfOk, IsSome, IsTrue, OnErr, OnOk, FitsSigned, if◌then◌else◌, is_some, length, map, option_map, slice_get};
+ghost use Rattle.std.specs.Prelude.{◌≡◌, ◌<◌, All, IfOk, IsSome, IsTrue, OnErr, OnOk, FitsSigned, if◌then◌else◌, is_some, length, map, option_map, slice_get};
 ghost use Rattle.std.specs.Int.{w64};
 ghost use Rattle.std.specs.List.{position_from};
 ghost use Rattle.datagram.specs.PacketText.{IsPacket};

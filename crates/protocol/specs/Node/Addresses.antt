@@ -1,5 +1,5 @@
 -- Between which nodes a channel runs, and which names in a packet are right.
-use Rattle.std.specs.Prelude.{◌≡◌, ◌==◌, ℕ, nat_lt, Bool, false, ◌&&◌, not, List, Option, Some, None, slice_get}
+use Rattle.std.specs.Prelude.{◌==◌, ℕ, nat_lt, Bool, false, ◌&&◌, not, Option, Some, None, slice_get}
 use Rattle.std.specs.List.{list_all}
 use Rattle.kahn_net.specs.Nodes.{node_count}
 use Rattle.kahn_net.specs.Syntax.{Code, Network}

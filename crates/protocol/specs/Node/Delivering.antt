@@ -1,11 +1,11 @@
 -- What a packet does to the node that it is for.
-use Rattle.std.specs.Prelude.{◌≡◌, ℕ, ◌==◌, ◌&&◌, nat_lt, Bool, false, true, IsTrue, if◌then◌else◌, List, [], ◌∷◌, ℤ, length, Option, Some, None, option_map, slice_get, slice_set}
+use Rattle.std.specs.Prelude.{◌≡◌, ℕ, ◌==◌, ◌&&◌, nat_lt, Bool, false, IsTrue, if◌then◌else◌, List, [], ◌∷◌, ℤ, length, Option, Some, None, option_map, slice_get, slice_set}
 use Rattle.std.specs.List.{position_from}
 use Rattle.kahn_net.specs.Syntax.{Network}
 use Rattle.kahn_net.specs.declared.limits.TheConstants.{MAX_COUNT}
 use Rattle.retained.specs.LogState.{LogState, log_end}
 use Rattle.record.specs.Changes.{log_with}
-use Rattle.window_link.specs.Windows.{Sender, Receiver, Received, received, sender_after}
+use Rattle.window_link.specs.Windows.{Receiver, Received, received, sender_after}
 use Rattle.window_link.specs.declared.receiving.Arrival.{Arrival}
 use Rattle.window_link.specs.declared.receiving.Arrival.TheVariants as arrival
 use Rattle.datagram.specs.PacketText.{IsPacketText}

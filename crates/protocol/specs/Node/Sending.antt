@@ -1,11 +1,10 @@
 -- What a node sends to the others.
-use Rattle.std.specs.Prelude.{ℕ, suc, max, if◌then◌else◌, List, [], ◌∷◌, ◌++◌, ℤ, take, Option, Some, None, slice_get, FitsSigned}
+use Rattle.std.specs.Prelude.{ℕ, suc, max, if◌then◌else◌, List, [], ◌∷◌, ◌++◌, ℤ, take, Option, Some, None, FitsSigned}
 use Rattle.std.specs.List.{flat_map}
 use Rattle.kahn_net.specs.Syntax.{Network}
 use Rattle.retained.specs.LogState.{LogState, items_since}
 use Rattle.record.specs.Ends.{received_of, log_of}
 use Rattle.record.specs.ImageView.{ImageView}
-use Rattle.record.specs.RecordView.{RecordView}
 use Rattle.std.specs.Int.{w64}
 use Rattle.datagram.specs.PacketText.{IsPacket}
 use Rattle.datagram.specs.declared.packet.Packet.{Packet}

@@ -24,17 +24,16 @@ use Rattle.record.specs.Changes.{log_with}
 use Rattle.record.specs.Ends.{received_of, log_of}
 use Rattle.record.specs.ImageView.{ImageView}
 use Rattle.record.specs.RecordView.{RecordView}
-use Rattle.window_link.specs.Windows.{Received, received}
+use Rattle.window_link.specs.Windows.{received}
 use Rattle.window_link.specs.declared.receiving.Arrival.TheVariants.{Taken, Dropped}
 use Rattle.datagram.specs.declared.packet.Body.{Body}
 use Rattle.datagram.specs.declared.packet.Body.TheVariants.{Data, Ack, Kept, Ask, Took, Covered, Refused, Query, Commit, Ended, Settled, Undone}
 use Rattle.protocol.specs.Node.Delivering.{has_place, after_arrival, taking, acknowledged, put_at, changed_at, inbox_place, outbox_place, hearing}
-use Rattle.protocol.specs.Node.Granting.{is_process, next_in_log, next_items, items_by, items_from, first_log, inbox_log, source_of}
-use Rattle.protocol.specs.Node.JobView.{JobView}
+use Rattle.protocol.specs.Node.Granting.{is_process, next_in_log, next_items, items_from, first_log, inbox_log, source_of}
 use Rattle.protocol.specs.Node.NodeView.{RunningView, RunningNode, running_node}
-use Rattle.protocol.specs.Node.Reached.{InboxIsSound, LinksAreLaidOut, InboxStands, InboxesStand, IsJobOf}
+use Rattle.protocol.specs.Node.Reached.{InboxIsSound, LinksAreLaidOut, InboxStands}
 use Rattle.protocol.specs.Node.Starting.{AreInOrder}
-use Rattle.protocol.specs.NodeLaws.ReachedLaws.{items_at_hand, items_of_channel, length-items_from}
+use Rattle.protocol.specs.NodeLaws.ReachedLaws.{items_of_channel, length-items_from}
 use Rattle.protocol.specs.World.OutputView.{OutputView}
 use Rattle.protocol.specs.World.Sound.{HasCome, IsSound}
 use Rattle.protocol.specs.World.Traffic.{BodyIsSound}

@@ -15,9 +15,7 @@ use Rattle.record.specs.Ends.{received_at, log_at, base_in, sent_in, base_of, re
 use Rattle.record.specs.declared.image.End.{End}
 use Rattle.retained.specs.LogState.{log_end}
 use Rattle.record.specs.RecordView.{RecordView}
-use Rattle.wire.specs.Traffic.{Traffic, flights_to}
-use Rattle.wire.specs.Queue.{is_due}
-use Rattle.wire.specs.declared.queue.Flight.{Flight}
+use Rattle.wire.specs.Traffic.{Traffic}
 use Rattle.protocol.specs.Node.Layout.{is_on, has_process}
 use Rattle.protocol.specs.NodeLaws.ImageLaws.{map_got}
 use Rattle.protocol.specs.NodeLaws.InnerLaws.{inner_there}

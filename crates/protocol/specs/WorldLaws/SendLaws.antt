@@ -1,6 +1,6 @@
 -- What a sound node sends is right: it may be spelled, it names what there is, and its items belong.
-use Rattle.std.proofs.Common.{◌≡◌, ◌≢◌, ◌⊎◌, inl, inr, ℕ, zero, suc, ◌+◌, ◌-◌, ◌<◌, ◌≤◌, Bool, true, false, eqb, cond, ℤ, List, [], ◌∷◌, ◌++◌, length, map, take, drop, get_or, Option, Some, None, refl, sym, ap, subst, ◌∙◌, arith}
-use Rattle.std.specs.Prelude.{◌&&◌, not, All, IsTrue, slice_get, max}
+use Rattle.std.proofs.Common.{◌≡◌, ◌≢◌, ◌⊎◌, inl, inr, ℕ, zero, suc, ◌+◌, ◌-◌, ◌<◌, ◌≤◌, Bool, true, false, eqb, cond, ℤ, List, [], ◌∷◌, length, take, drop, get_or, Option, Some, None, refl, sym, ap, subst, ◌∙◌, arith}
+use Rattle.std.specs.Prelude.{◌&&◌, not, All, IsTrue, slice_get}
 use Rattle.std.specs.List.{flat_map}
 use Rattle.std.proofs.Math.Logic.{∥∥₁_map}
 use Rattle.std.proofs.lemmas.Bool.{and_parts, eqb-true, eq-eqb, ne_eqb}
@@ -11,32 +11,28 @@ use Rattle.kahn_net.specs.Syntax.{Code, Network}
 use Rattle.kahn_net.specs.Valid.{IsValid}
 use Rattle.kahn_net.specs.Processes.{sent_on}
 use Rattle.kahn_net.specs.Approximations.{approximation, Belongs}
-use Rattle.kahn_net.specs.Laws.Prefixes.{IsFollowed, prefix_of, prefix_item}
-use Rattle.kahn_net.specs.Streams.{IsPrefix}
+use Rattle.kahn_net.specs.Laws.Prefixes.{prefix_of, prefix_item}
 use Rattle.kahn_net.specs.declared.limits.TheConstants.{MAX_CHANNELS, MAX_COUNT, MAX_NODES}
 use Rattle.kahn_net.specs.declared.program.Channel.{Channel}
 use Rattle.kahn_net.specs.declared.program.Port.{Port}
 use Rattle.kahn_net.specs.declared.program.Port.TheVariants.{Outside, Process}
 use Rattle.retained.specs.LogState.{LogState, IsLogOf, log_end, items_since}
-use Rattle.record.specs.Ends.{received_of, log_of, log_at, end_of}
+use Rattle.record.specs.Ends.{received_of, log_of, log_at}
 use Rattle.record.specs.ImageView.{ImageView}
 use Rattle.record.specs.declared.image.End.{End}
-use Rattle.datagram.specs.PacketText.{IsPacket, IsBody}
-use Rattle.datagram.specs.declared.packet.Body.{Body}
 use Rattle.datagram.specs.declared.packet.Body.TheVariants.{Data, Ack, Kept}
 use Rattle.datagram.specs.declared.packet.Packet.{Packet}
 use Rattle.protocol.specs.Node.Addresses.{code_node, port_node, producer_node, consumer_node, producer_at, consumer_at, ends_run, runs_between, names_right}
 use Rattle.protocol.specs.Node.Layout.{is_incoming, is_on, is_outgoing, comes_in, goes_out, port_away, port_on}
-use Rattle.protocol.specs.Node.NodeView.{NodeView, RunningNode, running_of}
-use Rattle.protocol.specs.Node.Reached.{InboxIsSound, LinksAreLaidOut, LogsAreWithin, acts_of}
-use Rattle.protocol.specs.Node.Sending.{inbox_packets, data_packets, first_due, items_due, log_packets, outbox_packets, packets_from, packets_of, IsWritable}
-use Rattle.protocol.specs.Node.Starting.{AreInOrder, is_none}
+use Rattle.protocol.specs.Node.NodeView.{RunningNode}
+use Rattle.protocol.specs.Node.Reached.{InboxIsSound, LinksAreLaidOut, acts_of}
+use Rattle.protocol.specs.Node.Sending.{inbox_packets, data_packets, first_due, items_due, log_packets, outbox_packets, packets_from, IsWritable}
+use Rattle.protocol.specs.Node.Starting.{is_none}
 use Rattle.protocol.specs.NodeLaws.ImageLaws.{entry_of}
 use Rattle.protocol.specs.NodeLaws.NumberedLaws.{where_mark}
 use Rattle.protocol.specs.NodeLaws.ReleaseLaws.{acts_put_prefix, log_entry, log_stands}
 use Rattle.protocol.specs.World.Invariant.{RunsSoundly}
 use Rattle.protocol.specs.World.OutputView.{OutputView}
-use Rattle.protocol.specs.World.Sound.{HasCome}
 use Rattle.protocol.specs.World.Traffic.{PacketIsSound}
 use Rattle.protocol.specs.declared.links.Inbox.{Inbox}
 use Rattle.protocol.specs.declared.links.Outbox.{Outbox}

@@ -1,8 +1,8 @@
-use Rattle.std.proofs.Common.{◌≡◌, ◌∙◌, ap, sym, ◌+◌, ◌≤◌, length, subst, arith, ℕ, ℤ, List}
+use Rattle.std.proofs.Common.{◌∙◌, ap, sym, ◌+◌, ◌≤◌, length, subst, arith, ℕ, ℤ, List}
 use Rattle.std.specs.Prelude.{◌↔◌, ◌<◌, IsTrue, max}
 use Rattle.std.proofs.lemmas.Result.{IfOk-weaker}
 use Rattle.window_link.specs.Windows.{is_due}
-use Rattle.protocol.specs.Node.Sending.{first_due, items_due}
+use Rattle.protocol.specs.Node.Sending.{first_due}
 use Rattle.kahn_net.specs.declared.limits.TheConstants.{MAX_COUNT}
 use Rattle.node.proofs.Dues.{taken_due, due_within}
 use Rattle.node.proofs.sending.copy_due.Goals as goal

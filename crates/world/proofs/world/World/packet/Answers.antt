@@ -1,4 +1,4 @@
-use Rattle.std.proofs.Common.{rules, ◌≡◌, ◌<◌, length, arith}
+use Rattle.std.proofs.Common.{rules, ◌<◌, length, arith}
 use Rattle.std.proofs.lemmas.List.{length-map}
 use Rattle.world.specs.WholeView.{world_of}
 use Rattle.world.specs.WorldView.{station_view}
