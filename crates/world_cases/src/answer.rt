@@ -116,9 +116,7 @@ pub fn record_text(alloc: Global, node: u8, kept: &Record) -> Result<String, All
         .copied()
         .unwrap_or_default();
     match &kept.tentative {
-        Some(held) => {
-            format!(in alloc; "epoch {epoch} number {number} held {}", held.number)
-        }
+        Some(held) => { format!(in alloc; "epoch {epoch} number {number} held {}", held.number) }
         None => format!(in alloc; "epoch {epoch} number {number} held none"),
     }
 }

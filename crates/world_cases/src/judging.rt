@@ -62,7 +62,11 @@ fn without_world(
 ) -> anyhow::Result<Option<Difference>> {
     let came = format!(in alloc; "open -> refused {}", fault.number())?;
     match steps.as_slice() {
-        [only] if is_wanted(&format!(in alloc; "{} -> {}", only.text, only.wanted)?, &came) => Ok(None),
+        [only]
+            if is_wanted(
+                &format!(in alloc; "{} -> {}", only.text, only.wanted)?,
+                &came,
+            ) => Ok(None),
         [first, ..] => Ok(Some(Difference {
             line: first.line,
             asked: String::from_str(alloc, first.text.as_str())?,

@@ -58,6 +58,9 @@ fn disks_of(alloc: Global, settings: &Settings, nodes: usize) -> anyhow::Result<
         given <= 1 || given == nodes,
         "sectors of {given} disks for {nodes} nodes"
     );
+    for early in &settings.faults {
+        anyhow::ensure!(early.node < nodes, "no disk {} to fail", early.node);
+    }
     let mut disks = Vec::new(alloc);
     for node in 0..nodes {
         disks.push(disk_of(alloc, settings, node)?)?;

@@ -7,7 +7,7 @@ use crate::stream::Stream;
 use crate::table::{Case, Line};
 use anyhow::Context;
 use sector_disk::ArmedFault;
-use std::alloc::Global;
+use std::alloc::{AllocError, Global};
 
 /// A failure that is prepared on a node's disk before the world is made.
 #[derive(Clone, Copy, Debug)]
@@ -71,6 +71,7 @@ impl Settings {
     /// Takes a line that says of what the world is made. Says whether it is one.
     fn take(&mut self, alloc: Global, text: &str) -> anyhow::Result<bool> {
         if let Some(name) = text.strip_prefix("net ") {
+            anyhow::ensure!(self.net.is_empty(), "a second network");
             self.net = String::from_str(alloc, name)?;
         } else if let Some(line) = text.strip_prefix("inputs ") {
             self.add_inputs(line)?;
@@ -110,6 +111,18 @@ fn parts_of(text: &str) -> (&str, &str) {
     }
 }
 
+/// What a step has to answer. The bytes of a packet may stand in groups.
+fn wanted_by(alloc: Global, step: &Step, wanted: &str) -> Result<String, AllocError> {
+    let Step::Ask(Question::Packet { .. }) = step else {
+        return String::from_str(alloc, wanted);
+    };
+    let mut bytes = String::new(alloc);
+    for group in wanted.split_whitespace() {
+        bytes.push_str(group)?;
+    }
+    Ok(bytes)
+}
+
 impl Plan {
     fn add_step(&mut self, alloc: Global, line: usize, text: &str) -> anyhow::Result<()> {
         let (asked, wanted) = parts_of(text);
@@ -118,6 +131,9 @@ impl Plan {
             step.has_answer() != wanted.is_empty(),
             "{asked} wants an answer behind ->, or may have none"
         );
+        if let Step::Open = &step {
+            anyhow::ensure!(self.steps.is_empty(), "the world is made before");
+        }
         if let Step::Ask(Question::Released(channel)) = &step {
             self.streams
                 .push(Stream::new(alloc, line, *channel, wanted)?)?;
@@ -125,8 +141,8 @@ impl Plan {
         self.steps.push(Planned {
             line,
             text: String::from_str(alloc, asked)?,
+            wanted: wanted_by(alloc, &step, wanted)?,
             step,
-            wanted: String::from_str(alloc, wanted)?,
         })?;
         Ok(())
     }

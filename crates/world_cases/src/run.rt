@@ -100,7 +100,10 @@ fn node_text(alloc: Global, world: &CaseWorld, node: u8) -> Result<String, Alloc
         Some(station) => {
             let state = &station.node.state;
             let word = mode_word(&state.mode);
-            format!(in alloc; "{word} version {} restart {}", state.version, state.restart)
+            format!(in alloc;
+                "{word} version {} restart {}",
+                state.version, state.restart
+            )
         }
         None => String::from_str(alloc, "none"),
     }

@@ -42,15 +42,9 @@ pub enum Step {
     /// Each node in turn goes on through `pick`, until the world is complete, at most for so many rounds.
     Run(u64),
     /// A node goes on through `pick` for so many events.
-    Turns {
-        node: u8,
-        count: u64,
-    },
+    Turns { node: u8, count: u64 },
     /// So many events that this number chooses, as if by chance.
-    Chance {
-        seed: u64,
-        events: u64,
-    },
+    Chance { seed: u64, events: u64 },
 }
 
 impl Step {
@@ -166,9 +160,7 @@ fn other_step(words: &[&str]) -> anyhow::Result<Option<Step>> {
 /// What these words ask for.
 pub fn step_of(alloc: Global, text: &str) -> anyhow::Result<Step> {
     if let Some(inputs) = text.strip_prefix("install of ") {
-        return Ok(Step::Install(Brought::Foreign(String::from_str(
-            alloc, inputs,
-        )?)));
+        return Ok(Step::Install(Brought::Foreign(String::from_str(alloc, inputs)?)));
     }
     let words: Vec<&str> = text.split_whitespace().collect(alloc)?;
     if let Some(event) = node_event(&words)? {
