@@ -3,6 +3,7 @@
 use crate::opening::open_world;
 use crate::plan::{Plan, Planned};
 use crate::run::{Came, Run};
+use crate::step::Step;
 use anyhow::Context;
 use ckpt_store::StoreFault;
 use std::alloc::{AllocError, Global};
@@ -27,8 +28,8 @@ fn is_wanted(wanted: &str, came: &str) -> bool {
     }
 }
 
-/// What is otherwise than this step says, if anything is.
-fn difference(
+/// What came of a step, where it isn't what is wanted.
+fn compared(
     alloc: Global,
     line: usize,
     asked: String,
@@ -60,21 +61,27 @@ fn without_world(
     fault: StoreFault,
     steps: Vec<Planned>,
 ) -> anyhow::Result<Option<Difference>> {
-    let came = format!(in alloc; "open -> refused {}", fault.number())?;
-    match steps.as_slice() {
-        [only]
-            if is_wanted(
-                &format!(in alloc; "{} -> {}", only.text, only.wanted)?,
-                &came,
-            ) => Ok(None),
-        [first, ..] => Ok(Some(Difference {
-            line: first.line,
-            asked: String::from_str(alloc, first.text.as_str())?,
-            wanted: String::from_str(alloc, first.wanted.as_str())?,
+    let count = steps.len();
+    let Some(first) = steps.into_iter().next() else {
+        anyhow::bail!("nothing is asked");
+    };
+    let Planned {
+        line,
+        text,
+        step,
+        wanted,
+    } = first;
+    let came = format!(in alloc; "refused {}", fault.number())?;
+    if !matches!(step, Step::Open) || !is_wanted(&wanted, &came) {
+        return Ok(Some(Difference {
+            line,
+            asked: text,
+            wanted,
             came,
-        })),
-        [] => anyhow::bail!("nothing is asked"),
+        }));
     }
+    anyhow::ensure!(count == 1, "line {line}: no world is made for what follows");
+    Ok(None)
 }
 
 /// What is otherwise than a plan says, if anything is.
@@ -98,7 +105,7 @@ pub fn judged(alloc: Global, net: &str, plan: Plan) -> anyhow::Result<Option<Dif
         let came = run
             .step(alloc, net, &settings, &streams, line, step)
             .context(format_args!("line {line}"))?;
-        let found = difference(alloc, line, text, wanted, came)?;
+        let found = compared(alloc, line, text, wanted, came)?;
         if found.is_some() {
             return Ok(found);
         }

@@ -59,6 +59,7 @@ use crate::judging::{Difference, judged};
 use crate::names::{choices, chosen};
 use crate::plan::plan_of;
 use crate::table::{Case, cases_of};
+use anyhow::Context;
 use std::fs::File;
 use std::io::Read;
 use std::{fs, io};
@@ -79,19 +80,28 @@ fn report(
     difference: &Difference,
 ) -> io::Result<()> {
     let chosen = chosen(rt.alloc(), &case.names, choice)?;
-    println!(rt; "otherwise: {} {chosen}", case.title)?;
+    println!(rt; "otherwise: {}{chosen}", case.title)?;
     println!(rt; "  line {}: {}", difference.line, difference.asked)?;
     println!(rt; "  expected: {}", difference.wanted)?;
     println!(rt; "  came: {}", difference.came)
 }
 
+/// What comes out otherwise than a case says, for one choice of its numbers.
+fn found(rt: &HostRuntime, case: &Case, choice: &[u64]) -> anyhow::Result<Option<Difference>> {
+    let plan = plan_of(rt.alloc(), case, choice)?;
+    let net = read(rt, &plan.settings.net).context("its network")?;
+    judged(rt.alloc(), &net, plan)
+}
+
 /// Whether a case comes out as written, for each choice of its numbers.
 fn holds(rt: &HostRuntime, case: &Case) -> anyhow::Result<bool> {
-    let alloc = rt.alloc();
-    for choice in &choices(alloc, &case.names)? {
-        let plan = plan_of(alloc, case, choice)?;
-        let net = read(rt, &plan.settings.net)?;
-        if let Some(difference) = judged(alloc, &net, plan)? {
+    let all = choices(rt.alloc(), &case.names)?;
+    for choice in &all {
+        let found = found(rt, case, choice).context(format_args!(
+            "the case of line {}",
+            case.line
+        ))?;
+        if let Some(difference) = found {
             report(rt, case, choice, &difference)?;
             return Ok(false);
         }

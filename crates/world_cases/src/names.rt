@@ -135,14 +135,11 @@ pub fn is_used(name: &str, text: &str) -> bool {
         .any(|word| word.split('+').any(|part| part == name))
 }
 
-/// The names with the numbers that were chosen, as `CALL 3 FILL 255`.
+/// The names with the numbers that were chosen, as ` CALL 3 FILL 255`.
 pub fn chosen(alloc: Global, names: &[Name], choice: &[u64]) -> Result<String, AllocError> {
     let mut text = String::new(alloc);
     for (name, value) in names.iter().zip(choice.iter()) {
-        if !text.is_empty() {
-            text.push_str(" ")?;
-        }
-        text.push_str(format!(in alloc; "{} {value}", name.name)?.as_str())?;
+        text.push_str(format!(in alloc; " {} {value}", name.name)?.as_str())?;
     }
     Ok(text)
 }

@@ -150,7 +150,8 @@ fn current_counts(
     let Some(station) = world.stations.get(usize::from(node)) else {
         return String::from_str(alloc, "none");
     };
-    match &station.node.state.mode {
+    let state = &station.node.state;
+    match &state.mode {
         Mode::Running(running) => {
             let got = running.current.received(channel);
             let put = running.current.sent(channel);
@@ -182,7 +183,7 @@ impl Run {
     /// What came of the job that was granted as the one of this number, from 1.
     fn outcome(&mut self, number: usize) -> anyhow::Result<Done> {
         let Some(place) = number.checked_sub(1) else {
-            anyhow::bail!("jobs are counted from 1");
+            anyhow::bail!("no job was granted, or it is counted from 0");
         };
         match self.outcomes.get_mut(place) {
             Some(outcome) => match outcome.take() {

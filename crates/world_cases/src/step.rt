@@ -111,7 +111,7 @@ fn packet_event(words: &[&str]) -> anyhow::Result<Option<Event>> {
 }
 
 /// A question.
-fn question(words: &[&str]) -> anyhow::Result<Option<Question>> {
+fn question_of(words: &[&str]) -> anyhow::Result<Option<Question>> {
     let question = match words {
         ["pick", node] => Question::Pick(byte(node)?),
         ["released", channel] => Question::Released(byte(channel)?),
@@ -169,7 +169,7 @@ pub fn step_of(alloc: Global, text: &str) -> anyhow::Result<Step> {
     if let Some(event) = packet_event(&words)? {
         return Ok(Step::Event(event));
     }
-    if let Some(question) = question(&words)? {
+    if let Some(question) = question_of(&words)? {
         return Ok(Step::Ask(question));
     }
     match other_step(&words)? {
