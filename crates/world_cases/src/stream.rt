@@ -37,15 +37,6 @@ impl Stream {
         Ok(stream)
     }
 
-    /// Whether what has left is all of it.
-    pub fn is(&self, left: &[i64]) -> bool {
-        if self.goes_on {
-            left.starts_with(&self.items)
-        } else {
-            left == self.items.as_slice()
-        }
-    }
-
     /// Whether what has left may become all of it.
     pub fn may_follow(&self, left: &[i64]) -> bool {
         self.items.starts_with(left) || (self.goes_on && left.starts_with(&self.items))
