@@ -1,7 +1,5 @@
-//! Replies, events and what a world shows, in words.
+//! Replies, events, items and bytes, in words.
 
-use node::Mode;
-use record::Record;
 use std::alloc::{AllocError, Global};
 use world::{Event, Reply};
 
@@ -71,15 +69,6 @@ pub fn event_text(alloc: Global, event: &Event, asked: u8) -> Result<String, All
     }
 }
 
-/// A node's mode.
-pub fn mode_word(mode: &Mode) -> &'static str {
-    match mode {
-        Mode::Down => "down",
-        Mode::InDoubt => "in doubt",
-        Mode::Running(_) => "up",
-    }
-}
-
 /// Items, with one space between them.
 pub fn items_text(alloc: Global, items: &[i64]) -> Result<String, AllocError> {
     if items.is_empty() {
@@ -105,18 +94,4 @@ pub fn packet_text(alloc: Global, packet: Option<&[u8]>) -> Result<String, Alloc
         text.push_str(format!(in alloc; "{byte:02x}")?.as_str())?;
     }
     Ok(text)
-}
-
-/// Of a node's record the epoch, its own entry, and the number of the image that is held.
-pub fn record_text(alloc: Global, node: u8, kept: &Record) -> Result<String, AllocError> {
-    let epoch = kept.epoch;
-    let number = kept
-        .highest
-        .get(usize::from(node))
-        .copied()
-        .unwrap_or_default();
-    match &kept.tentative {
-        Some(held) => { format!(in alloc; "epoch {epoch} number {number} held {}", held.number) }
-        None => format!(in alloc; "epoch {epoch} number {number} held none"),
-    }
 }

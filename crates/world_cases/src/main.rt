@@ -51,6 +51,7 @@ mod numbers;
 mod opening;
 mod plan;
 mod run;
+mod showing;
 mod step;
 mod stream;
 mod table;

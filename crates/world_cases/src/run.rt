@@ -1,14 +1,14 @@
 //! A case's world, step by step.
 
-use crate::answer::{event_text, items_text, mode_word, packet_text, record_text, reply_text};
+use crate::answer::{items_text, reply_text};
 use crate::opening::{CaseWorld, open_world};
 use crate::plan::Settings;
-use crate::step::{Brought, Question, Step};
+use crate::showing::shown;
+use crate::step::{Brought, Step};
 use crate::stream::Stream;
-use node::Mode;
 use proc_step::{Done, Job};
 use std::alloc::{AllocError, Global};
-use world::{Event, Reply, Station};
+use world::{Event, Reply};
 
 /// The most times that each node goes on in a `run`.
 const MAX_TURNS: u64 = 100_000;
@@ -94,74 +94,6 @@ fn chosen_act(number: u64, node: u8) -> Option<Event> {
     }
 }
 
-/// Whether a node is up, its version, and from which round on it may be recovered.
-fn node_text(alloc: Global, world: &CaseWorld, node: u8) -> Result<String, AllocError> {
-    match world.stations.get(usize::from(node)) {
-        Some(station) => {
-            let state = &station.node.state;
-            let word = mode_word(&state.mode);
-            format!(in alloc;
-                "{word} version {} restart {}",
-                state.version, state.restart
-            )
-        }
-        None => String::from_str(alloc, "none"),
-    }
-}
-
-/// Of a node's record what `record_text` says.
-fn kept_text(alloc: Global, world: &CaseWorld, node: u8) -> Result<String, AllocError> {
-    match world.stations.get(usize::from(node)) {
-        Some(station) => match station.node.store.record() {
-            Ok(kept) => record_text(alloc, node, kept),
-            Err(_) => String::from_str(alloc, "none"),
-        },
-        None => String::from_str(alloc, "none"),
-    }
-}
-
-/// How many items of a channel the permanent image has got and put.
-fn kept_counts(
-    alloc: Global,
-    world: &CaseWorld,
-    node: u8,
-    channel: u8,
-) -> Result<String, AllocError> {
-    match world.stations.get(usize::from(node)) {
-        Some(station) => match station.node.store.record() {
-            Ok(kept) => {
-                let got = kept.permanent.received(channel);
-                let put = kept.permanent.sent(channel);
-                format!(in alloc; "got {got} put {put}")
-            }
-            Err(_) => String::from_str(alloc, "none"),
-        },
-        None => String::from_str(alloc, "none"),
-    }
-}
-
-/// How many items of a channel a node that runs has got and put, and how many of those its log let go of.
-fn current_counts(
-    alloc: Global,
-    world: &CaseWorld,
-    node: u8,
-    channel: u8,
-) -> Result<String, AllocError> {
-    let Some(station) = world.stations.get(usize::from(node)) else {
-        return String::from_str(alloc, "none");
-    };
-    let state = &station.node.state;
-    match &state.mode {
-        Mode::Running(running) => {
-            let got = running.current.received(channel);
-            let put = running.current.sent(channel);
-            let base = running.current.base(channel);
-            format!(in alloc; "got {got} put {put} let go of {base}")
-        }
-        _ => String::from_str(alloc, "none"),
-    }
-}
-
 impl Run {
     pub fn new(alloc: Global, world: CaseWorld) -> Run {
         Run {
@@ -208,23 +140,6 @@ impl Run {
             }
             Brought::Earlier(number) => self.outcome(*number),
             Brought::Foreign(inputs) => foreign_done(alloc, net, settings, inputs),
-        }
-    }
-
-    fn ask(&self, alloc: Global, question: Question) -> Result<String, AllocError> {
-        let world = &self.world;
-        match question {
-            Question::Pick(node) => event_text(alloc, &world.pick(node), node),
-            Question::Released(channel) => items_text(alloc, world.released(channel)),
-            Question::Complete if world.complete() => String::from_str(alloc, "yes"),
-            Question::Complete => String::from_str(alloc, "no"),
-            Question::Round => format!(in alloc; "{}", world.round()),
-            Question::Nodes => format!(in alloc; "{}", world.stations.len()),
-            Question::Packet { node, place } => packet_text(alloc, world.packet(node, place)),
-            Question::Node(node) => node_text(alloc, world, node),
-            Question::Record(node) => kept_text(alloc, world, node),
-            Question::Kept { node, channel } => kept_counts(alloc, world, node, channel),
-            Question::Now { node, channel } => current_counts(alloc, world, node, channel),
         }
     }
 
@@ -362,7 +277,7 @@ impl Run {
                 let answer = self.answer(alloc, Event::Install(done))?;
                 self.came(alloc, answer, streams, line)
             }
-            Step::Ask(question) => Ok(Came::Answer(self.ask(alloc, question)?)),
+            Step::Ask(question) => Ok(Came::Answer(shown(alloc, &self.world, question)?)),
             Step::Run(rounds) => self.run(alloc, rounds, streams, line),
             Step::Turns { node, count } => self.turns(alloc, node, count, streams, line),
             Step::Chance { seed, events } => self.chance(alloc, seed, events, streams, line),
