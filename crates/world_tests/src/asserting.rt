@@ -7,13 +7,3 @@ use std::process::Abort;
 pub(crate) fn same<T: PartialEq + Debug>(rt: &impl Abort, found: &T, wanted: &T, what: &str) {
     assert_eq!(rt; *found, *wanted, "{what}");
 }
-
-/// Asserts that two values are equal, in a row of a table. A failure names the row.
-pub(crate) fn same_at<T: PartialEq + Debug>(
-    rt: &impl Abort,
-    found: &T,
-    wanted: &T,
-    row: &impl Debug,
-) {
-    assert_eq!(rt; *found, *wanted, "at {row:?}");
-}

@@ -1,22 +1,14 @@
-//! The tests of worlds. They stand here since a crate with tests is proved twice, with them
-//! and without.
+//! The tests of worlds that a table of events can't say: bytes on disks, and outlets that fail. They stand here since a crate with
+//! tests is proved twice, with them and without. The table is that of `world_cases`.
 #![tactic(auto)]
 
 #[cfg(test)]
 mod asserting;
 #[cfg(test)]
-mod crashes;
+mod closing;
 #[cfg(test)]
-mod events;
-#[cfg(test)]
-mod nodes;
-#[cfg(test)]
-mod packets;
-#[cfg(test)]
-mod pipes;
-#[cfg(test)]
-mod stops;
-#[cfg(test)]
-mod sums;
+mod outlets;
 #[cfg(test)]
 mod weak_outlet;
+#[cfg(test)]
+mod worlds;

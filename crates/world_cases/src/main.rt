@@ -1,0 +1,129 @@
+//! Runs worlds by the table `cases`: a case says of what its world is made, what happens there, and what has to be answered.
+//! Prints each case that comes out otherwise, and how many came out as written. The status is 1 where one didn't, and where
+//! the table has a line that isn't understood.
+//!
+//! A line `== TITLE` begins a case. Empty lines, and those that begin with `#`, say nothing. Numbers are decimal; nodes, channels
+//! and places are counted from 0.
+//!
+//! First comes of what the world is made:
+//!
+//! | Line | Meaning |
+//! |---|---|
+//! | `net sum.net` | the file of the network |
+//! | `inputs i: 1 2 3` | a line of the inputs text |
+//! | `sectors 5`, `sectors 5 3` | the sectors of each disk, or of each node's; 5 where it isn't said |
+//! | `fault 0 call 7 fill 0` | a failure that is prepared on the node's disk before the world is made |
+//! | `for CALL 1..12 FILL 0 255` | the case is run for each choice of these numbers, the ends of a range included. The names, in capital letters, stand for them in all its lines, alone or in a sum as `CALL+1` |
+//!
+//! Then comes what happens, line by line, and behind an arrow what has to be answered:
+//!
+//! | Line | Meaning |
+//! |---|---|
+//! | `open -> done`, `-> refused 22` | the world is made, or why it isn't. It may be left out where it is made |
+//! | `grant 0`, `send 0`, `start 0`, `decide 0`, `release 0`, `recover 0`, `idle 0` | an event of the node |
+//! | `crash 0 fill 0 rounds 1`, `arm 0 call 9 fill 0 rounds 1` | a crash of the node, and a failure of its disk |
+//! | `deliver 1 0`, `lose 1 0`, `repeat 1 0`, `delay 1 0 rounds 2` | an event of the packet at a place of those in flight to the node |
+//! | `install`, `install 1`, `install of i: 1 2 4` | what came of the job that was granted last comes back, or of the first, the second and so on; or of the first job of another world of the network, on these inputs |
+//! | `run 40` | each node in turn does what `pick` says, with what comes of a job brought back at once, until the world is complete, for so many rounds at most |
+//! | `turns 1 10` | one node does so alone, so many times |
+//! | `chance 1 1500` | so many events of nodes 0 and 1, as `pick` says or of a packet, which this number chooses |
+//! | `pick 0 -> grant` | the event that is next for the node |
+//! | `released 1 -> 1 3 6` | what has left by the output; `nothing`, or the first items and `..` |
+//! | `complete -> yes`, `round -> 3`, `nodes -> 2` | what the world says of itself |
+//! | `packet 1 0 -> 01 00 01 ..` | the bytes of the packet at a place; `none` |
+//! | `node 0 -> up version 0 restart 0` | whether the node is `up`, `down` or `in doubt`, how often it went down, and from which round on it may be recovered |
+//! | `record 0 -> epoch 0 number 1 held none` | of the node's record the epoch, the number that it used last, and that of the image that is held |
+//! | `kept 0 1 -> got 0 put 3` | how many items of the channel the permanent image has got and put |
+//! | `now 0 2 -> got 3 put 3 let go of 3` | the same of where the node stands, and how many of those that it put its log let go of |
+//!
+//! `run`, `turns` and `chance` answer nothing. An event answers `delivered`, `dropped 33`, `job`, `done` (of an install),
+//! `discarded`, `sent`, `started`, `decided`, `refused 22`, `released 1 3` (so many items have left by the output), `outlet failed`,
+//! `crashed`, `recovered`, `in doubt`, `down`, `acted`, `idled` or `not due`. An answer that ends in `..` may go on.
+//!
+//! After each event, also of those that `pick` and chance choose, what has left has to be a beginning of what each `released` line
+//! below it says.
+#![tactic(auto)]
+
+mod answer;
+mod judging;
+mod names;
+mod numbers;
+mod opening;
+mod plan;
+mod run;
+mod showing;
+mod step;
+mod stream;
+mod table;
+
+use crate::judging::{Difference, judged};
+use crate::names::{choices, chosen};
+use crate::plan::plan_of;
+use crate::table::{Case, cases_of};
+use anyhow::Context;
+use std::fs::File;
+use std::io::Read;
+use std::{fs, io};
+
+/// The text of a file.
+fn read(rt: &HostRuntime, name: &str) -> io::Result<String> {
+    let mut file: File = fs::open(rt, name)?;
+    let mut text = String::new(rt.alloc());
+    file.read_to_string(&mut text)?;
+    Ok(text)
+}
+
+/// Prints a case that came out otherwise.
+fn report(
+    rt: &HostRuntime,
+    case: &Case,
+    choice: &[u64],
+    difference: &Difference,
+) -> io::Result<()> {
+    let chosen = chosen(rt.alloc(), &case.names, choice)?;
+    println!(rt; "otherwise: {}{chosen}", case.title)?;
+    println!(rt; "  line {}: {}", difference.line, difference.asked)?;
+    println!(rt; "  expected: {}", difference.wanted)?;
+    println!(rt; "  came: {}", difference.came)
+}
+
+/// What comes out otherwise than a case says, for one choice of its numbers.
+fn found(rt: &HostRuntime, case: &Case, choice: &[u64]) -> anyhow::Result<Option<Difference>> {
+    let plan = plan_of(rt.alloc(), case, choice)?;
+    let net = read(rt, &plan.settings.net).context("its network")?;
+    judged(rt.alloc(), &net, plan)
+}
+
+/// Whether a case comes out as written, for each choice of its numbers.
+fn holds(rt: &HostRuntime, case: &Case) -> anyhow::Result<bool> {
+    let all = choices(rt.alloc(), &case.names)?;
+    for choice in &all {
+        let found = found(rt, case, choice).context(format_args!(
+            "the case of line {}",
+            case.line
+        ))?;
+        if let Some(difference) = found {
+            report(rt, case, choice, &difference)?;
+            return Ok(false);
+        }
+    }
+    Ok(true)
+}
+
+fn main(rt: HostRuntime) -> anyhow::Result<()> {
+    let table = read(&rt, "cases")?;
+    let cases = cases_of(rt.alloc(), &table)?;
+    let mut as_written: usize = 0;
+    for case in &cases {
+        if holds(&rt, case)? {
+            as_written = as_written.saturating_add(1);
+        }
+    }
+    println!(rt; "{as_written} cases as written")?;
+    anyhow::ensure!(
+        as_written == cases.len(),
+        "{} cases otherwise",
+        cases.len().saturating_sub(as_written)
+    );
+    Ok(())
+}

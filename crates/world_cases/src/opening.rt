@@ -1,0 +1,86 @@
+//! How a case's world is made.
+
+ghost use Rattle.std.specs.Prelude.{◌*◌, ◌^◌, ◌<◌};
+ghost use Rattle.sector_disk.specs.declared.TheConstants.{SECTOR_BYTES};
+
+use crate::plan::{EarlyFault, Settings};
+use ckpt_store::StoreFault;
+use gate_cell::GateCell;
+use net_check::{bind, check};
+use net_text::{parse, parse_inputs};
+use outlet::ListOutlet;
+use sector_disk::{Disk, MemDisk};
+use std::alloc::{AllocError, Global};
+use std::sync::Arc;
+use world::{World, list_outputs, node_count};
+
+/// A case's world.
+pub type CaseWorld = World<GateCell<MemDisk>, ListOutlet>;
+
+/// The sectors of a disk where a case says nothing of them.
+const SECTORS: usize = 5;
+
+/// The most sectors of a disk.
+const MAX_SECTORS: usize = 5_000;
+
+/// A disk of so many sectors.
+fn empty_disk(alloc: Global, sectors: usize) -> Result<MemDisk, AllocError>
+    requires { SECTOR_BYTES * sectors < 2 ^ 64 }
+{
+    MemDisk::new(alloc, sectors)
+}
+
+/// How many sectors the disk of a node has.
+fn sectors_of(sectors: &[usize], node: usize) -> usize {
+    match sectors {
+        [] => SECTORS,
+        [all] => *all,
+        several => several.get(node).copied().unwrap_or(0),
+    }
+}
+
+/// The disk of a node, with what is prepared on it.
+fn disk_of(alloc: Global, settings: &Settings, node: usize) -> anyhow::Result<MemDisk> {
+    let sectors = sectors_of(&settings.sectors, node);
+    anyhow::ensure!(sectors <= MAX_SECTORS, "{sectors} sectors are too many");
+    let mut disk = empty_disk(alloc, sectors)?;
+    for EarlyFault { node: its, fault } in &settings.faults {
+        if *its == node {
+            disk.arm(*fault)?;
+        }
+    }
+    Ok(disk)
+}
+
+fn disks_of(alloc: Global, settings: &Settings, nodes: usize) -> anyhow::Result<Vec<MemDisk>> {
+    let given = settings.sectors.len();
+    anyhow::ensure!(
+        given <= 1 || given == nodes,
+        "sectors of {given} disks for {nodes} nodes"
+    );
+    for early in &settings.faults {
+        anyhow::ensure!(early.node < nodes, "no disk {} to fail", early.node);
+    }
+    let mut disks = Vec::new(alloc);
+    for node in 0..nodes {
+        disks.push(disk_of(alloc, settings, node)?)?;
+    }
+    Ok(disks)
+}
+
+/// The world of this network's text on these inputs, before its first event, or why there is none.
+pub fn open_world(
+    alloc: Global,
+    net: &str,
+    inputs: &str,
+    settings: &Settings,
+) -> anyhow::Result<Result<CaseWorld, StoreFault>> {
+    let net = check(alloc, parse(alloc, net)?)?;
+    let inputs = bind(alloc, &net, parse_inputs(alloc, inputs)?)?;
+    let outputs = list_outputs(alloc, &net)?;
+    let disks = disks_of(alloc, settings, node_count(&net))?;
+    anyhow::ensure!(disks.len() == node_count(&net), "a disk for each node");
+    let net = Arc::new(alloc, net)?;
+    let inputs = Arc::new(alloc, inputs)?;
+    Ok(World::new(alloc, net, inputs, disks, outputs))
+}

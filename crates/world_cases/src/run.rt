@@ -1,0 +1,286 @@
+//! A case's world, step by step.
+
+use crate::answer::{items_text, reply_text};
+use crate::opening::{CaseWorld, open_world};
+use crate::plan::Settings;
+use crate::showing::shown;
+use crate::step::{Brought, Step};
+use crate::stream::Stream;
+use proc_step::{Done, Job};
+use std::alloc::{AllocError, Global};
+use world::{Event, Reply};
+
+/// The most times that each node goes on in a `run`.
+const MAX_TURNS: u64 = 100_000;
+
+/// What came of a step.
+#[derive(Drop)]
+pub enum Came {
+    /// This was answered.
+    Answer(String),
+    Nothing,
+    /// What has left is no beginning of what the `released` line there says.
+    Stray { line: usize, left: String },
+}
+
+/// A world, and what came of the jobs that it granted, in order, but for those that were brought back.
+#[derive(Drop)]
+pub struct Run {
+    world: CaseWorld,
+    outcomes: Vec<Option<Done>>,
+}
+
+/// What comes of a job.
+fn done_of(alloc: Global, job: Job) -> anyhow::Result<Done> {
+    match job.run(alloc) {
+        Ok(done) => Ok(done),
+        Err(_) => anyhow::bail!("no memory"),
+    }
+}
+
+/// One event. `World::apply` refuses for want of memory alone.
+fn apply(alloc: Global, world: &mut CaseWorld, event: Event) -> anyhow::Result<Reply> {
+    match world.apply(alloc, event) {
+        Ok(reply) => Ok(reply),
+        Err(_) => anyhow::bail!("no memory"),
+    }
+}
+
+/// The event that is next for a node. What comes of a job is brought back at once.
+fn take_turn(alloc: Global, world: &mut CaseWorld, node: u8) -> anyhow::Result<()> {
+    let event = world.pick(node);
+    if let Reply::Granted(job) = apply(alloc, world, event)? {
+        let done = done_of(alloc, job)?;
+        apply(alloc, world, Event::Install(done))?;
+    }
+    Ok(())
+}
+
+/// What comes of the first job of another world of this network, on these inputs.
+fn foreign_done(
+    alloc: Global,
+    net: &str,
+    settings: &Settings,
+    inputs: &str,
+) -> anyhow::Result<Done> {
+    let Ok(mut world) = open_world(alloc, net, inputs, settings)? else {
+        anyhow::bail!("no other world was made");
+    };
+    match apply(alloc, &mut world, Event::Grant(0))? {
+        Reply::Granted(job) => done_of(alloc, job),
+        _ => anyhow::bail!("the other world grants no job"),
+    }
+}
+
+/// The next of a row of numbers that looks like chance.
+fn next_number(seed: u64) -> u64 {
+    seed.wrapping_mul(6_364_136_223_846_793_005)
+        .wrapping_add(1_442_695_040_888_963_407)
+}
+
+/// The act of the network that this number chooses, if it chooses one.
+fn chosen_act(number: u64, node: u8) -> Option<Event> {
+    let place = (number >> 40 & 7) as usize;
+    match number >> 50 & 15 {
+        0 => Some(Event::Lose { node, place }),
+        1 => Some(Event::Repeat { node, place }),
+        2 => Some(Event::Delay {
+            node,
+            place,
+            rounds: 1,
+        }),
+        3 => Some(Event::Deliver { node, place }),
+        _ => None,
+    }
+}
+
+impl Run {
+    pub fn new(alloc: Global, world: CaseWorld) -> Run {
+        Run {
+            world,
+            outcomes: Vec::new(alloc),
+        }
+    }
+
+    /// What an event answers. What comes of a job that it grants is kept.
+    fn answer(&mut self, alloc: Global, event: Event) -> anyhow::Result<String> {
+        let reply = apply(alloc, &mut self.world, event)?;
+        let text = reply_text(alloc, &reply)?;
+        if let Reply::Granted(job) = reply {
+            self.outcomes.push(Some(done_of(alloc, job)?))?;
+        }
+        Ok(text)
+    }
+
+    /// What came of the job that was granted as the one of this number, from 1.
+    fn outcome(&mut self, number: usize) -> anyhow::Result<Done> {
+        let Some(place) = number.checked_sub(1) else {
+            anyhow::bail!("no job was granted, or it is counted from 0");
+        };
+        match self.outcomes.get_mut(place) {
+            Some(outcome) => match outcome.take() {
+                Some(done) => Ok(done),
+                None => anyhow::bail!("what came of it was brought back before"),
+            },
+            None => anyhow::bail!("no such job was granted"),
+        }
+    }
+
+    fn brought(
+        &mut self,
+        alloc: Global,
+        net: &str,
+        settings: &Settings,
+        brought: &Brought,
+    ) -> anyhow::Result<Done> {
+        match brought {
+            Brought::Last => {
+                let last = self.outcomes.len();
+                self.outcome(last)
+            }
+            Brought::Earlier(number) => self.outcome(*number),
+            Brought::Foreign(inputs) => foreign_done(alloc, net, settings, inputs),
+        }
+    }
+
+    /// What has left, where it can't become what a line behind this one says.
+    fn stray(
+        &self,
+        alloc: Global,
+        streams: &[Stream],
+        line: usize,
+    ) -> Result<Option<Came>, AllocError> {
+        for stream in streams {
+            let left = self.world.released(stream.channel);
+            if stream.line > line && !stream.may_follow(left) {
+                return Ok(Some(Came::Stray {
+                    line: stream.line,
+                    left: items_text(alloc, left)?,
+                }));
+            }
+        }
+        Ok(None)
+    }
+
+    /// How many nodes there are.
+    fn nodes(&self) -> u8 {
+        u8::try_from(self.world.stations.len()).unwrap_or(u8::MAX)
+    }
+
+    /// Whether it need not go on up to this round.
+    fn is_over(&self, end: u64) -> bool {
+        self.world.complete() || self.world.round() >= end
+    }
+
+    fn run(
+        &mut self,
+        alloc: Global,
+        rounds: u64,
+        streams: &[Stream],
+        line: usize,
+    ) -> anyhow::Result<Came> {
+        let end = self.world.round().saturating_add(rounds);
+        for _turn in 0..MAX_TURNS {
+            for node in 0..self.nodes() {
+                if self.is_over(end) {
+                    return Ok(Came::Nothing);
+                }
+                take_turn(alloc, &mut self.world, node)?;
+                if let Some(stray) = self.stray(alloc, streams, line)? {
+                    return Ok(stray);
+                }
+            }
+        }
+        anyhow::bail!("it goes on for more than {MAX_TURNS} turns of a node")
+    }
+
+    fn turns(
+        &mut self,
+        alloc: Global,
+        node: u8,
+        count: u64,
+        streams: &[Stream],
+        line: usize,
+    ) -> anyhow::Result<Came> {
+        for _turn in 0..count {
+            take_turn(alloc, &mut self.world, node)?;
+            if let Some(stray) = self.stray(alloc, streams, line)? {
+                return Ok(stray);
+            }
+        }
+        Ok(Came::Nothing)
+    }
+
+    /// An event that this number chooses: an act of the network, or the one that is next for a node.
+    fn happen(&mut self, alloc: Global, number: u64) -> anyhow::Result<()> {
+        let node = (number >> 33 & 1) as u8;
+        match chosen_act(number, node) {
+            Some(event) => {
+                apply(alloc, &mut self.world, event)?;
+                Ok(())
+            }
+            None => take_turn(alloc, &mut self.world, node),
+        }
+    }
+
+    fn chance(
+        &mut self,
+        alloc: Global,
+        seed: u64,
+        events: u64,
+        streams: &[Stream],
+        line: usize,
+    ) -> anyhow::Result<Came> {
+        let mut number = seed;
+        for _event in 0..events {
+            number = next_number(number);
+            self.happen(alloc, number)?;
+            if let Some(stray) = self.stray(alloc, streams, line)? {
+                return Ok(stray);
+            }
+        }
+        Ok(Came::Nothing)
+    }
+
+    /// What an event came to.
+    fn came(
+        &self,
+        alloc: Global,
+        answer: String,
+        streams: &[Stream],
+        line: usize,
+    ) -> anyhow::Result<Came> {
+        match self.stray(alloc, streams, line)? {
+            Some(stray) => Ok(stray),
+            None => Ok(Came::Answer(answer)),
+        }
+    }
+
+    /// What comes of a step on this line.
+    pub fn step(
+        &mut self,
+        alloc: Global,
+        net: &str,
+        settings: &Settings,
+        streams: &[Stream],
+        line: usize,
+        step: Step,
+    ) -> anyhow::Result<Came> {
+        match step {
+            Step::Open => Ok(Came::Answer(String::from_str(alloc, "done")?)),
+            Step::Event(event) => {
+                let answer = self.answer(alloc, event)?;
+                self.came(alloc, answer, streams, line)
+            }
+            Step::Install(brought) => {
+                let done = self.brought(alloc, net, settings, &brought)?;
+                let answer = self.answer(alloc, Event::Install(done))?;
+                self.came(alloc, answer, streams, line)
+            }
+            Step::Ask(question) => Ok(Came::Answer(shown(alloc, &self.world, question)?)),
+            Step::Run(rounds) => self.run(alloc, rounds, streams, line),
+            Step::Turns { node, count } => self.turns(alloc, node, count, streams, line),
+            Step::Chance { seed, events } => self.chance(alloc, seed, events, streams, line),
+        }
+    }
+}
