@@ -1,5 +1,5 @@
 -- An image of the same shape as the permanent one, which may be written alone, may be written beside it.
-use Rattle.std.proofs.Common.{◌≡◌, ℕ, suc, Bool, List, [], ◌∷◌, ◌++◌, length, map, Some, None, refl, sym, ◌∙◌, ap}
+use Rattle.std.proofs.Common.{◌≡◌, ℕ, suc, Bool, List, [], ◌∷◌, ◌++◌, length, map, Some, None, sym, ◌∙◌, ap}
 use Rattle.std.proofs.lemmas.Bool.{eq-eqb}
 use Rattle.std.proofs.lemmas.List.{length-map}
 use Rattle.std.proofs.lemmas.List.Elements.{All-nil, All-cons, All-head, All-tail, All-append}
@@ -85,7 +85,3 @@ like_of permanent image all shape =
           (as_wanted 2 (length image.ends) (length permanent.ends) ends.allows (same_length (λ (e : SavedEnd). e.channel) image.ends permanent.ends shape.channels) (All-head IsAllowed ends (ends_fields None 0 image.ends) b))
           (ends_alike 0 permanent.ends image.ends shape.channels shape.roles (All-tail IsAllowed ends (ends_fields None 0 image.ends) b)));
     }
-
--- so an image is like itself
-pub like_itself : (image : ImageView) → AreAllowed (image_fields None image) → IsLike image image
-like_itself image all = like_of image image all (record { numbers = refl; variables = refl; channels = refl; roles = refl })

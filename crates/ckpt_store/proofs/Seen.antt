@@ -1,13 +1,12 @@
 -- The record that a store shows in every state is the one that its cell's value spells.
-use Rattle.std.proofs.Common.{◌≡◌, ◌⊎◌, inl, inr, ⊎_elim, ℕ, ◌≤◌, List, Option, Some, None, refl, sym, ◌∙◌, ap, subst, arith}
-use Rattle.std.specs.Prelude.{IsTrue, IsSome, is_some}
-use Rattle.sector_disk.specs.Clock.{Only, LeavesOnly}
+use Rattle.std.proofs.Common.{◌≡◌, ℕ, List, Some, ap, arith}
+
 use Rattle.gate_cell.specs.declared.cell.StableCell.{Ghosts as CellWords}
 use Rattle.record.specs.RecordView.{RecordView}
 use Rattle.ckpt_codec.specs.RecordText.{IsRecordText}
 use Rattle.ckpt_codec.proofs.Exactness.{whole_again}
-use Rattle.ckpt_store.specs.Spelling.{Spells, IsKept}
-use Rattle.ckpt_store.specs.StoreView.{record_or_blank, record_spelled, record_in, cell_in, known_in}
+use Rattle.ckpt_store.specs.Spelling.{Spells}
+use Rattle.ckpt_store.specs.StoreView.{record_or_blank, record_spelled, record_in, known_in}
 use Rattle.ckpt_store.specs.declared.store.Store.{Store}
 
 -- two records don't have the same bytes

@@ -154,11 +154,6 @@ word_has_no_colon name items word = continues name (word_continues (name ++ 58 �
     continues [] h = absurd cc
     continues (b ∷ name) h = continues name (and_parts (continues_word b) (list_all continues_word (name ++ 58 ∷ items)) h).1
 
--- items that end in a digit end in one behind the colon
-ends_behind : (name front : List ℕ) → ends_in_digit ((name ++ 58 ∷ []) ++ front) ≡ true → ends_in_digit front ≡ true
-ends_behind name [] e = absurd (both_ways (ends_in_digit ((name ++ 58 ∷ []) ++ [])) (ap ends_in_digit (append-nil (name ++ 58 ∷ [])) ∙ ends_later name 58 []) e)
-ends_behind name (b ∷ front) e = sym (ends_later (name ++ 58 ∷ []) b front) ∙ e
-
 -- no item ends in a digit where the line before it doesn't
 no_digits : (front : List ℕ) (byte : ℕ) → (is_ascii_digit byte ≡ false) ⊎ (ends_in_digit front ≡ false) → IsMoreDigits front byte → ⊥
 no_digits front byte (inl other) more = both_ways (is_ascii_digit byte) other more.0

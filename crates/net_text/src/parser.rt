@@ -2,12 +2,12 @@
 //! Each gives what its reader in specs/ gives; that the readers are those of the grammar stands in proofs/.
 //! What may nest takes how many more blocks, parentheses and minus signs may be opened.
 
-ghost use Rattle.std.specs.Prelude.{◌≡◌, ℕ, ◌<◌, IfOk, map, List, Option};
+ghost use Rattle.std.specs.Prelude.{◌≡◌, ◌<◌, IfOk, map, List, Option};
 ghost use Rattle.net_text.specs.Trees.{expr_tree, link_tree, then_tree, block_tree, repeated_tree, process_tree, declaration_tree, net_tree, NothingTree};
 ghost use Rattle.net_text.specs.Numbers.{IsInRange};
 ghost use Rattle.net_text.specs.Grammar.{chain_of, first_word, level_of};
 ghost use Rattle.net_text.specs.Tokens.{lexemes};
-ghost use Rattle.net_text.specs.Reading.{Gives, has_word, has_symbol, is_name, is_level, operator_of, operator_in, has_operator, begins, starts_statement, starts_declaration, word_on_at, word_at, symbol_at, name_at, number_at, operator_at, opening_at, atom_at, parenthesised_at, minus_at, factor_at, operand_at, link_at, links_at, chain_at, operand_of, expr_at, got_at, assigned_at, named_at, put_at, stop_at, else_at, if_at, statement_at, statements_at, block_at, value_at, initial_at, variable_at, variables_at, loop_at, head_at, head_tree, process_at, channel_at, declaration_at, declarations_at, edition_number_at, edition_at, text_at, whole_text};
+ghost use Rattle.net_text.specs.Reading.{Gives, has_word, has_symbol, is_name, is_level, operator_of, operator_in, has_operator, begins, starts_statement, starts_declaration, word_on_at, word_at, symbol_at, name_at, number_at, operator_at, opening_at, atom_at, parenthesised_at, minus_at, factor_at, operand_at, link_at, links_at, chain_at, expr_at, got_at, assigned_at, named_at, put_at, stop_at, else_at, if_at, statement_at, statements_at, block_at, value_at, initial_at, variable_at, variables_at, loop_at, head_at, head_tree, process_at, channel_at, declaration_at, declarations_at, edition_number_at, edition_at, text_at, whole_text};
 ghost use Rattle.net_text.specs.declared.parser.ParseError.TheVariants.{NoMemory};
 
 use crate::limits::MAX_NESTING;

@@ -72,10 +72,6 @@ before_more t go room u0 s0 flow v u s halted p = record {
     stops (Stands site) halted [] (Ended w y) h = absurd (not_done w v (point_at site []) h.0)
     stops (Stands site) halted [] (StopsAt w) h = absurd (not_done w v (point_at site []) h.0)
 
--- nothing was to be done
-pub nothing_done : (room : List ℕ) (v : List ℤ) (u s : List (List ℤ)) → Part (no_steps (Ended v u)) room u s RanOut v u s
-nothing_done room v u s = record { done = []; rest = []; whole = refl; made = tt; left = refl; put = refl; stop = (refl, refl) }
-
 -- whatever part of the one is made, a part of the other was
 abbrev pub LeadsTo : Trace → List (List ℤ) → List (List ℤ) → Trace → List (List ℤ) → List (List ℤ) → List ℕ → Type 0
 LeadsTo t u s whole u0 s0 room = (flow : Flow) (v' : List ℤ) (u' s' : List (List ℤ)) → Part t room u s flow v' u' s' → Part whole room u0 s0 flow v' u' s'

@@ -3,10 +3,6 @@ use Rattle.std.proofs.Common.{inl, inr, ⊎_elim, ℕ, arith}
 use Rattle.sector_disk.specs.Clock.{Elapses, LeavesOnly}
 
 module _ {D C : Type 0} (moment : D → ℕ) (left_since : D → ℕ → C → Type 0) where
-  -- without a call the clock stands
-  pub stands_still : (device : D) (end : C → Type 0) → Elapses (moment device) (moment device) (left_since device) (left_since device) end
-  stands_still device end = record { later = omega arith; keeps = λ t c le had. had; nothing_else = λ t c le left. inl left }
-
   -- a run of one call: P holds of what a crash leaves at its beginning, and at its end
   pub one_call : (old new : D) (P end : C → Type 0) → Elapses (moment old) (moment new) (left_since old) (left_since new) end
       → ((c : C) → left_since old (moment old) c → P c) → ((c : C) → end c → P c) → LeavesOnly moment left_since old new P

@@ -79,11 +79,3 @@ ones n = replicate n (pos 1)
 
 abbrev pub zero_one : List ℤ
 zero_one = pos 0 ∷ pos 1 ∷ []
-
--- One process that puts each item that it gets twice on the channel from which it gets, after one first item: the n-th approximation has
--- 2 ^ n - 1 items.
-abbrev pub doubling_code : Code
-doubling_code = record { node = 0; vars = pos 0 ∷ []; prelude = PutThen (Number (pos 0)) 0 Nothing; body = Some (GetThen 0 0 (PutThen (Name 0) 0 (PutThen (Name 0) 0 Nothing))) }
-
-abbrev pub doubling_net : Network
-doubling_net = record { channels = channel_from (Process 0) (Process 0) ∷ []; codes = doubling_code ∷ [] }

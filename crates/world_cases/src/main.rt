@@ -30,7 +30,7 @@
 //! | `pick 0 -> grant` | the event that is next for the node |
 //! | `released 1 -> 1 3 6` | what has left by the output; `nothing`, or the first items and `..` |
 //! | `complete -> yes`, `round -> 3`, `nodes -> 2` | what the world says of itself |
-//! | `packet 1 0 -> 01 00 01 ..` | the bytes of the packet at a place; `none` |
+//! | `packet 1 0 -> 03 01 00 0001 0000000000000003` | the bytes of the packet at a place, in hexadecimal, with spaces where one likes; `none` |
 //! | `node 0 -> up version 0 restart 0` | whether the node is `up`, `down` or `in doubt`, how often it went down, and from which round on it may be recovered |
 //! | `record 0 -> epoch 0 number 1 held none` | of the node's record the epoch, the number that it used last, and that of the image that is held |
 //! | `kept 0 1 -> got 0 put 3` | how many items of the channel the permanent image has got and put |
@@ -38,7 +38,7 @@
 //!
 //! `run`, `turns` and `chance` answer nothing. An event answers `delivered`, `dropped 33`, `job`, `done` (of an install),
 //! `discarded`, `sent`, `started`, `decided`, `refused 22`, `released 1 3` (so many items have left by the output), `outlet failed`,
-//! `crashed`, `recovered`, `in doubt`, `down`, `acted`, `idled` or `not due`. An answer that ends in `..` may go on.
+//! `crashed`, `recovered`, `in doubt`, `down`, `acted`, `idled` or `not due`. Behind items that end in `..` more may have left.
 //!
 //! After each event, also of those that `pick` and chance choose, what has left has to be a beginning of what each `released` line
 //! below it says.

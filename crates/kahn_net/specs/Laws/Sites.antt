@@ -197,11 +197,6 @@ module _ (number site : ℕ) (above : number ≤ site) where
       let count : sites_of (then_of s Nothing) ≡ 1 = ap (λ (y : Statement). sites_of (then_of y Nothing)) is in
       ap (λ (y : Statement). next_on number (then_of y Nothing) site) is ∙ ap (λ (t : Bool). cond t (Gets c) NoNext) (same_number number site above (omega (arith, below, count)))
 
-  pub next_is_put : (s : Statement) (e : Expr) (c : ℕ) → s ≡ Put e c → site < number + sites_of (then_of s Nothing) → next_on number (then_of s Nothing) site ≡ Puts c
-  next_is_put s e c is below =
-      let count : sites_of (then_of s Nothing) ≡ 1 = ap (λ (y : Statement). sites_of (then_of y Nothing)) is in
-      ap (λ (y : Statement). next_on number (then_of y Nothing) site) is ∙ ap (λ (t : Bool). cond t (Puts c) NoNext) (same_number number site above (omega (arith, below, count)))
-
   module _ (s : Statement) (test : Expr) (first second : Vec Statement Global) (is : s ≡ view.If test first second) where
     next_seen : next_on number (then_of s Nothing) site ≡ next_if (block_of first.items) (block_of second.items) Nothing
     next_seen = ap (λ (block : Block). next_on number block site) (ap (λ (x : Statement). then_of x Nothing) is ∙ if_of test first second Nothing)
