@@ -1,6 +1,5 @@
 -- The record that a store shows in every state is the one that its cell's value spells.
 use Rattle.std.proofs.Common.{◌≡◌, ℕ, List, Some, ap, arith}
-
 use Rattle.gate_cell.specs.declared.cell.StableCell.{Ghosts as CellWords}
 use Rattle.record.specs.RecordView.{RecordView}
 use Rattle.ckpt_codec.specs.RecordText.{IsRecordText}
