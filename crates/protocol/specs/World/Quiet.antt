@@ -89,6 +89,14 @@ is_quiet_at net inputs stations (Some node) outputs = is_quiet net inputs statio
 abbrev pub are_quiet : WorldView → Bool
 are_quiet world = list_all (λ (station : StationView). is_quiet_at world.net world.inputs world.stations (running_of station.node) (outputs_of station.outlets)) world.stations
 
+-- and at none that a world has of this number
+abbrev pub is_quiet_of : WorldView → Option StationView → Bool
+is_quiet_of world None = true
+is_quiet_of world (Some station) = is_quiet_at world.net world.inputs world.stations (running_of station.node) (outputs_of station.outlets)
+
+abbrev pub is_node_quiet : WorldView → ℕ → Bool
+is_node_quiet world number = is_quiet_of world (slice_get world.stations number)
+
 -- each output has left to its end in the n-th approximation
 abbrev pub AreAll : Network → List (List ℤ) → List OutputView → ℕ → Type 0
 AreAll net inputs outputs n = (j : ℕ) (output : OutputView) → slice_get outputs j ≡ Some output → output.taken ≡ history_of (approximation net inputs n) output.channel

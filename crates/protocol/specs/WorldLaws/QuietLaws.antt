@@ -1,5 +1,5 @@
 -- Where nothing is left to do, the streams that left are whole.
-use Rattle.std.proofs.Common.{◌≡◌, ◌⊎◌, inl, inr, ℕ, zero, suc, ◌+◌, ◌-◌, ◌<◌, ◌≤◌, Bool, ◌&&◌, ◌==◌, ℤ, List, [], ◌∷◌, ◌++◌, length, take, get_or, Option, Some, None, refl, sym, ap, subst, ◌∙◌, arith}
+use Rattle.std.proofs.Common.{◌≡◌, ◌⊎◌, inl, inr, ℕ, zero, suc, ◌+◌, ◌-◌, ◌<◌, ◌≤◌, Bool, true, false, ◌&&◌, ◌==◌, ℤ, List, [], ◌∷◌, ◌++◌, length, take, get_or, Option, Some, None, refl, sym, ap, subst, ◌∙◌, arith}
 use Rattle.std.specs.Prelude.{slice_get, min, nat_le, IsTrue}
 use Rattle.std.proofs.Math.Logic.{∥∥₁_map, ∥∥₁_map₂}
 use Rattle.std.proofs.Math.Nat.{min-eq_left}
@@ -49,7 +49,7 @@ use Rattle.protocol.specs.World.StationView.{StationView}
 use Rattle.protocol.specs.World.Steps.{WorldView}
 use Rattle.protocol.specs.World.Sound.{HasCome, IsSound}
 use Rattle.protocol.specs.WorldLaws.OutputLaws.{IsOutputOf, output_here}
-use Rattle.protocol.specs.World.Quiet.{sent_by, sent_at, put_on_by, got_all, has_got_all, can_rest, is_at_rest, are_at_rest, was_put, has_been_put, have_been_put, have_all_left, is_quiet, is_quiet_at, are_quiet, AreAll, AreWhole}
+use Rattle.protocol.specs.World.Quiet.{sent_by, sent_at, put_on_by, got_all, has_got_all, can_rest, is_at_rest, are_at_rest, was_put, has_been_put, have_been_put, have_all_left, is_quiet, is_quiet_at, is_quiet_of, is_node_quiet, are_quiet, AreAll, AreWhole}
 
 -- What the tests say
 
@@ -112,6 +112,19 @@ all_at : {A : Type 0} (test : A → Bool) (xs : List A) (k : ℕ) (x : A) → Is
 all_at test [] k x all is = absurd (cc)
 all_at test (y ∷ xs) zero x all is = let same : y ≡ x = cc in ap test (sym same) ∙ (and_parts (test y) (list_all test xs) all).0
 all_at test (y ∷ xs) (suc k) x all is = all_at test xs k x (and_parts (test y) (list_all test xs) all).1 is
+
+-- Where nothing is left to do in a world, nothing is at a node of it, so that it may be asked first.
+pub quiet_first : (world : WorldView) (number : ℕ) → (is_node_quiet world number && are_quiet world) ≡ are_quiet world
+quiet_first world number = both (is_node_quiet world number) (are_quiet world) (there (slice_get world.stations number) refl)
+  where
+    there : (o : Option StationView) → slice_get world.stations number ≡ o → IsTrue (are_quiet world) → IsTrue (is_quiet_of world o)
+    there None is all = refl
+    there (Some station) is all = all_at (λ (s : StationView). is_quiet_at world.net world.inputs world.stations (running_of s.node) (outputs_of s.outlets)) world.stations number station all is
+
+    both : (one all : Bool) → (IsTrue all → IsTrue one) → (one && all) ≡ all
+    both true all h = refl
+    both false true h = h refl
+    both false false h = refl
 
 -- One process of a node
 
