@@ -5,7 +5,7 @@ ghost use Rattle.kahn_net.specs.Syntax.{network_of};
 ghost use Rattle.node.specs.NodeOf.{view_of};
 ghost use Rattle.protocol.specs.Node.NodeView.{running_of};
 ghost use Rattle.protocol.specs.World.Invariant.{outputs_of};
-ghost use Rattle.protocol.specs.World.Quiet.{sent_by, put_on_by, has_got_all, is_at_rest, are_at_rest, has_been_put, have_been_put, have_all_left, is_quiet_at, are_quiet, AreWhole};
+ghost use Rattle.protocol.specs.World.Quiet.{sent_by, put_on_by, has_got_all, is_at_rest, are_at_rest, has_been_put, have_been_put, have_all_left, is_quiet_at, is_node_quiet, are_quiet, AreWhole};
 ghost use Rattle.world.specs.StationView.{outlet_views};
 ghost use Rattle.world.specs.WholeView.{world_of};
 ghost use Rattle.world.specs.WorldView.{station_view};
@@ -209,6 +209,19 @@ impl<C: StableCell, O: Outlet> Station<C, O> {
 }
 
 impl<C: StableCell, O: Outlet> World<C, O> {
+    /// Whether nothing is left to do at a node; true of one that isn't of this world. Where it answers no, the world isn't complete.
+    /// Takes no memory.
+    pub fn is_quiet(&self, node: u8) -> bool
+        ensures { result ≡ is_node_quiet (world_of self.now) node }
+    {
+        match self.stations.get(usize::from(node)) {
+            Some(station) => {
+                station.is_complete(&self.net, self.inputs.as_slice(), &self.stations)
+            }
+            None => true,
+        }
+    }
+
     /// Whether nothing is left to do: each node runs, each process has finished or waits for an item that nobody will
     /// put, no job is out, and each outlet has all that was put. Takes no memory.
     pub fn complete(&self) -> bool
