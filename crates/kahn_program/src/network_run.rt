@@ -6,6 +6,7 @@ ghost use Rattle.kahn_net.specs.Syntax.{network_of};
 ghost use Rattle.std.specs.List.{list_all};
 ghost use Rattle.sector_disk.specs.MemDisk.{failures_of};
 ghost use Rattle.sector_disk.specs.declared.TheConstants.{SECTOR_BYTES};
+ghost use Rattle.protocol.specs.World.Quiet.{are_quiet};
 ghost use Rattle.protocol.specs.World.Released.{released_of};
 ghost use Rattle.protocol.specs.World.Sound.{goes_outside, output_channels};
 ghost use Rattle.world.specs.ReplyView.{reply_view};
@@ -160,12 +161,27 @@ fn cut(channels: &[Channel], world: &RunWorld, items: Option<u64>) -> Option<u64
     }
 }
 
-/// Whether a run is over: nothing is left to do, the rounds are over, or each output has the items that are asked for.
-fn is_over(channels: &[Channel], world: &RunWorld, rounds: u64, items: Option<u64>) -> bool
+/// Whether nothing is left to do. The node of the next turn is asked first: mostly it has something to do, and then no other needs
+/// to be asked.
+fn is_complete(world: &RunWorld, next: u8) -> bool
+    ensures { result ≡ are_quiet (world_of world.now) }
+{
+    world.is_quiet(next) && world.complete()
+}
+
+/// Whether a run is over before a turn of this node: nothing is left to do, the rounds are over, or each output has the items that
+/// are asked for.
+fn is_over(
+    channels: &[Channel],
+    world: &RunWorld,
+    next: u8,
+    rounds: u64,
+    items: Option<u64>,
+) -> bool
     requires { length channels.now ≤ MAX_CHANNELS }
     ensures { result ≡ is_over (output_channels 0 channels.now) rounds items (world_of world.now) }
 {
-    world.complete() || rounds <= world.round() || cut(channels, world, items).is_some()
+    is_complete(world, next) || rounds <= world.round() || cut(channels, world, items).is_some()
 }
 
 /// Takes turns until the run is over: of the nodes, so many, one after another.
@@ -188,10 +204,11 @@ fn take_turns(
     ensures err { IfErr result (λ failure. failure ≡ Failure.NoMemory) }
 {
     for turn in 0..MAX_TURNS {
-        if is_over(channels, world, rounds, items) {
+        let node = turn_node(nodes, turn);
+        if is_over(channels, world, node, rounds, items) {
             return Ok(());
         }
-        take_turn(alloc, world, turn_node(nodes, turn))?;
+        take_turn(alloc, world, node)?;
     }
     Ok(())
 }
