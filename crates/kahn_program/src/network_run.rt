@@ -161,27 +161,40 @@ fn cut(channels: &[Channel], world: &RunWorld, items: Option<u64>) -> Option<u64
     }
 }
 
-/// Whether nothing is left to do. The node of the next turn is asked first: mostly it has something to do, and then no other needs
-/// to be asked.
-fn is_complete(world: &RunWorld, next: u8) -> bool
+/// Whether nothing is left to do. A node at which something was left before is asked first: mostly something still is, and then no
+/// other needs to be asked. Where it has nothing left, another takes its place.
+fn is_complete(world: &RunWorld, nodes: usize, busy: &mut u8) -> bool
+    requires { nodes ≤ MAX_NODES }
     ensures { result ≡ are_quiet (world_of world.now) }
 {
-    world.is_quiet(next) && world.complete()
+    if !world.is_quiet(*busy) {
+        return false;
+    }
+    for node in 0..nodes {
+        if !world.is_quiet(node as u8) {
+            *busy = node as u8;
+            return false;
+        }
+    }
+    world.complete()
 }
 
-/// Whether a run is over before a turn of this node: nothing is left to do, the rounds are over, or each output has the items that
-/// are asked for.
+/// Whether a run is over: nothing is left to do, the rounds are over, or each output has the items that are asked for.
 fn is_over(
     channels: &[Channel],
     world: &RunWorld,
-    next: u8,
+    nodes: usize,
+    busy: &mut u8,
     rounds: u64,
     items: Option<u64>,
 ) -> bool
-    requires { length channels.now ≤ MAX_CHANNELS }
+    requires few { length channels.now ≤ MAX_CHANNELS }
+    requires nodes { nodes ≤ MAX_NODES }
     ensures { result ≡ is_over (output_channels 0 channels.now) rounds items (world_of world.now) }
 {
-    is_complete(world, next) || rounds <= world.round() || cut(channels, world, items).is_some()
+    is_complete(world, nodes, busy)
+        || rounds <= world.round()
+        || cut(channels, world, items).is_some()
 }
 
 /// Takes turns until the run is over: of the nodes, so many, one after another.
@@ -203,12 +216,13 @@ fn take_turns(
         ⊎ (MAX_TURNS ≤ turns))) }
     ensures err { IfErr result (λ failure. failure ≡ Failure.NoMemory) }
 {
+    // A node at which something was left to do when it was last asked.
+    let mut busy: u8 = 0;
     for turn in 0..MAX_TURNS {
-        let node = turn_node(nodes, turn);
-        if is_over(channels, world, node, rounds, items) {
+        if is_over(channels, world, nodes, &mut busy, rounds, items) {
             return Ok(());
         }
-        take_turn(alloc, world, node)?;
+        take_turn(alloc, world, turn_node(nodes, turn))?;
     }
     Ok(())
 }

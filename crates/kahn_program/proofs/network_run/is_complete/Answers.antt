@@ -1,11 +1,16 @@
-use Rattle.std.proofs.Common.{Bool, ◌&&◌, ◌∙◌, sym, ap}
-use Rattle.protocol.specs.World.Quiet.{are_quiet}
+use Rattle.std.proofs.Common.{◌≡◌, Bool, false, ◌&&◌, ℕ, ◌∙◌, sym, ap}
+use Rattle.protocol.specs.World.Quiet.{is_node_quiet, are_quiet}
+use Rattle.protocol.specs.World.Steps.{WorldView}
 use Rattle.protocol.specs.WorldLaws.QuietLaws.{quiet_first}
 use Rattle.world.specs.WholeView.{world_of}
 use Rattle.kahn_program.proofs.network_run.is_complete.Goals as goal
 
--- where the node isn't quiet, the world isn't
-pub returns-else-is_quiet : goal.returns-else-is_quiet
-returns-else-is_quiet c =
-    let world = world_of c.args.world.now in
-    c.if-is_quiet.false ∙ (ap (λ (one : Bool). one && are_quiet world) (sym c.if-is_quiet.false ∙ c.is_quiet.ensures) ∙ quiet_first world c.args.next)
+-- where a node isn't quiet, the world isn't
+busy : (world : WorldView) (node : ℕ) (quiet : Bool) → quiet ≡ is_node_quiet world node → quiet ≡ false → false ≡ are_quiet world
+busy world node quiet is told = ap (λ (one : Bool). one && are_quiet world) (sym told ∙ is) ∙ quiet_first world node
+
+pub returns-then-not-is_quiet : goal.returns-then-not-is_quiet
+returns-then-not-is_quiet c = busy (world_of c.args.world.now) _ _ c.is_quiet.ensures c.if-not-is_quiet.true
+
+pub returns-then-not-is_quiet-2 : goal.returns-then-not-is_quiet-2
+returns-then-not-is_quiet-2 c = busy (world_of c.args.world.now) _ _ c.is_quiet-in-loop-node.ensures c.if-not-is_quiet-2.true
