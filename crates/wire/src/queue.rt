@@ -1,11 +1,13 @@
 // The packets in flight to one node.
-ghost use Rattle.std.specs.Prelude.{◌≡◌, ◌+◌, ◌-◌, ◌≤◌, ◌<◌, ◌++◌, [], length, slice_get, slice_index, option_map, replicate, Some, IfOk, OnOk, OnErr, vec_len, vec_capacity};
+ghost use Rattle.std.specs.Prelude.{◌≡◌, ◌+◌, ◌-◌, ◌≤◌, ◌<◌, ◌++◌, [], length, slice_get, slice_index, option_map, replicate, Some, IfOk, OnOk, OnErr};
 ghost use Rattle.std.specs.List.{position_from};
+ghost use Rattle.std.specs.VecDeque.{deque_len, deque_capacity};
 ghost use Rattle.wire.specs.Queue.{flight, flights_of, is_due, without, with_delay, with_copy, counted};
 
 use crate::bytes::Bytes;
 use crate::rule::{Fate, capped_sum};
 use std::alloc::{AllocError, Global};
+use std::collections::VecDeque;
 use std::marker::Model;
 
 /// How many nodes there are: their numbers are below.
@@ -23,12 +25,13 @@ pub struct Flight {
 /// The packets in flight to one node, in order, and how many each node sent to it.
 #[derive(Drop)]
 pub(crate) struct Queue {
-    flights: Vec<Flight>,
+    flights: VecDeque<Flight>,
     counts: [u64; NODES],
 }
 
 impl Model for Queue {
-    ghost use Rattle.std.specs.Prelude.{vec_len, vec_capacity, ◌-◌};
+    ghost use Rattle.std.specs.Prelude.{◌-◌};
+    ghost use Rattle.std.specs.VecDeque.{deque_len, deque_capacity};
     ghost use Rattle.wire.specs.Queue.{QueueState};
 
     ghost Value = { QueueState };
@@ -36,7 +39,7 @@ impl Model for Queue {
     ghost view = { λ queue. record {
       flights = queue.flights.items;
       counts = queue.counts;
-      room = vec_capacity queue.flights - vec_len queue.flights;
+      room = deque_capacity queue.flights - deque_len queue.flights;
     } };
 }
 
@@ -45,7 +48,7 @@ impl Model for Queue {
 pub struct Letter {
     from: u8,
     to: u8,
-    flights: Vec<Flight>,
+    flights: VecDeque<Flight>,
 }
 
 impl Model for Letter {
@@ -61,27 +64,27 @@ impl Model for Letter {
 }
 
 // So many packets in flight, the given one among them.
-fn copies_of(alloc: Global, packet: Bytes, copies: u64, due: u64) -> Result<Vec<Flight>, AllocError>
+fn copies_of(alloc: Global, packet: Bytes, copies: u64, due: u64) -> Result<VecDeque<Flight>, AllocError>
     ensures { IfOk result (λ flights. flights.items ≡ replicate copies (flight packet due)) }
 {
-    let mut flights = Vec::new(alloc);
+    let mut flights = VecDeque::new(alloc);
     if copies == 0 {
         return Ok(flights);
     }
     for _ in 0..copies - 1 {
         let packet = packet.copy(alloc)?;
-        flights.push(Flight { packet, due })?;
+        flights.push_back(Flight { packet, due })?;
     }
-    flights.push(Flight { packet, due })?;
+    flights.push_back(Flight { packet, due })?;
     Ok(flights)
 }
 
 // Puts packets last, where there is room.
-fn put_last(flights: &mut Vec<Flight>, mut more: Vec<Flight>)
-    requires { vec_len flights.old + vec_len more ≤ vec_capacity flights.old }
+fn put_last(flights: &mut VecDeque<Flight>, mut more: VecDeque<Flight>)
+    requires { deque_len flights.old + deque_len more ≤ deque_capacity flights.old }
     ensures items { flights.new.items ≡ flights.old.items ++ more.items }
-    ensures capacity { vec_capacity flights.old ≤ vec_capacity flights.new }
-    ensures len { vec_len flights.new ≡ vec_len flights.old + vec_len more }
+    ensures capacity { deque_capacity flights.old ≤ deque_capacity flights.new }
+    ensures len { deque_len flights.new ≡ deque_len flights.old + deque_len more }
 {
     let _ = flights.append(&mut more);
 }
@@ -127,7 +130,7 @@ impl Letter {
         self.flights.len()
     }
 
-    pub(crate) fn into_flights(self) -> Vec<Flight>
+    pub(crate) fn into_flights(self) -> VecDeque<Flight>
         ensures { result.items ≡ self.flights }
     {
         self.flights
@@ -143,7 +146,7 @@ impl Queue {
         ensures { (result.flights ≡ []) × (result.counts ≡ replicate NODES 0) }
     {
         Queue {
-            flights: Vec::new(alloc),
+            flights: VecDeque::new(alloc),
             counts: [0; NODES],
         }
     }
@@ -153,7 +156,7 @@ impl Queue {
         ensures { queue_traffic result ≡ unsent (queue_traffic self.now) }
     {
         Queue {
-            flights: Vec::new(alloc),
+            flights: VecDeque::new(alloc),
             counts: self.counts,
         }
     }
@@ -250,7 +253,7 @@ impl Queue {
             packet: original.packet.copy(alloc)?,
             due: original.due,
         };
-        self.flights.push(copy)?;
+        self.flights.push_back(copy)?;
         Ok(())
     }
 
@@ -259,7 +262,7 @@ impl Queue {
         ensures taken { slice_get self.old.flights place ≡ Some result }
         ensures left { self.new ≡ without self.old place }
     {
-        self.flights.remove(place)
+        self.flights.remove(place).unwrap()
     }
 
     pub(crate) fn delay(&mut self, place: usize, rounds: u64)
