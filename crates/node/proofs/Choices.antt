@@ -1,8 +1,10 @@
 -- Which process goes on next.
-use Rattle.std.proofs.Common.{◌≡◌, ℕ, ◌<◌, ◌≤◌, Bool, true, false, ◌&&◌, List, ℤ, [], ◌∷◌, map, length, get_or, Option, Some, None, refl, sym, ap, subst, ◌∙◌, Bor}
+use Rattle.std.proofs.Common.{◌≡◌, ℕ, ◌<◌, ◌≤◌, Bool, true, false, ◌&&◌, List, ℤ, [], ◌∷◌, map, length, get_or, Option, Some, None, is_some, refl, sym, ap, subst, ◌∙◌, Bor, arith}
 use Rattle.std.specs.Prelude.{◌==◌, slice_get, find, cond, IfSome, option_copied}
 use Rattle.std.proofs.lemmas.Option.{slice_get_within}
 use Rattle.std.proofs.lemmas.List.{length-map}
+use Rattle.std.proofs.lemmas.List.FromFn.{length-map-range_with_len, get_or-map-range_with_len}
+use Rattle.turns.specs.Turns.{TellsOf}
 use Rattle.kahn_net.specs.Syntax.{Code, Network, code_of, network_of}
 use Rattle.kahn_net.specs.Processes.{Standing}
 use Rattle.kahn_net.specs.Laws.Valid.{code_at, code_past}
@@ -17,7 +19,7 @@ use Rattle.proc_step.specs.declared.next.NextAct.{NextAct}
 use Rattle.record.specs.ProcessView.{SavedProcessView}
 use Rattle.record.specs.ImageView.{ImageView}
 use Rattle.protocol.specs.declared.links.Inbox.{Inbox}
-use Rattle.protocol.specs.Node.Choosing.{has_item, has_room, can_go, next_at, is_ready, ready_process}
+use Rattle.protocol.specs.Node.Choosing.{has_item, has_room, can_go, next_at, is_ready, ready_process, ready_processes}
 
 -- the code of a process, as it was looked up
 pub code_found : (program : Program) (ps : List Process) (m n : ℕ) (p : Process) → ps ≡ program.processes.items → m ≡ n → m < length ps → p ≡ get_or ps m p
@@ -98,3 +100,20 @@ pub chosen_there : (program : Program) (inputs : List (List ℤ)) (image : Image
     → option_copied found ≡ ready_process (network_of program) inputs image inboxes number → IfSome found (λ saved. saved.now.number < length program.processes.items)
 chosen_there program inputs image inboxes number None is = tt
 chosen_there program inputs image inboxes number (Some saved) is = ready_there program inputs image inboxes number saved.now (sym is)
+
+-- where each process is asked, it is told which are ready
+pub told_of : (program : Program) (inputs : List (List ℤ)) (image : ImageView) (inboxes : List Inbox) (answers : ℕ → Bool → Type 0) (count : ℕ) → IsValid (network_of program)
+    → count ≡ length program.processes.items → ((number : ℕ) (answer : Bool) → number < MAX_PROCESSES → answers number answer → answer ≡ is_some (ready_process (network_of program) inputs image inboxes number))
+    → TellsOf answers count (ready_processes (network_of program) inputs image inboxes)
+unfolding ready_processes
+told_of program inputs image inboxes answers count valid whole told =
+    let net = network_of program in
+    let here : ℕ → Bool = λ number. is_some (ready_process net inputs image inboxes number) in
+    let codes : length net.codes ≡ length program.processes.items = length-map program.processes.items code_of in
+    let few = few_processes program valid in
+    record {
+      of_each = length-map-range_with_len here 0 (length net.codes) ∙ (codes ∙ sym whole);
+      told = λ number answer below said.
+          told number answer (omega (arith, few, whole, below)) said
+          ∙ sym (get_or-map-range_with_len here 0 (length net.codes) number number false (omega (arith, codes, whole, below)) (omega arith));
+    }

@@ -9,4 +9,3 @@ mod Slices
 mod Dues
 mod Installs
 mod Choices
-mod Marking

@@ -1,20 +1,20 @@
 // Which process of a node goes on next.
-ghost use Rattle.std.specs.Prelude.{◌≡◌, ◌≤◌, ◌<◌, ◌&&◌, length, slice_get, take, IfSome, option_copied};
+ghost use Rattle.std.specs.Prelude.{◌≡◌, ◌≤◌, ◌<◌, ◌&&◌, length, slice_get, IfSome, is_some, option_copied};
 ghost use Rattle.kahn_net.specs.Syntax.{network_of};
 ghost use Rattle.record.specs.Ends.{sent_in};
 ghost use Rattle.protocol.specs.Node.Sharing.{log_share};
-ghost use Rattle.protocol.specs.Node.Choosing.{has_item, has_room, is_ready, ready_process, ready_processes, next_process};
-ghost use Rattle.kahn_net.specs.declared.limits.TheConstants.{MAX_CHANNELS};
+ghost use Rattle.protocol.specs.Node.Choosing.{has_item, has_room, is_ready, ready_process, next_process};
+ghost use Rattle.kahn_net.specs.declared.limits.TheConstants.{MAX_CHANNELS, MAX_PROCESSES};
 
 use crate::granting::{places, source};
 use crate::sharing::share_of;
-use kahn_net::{Channel, History, MAX_PROCESSES, Port};
+use kahn_net::{Channel, History, Port};
 use net_check::Net;
 use proc_step::{NextAct, next_act};
 use protocol::Inbox;
 use record::{Image, SavedProcess};
 use retained::Log;
-use turns::next_ready;
+use turns::next_ready_by;
 
 // How many items came up to the end of a log: none where there is no log.
 fn end_of(log: Option<&Log>) -> u64
@@ -88,27 +88,6 @@ fn is_ready(
     }
 }
 
-// Which processes are ready here: entry p tells it of process p.
-fn ready_processes(
-    net: &Net,
-    inputs: &[History],
-    image: &Image,
-    inboxes: &[Inbox],
-    share: usize,
-) -> [bool; MAX_PROCESSES]
-    requires { share ≡ log_share image.now }
-    ensures { take (length net.now.program.processes.items) result
-        ≡ ready_processes (network_of net.now.program) inputs.now image.now inboxes.now }
-{
-    let mut ready = [false; MAX_PROCESSES];
-    for saved in &image.processes {
-        if is_ready(net, inputs, image, inboxes, share, saved) {
-            ready[usize::from(saved.number)] = true;
-        }
-    }
-    ready
-}
-
 // The process of this number, if it is here and ready.
 fn ready_process<'a>(
     net: &Net,
@@ -144,8 +123,8 @@ pub(crate) fn next_process<'a>(
         (λ saved. saved.now.number < length net.now.program.processes.items) }
 {
     let share = share_of(image);
-    let ready = ready_processes(net, inputs, image, inboxes, share);
-    match next_ready(last, &ready[..net.program.processes.len()]) {
+    let is_ready = |number| ready_process(net, inputs, image, inboxes, share, number).is_some();
+    match next_ready_by(last, net.program.processes.len(), is_ready) {
         Some(number) => ready_process(net, inputs, image, inboxes, share, number),
         None => None,
     }

@@ -1,8 +1,9 @@
 //! What a node has while it runs.
-ghost use Rattle.std.specs.Prelude.{◌≡◌, ◌↔◌, ℕ, IfOk, IsErrOf, IsTrue, OnErr, OnOk, Some, is_some, option_map};
+ghost use Rattle.std.specs.Prelude.{◌≡◌, ◌↔◌, ◌<◌, ℕ, if◌then◌else◌, length, IfOk, IfSome, IsErrOf, IsTrue, None, OnErr, OnOk, Some, is_some, option_copied, option_map};
 ghost use Rattle.kahn_net.specs.Syntax.{network_of};
 ghost use Rattle.kahn_net.specs.States.{standing_of};
-ghost use Rattle.protocol.specs.Node.Choosing.{after_grant, may_grant, next_job};
+ghost use Rattle.protocol.specs.Node.Choosing.{after_grant, may_grant, next_job, next_process};
+ghost use Rattle.protocol.specs.Node.Granting.{job_for};
 ghost use Rattle.protocol.specs.Node.Delivering.{hearing};
 ghost use Rattle.protocol.specs.Node.Sending.{packets_from};
 ghost use Rattle.protocol.specs.Node.Installing.{ImageTakes, IsTaken};
@@ -18,7 +19,7 @@ use kahn_net::{Channel, MAX_COUNT};
 use net_check::{Inputs, Net};
 use proc_step::{Done, Job};
 use protocol::{Inbox, Outbox};
-use record::{Image, Record};
+use record::{Image, Record, SavedProcess};
 use retained::LogFault;
 use std::alloc::{AllocError, Global};
 use std::sync::Arc;
@@ -49,57 +50,65 @@ impl Running {
         kept.tentative.is_none() && self.out.is_none() && version < MAX_COUNT
     }
 
-    /// Whether a job can be granted now, at a node with this record and version.
-    pub fn has_job(&self, net: &Net, inputs: &Inputs, kept: &Record, version: u64) -> bool
-        ensures { result ≡ is_some (next_job (network_of net.now.program) inputs.now
-            (running_node kept.now version (running_view self.now))) }
-    {
-        self.can_grant(kept, version)
-            && next_process(
-                net,
-                inputs.as_slice(),
-                &self.current,
-                &self.inboxes,
-                self.last,
-            )
-            .is_some()
-    }
-
-    // The job that is granted next.
-    fn next_job(
+    // The process that is next, where a job may be granted at a node with this record and version.
+    fn next_process(
         &self,
-        alloc: Global,
-        net: &Arc<Net>,
+        net: &Net,
         inputs: &Inputs,
         kept: &Record,
         version: u64,
-    ) -> Result<Option<Job>, AllocError>
-        ensures { IfOk result (λ job. option_map job_view job
-            ≡ next_job (network_of net.now.value.program) inputs.now
-            (running_node kept.now version (running_view self.now))) }
+    ) -> Option<&SavedProcess>
+        ensures chosen { option_copied result ≡ (
+            let node = running_node kept.now version (running_view self.now) in
+            if may_grant node then next_process (network_of net.now.program) inputs.now
+            node.current node.inboxes node.last else None) }
+        ensures there { IfSome result
+            (λ saved. saved.now.number < length net.now.program.processes.items) }
     {
         if !self.can_grant(kept, version) {
-            return Ok(None);
+            return None;
         }
-        match next_process(
+        next_process(
             net,
             inputs.as_slice(),
             &self.current,
             &self.inboxes,
             self.last,
-        ) {
-            Some(saved) => Ok(Some(make_job(
-                alloc,
-                net,
-                inputs,
-                &self.current,
-                &self.inboxes,
-                usize::from(saved.number),
-                &saved.state,
-                version,
-            )?)),
-            None => Ok(None),
-        }
+        )
+    }
+
+    /// Whether a job can be granted now, at a node with this record and version.
+    pub fn has_job(&self, net: &Net, inputs: &Inputs, kept: &Record, version: u64) -> bool
+        ensures { result ≡ is_some (next_job (network_of net.now.program) inputs.now
+            (running_node kept.now version (running_view self.now))) }
+    {
+        self.next_process(net, inputs, kept, version).is_some()
+    }
+
+    // The job of a process that stands there.
+    fn make_job(
+        &self,
+        alloc: Global,
+        net: &Arc<Net>,
+        inputs: &Inputs,
+        saved: &SavedProcess,
+        version: u64,
+    ) -> Result<Job, AllocError>
+        requires { saved.now.number < length net.now.value.program.processes.items }
+        ensures { IfOk result (λ job. job_view job
+            ≡ job_for (network_of net.now.value.program) inputs.now self.now.current
+            self.now.inboxes.items saved.now.number saved.now.standing version) }
+    {
+        make_job(
+            alloc,
+            net,
+            inputs,
+            &self.current,
+            &self.inboxes,
+            usize::from(saved.number),
+            &saved.state,
+            version,
+        )
     }
 
     /// Grants a job to the ready process that is next: its state, the items at hand and the room. A copy is kept to
@@ -122,12 +131,14 @@ impl Running {
             (running_node kept.now version (running_view self.old))) }
         ensures err { OnErr result (running_view self.new ≡ running_view self.old) }
     {
-        let job = self.next_job(alloc, net, inputs, kept, version)?;
-        if let Some(out) = self.next_job(alloc, net, inputs, kept, version)? {
-            self.last = Some(out.process as u8);
-            self.out = Some(out);
-        }
-        Ok(job)
+        let Some(saved) = self.next_process(net, inputs, kept, version) else {
+            return Ok(None);
+        };
+        let job = self.make_job(alloc, net, inputs, saved, version)?;
+        let out = self.make_job(alloc, net, inputs, saved, version)?;
+        self.last = Some(out.process as u8);
+        self.out = Some(out);
+        Ok(Some(job))
     }
 
     // Whether a job is the one that is out.

@@ -16,7 +16,7 @@ fn start_after(last: Option<u8>) -> usize
 }
 
 /// The least number from this one on of a process that is ready, of so many.
-fn least_from<F: Fn(usize) -> bool>(start: usize, count: usize, is_ready: &F) -> Option<u8>
+fn least_from<F: Fn(u8) -> bool>(start: usize, count: usize, is_ready: &F) -> Option<u8>
     requires count { count ≤ MAX_PROCESSES }
     requires callable { IsCallableBelow (F.pre is_ready.now) count }
     ensures value { (ready : List Bool) → TellsOf (F.post is_ready.now) count ready
@@ -27,7 +27,7 @@ fn least_from<F: Fn(usize) -> bool>(start: usize, count: usize, is_ready: &F) ->
         → result ≡ None → (number : ℕ) → start ≤ number → ¬ (IsReady ready number) }
 {
     for number in start..count {
-        if is_ready(number) {
+        if is_ready(number as u8) {
             return Some(number as u8);
         }
     }
@@ -37,7 +37,7 @@ fn least_from<F: Fn(usize) -> bool>(start: usize, count: usize, is_ready: &F) ->
 /// The process whose turn is next, of so many: of those that are ready, the first one past `last`, and where there is none past it
 /// the first of all. `last` is `None` where no turn was granted yet. Asks of one process after the other whether it is
 /// ready, of no more than it takes. `None` where none is.
-pub fn next_ready_by<F: Fn(usize) -> bool>(last: Option<u8>, count: usize, is_ready: F) -> Option<u8>
+pub fn next_ready_by<F: Fn(u8) -> bool>(last: Option<u8>, count: usize, is_ready: F) -> Option<u8>
     requires count { count ≤ MAX_PROCESSES }
     requires callable { IsCallableBelow (F.pre is_ready) count }
     // As a function of what is told of each.
@@ -68,5 +68,5 @@ pub fn next_ready(last: Option<u8>, ready: &[bool]) -> Option<u8>
         (λ process. (other : ℕ) → IsNext last ready.now other → other ≡ process) }
     ensures none { result ≡ None → (process : ℕ) → ¬ (IsReady ready.now process) }
 {
-    next_ready_by(last, ready.len(), |process| ready[process])
+    next_ready_by(last, ready.len(), |process| ready[usize::from(process)])
 }

@@ -1,4 +1,4 @@
-use Rattle.std.proofs.Common.{◌∙◌, ap, sym, ◌+◌, ◌≤◌, length, subst, arith, ℕ, ℤ, List}
+use Rattle.std.proofs.Common.{◌∙◌, ap, sym, ◌+◌, ◌≤◌, length, subst, ℕ, ℤ, List}
 use Rattle.std.specs.Prelude.{◌↔◌, ◌<◌, IsTrue, max}
 use Rattle.std.proofs.lemmas.Result.{IfOk-weaker}
 use Rattle.window_link.specs.Windows.{is_due}
