@@ -1,10 +1,8 @@
 -- Which process goes on next.
-use Rattle.std.proofs.Common.{◌≡◌, ℕ, ◌<◌, ◌≤◌, Bool, true, false, ◌&&◌, List, ℤ, [], ◌∷◌, map, length, get_or, Option, Some, None, is_some, refl, sym, ap, subst, ◌∙◌, Bor, arith}
+use Rattle.std.proofs.Common.{◌≡◌, ℕ, ◌<◌, ◌≤◌, Bool, true, false, ◌&&◌, List, ℤ, [], ◌∷◌, map, length, get_or, Option, Some, None, refl, sym, ap, subst, ◌∙◌, Bor, drop, option_map, arith}
 use Rattle.std.specs.Prelude.{◌==◌, slice_get, find, cond, IfSome, option_copied}
 use Rattle.std.proofs.lemmas.Option.{slice_get_within}
 use Rattle.std.proofs.lemmas.List.{length-map}
-use Rattle.std.proofs.lemmas.List.FromFn.{length-map-range_with_len, get_or-map-range_with_len}
-use Rattle.turns.specs.Turns.{TellsOf}
 use Rattle.kahn_net.specs.Syntax.{Code, Network, code_of, network_of}
 use Rattle.kahn_net.specs.Processes.{Standing}
 use Rattle.kahn_net.specs.Laws.Valid.{code_at, code_past}
@@ -19,7 +17,9 @@ use Rattle.proc_step.specs.declared.next.NextAct.{NextAct}
 use Rattle.record.specs.ProcessView.{SavedProcessView}
 use Rattle.record.specs.ImageView.{ImageView}
 use Rattle.protocol.specs.declared.links.Inbox.{Inbox}
-use Rattle.protocol.specs.Node.Choosing.{has_item, has_room, can_go, next_at, is_ready, ready_process, ready_processes}
+use Rattle.turns.specs.Turns.{least_from}
+use Rattle.protocol.specs.Node.Choosing.{has_item, has_room, can_go, next_at, is_ready, ready_process, ready_processes, process_at}
+use Rattle.node.proofs.Searching.{IsSearched, all_searched}
 
 -- the code of a process, as it was looked up
 pub code_found : (program : Program) (ps : List Process) (m n : ℕ) (p : Process) → ps ≡ program.processes.items → m ≡ n → m < length ps → p ≡ get_or ps m p
@@ -96,24 +96,37 @@ ready_there program inputs image inboxes number saved is =
     goes_there program inputs image inboxes saved (second_too (saved.number == number) (is_ready net inputs image inboxes saved) (found_passes test image.processes saved is))
 
 -- the process that is chosen is one of the network's
-pub chosen_there : (program : Program) (inputs : List (List ℤ)) (image : ImageView) (inboxes : List Inbox) (number : ℕ) (found : Option (Bor SavedProcessView))
-    → option_copied found ≡ ready_process (network_of program) inputs image inboxes number → IfSome found (λ saved. saved.now.number < length program.processes.items)
+pub chosen_there : (program : Program) (inputs : List (List ℤ)) (image : ImageView) (inboxes : List Inbox) (number : Option ℕ) (found : Option (Bor SavedProcessView))
+    → option_copied found ≡ process_at (network_of program) inputs image inboxes number → IfSome found (λ saved. saved.now.number < length program.processes.items)
 chosen_there program inputs image inboxes number None is = tt
-chosen_there program inputs image inboxes number (Some saved) is = ready_there program inputs image inboxes number saved.now (sym is)
+chosen_there program inputs image inboxes None (Some saved) is = absurd (cc)
+chosen_there program inputs image inboxes (Some number) (Some saved) is = ready_there program inputs image inboxes number saved.now (sym is)
 
--- where each process is asked, it is told which are ready
-pub told_of : (program : Program) (inputs : List (List ℤ)) (image : ImageView) (inboxes : List Inbox) (answers : ℕ → Bool → Type 0) (count : ℕ) → IsValid (network_of program)
-    → count ≡ length program.processes.items → ((number : ℕ) (answer : Bool) → number < MAX_PROCESSES → answers number answer → answer ≡ is_some (ready_process (network_of program) inputs image inboxes number))
-    → TellsOf answers count (ready_processes (network_of program) inputs image inboxes)
-unfolding ready_processes
-told_of program inputs image inboxes answers count valid whole told =
-    let net = network_of program in
-    let here : ℕ → Bool = λ number. is_some (ready_process net inputs image inboxes number) in
-    let codes : length net.codes ≡ length program.processes.items = length-map program.processes.items code_of in
-    let few = few_processes program valid in
-    record {
-      of_each = length-map-range_with_len here 0 (length net.codes) ∙ (codes ∙ sym whole);
-      told = λ number answer below said.
-          told number answer (omega (arith, few, whole, below)) said
-          ∙ sym (get_or-map-range_with_len here 0 (length net.codes) number number false (omega (arith, codes, whole, below)) (omega arith));
-    }
+-- all were looked at, of those of an image
+module _ (program : Program) (inputs : List (List ℤ)) (image : ImageView) (inboxes : List Inbox) (items : List SavedProcessView) (i start : ℕ) (are : items ≡ image.processes) (end : length items ≤ i) where
+  found_there : (found : Option SavedProcessView) → IsSearched (is_ready (network_of program) inputs image inboxes) items (drop i items) start found
+      → IfSome found (λ saved. saved.number < length (network_of program).codes)
+  found_there None s = tt
+  found_there (Some saved) s =
+      let test : SavedProcessView → Bool = λ one. (one.number == saved.number) && is_ready (network_of program) inputs image inboxes one in
+      let whole = length-map program.processes.items code_of in
+      let there = ready_there program inputs image inboxes saved.number saved (ap (find test) (sym are) ∙ s.chosen.1) in
+      omega (arith, there, whole)
+
+  pub least_found : (found : Option SavedProcessView) → IsSearched (is_ready (network_of program) inputs image inboxes) items (drop i items) start found
+      → option_map (λ saved. saved.number) found ≡ least_from start (ready_processes (network_of program) inputs image inboxes)
+  unfolding ready_processes
+  least_found found s =
+      all_searched (is_ready (network_of program) inputs image inboxes) items i (length (network_of program).codes) start found end (found_there found s) s
+      ∙ ap (λ (all : List SavedProcessView). least_from start (ready_processes (network_of program) inputs (record { processes = all; ends = image.ends }) inboxes)) are
+
+  pub process_found : (found : Option SavedProcessView) → IsSearched (is_ready (network_of program) inputs image inboxes) items (drop i items) start found
+      → found ≡ process_at (network_of program) inputs image inboxes (least_from start (ready_processes (network_of program) inputs image inboxes))
+  process_found found s = own found s ∙ ap (process_at (network_of program) inputs image inboxes) (least_found found s)
+    where
+      own : (o : Option SavedProcessView) → IsSearched (is_ready (network_of program) inputs image inboxes) items (drop i items) start o
+          → o ≡ process_at (network_of program) inputs image inboxes (option_map (λ saved. saved.number) o)
+      own None s = refl
+      own (Some saved) s =
+          let test : SavedProcessView → Bool = λ one. (one.number == saved.number) && is_ready (network_of program) inputs image inboxes one in
+          sym (ap (find test) (sym are) ∙ s.chosen.1)

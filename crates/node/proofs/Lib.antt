@@ -9,3 +9,4 @@ mod Slices
 mod Dues
 mod Installs
 mod Choices
+mod Searching

@@ -2,3 +2,4 @@ pub mod JobView
 pub mod NodeView
 pub mod StoredView
 pub mod NodeOf
+pub mod Searching

@@ -1,10 +1,12 @@
 // Which process of a node goes on next.
-ghost use Rattle.std.specs.Prelude.{◌≡◌, ◌≤◌, ◌<◌, ◌&&◌, length, slice_get, IfSome, is_some, option_copied};
+ghost use Rattle.std.specs.Prelude.{◌≡◌, ◌≤◌, ◌<◌, ◌&&◌, ◌↔◌, length, slice_get, IfSome, IsTrue, option_copied, option_map};
 ghost use Rattle.kahn_net.specs.Syntax.{network_of};
 ghost use Rattle.record.specs.Ends.{sent_in};
 ghost use Rattle.protocol.specs.Node.Sharing.{log_share};
-ghost use Rattle.protocol.specs.Node.Choosing.{has_item, has_room, is_ready, ready_process, next_process};
-ghost use Rattle.kahn_net.specs.declared.limits.TheConstants.{MAX_CHANNELS, MAX_PROCESSES};
+ghost use Rattle.protocol.specs.Node.Choosing.{has_item, has_room, is_ready, ready_processes, process_at, next_process};
+ghost use Rattle.node.specs.Searching.{ComesFirst};
+ghost use Rattle.turns.specs.Turns.{least_from};
+ghost use Rattle.kahn_net.specs.declared.limits.TheConstants.{MAX_CHANNELS};
 
 use crate::granting::{places, source};
 use crate::sharing::share_of;
@@ -14,7 +16,7 @@ use proc_step::{NextAct, next_act};
 use protocol::Inbox;
 use record::{Image, SavedProcess};
 use retained::Log;
-use turns::next_ready_by;
+use turns::start_after;
 
 // How many items came up to the end of a log: none where there is no log.
 fn end_of(log: Option<&Log>) -> u64
@@ -88,25 +90,57 @@ fn is_ready(
     }
 }
 
-// The process of this number, if it is here and ready.
-fn ready_process<'a>(
+// Whether a process comes first so far: from this number on, before the one found, and ready.
+fn comes_first(
+    net: &Net,
+    inputs: &[History],
+    image: &Image,
+    inboxes: &[Inbox],
+    share: usize,
+    start: usize,
+    found: Option<&SavedProcess>,
+    saved: &SavedProcess,
+) -> bool
+    requires { share ≡ log_share image.now }
+    ensures { IsTrue result ↔ ComesFirst
+        (is_ready (network_of net.now.program) inputs.now image.now inboxes.now)
+        start (option_copied found.entry) saved.now }
+{
+    if usize::from(saved.number) < start {
+        return false;
+    }
+    if let Some(found) = found
+        && found.number <= saved.number
+    {
+        return false;
+    }
+    is_ready(net, inputs, image, inboxes, share, saved)
+}
+
+// The ready process with the least number from this one on. Where they stand in order of their numbers, none is asked
+// behind the one that is found.
+fn ready_from<'a>(
     net: &Net,
     inputs: &[History],
     image: &'a Image,
     inboxes: &[Inbox],
     share: usize,
-    number: u8,
+    start: usize,
 ) -> Option<&'a SavedProcess>
     requires { share ≡ log_share image.now }
-    ensures { option_copied result
-        ≡ ready_process (network_of net.now.program) inputs.now image.now inboxes.now number }
+    ensures process { let net = network_of net.now.program in
+        option_copied result ≡ process_at net inputs.now image.now inboxes.now
+        (least_from start (ready_processes net inputs.now image.now inboxes.now)) }
+    ensures number { option_map (λ saved. saved.number) (option_copied result)
+        ≡ least_from start (ready_processes (network_of net.now.program) inputs.now image.now inboxes.now) }
 {
+    let mut found: Option<&SavedProcess> = None;
     for saved in &image.processes {
-        if saved.number == number && is_ready(net, inputs, image, inboxes, share, saved) {
-            return Some(saved);
+        if comes_first(net, inputs, image, inboxes, share, start, found, saved) {
+            found = Some(saved);
         }
     }
-    None
+    found
 }
 
 // The ready process with the least number after the last one, beginning again at the least.
@@ -123,9 +157,8 @@ pub(crate) fn next_process<'a>(
         (λ saved. saved.now.number < length net.now.program.processes.items) }
 {
     let share = share_of(image);
-    let is_ready = |number| ready_process(net, inputs, image, inboxes, share, number).is_some();
-    match next_ready_by(last, net.program.processes.len(), is_ready) {
-        Some(number) => ready_process(net, inputs, image, inboxes, share, number),
-        None => None,
+    match ready_from(net, inputs, image, inboxes, share, start_after(last)) {
+        Some(saved) => Some(saved),
+        None => ready_from(net, inputs, image, inboxes, share, 0),
     }
 }

@@ -1,5 +1,5 @@
 -- Which process goes on next.
-use Rattle.std.specs.Prelude.{◌≡◌, ℕ, suc, ◌<◌, ◌≤◌, Bool, true, false, if◌then◌else◌, List, [], ◌∷◌, drop, length, slice_index_or, Option, Some, None}
+use Rattle.std.specs.Prelude.{◌≡◌, ℕ, suc, ◌≤◌, Bool, true, false, if◌then◌else◌, List, [], ◌∷◌, drop, slice_index_or, Option, Some, None}
 
 -- the process of this number is ready
 abbrev pub IsReady : List Bool → ℕ → Type 0
@@ -39,12 +39,3 @@ or_else (Some x) other = Some x
 
 abbrev pub next_in_turn : Option ℕ → List Bool → Option ℕ
 next_in_turn last ready = or_else (least_from (start_after last) ready) (least_from 0 ready)
-
--- each process below this number may be asked
-abbrev pub IsCallableBelow : (ℕ → Type 0) → ℕ → Type 0
-IsCallableBelow may_ask count = (process : ℕ) → process < count → may_ask process
-
--- of so many processes this is what is answered where it is asked whether one is ready
-pub record TellsOf (answers : ℕ → Bool → Type 0) (count : ℕ) (ready : List Bool) : Type 0 where
-  pub of_each : length ready ≡ count
-  pub told : (process : ℕ) (answer : Bool) → process < count → answers process answer → answer ≡ slice_index_or ready process false

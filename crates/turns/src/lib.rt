@@ -1,12 +1,13 @@
 //! Which process of a node goes on next.
 #![tactic(auto)]
 
-ghost use Rattle.std.specs.Prelude.{◌≡◌, ◌≤◌, ℕ, Bool, List, IfSome, None, length};
-ghost use Rattle.turns.specs.Turns.{IsCallableBelow, IsLeastFrom, IsNext, IsReady, TellsOf, least_from, next_in_turn, start_after};
+ghost use Rattle.std.specs.Prelude.{◌≡◌, ◌≤◌, ℕ, IfSome, None, length};
+ghost use Rattle.turns.specs.Turns.{IsLeastFrom, IsNext, IsReady, least_from, next_in_turn, start_after};
 ghost use Rattle.kahn_net.specs.declared.limits.TheConstants.{MAX_PROCESSES};
 
-/// The number that comes after the last one granted: the least one at first.
-fn start_after(last: Option<u8>) -> usize
+/// The number that comes after the last one granted: the least one at first. The turn is the first ready process's from here on, and
+/// where there is none the first of all.
+pub fn start_after(last: Option<u8>) -> usize
     ensures { result ≡ start_after last }
 {
     match last {
@@ -15,58 +16,38 @@ fn start_after(last: Option<u8>) -> usize
     }
 }
 
-/// The least number from this one on of a process that is ready, of so many.
-fn least_from<F: Fn(u8) -> bool>(start: usize, count: usize, is_ready: &F) -> Option<u8>
-    requires count { count ≤ MAX_PROCESSES }
-    requires callable { IsCallableBelow (F.pre is_ready.now) count }
-    ensures value { (ready : List Bool) → TellsOf (F.post is_ready.now) count ready
-        → result ≡ least_from start ready }
-    ensures least { (ready : List Bool) → TellsOf (F.post is_ready.now) count ready
-        → IfSome result (IsLeastFrom start ready) }
-    ensures none { (ready : List Bool) → TellsOf (F.post is_ready.now) count ready
-        → result ≡ None → (number : ℕ) → start ≤ number → ¬ (IsReady ready number) }
+/// The least number from this one on of a process that is ready.
+fn least_from(start: usize, ready: &[bool]) -> Option<u8>
+    requires { length ready.now ≤ MAX_PROCESSES }
+    ensures value { result ≡ least_from start ready.now }
+    ensures least { IfSome result (IsLeastFrom start ready.now) }
+    ensures none { result ≡ None → (number : ℕ) → start ≤ number → ¬ (IsReady ready.now number) }
 {
-    for number in start..count {
-        if is_ready(number as u8) {
+    for number in start..ready.len() {
+        if ready[number] {
             return Some(number as u8);
         }
     }
     None
 }
 
-/// The process whose turn is next, of so many: of those that are ready, the first one past `last`, and where there is none past it
-/// the first of all. `last` is `None` where no turn was granted yet. Asks of one process after the other whether it is
-/// ready, of no more than it takes. `None` where none is.
-pub fn next_ready_by<F: Fn(u8) -> bool>(last: Option<u8>, count: usize, is_ready: F) -> Option<u8>
-    requires count { count ≤ MAX_PROCESSES }
-    requires callable { IsCallableBelow (F.pre is_ready) count }
-    // As a function of what is told of each.
-    ensures turn { (ready : List Bool) → TellsOf (F.post is_ready) count ready
-        → result ≡ next_in_turn last ready }
-    // It is ready, and none comes before it in turn.
-    ensures next { (ready : List Bool) → TellsOf (F.post is_ready) count ready
-        → IfSome result (IsNext last ready) }
-    // There is no other such process.
-    ensures only { (ready : List Bool) → TellsOf (F.post is_ready) count ready
-        → IfSome result (λ process. (other : ℕ) → IsNext last ready other → other ≡ process) }
-    // Nothing is answered only where none is ready.
-    ensures none { (ready : List Bool) → TellsOf (F.post is_ready) count ready
-        → result ≡ None → (process : ℕ) → ¬ (IsReady ready process) }
-{
-    match least_from(start_after(last), count, &is_ready) {
-        Some(process) => Some(process),
-        None => least_from(0, count, &is_ready),
-    }
-}
-
-/// The same, where it is known of each which is ready: entry p of `ready` tells whether process p is.
+/// The process whose turn is next: of those that are ready, the first one past `last`, and where there is none past it the
+/// first of all. `last` is `None` where no turn was granted yet. Entry p of `ready` tells whether process p is ready here.
+/// `None` where none is.
 pub fn next_ready(last: Option<u8>, ready: &[bool]) -> Option<u8>
     requires { length ready.now ≤ MAX_PROCESSES }
+    // As a function of what was handed in.
     ensures turn { result ≡ next_in_turn last ready.now }
+    // It is ready, and none comes before it in turn.
     ensures next { IfSome result (IsNext last ready.now) }
+    // There is no other such process.
     ensures only { IfSome result
         (λ process. (other : ℕ) → IsNext last ready.now other → other ≡ process) }
+    // Nothing is answered only where none is ready.
     ensures none { result ≡ None → (process : ℕ) → ¬ (IsReady ready.now process) }
 {
-    next_ready_by(last, ready.len(), |process| ready[usize::from(process)])
+    match least_from(start_after(last), ready) {
+        Some(process) => Some(process),
+        None => least_from(0, ready),
+    }
 }
