@@ -64,7 +64,12 @@ impl Model for Letter {
 }
 
 // So many packets in flight, the given one among them.
-fn copies_of(alloc: Global, packet: Bytes, copies: u64, due: u64) -> Result<VecDeque<Flight>, AllocError>
+fn copies_of(
+    alloc: Global,
+    packet: Bytes,
+    copies: u64,
+    due: u64,
+) -> Result<VecDeque<Flight>, AllocError>
     ensures { IfOk result (λ flights. flights.items ≡ replicate copies (flight packet due)) }
 {
     let mut flights = VecDeque::new(alloc);
