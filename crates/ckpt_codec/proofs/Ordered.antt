@@ -1,10 +1,10 @@
 -- Ends that are read one after another: their channels ascend.
-use Rattle.std.proofs.Common.{◌≡◌, ℕ, zero, suc, ◌+◌, ◌<◌, ◌≤◌, List, [], ◌∷◌, ◌++◌, length, get_or, Option, Some, None, IfSome, refl, sym, subst, ◌∙◌, arith}
+use Rattle.std.proofs.Common.{◌≡◌, ℕ, zero, suc, ◌+◌, ◌<◌, ◌≤◌, List, [], ◌∷◌, ◌++◌, length, get_or, Option, Some, None, IfSome, refl, sym, subst, arith}
 use Rattle.std.specs.Prelude.{slice_get}
 use Rattle.std.proofs.lemmas.List.Quantifiers.{all_pairs_push}
 use Rattle.record.specs.Ascending.{AreAscending}
 use Rattle.record.specs.declared.image.SavedEnd.{SavedEnd}
-use Rattle.ckpt_codec.specs.Reading.{channel_wanted, nth}
+use Rattle.ckpt_codec.specs.Reading.{channel_wanted}
 use Rattle.ckpt_codec.specs.RecordText.{wanted}
 
 -- So many ends were read: their channels ascend below the least that may come next, which is 0 at first, and then the one behind the channel

@@ -5,6 +5,7 @@ use Rattle.std.specs.Ordering.{nat_cmp, ordering_index}
 use Rattle.std.proofs.lemmas.Bool.{cases_lt, eq-eqb, ne_eqb}
 use Rattle.std.proofs.lemmas.Bool.Decides.{nat_tests}
 use Rattle.std.proofs.lemmas.Cmp.{ranked}
+use Rattle.std.proofs.lemmas.List.{length-map}
 use Rattle.std.proofs.lemmas.List.Sorted.{IsNonDecreasingBy-from_default}
 use Rattle.std.specs.Prelude.{if◌then◌else◌}
 use Rattle.record.specs.Ascending.{AreAscending, HasNoneOf, IsPlaceOf}
@@ -121,3 +122,25 @@ image_trimmed processes ends image channel position place saved end same up ther
 -- and where there is no such place, nothing
 pub image_untrimmed : (image : ImageView) (channel position : ℕ) → HasNoneOf image.ends channel → image ≡ trimmed_image channel position image
 image_untrimmed image channel position none = ap (λ (xs : List SavedEnd). record { processes = image.processes; ends = xs }) (sym (trimmed_others channel position image.ends none))
+
+-- an end before all others
+pub ascend_behind : (e : SavedEnd) (ends : List SavedEnd) → ((k : ℕ) (d : SavedEnd) → k < length ends → e.channel < (get_or ends k d).channel) → AreAscending ends → AreAscending (e ∷ ends)
+ascend_behind e ends above up = each
+  where
+    each : (i j : ℕ) (d : SavedEnd) → i < j → j < length (e ∷ ends) → (get_or (e ∷ ends) i d).channel < (get_or (e ∷ ends) j d).channel
+    each i zero d less within = absurd (omega (arith, less))
+    each zero (suc j) d less within = above j d (omega (arith, within))
+    each (suc i) (suc j) d less within = up i j d (omega (arith, less)) (omega (arith, within))
+
+-- ends that change and stay those of their channels
+same_channel : (f : SavedEnd → SavedEnd) → ((e : SavedEnd) → (f e).channel ≡ e.channel) → (ends : List SavedEnd) (k : ℕ) (d : SavedEnd) → k < length ends → (get_or (map f ends) k d).channel ≡ (get_or ends k d).channel
+same_channel f same [] k d within = absurd (omega (arith, within))
+same_channel f same (e ∷ ends) zero d within = same e
+same_channel f same (e ∷ ends) (suc k) d within = same_channel f same ends k d (omega (arith, within))
+
+pub ascend_changed : (f : SavedEnd → SavedEnd) → ((e : SavedEnd) → (f e).channel ≡ e.channel) → (ends : List SavedEnd) → AreAscending ends → AreAscending (map f ends)
+ascend_changed f same ends up i j d less within =
+    let there : j < length ends = subst (λ (n : ℕ). j < n) (length-map ends f) within in
+    let first = same_channel f same ends i d (omega (arith, less, there)) in
+    let second = same_channel f same ends j d there in
+    omega (arith, first, second, up i j d less there)
