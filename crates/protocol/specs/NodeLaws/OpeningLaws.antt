@@ -53,27 +53,25 @@ process_at home number (code ∷ codes) k saved is = at (code.node == home) k is
 -- the ends stand in order of their channels
 ends_above : (net : Network) (home number : ℕ) (channels : List Channel) (k : ℕ) (d : SavedEnd) → k < length (opening_ends net home number channels) → number ≤ (get_or (opening_ends net home number channels) k d).channel
 ends_above net home number [] k d within = absurd (omega (arith, within))
-ends_above net home number (channel ∷ channels) k d within = at (channel_on net home (Some channel)) k within
+ends_above net home number (channel ∷ channels) k d within =
+    behind (channel_on net home (Some channel)) (record { channel = number; end = opening_end (port_on net home channel.producer) (port_on net home channel.consumer) }) (opening_ends net home (suc number) channels) refl
+    (λ j there. ends_above net home (suc number) channels j d there) k within
   where
-    own : SavedEnd
-    own = record { channel = number; end = opening_end (port_on net home channel.producer) (port_on net home channel.consumer) }
-
-    at : (b : Bool) (k : ℕ) → k < length (cond b (own ∷ opening_ends net home (suc number) channels) (opening_ends net home (suc number) channels))
-        → number ≤ (get_or (cond b (own ∷ opening_ends net home (suc number) channels) (opening_ends net home (suc number) channels)) k d).channel
-    at false k within = let later : suc number ≤ (get_or (opening_ends net home (suc number) channels) k d).channel = ends_above net home (suc number) channels k d within in omega (arith, later)
-    at true zero within = omega arith
-    at true (suc k) within = let later : suc number ≤ (get_or (opening_ends net home (suc number) channels) k d).channel = ends_above net home (suc number) channels k d (omega (arith, within)) in omega (arith, later)
+    behind : (b : Bool) (own : SavedEnd) (rest : List SavedEnd) → own.channel ≡ number → ((j : ℕ) → j < length rest → suc number ≤ (get_or rest j d).channel) → (k : ℕ) → k < length (cond b (own ∷ rest) rest)
+        → number ≤ (get_or (cond b (own ∷ rest) rest) k d).channel
+    behind false own rest is later k within = omega (arith, later k within)
+    behind true own rest is later zero within = omega (arith, is)
+    behind true own rest is later (suc k) within = omega (arith, later k (omega (arith, within)))
 
 pub opening_ascends : (net : Network) (home number : ℕ) (channels : List Channel) → AreAscending (opening_ends net home number channels)
 opening_ascends net home number [] = λ i j d less within. absurd (omega (arith, within))
-opening_ascends net home number (channel ∷ channels) = at (channel_on net home (Some channel))
+opening_ascends net home number (channel ∷ channels) =
+    behind (channel_on net home (Some channel)) (record { channel = number; end = opening_end (port_on net home channel.producer) (port_on net home channel.consumer) }) (opening_ends net home (suc number) channels)
+    (λ k d within. omega (arith, ends_above net home (suc number) channels k d within)) (opening_ascends net home (suc number) channels)
   where
-    own : SavedEnd
-    own = record { channel = number; end = opening_end (port_on net home channel.producer) (port_on net home channel.consumer) }
-
-    at : (b : Bool) → AreAscending (cond b (own ∷ opening_ends net home (suc number) channels) (opening_ends net home (suc number) channels))
-    at false = opening_ascends net home (suc number) channels
-    at true = ascend_behind own (opening_ends net home (suc number) channels) (λ k d within. omega (arith, ends_above net home (suc number) channels k d within)) (opening_ascends net home (suc number) channels)
+    behind : (b : Bool) (own : SavedEnd) (rest : List SavedEnd) → ((k : ℕ) (d : SavedEnd) → k < length rest → own.channel < (get_or rest k d).channel) → AreAscending rest → AreAscending (cond b (own ∷ rest) rest)
+    behind false own rest above up = up
+    behind true own rest above up = ascend_behind own rest above up
 
 record OwnEnd (net : Network) (home number : ℕ) (channels : List Channel) (saved : SavedEnd) : Type 0 where
   pub place : ℕ
