@@ -62,7 +62,7 @@ one_ordered like ends more place least next end w ordered is rises asked free pu
     record {
       ascending = subst (λ (xs : List SavedEnd). AreAscending xs) (sym pushed) (all_pairs_push (λ (x y : SavedEnd). x.channel < y.channel) ends end ordered.ascending (λ k d within. omega (arith, ordered.below k d within, low)));
       below = subst (λ (xs : List SavedEnd). (k : ℕ) (d : SavedEnd) → k < length xs → (get_or xs k d).channel < next) (sym pushed)
-        (below_pushed ends end next (λ k d within. omega (arith, ordered.below k d within, low, later)) (omega (arith, later)));
+          (below_pushed ends end next (λ k d within. omega (arith, ordered.below k d within, low, later)) (omega (arith, later)));
       first = λ e. absurd (omega (arith, e));
       behind = λ before e. let same : place ≡ before = omega (arith, e) in subst (λ (k : ℕ). IfSome (channel_wanted like k) (λ channel. next ≡ channel + 1)) same (subst (λ (o : Option ℕ). IfSome o (λ channel. next ≡ channel + 1)) is (counted w asked));
     }

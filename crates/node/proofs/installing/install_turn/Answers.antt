@@ -21,9 +21,9 @@ count_all-requires c = λ k saved h.
 -- the ends stay those of their channels
 pub invariant_of-image-inside-2 : goal.invariant_of-image-inside-2
 invariant_of-image-inside-2 c = (
-    subst (λ (ends : List SavedEnd). AreAscending ends) (sym c.count_all.ensures)
-    (ascend_changed (saved_counted c.args.channels.now c.args.process c.args.taken.now) (λ e. refl) _
-    (subst (λ (ends : List SavedEnd). AreAscending ends) (sym c.in_ok-push_sent.ensures.ok)
-    (ascend_changed (saved_pushed c.args.channels.now c.args.process c.args.sent.now) (λ e. refl) c.image.inside.ends.items c.image.inside.ordered))),
-    tt,
-  )
+  subst (λ (ends : List SavedEnd). AreAscending ends) (sym c.count_all.ensures)
+      (ascend_changed (saved_counted c.args.channels.now c.args.process c.args.taken.now) (λ e. refl) _
+      (subst (λ (ends : List SavedEnd). AreAscending ends) (sym c.in_ok-push_sent.ensures.ok)
+      (ascend_changed (saved_pushed c.args.channels.now c.args.process c.args.sent.now) (λ e. refl) c.image.inside.ends.items c.image.inside.ordered))),
+  tt,
+)
