@@ -1,4 +1,5 @@
 mod Loop
+mod Ordered
 mod Scan
 mod Combining
 mod Bytes

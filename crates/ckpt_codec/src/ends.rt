@@ -1,5 +1,6 @@
 // The ends of channels, read from the front of bytes.
-ghost use Rattle.std.specs.Prelude.{◌≡◌, ◌≤◌, IfOk, IfErr, option_copied};
+ghost use Rattle.std.specs.Prelude.{◌≡◌, ◌≤◌, ◌<◌, ◌+◌, ℕ, IfOk, IfErr, IfSome, None, option_copied};
+ghost use Rattle.record.specs.Ascending.{AreAscending};
 ghost use Rattle.ckpt_codec.specs.Reading.{Reads, retained_items_at, log_at, end_at, role_end_at, saved_end_at, channel_wanted, role_wanted, ends_at};
 ghost use Rattle.ckpt_codec.specs.RecordText.{ends_in, role_of as role_in};
 
@@ -89,7 +90,9 @@ fn saved_end_of(
     least: u16,
     bytes: &[u8],
 ) -> Result<(SavedEnd, &[u8]), CodecFault>
-    ensures { Reads (λ x. (x.0, x.1.now)) result (saved_end_at channel role least bytes.now) }
+    ensures read { Reads (λ x. (x.0, x.1.now)) result (saved_end_at channel role least bytes.now) }
+    ensures wanted { IfOk result (λ x. IfSome channel (λ w. x.0.channel ≡ w)) }
+    ensures least { channel ≡ None → IfOk result (λ x. least ≤ x.0.channel) }
 {
     let (channel, rest) = channel_of(channel, least, bytes)?;
     let (end, rest) = role_end_of(alloc, role, rest)?;
@@ -109,7 +112,11 @@ pub(crate) fn role_number(end: &End) -> u8
 
 // The channel of the end at this place of the first image.
 fn wanted_channel(like: Option<&Image>, place: usize) -> Option<u8>
-    ensures { result ≡ channel_wanted (ends_in (option_copied like.entry)) place }
+    ensures wanted { result ≡ channel_wanted (ends_in (option_copied like.entry)) place }
+    // It is above the one before it.
+    ensures rises { (before : ℕ) → place ≡ before + 1
+        → IfSome (channel_wanted (ends_in (option_copied like.entry)) before)
+        (λ earlier. IfSome result (λ channel. earlier < channel)) }
 {
     match like {
         Some(image) => match image.ends.get(place) {
@@ -140,8 +147,9 @@ pub(crate) fn ends_of<'a>(
     count: u16,
     bytes: &'a [u8],
 ) -> Result<(Vec<SavedEnd>, &'a [u8]), CodecFault>
-    ensures { Reads (λ x. (x.0.items, x.1.now)) result
+    ensures read { Reads (λ x. (x.0.items, x.1.now)) result
         (ends_at (ends_in (option_copied like.entry)) count bytes.now) }
+    ensures ordered { IfOk result (λ x. AreAscending x.0.items) }
 {
     let mut ends = Vec::new(alloc);
     let mut rest = bytes;

@@ -1,5 +1,5 @@
 // The fields of a record, read from the front of bytes: what was read, and what is left.
-ghost use Rattle.std.specs.Prelude.{◌≤◌};
+ghost use Rattle.std.specs.Prelude.{◌≡◌, ◌≤◌, IfOk, IfSome, None};
 ghost use Rattle.ckpt_codec.specs.Reading.{Reads, number_at, item_at, count_at, flag_at, nodes_at, participant_at, decided_number_at, participant_count_at, mode_number_at, depth_at, process_number_at, variable_count_at, process_count_at, base_at, retained_at, role_at, channel_at, end_count_at, initiator_at, tentative_number_at};
 
 use crate::fault::CodecFault;
@@ -230,7 +230,9 @@ pub(crate) fn channel_of(
     least: u16,
     bytes: &[u8],
 ) -> Result<(u8, &[u8]), CodecFault>
-    ensures { Reads (λ x. (x.0, x.1.now)) result (channel_at wanted least bytes.now) }
+    ensures read { Reads (λ x. (x.0, x.1.now)) result (channel_at wanted least bytes.now) }
+    ensures wanted { IfOk result (λ x. IfSome wanted (λ w. x.0 ≡ w)) }
+    ensures least { wanted ≡ None → IfOk result (λ x. least ≤ x.0) }
 {
     let (channel, rest) = u16_of(bytes)?;
     let stands = match wanted {

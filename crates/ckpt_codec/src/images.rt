@@ -1,5 +1,6 @@
 // Images, read from the front of bytes.
-ghost use Rattle.std.specs.Prelude.{◌≡◌, length, option_copied};
+ghost use Rattle.std.specs.Prelude.{◌≡◌, length, IfOk, option_copied};
+ghost use Rattle.record.specs.Ascending.{AreAscending};
 ghost use Rattle.record.specs.ImageView.{ImageView};
 ghost use Rattle.ckpt_codec.specs.RecordText.{wanted};
 ghost use Rattle.ckpt_codec.specs.Reading.{Reads, process_list_at, end_list_at, image_at};
@@ -50,8 +51,9 @@ fn end_list_of<'a>(
     like: Option<&Image>,
     bytes: &'a [u8],
 ) -> Result<(Vec<SavedEnd>, &'a [u8]), CodecFault>
-    ensures { Reads (λ x. (x.0.items, x.1.now)) result
+    ensures read { Reads (λ x. (x.0.items, x.1.now)) result
         (end_list_at (option_copied like.entry) bytes.now) }
+    ensures ordered { IfOk result (λ x. AreAscending x.0.items) }
 {
     let (count, rest) = end_count_of(wanted_ends(like), bytes)?;
     ends_of(alloc, like, count, rest)

@@ -1,4 +1,5 @@
 pub mod Records
+mod Opened
 mod Raising
 mod Checkpoints
 mod Recoveries

@@ -1,20 +1,21 @@
 // Which process of a node goes on next.
-ghost use Rattle.std.specs.Prelude.{◌≡◌, ◌≤◌, ◌<◌, ◌&&◌, ◌↔◌, length, slice_get, IfSome, IsTrue, option_copied, option_map};
+ghost use Rattle.std.specs.Prelude.{◌≡◌, ◌≤◌, ◌<◌, ◌&&◌, ◌↔◌, nat_lt, length, slice_get, IfSome, IsTrue, option_copied, option_map};
 ghost use Rattle.kahn_net.specs.Syntax.{network_of};
-ghost use Rattle.record.specs.Ends.{sent_in};
+ghost use Rattle.record.specs.Ends.{log_at, received_at, sent_in};
+ghost use Rattle.protocol.specs.Node.Granting.{first_log, inbox_log};
 ghost use Rattle.protocol.specs.Node.Sharing.{log_share};
 ghost use Rattle.protocol.specs.Node.Choosing.{has_item, has_room, is_ready, ready_processes, process_at, next_process};
 ghost use Rattle.node.specs.Searching.{ComesFirst};
 ghost use Rattle.turns.specs.Turns.{least_from};
 ghost use Rattle.kahn_net.specs.declared.limits.TheConstants.{MAX_CHANNELS};
 
-use crate::granting::{places, source};
+use crate::granting::{inbox_log, places};
 use crate::sharing::share_of;
 use kahn_net::{Channel, History, Port};
 use net_check::Net;
 use proc_step::{NextAct, next_act};
 use protocol::Inbox;
-use record::{Image, SavedProcess};
+use record::{End, Image, SavedProcess};
 use retained::Log;
 use turns::start_after;
 
@@ -25,6 +26,19 @@ fn end_of(log: Option<&Log>) -> u64
     match log {
         Some(log) => log.end(),
         None => 0,
+    }
+}
+
+// Whether an item comes behind those that an end received: in its own log, or else in the inbox of its channel.
+fn comes_next(end: Option<&End>, inboxes: &[Inbox], channel: u8) -> bool
+    ensures { result ≡ nat_lt (received_at (option_copied end.entry))
+        (sent_in (first_log (log_at (option_copied end.entry)) (inbox_log inboxes.now channel))) }
+{
+    match end {
+        Some(End::Both { received, log }) => *received < log.end(),
+        Some(End::Sends { log }) => 0 < log.end(),
+        Some(End::Receives { received }) => *received < end_of(inbox_log(inboxes, channel)),
+        None => 0 < end_of(inbox_log(inboxes, channel)),
     }
 }
 
@@ -46,10 +60,7 @@ fn has_item(
                 Some(input) => image.received(channel as u8) < input.len() as u64,
                 None => false,
             },
-            Port::Process(_) => {
-                let source = source(image, inboxes, channel as u8);
-                image.received(channel as u8) < end_of(source)
-            }
+            Port::Process(_) => comes_next(image.end(channel as u8), inboxes, channel as u8),
         },
         None => false,
     }

@@ -44,8 +44,8 @@ fn copy_logged(alloc: Global, log: Option<&Log>, received: u64) -> Result<Histor
     }
 }
 
-// The log of the inbox of a channel.
-fn inbox_log(inboxes: &[Inbox], channel: u8) -> Option<&Log>
+/// The log of the inbox of a channel.
+pub(crate) fn inbox_log(inboxes: &[Inbox], channel: u8) -> Option<&Log>
     ensures { option_copied result ≡ inbox_log inboxes.now channel }
 {
     for inbox in inboxes {
@@ -57,7 +57,7 @@ fn inbox_log(inboxes: &[Inbox], channel: u8) -> Option<&Log>
 }
 
 // The log from which a process of the node gets the items of a channel.
-pub(crate) fn source<'a>(image: &'a Image, inboxes: &'a [Inbox], channel: u8) -> Option<&'a Log>
+fn source<'a>(image: &'a Image, inboxes: &'a [Inbox], channel: u8) -> Option<&'a Log>
     ensures { option_copied result ≡ source_of image.now inboxes.now channel }
 {
     match image.log(channel) {

@@ -1,6 +1,7 @@
 // A node before its first event.
 ghost use Rattle.std.specs.Prelude.{◌≡◌, ◌≤◌, map, length, IfOk};
 ghost use Rattle.kahn_net.specs.Syntax.{code_of, network_of};
+ghost use Rattle.record.specs.Ascending.{AreAscending};
 ghost use Rattle.protocol.specs.Node.Opening.{new_inbox, new_outbox, opening_processes, opening_end, opening_ends, opening_image, opening_inboxes, opening_outboxes, opening_record};
 ghost use Rattle.kahn_net.specs.declared.limits.TheConstants.{MAX_CHANNELS, MAX_PROCESSES};
 
@@ -63,8 +64,9 @@ fn open_ends(
     home: u8,
 ) -> Result<Vec<SavedEnd>, AllocError>
     requires { length channels.now ≤ MAX_CHANNELS }
-    ensures { IfOk result (λ ends. ends.items
+    ensures ends { IfOk result (λ ends. ends.items
         ≡ opening_ends (network_of net.now.program) home 0 channels.now) }
+    ensures ordered { IfOk result (λ ends. AreAscending ends.items) }
 {
     let mut ends = Vec::with_capacity(alloc, channels.len())?;
     for (number, channel) in channels.iter().enumerate() {

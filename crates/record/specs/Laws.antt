@@ -1,2 +1,3 @@
 -- What follows of lists that are changed element by element.
 pub mod Walks
+pub mod Ascent

@@ -1,3 +1,4 @@
+pub mod Ascending
 pub mod ProcessView
 pub mod ImageView
 pub mod DecisionView

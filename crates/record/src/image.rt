@@ -1,6 +1,7 @@
 //! Images: where a node's processes stand, and what it has of its channels.
-ghost use Rattle.std.specs.Prelude.{◌≡◌, ◌+◌, ◌≤◌, IfOk, IsErrOf, OnErr, OnOk, Some, length, map, option_copied};
-ghost use Rattle.record.specs.Changes.{LogTakes, counted, pushed, trimmed_end, trimmed_image, trimmed_saved};
+ghost use Rattle.std.specs.Prelude.{◌≡◌, ◌+◌, ◌≤◌, IfOk, IsErrOf, OnErr, OnOk, None, Some, length, IfSome, option_copied};
+ghost use Rattle.record.specs.Ascending.{AreAscending, HasNoneOf, IsPlaceOf};
+ghost use Rattle.record.specs.Changes.{LogTakes, counted, pushed, trimmed_end, trimmed_image};
 ghost use Rattle.record.specs.Ends.{base_of, end_of, log_at, log_of, received_at, received_of, sent_of};
 
 use kahn_net::{MAX_COUNT, ProcState};
@@ -132,22 +133,15 @@ impl SavedEnd {
             end: self.end.copy(alloc)?,
         })
     }
-
-    // The same where it is the end of this channel.
-    fn trim_of(&mut self, channel: u8, position: u64)
-        ensures { self.new ≡ trimmed_saved channel position self.old }
-    {
-        if self.channel == channel {
-            self.end.trim(position);
-        }
-    }
 }
 
-/// An image of a node: each process's state, and for each end of a channel its received count or its retained log.
+/// An image of a node: each process's state, and for each end of a channel its received count or its retained log. The ends
+/// stand in order of their channels.
 #[derive(Drop)]
 pub struct Image {
     pub processes: Vec<SavedProcess>,
     pub ends: Vec<SavedEnd>,
+    pub ghost ordered: { AreAscending ends.items },
 }
 
 impl Model for Image {
@@ -178,25 +172,29 @@ fn copy_ends(alloc: Global, saved: &[SavedEnd]) -> Result<Vec<SavedEnd>, AllocEr
     Ok(copies)
 }
 
-fn trim_all(ends: &mut Vec<SavedEnd>, channel: u8, position: u64)
-    ensures { ends.new.items ≡ map (trimmed_saved channel position) ends.old.items }
-{
-    for saved in ends.iter_mut() {
-        saved.trim_of(channel, position);
-    }
-}
-
 impl Image {
-    // The end of a channel.
-    fn end(&self, channel: u8) -> Option<&End>
+    // The place of the end of a channel.
+    fn place(&self, channel: u8) -> Option<usize>
+        ensures there { IfSome result (λ place. IsPlaceOf self.now.ends channel place) }
+        ensures nowhere { result ≡ None → HasNoneOf self.now.ends channel }
+    {
+        match self
+            .ends
+            .binary_search_by_key(&channel, |saved| saved.channel)
+        {
+            Ok(place) => Some(place),
+            Err(_) => None,
+        }
+    }
+
+    /// The end of a channel.
+    pub fn end(&self, channel: u8) -> Option<&End>
         ensures { option_copied result ≡ end_of self.now channel }
     {
-        for saved in &self.ends {
-            if saved.channel == channel {
-                return Some(&saved.end);
-            }
+        match self.place(channel) {
+            Some(place) => Some(&self.ends[place].end),
+            None => None,
         }
-        None
     }
 
     /// How many items were received from a channel: 0 where no process of the node gets from it.
@@ -252,6 +250,8 @@ impl Image {
     pub fn trim(&mut self, channel: u8, position: u64)
         ensures { self.new ≡ trimmed_image channel position self.old }
     {
-        trim_all(&mut self.ends, channel, position);
+        if let Some(place) = self.place(channel) {
+            self.ends[place].end.trim(position);
+        }
     }
 }

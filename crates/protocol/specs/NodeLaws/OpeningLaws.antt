@@ -1,5 +1,5 @@
 -- Laws of a node before its first event: no process has made an act.
-use Rattle.std.proofs.Common.{◌≡◌, ℕ, zero, suc, ◌+◌, ◌≤◌, Bool, true, false, eqb, cond, ℤ, List, [], ◌∷◌, length, drop, map, Option, Some, None, option_map, refl, sym, ap, subst, ◌∙◌, arith}
+use Rattle.std.proofs.Common.{◌≡◌, ℕ, zero, suc, ◌+◌, ◌<◌, ◌≤◌, Bool, true, false, eqb, cond, ℤ, List, [], ◌∷◌, length, get_or, drop, map, Option, Some, None, option_map, refl, sym, ap, subst, ◌∙◌, arith}
 use Rattle.std.specs.Prelude.{slice_get, find, ◌==◌}
 use Rattle.kahn_net.specs.Syntax.{Code, Network}
 use Rattle.kahn_net.specs.Processes.{Standing, NotBegun, StandsAt, got_on, sent_on}
@@ -9,7 +9,9 @@ use Rattle.kahn_net.specs.declared.program.Port.TheVariants.{Outside, Process}
 use Rattle.retained.specs.LogState.{LogState, IsLogOf}
 use Rattle.record.specs.ProcessView.{SavedProcessView}
 use Rattle.record.specs.ImageView.{ImageView}
+use Rattle.record.specs.Ascending.{AreAscending}
 use Rattle.record.specs.Ends.{received_at, received_of, log_at}
+use Rattle.record.specs.Laws.Ascent.{ascend_behind}
 use Rattle.ckpt_codec.specs.RecordText.{role_of}
 use Rattle.protocol.specs.Node.Opening.{opening_processes, opening_end, opening_ends, opening_image, new_inbox, new_outbox, opening_inboxes, opening_running}
 use Rattle.protocol.specs.Node.Layout.{numbers_where, is_on, has_process, port_on, channel_on, has_end, role_by, incoming_on, outgoing_on}
@@ -47,6 +49,29 @@ process_at home number (code ∷ codes) k saved is = at (code.node == home) k is
         let same : ◌≡◌ {A = SavedProcessView} saved (record { number = number; standing = NotBegun code.vars }) = cc in
         let sum : number ≡ number + 0 = omega arith in
         record { place = 0; code = code; there = refl; numbered = ap (λ (s : SavedProcessView). s.number) same ∙ sum; stands = ap (λ (s : SavedProcessView). s.standing) same }
+
+-- the ends stand in order of their channels
+ends_above : (net : Network) (home number : ℕ) (channels : List Channel) (k : ℕ) (d : SavedEnd) → k < length (opening_ends net home number channels) → number ≤ (get_or (opening_ends net home number channels) k d).channel
+ends_above net home number [] k d within = absurd (omega (arith, within))
+ends_above net home number (channel ∷ channels) k d within =
+    behind (channel_on net home (Some channel)) (record { channel = number; end = opening_end (port_on net home channel.producer) (port_on net home channel.consumer) }) (opening_ends net home (suc number) channels) refl
+    (λ j there. ends_above net home (suc number) channels j d there) k within
+  where
+    behind : (b : Bool) (own : SavedEnd) (rest : List SavedEnd) → own.channel ≡ number → ((j : ℕ) → j < length rest → suc number ≤ (get_or rest j d).channel) → (k : ℕ) → k < length (cond b (own ∷ rest) rest)
+        → number ≤ (get_or (cond b (own ∷ rest) rest) k d).channel
+    behind false own rest is later k within = omega (arith, later k within)
+    behind true own rest is later zero within = omega (arith, is)
+    behind true own rest is later (suc k) within = omega (arith, later k (omega (arith, within)))
+
+pub opening_ascends : (net : Network) (home number : ℕ) (channels : List Channel) → AreAscending (opening_ends net home number channels)
+opening_ascends net home number [] = λ i j d less within. absurd (omega (arith, within))
+opening_ascends net home number (channel ∷ channels) =
+    behind (channel_on net home (Some channel)) (record { channel = number; end = opening_end (port_on net home channel.producer) (port_on net home channel.consumer) }) (opening_ends net home (suc number) channels)
+    (λ k d within. omega (arith, ends_above net home (suc number) channels k d within)) (opening_ascends net home (suc number) channels)
+  where
+    behind : (b : Bool) (own : SavedEnd) (rest : List SavedEnd) → ((k : ℕ) (d : SavedEnd) → k < length rest → own.channel < (get_or rest k d).channel) → AreAscending rest → AreAscending (cond b (own ∷ rest) rest)
+    behind false own rest above up = up
+    behind true own rest above up = ascend_behind own rest above up
 
 record OwnEnd (net : Network) (home number : ℕ) (channels : List Channel) (saved : SavedEnd) : Type 0 where
   pub place : ℕ

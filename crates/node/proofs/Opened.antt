@@ -1,0 +1,16 @@
+-- The ends of a node before its first event stand in order of their channels.
+use Rattle.std.proofs.Common.{◌≡◌, ℕ, ◌≤◌, List, ◌++◌, length, drop, sym, ap, subst, ◌∙◌}
+use Rattle.std.proofs.lemmas.List.{at_drop_all, append-nil}
+use Rattle.kahn_net.specs.Syntax.{Network}
+use Rattle.kahn_net.specs.declared.program.Channel.{Channel}
+use Rattle.record.specs.Ascending.{AreAscending}
+use Rattle.record.specs.declared.image.SavedEnd.{SavedEnd}
+use Rattle.protocol.specs.Node.Opening.{opening_ends}
+use Rattle.protocol.specs.NodeLaws.OpeningLaws.{opening_ascends}
+
+-- once all channels were gone through
+pub all_opened : (net : Network) (home number : ℕ) (channels : List Channel) (ends : List SavedEnd) → length channels ≤ number → ends ++ opening_ends net home number (drop number channels) ≡ opening_ends net home 0 channels → AreAscending ends
+all_opened net home number channels ends past so_far =
+    let whole : ends ≡ opening_ends net home 0 channels =
+    sym (append-nil ends) ∙ (ap (λ (rest : List SavedEnd). ends ++ rest) (sym (at_drop_all (opening_ends net home number) channels number past)) ∙ so_far) in
+    subst (λ (xs : List SavedEnd). AreAscending xs) (sym whole) (opening_ascends net home 0 channels)
