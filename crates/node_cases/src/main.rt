@@ -18,7 +18,7 @@
 //! | `sectors 9` | the sectors of its disk; 9 where it isn't said |
 //! | `record fresh opening 00` | the bytes of the record on its disk; a further line goes on |
 //! | `fault call 7 fill 0` | a failure that is prepared on its disk, of a call that is counted from 1 |
-//! | `for CALL 1..12 FILL 0 255` | the case is run for each choice of these numbers, the ends of a range included. The names, in capital letters, stand for them in all its lines, alone or in a sum as `CALL+1` |
+//! | `for CALL 1..12 FILL 0 255` | the case is run for each choice of these numbers, the ends of a range included. The names, in capital letters, stand for them in all its lines, alone or in a sum as `CALL+1`; among bytes they have no place, since their digits are decimal |
 //!
 //! Then comes what happens, line by line, and behind an arrow what has to be answered:
 //!
