@@ -69,29 +69,10 @@ pub fn event_text(alloc: Global, event: &Event, asked: u8) -> Result<String, All
     }
 }
 
-/// Items, with one space between them.
-pub fn items_text(alloc: Global, items: &[i64]) -> Result<String, AllocError> {
-    if items.is_empty() {
-        return String::from_str(alloc, "nothing");
-    }
-    let mut text = String::new(alloc);
-    for item in items {
-        if !text.is_empty() {
-            text.push_str(" ")?;
-        }
-        text.push_str(format!(in alloc; "{item}")?.as_str())?;
-    }
-    Ok(text)
-}
-
 /// A packet's bytes, with two digits for each.
 pub fn packet_text(alloc: Global, packet: Option<&[u8]>) -> Result<String, AllocError> {
     let Some(bytes) = packet else {
         return String::from_str(alloc, "none");
     };
-    let mut text = String::new(alloc);
-    for byte in bytes {
-        text.push_str(format!(in alloc; "{byte:02x}")?.as_str())?;
-    }
-    Ok(text)
+    hex::encode(alloc, bytes)
 }

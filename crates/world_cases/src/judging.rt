@@ -5,28 +5,9 @@ use crate::plan::{Plan, Planned};
 use crate::run::{Came, Run};
 use crate::step::Step;
 use anyhow::Context;
+use case_table::{Difference, is_wanted};
 use ckpt_store::StoreFault;
 use std::alloc::{AllocError, Global};
-
-/// A step that came out otherwise than written.
-#[derive(Drop)]
-pub struct Difference {
-    pub line: usize,
-    pub asked: String,
-    pub wanted: String,
-    pub came: String,
-}
-
-/// Whether an answer is the one that is wanted, behind which more may follow where it ends in `..`.
-fn is_wanted(wanted: &str, came: &str) -> bool {
-    match wanted.strip_suffix(" ..") {
-        Some(first) => match came.strip_prefix(first) {
-            Some(rest) => rest.is_empty() || rest.starts_with(" "),
-            None => false,
-        },
-        None => wanted == came,
-    }
-}
 
 /// What came of a step, where it isn't what is wanted.
 fn compared(

@@ -46,84 +46,40 @@
 
 mod answer;
 mod judging;
-mod names;
-mod numbers;
 mod opening;
 mod plan;
 mod run;
 mod showing;
 mod step;
 mod stream;
-mod table;
 
-use crate::judging::{Difference, judged};
-use crate::names::{choices, chosen};
+use crate::judging::judged;
 use crate::plan::plan_of;
-use crate::table::{Case, cases_of};
 use anyhow::Context;
-use std::fs::File;
-use std::io::Read;
-use std::{fs, io};
+use case_table::{Case, Difference, Trial, read, run_cases, table_of};
 
-/// The text of a file.
-fn read(rt: &HostRuntime, name: &str) -> io::Result<String> {
-    let mut file: File = fs::open(rt, name)?;
-    let mut text = String::new(rt.alloc());
-    file.read_to_string(&mut text)?;
-    Ok(text)
-}
+/// Each case is of a world.
+#[derive(Clone, Copy, Debug)]
+struct Worlds;
 
-/// Prints a case that came out otherwise.
-fn report(
-    rt: &HostRuntime,
-    case: &Case,
-    choice: &[u64],
-    difference: &Difference,
-) -> io::Result<()> {
-    let chosen = chosen(rt.alloc(), &case.names, choice)?;
-    println!(rt; "otherwise: {}{chosen}", case.title)?;
-    println!(rt; "  line {}: {}", difference.line, difference.asked)?;
-    println!(rt; "  expected: {}", difference.wanted)?;
-    println!(rt; "  came: {}", difference.came)
-}
-
-/// What comes out otherwise than a case says, for one choice of its numbers.
-fn found(rt: &HostRuntime, case: &Case, choice: &[u64]) -> anyhow::Result<Option<Difference>> {
-    let plan = plan_of(rt.alloc(), case, choice)?;
-    let net = read(rt, &plan.settings.net).context("its network")?;
-    judged(rt.alloc(), &net, plan)
-}
-
-/// Whether a case comes out as written, for each choice of its numbers.
-fn holds(rt: &HostRuntime, case: &Case) -> anyhow::Result<bool> {
-    let all = choices(rt.alloc(), &case.names)?;
-    for choice in &all {
-        let found = found(rt, case, choice).context(format_args!(
-            "the case of line {}",
-            case.line
-        ))?;
-        if let Some(difference) = found {
-            report(rt, case, choice, &difference)?;
-            return Ok(false);
-        }
+impl Trial for Worlds {
+    fn found(
+        &self,
+        rt: &HostRuntime,
+        case: &Case,
+        choice: &[u64],
+    ) -> anyhow::Result<Option<Difference>> {
+        let plan = plan_of(rt.alloc(), case, choice)?;
+        let net = read(rt, &plan.settings.net).context("its network")?;
+        judged(rt.alloc(), &net, plan)
     }
-    Ok(true)
 }
 
 fn main(rt: HostRuntime) -> anyhow::Result<()> {
-    let table = read(&rt, "cases")?;
-    let cases = cases_of(rt.alloc(), &table)?;
-    let mut as_written: usize = 0;
-    for case in &cases {
-        if holds(&rt, case)? {
-            as_written = as_written.saturating_add(1);
-        }
+    let text = read(&rt, "cases")?;
+    let table = table_of(rt.alloc(), &text)?;
+    if let Some(line) = table.head.first() {
+        anyhow::bail!("line {}: it stands before the first case", line.number);
     }
-    println!(rt; "{as_written} cases as written")?;
-    anyhow::ensure!(
-        as_written == cases.len(),
-        "{} cases otherwise",
-        cases.len().saturating_sub(as_written)
-    );
-    Ok(())
+    run_cases(&rt, &table.cases, &Worlds)
 }

@@ -1,11 +1,9 @@
 //! A case for one choice of its names' numbers: what its world is made of, and what happens there.
 
-use crate::names::{Name, filled};
-use crate::numbers::{byte, number, size};
 use crate::step::{Question, Step, step_of};
 use crate::stream::Stream;
-use crate::table::{Case, Line};
 use anyhow::Context;
+use case_table::{Case, Line, Name, byte, filled, number, parts_of, size};
 use sector_disk::ArmedFault;
 use std::alloc::{AllocError, Global};
 
@@ -101,14 +99,6 @@ pub struct Plan {
     pub settings: Settings,
     pub steps: Vec<Planned>,
     pub streams: Vec<Stream>,
-}
-
-/// What a line asks for, and what has to be answered.
-fn parts_of(text: &str) -> (&str, &str) {
-    match text.split_once("->") {
-        Some((asked, wanted)) => (asked.trim(), wanted.trim()),
-        None => (text, ""),
-    }
 }
 
 /// What a step has to answer. The bytes of a packet may stand in groups.

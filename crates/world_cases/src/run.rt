@@ -1,11 +1,12 @@
 //! A case's world, step by step.
 
-use crate::answer::{items_text, reply_text};
+use crate::answer::reply_text;
 use crate::opening::{CaseWorld, open_world};
 use crate::plan::Settings;
 use crate::showing::shown;
 use crate::step::{Brought, Step};
 use crate::stream::Stream;
+use case_table::listed;
 use proc_step::{Done, Job};
 use std::alloc::{AllocError, Global};
 use world::{Event, Reply};
@@ -155,7 +156,7 @@ impl Run {
             if stream.line > line && !stream.may_follow(left) {
                 return Ok(Some(Came::Stray {
                     line: stream.line,
-                    left: items_text(alloc, left)?,
+                    left: listed(alloc, left)?,
                 }));
             }
         }

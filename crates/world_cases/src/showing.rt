@@ -1,8 +1,9 @@
 //! What a world shows of itself, in words.
 
-use crate::answer::{event_text, items_text, packet_text};
+use crate::answer::{event_text, packet_text};
 use crate::opening::CaseWorld;
 use crate::step::Question;
+use case_table::{listed, yes_or_no};
 use node::Mode;
 use record::Record;
 use std::alloc::{AllocError, Global};
@@ -96,15 +97,11 @@ fn current_counts(
     }
 }
 
-fn yes_or_no(holds: bool) -> &'static str {
-    if holds { "yes" } else { "no" }
-}
-
 /// What a world answers to a question.
 pub fn shown(alloc: Global, world: &CaseWorld, question: Question) -> Result<String, AllocError> {
     match question {
         Question::Pick(node) => event_text(alloc, &world.pick(node), node),
-        Question::Released(channel) => items_text(alloc, world.released(channel)),
+        Question::Released(channel) => listed(alloc, world.released(channel)),
         Question::Complete => String::from_str(alloc, yes_or_no(world.complete())),
         Question::Round => format!(in alloc; "{}", world.round()),
         Question::Nodes => format!(in alloc; "{}", world.stations.len()),

@@ -1,6 +1,6 @@
 //! What a line of a case asks for.
 
-use crate::numbers::{byte, number, size};
+use case_table::{byte, number, size};
 use sector_disk::ArmedFault;
 use std::alloc::Global;
 use world::Event;

@@ -1,6 +1,6 @@
 //! What has to leave by an output.
 
-use crate::numbers::item;
+use case_table::item;
 use std::alloc::Global;
 
 /// What a `released` line says.

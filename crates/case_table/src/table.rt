@@ -67,11 +67,19 @@ fn add_case<'a>(cases: &mut Vec<Case<'a>>, case: Option<Case<'a>>) -> anyhow::Re
     Ok(())
 }
 
-/// The cases of a table.
-pub fn cases_of<'a>(alloc: Global, table: &'a str) -> anyhow::Result<Vec<Case<'a>>> {
+/// A table: what stands before its first case, and its cases.
+#[derive(Drop)]
+pub struct Table<'a> {
+    pub head: Vec<Line<'a>>,
+    pub cases: Vec<Case<'a>>,
+}
+
+/// The table of a text.
+pub fn table_of<'a>(alloc: Global, text: &'a str) -> anyhow::Result<Table<'a>> {
+    let mut head = Vec::new(alloc);
     let mut cases = Vec::new(alloc);
     let mut case: Option<Case<'a>> = None;
-    for (place, text) in table.lines().enumerate() {
+    for (place, text) in text.lines().enumerate() {
         let number = place.saturating_add(1);
         let text = text.trim();
         if text.is_empty() || text.starts_with("#") {
@@ -86,10 +94,10 @@ pub fn cases_of<'a>(alloc: Global, table: &'a str) -> anyhow::Result<Vec<Case<'a
             Some(open) => open
                 .add(alloc, Line { number, text })
                 .context(format_args!("line {number}"))?,
-            None => anyhow::bail!("line {number}: it stands before the first case"),
+            None => head.push(Line { number, text })?,
         }
     }
     add_case(&mut cases, case)?;
     anyhow::ensure!(!cases.is_empty(), "no case stands in the table");
-    Ok(cases)
+    Ok(Table { head, cases })
 }

@@ -2,7 +2,7 @@ use Rattle.std.proofs.Common.{◌≡◌, ℕ, Some, take}
 use Rattle.std.specs.Prelude.{slice_get}
 use Rattle.protocol.specs.Node.Installing.{EndTakes}
 use Rattle.record.specs.declared.image.SavedEnd.{SavedEnd}
-use Rattle.node_tests.proofs.taking.image_fits.Given as goal
+use Rattle.node_cases.proofs.taking.image_fits.Given as goal
 
 abbrev pub invariant-loop-saved : goal.invariant-loop-saved
 invariant-loop-saved l =

@@ -1,4 +1,5 @@
-//! How the tests grant a job and take in what came of it.
+//! How what came of a job is taken in. `Node::install` asks that it fits, and a case may bring back what doesn't, so that is
+//! tested here first.
 
 ghost use Rattle.std.specs.Prelude.{◌≡◌, IsTrue, Some};
 ghost use Rattle.retained.specs.LogState.{Overfills};
@@ -8,43 +9,15 @@ ghost use Rattle.node.specs.NodeView.{mode_view};
 ghost use Rattle.record.specs.Changes.{LogTakes};
 ghost use Rattle.protocol.specs.Node.Installing.{taken_from, put_on, EndTakes, ImageTakes, TakesTurn};
 
-use crate::nets::{pair_net, sum_net};
-use crate::nodes::TestNode;
+use crate::opening::CaseNode;
 use kahn_net::{Channel, History, MAX_COUNT, Port};
-use net_check::{Inputs, Net, bind};
-use net_text::parse_inputs;
-use node::{Mode, Recovery};
-use proc_step::{Done, Job};
+use node::Mode;
+use proc_step::Done;
 use record::{End, Image, SavedEnd};
 use retained::{Log, MAX_LOG_ITEMS};
 use std::alloc::Global;
-use std::sync::Arc;
-use std::test::Fail;
 
-/// A network and the items that come in. A test's node isn't among them: what a function owns is let go of at each of its `?`,
-/// so a test makes its node in one function and is handed it in another.
-#[derive(Drop)]
-pub(crate) struct Feed {
-    pub(crate) net: Arc<Net>,
-    pub(crate) inputs: Inputs,
-}
-
-pub(crate) fn feed_of(alloc: Global, net: Arc<Net>, text: &str) -> Result<Feed, Fail> {
-    let inputs = bind(alloc, &net, parse_inputs(alloc, text)?)?;
-    Ok(Feed { net, inputs })
-}
-
-/// The pair, which has no input.
-pub(crate) fn pair_feed(alloc: Global) -> Result<Feed, Fail> {
-    feed_of(alloc, pair_net(alloc)?, "")
-}
-
-/// These items for the running sum.
-pub(crate) fn sum_feed(alloc: Global, text: &str) -> Result<Feed, Fail> {
-    feed_of(alloc, sum_net(alloc)?, text)
-}
-
-// Whether this process stands at an end of a channel.
+/// Whether this process stands at an end of a channel.
 fn is_at(port: Port, process: usize) -> bool
     ensures { result ≡ is_process process port }
 {
@@ -54,7 +27,7 @@ fn is_at(port: Port, process: usize) -> bool
     }
 }
 
-// How many items a process took from a channel.
+/// How many items a process took from a channel.
 fn count_taken(channels: &[Channel], process: usize, taken: &[usize], channel: u8) -> usize
     ensures { result ≡ taken_from channels.now process taken.now channel }
 {
@@ -66,7 +39,7 @@ fn count_taken(channels: &[Channel], process: usize, taken: &[usize], channel: u
     }
 }
 
-// The items that a process put on a channel.
+/// The items that a process put on a channel.
 fn items_put<'a>(
     channels: &[Channel],
     process: usize,
@@ -110,7 +83,7 @@ fn put_fits(end: &End, count: usize) -> bool
     }
 }
 
-// Whether an end takes what came of a job.
+/// Whether an end takes what came of a job.
 fn end_fits(channels: &[Channel], done: &Done, saved: &SavedEnd) -> bool
     ensures { IsTrue result → EndTakes channels.now done.now.job.process done.now.taken.items
         done.now.sent.items saved.now }
@@ -121,7 +94,7 @@ fn end_fits(channels: &[Channel], done: &Done, saved: &SavedEnd) -> bool
     taken <= MAX_COUNT && received_at(&saved.end) <= MAX_COUNT - taken && put_fits(&saved.end, put)
 }
 
-pub(crate) fn image_fits(channels: &[Channel], done: &Done, image: &Image) -> bool
+fn image_fits(channels: &[Channel], done: &Done, image: &Image) -> bool
     ensures { IsTrue result → ImageTakes channels.now done.now.job.process done.now.taken.items
         done.now.sent.items image.now }
 {
@@ -133,7 +106,7 @@ pub(crate) fn image_fits(channels: &[Channel], done: &Done, image: &Image) -> bo
     true
 }
 
-// Whether what a node has, if it runs, takes what came of a job.
+/// Whether what a node has, if it runs, takes what came of a job.
 fn mode_fits(channels: &[Channel], done: &Done, mode: &Mode) -> bool
     ensures { IsTrue result → TakesTurn channels.now done.now.job.process done.now.taken.items
         done.now.sent.items (mode_view mode.now) }
@@ -144,69 +117,17 @@ fn mode_fits(channels: &[Channel], done: &Done, mode: &Mode) -> bool
     }
 }
 
-// Takes in what came of a job, if it fits.
-fn install(
+/// Takes in what came of a job; says whether it was taken in.
+pub fn take_in(
     alloc: Global,
-    node: &mut TestNode,
+    node: &mut CaseNode,
     channels: &[Channel],
     done: &Done,
-) -> Result<bool, Fail> {
+) -> anyhow::Result<bool> {
     let state = &node.state;
-    if !mode_fits(channels, done, &state.mode) {
-        return Err("the turn doesn't fit".into());
-    }
+    anyhow::ensure!(
+        mode_fits(channels, done, &state.mode),
+        "the turn doesn't fit"
+    );
     Ok(node.install(alloc, channels, done)?)
-}
-
-/// Takes in what came of a job; says whether it was taken in.
-pub(crate) fn take_in(
-    alloc: Global,
-    node: &mut TestNode,
-    feed: &Feed,
-    done: &Done,
-) -> Result<bool, Fail> {
-    install(alloc, node, &feed.net.program.channels, done)
-}
-
-/// The job that a node grants.
-pub(crate) fn granted(alloc: Global, node: &mut TestNode, feed: &Feed) -> Result<Job, Fail> {
-    match node.grant(alloc, &feed.net, &feed.inputs)? {
-        Some(job) => Ok(job),
-        None => Err("no job".into()),
-    }
-}
-
-/// What came of the job that a node grants.
-pub(crate) fn done_by(alloc: Global, node: &mut TestNode, feed: &Feed) -> Result<Done, Fail> {
-    Ok(granted(alloc, node, feed)?.run(alloc)?)
-}
-
-/// Takes in what comes of the job that a node grants.
-pub(crate) fn take_turn(alloc: Global, node: &mut TestNode, feed: &Feed) -> Result<(), Fail> {
-    let done = done_by(alloc, node, feed)?;
-    if take_in(alloc, node, feed, &done)? {
-        Ok(())
-    } else {
-        Err("not taken in".into())
-    }
-}
-
-/// Whether nothing is granted, nor said to be.
-pub(crate) fn grants_nothing(
-    alloc: Global,
-    node: &mut TestNode,
-    feed: &Feed,
-) -> Result<bool, Fail> {
-    Ok(
-        !node.has_job(&feed.net, &feed.inputs)
-            && node.grant(alloc, &feed.net, &feed.inputs)?.is_none(),
-    )
-}
-
-/// Brings a node back that is down.
-pub(crate) fn come_back(alloc: Global, node: &mut TestNode, round: u64) -> Result<(), Fail> {
-    match node.recover(alloc, round)? {
-        Recovery::Recovered => Ok(()),
-        _ => Err("not recovered".into()),
-    }
 }

@@ -3,8 +3,8 @@ use Rattle.std.specs.Prelude.{slice_get}
 use Rattle.record.specs.ImageView.{ImageView}
 use Rattle.protocol.specs.Node.Installing.{EndTakes}
 use Rattle.record.specs.declared.image.SavedEnd.{SavedEnd}
-use Rattle.node_tests.proofs.Seen.{holds_next, gone_through}
-use Rattle.node_tests.proofs.taking.image_fits.Goals as goal
+use Rattle.node_cases.proofs.Seen.{holds_next, gone_through}
+use Rattle.node_cases.proofs.taking.image_fits.Goals as goal
 
 pub loop-saved-preserved : goal.loop-saved-preserved
 loop-saved-preserved c =

@@ -1,11 +1,32 @@
 //! Images, as a record has them.
 
-use crate::nodes::{at, counts, item};
-use kahn_net::{Mode, ProcState};
+use kahn_net::{Mode, Place, ProcState};
 use record::{End, Image, SavedEnd, SavedProcess};
 use retained::Log;
 use std::alloc::Global;
 use std::test::Fail;
+
+// How many items were received, put, and put before those retained.
+fn counts(image: &Image, channel: u8) -> (u64, u64, u64) {
+    (
+        image.received(channel),
+        image.sent(channel),
+        image.base(channel),
+    )
+}
+
+// The item at a position of the log of a channel.
+fn item(image: &Image, channel: u8, position: u64) -> Option<i64> {
+    image.log(channel)?.get(position)
+}
+
+// Before the get or put of this site.
+fn at(alloc: Global, site: usize) -> Mode {
+    Mode::At(Place {
+        site,
+        left: Vec::new(alloc),
+    })
+}
 
 // The log of these items, without those before a position.
 fn log_from(alloc: Global, items: &[i64], base: u64) -> Result<Log, Fail> {

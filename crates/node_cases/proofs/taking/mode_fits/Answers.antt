@@ -2,7 +2,7 @@ use Rattle.std.proofs.Common.{sym, subst}
 use Rattle.protocol.specs.Node.Installing.{TakesTurn}
 use Rattle.node.specs.NodeView.{mode_view}
 use Rattle.node.specs.declared.mode.Mode.{Mode}
-use Rattle.node_tests.proofs.taking.mode_fits.Goals as goal
+use Rattle.node_cases.proofs.taking.mode_fits.Goals as goal
 
 pub returns-in-Running : goal.returns-in-Running
 returns-in-Running c = λ fits.

@@ -1,0 +1,17 @@
+//! What the programs that run tables of cases share: a table's text as cases, the names that stand for several numbers in a
+//! case, and how a case that comes out otherwise is found and printed. What a case means is each program's own.
+#![tactic(auto)]
+
+mod comparing;
+mod names;
+mod numbers;
+mod running;
+mod table;
+mod words;
+
+pub use comparing::{Difference, is_wanted, parts_of};
+pub use names::{Name, filled};
+pub use numbers::{byte, item, number, size};
+pub use running::{Trial, read, run_cases};
+pub use table::{Case, Line, Table, table_of};
+pub use words::{listed, yes_or_no};

@@ -1,0 +1,75 @@
+//! A table's cases, one after another.
+
+use crate::comparing::Difference;
+use crate::names::{choices, chosen};
+use crate::table::Case;
+use anyhow::Context;
+use std::fs::File;
+use std::io::Read;
+use std::{fs, io};
+
+/// What a program makes of its cases.
+pub trait Trial {
+    /// What comes out otherwise than a case says, for one choice of its numbers.
+    fn found(
+        &self,
+        rt: &HostRuntime,
+        case: &Case,
+        choice: &[u64],
+    ) -> anyhow::Result<Option<Difference>>;
+}
+
+/// The text of a file.
+pub fn read(rt: &HostRuntime, name: &str) -> io::Result<String> {
+    let mut file: File = fs::open(rt, name)?;
+    let mut text = String::new(rt.alloc());
+    file.read_to_string(&mut text)?;
+    Ok(text)
+}
+
+/// Prints a case that came out otherwise.
+fn report(
+    rt: &HostRuntime,
+    case: &Case,
+    choice: &[u64],
+    difference: &Difference,
+) -> io::Result<()> {
+    let chosen = chosen(rt.alloc(), &case.names, choice)?;
+    println!(rt; "otherwise: {}{chosen}", case.title)?;
+    println!(rt; "  line {}: {}", difference.line, difference.asked)?;
+    println!(rt; "  expected: {}", difference.wanted)?;
+    println!(rt; "  came: {}", difference.came)
+}
+
+/// Whether a case comes out as written, for each choice of its numbers.
+fn holds(rt: &HostRuntime, case: &Case, trial: &impl Trial) -> anyhow::Result<bool> {
+    let all = choices(rt.alloc(), &case.names)?;
+    for choice in &all {
+        let found = trial
+            .found(rt, case, choice)
+            .context(format_args!("the case of line {}", case.line))?;
+        if let Some(difference) = found {
+            report(rt, case, choice, &difference)?;
+            return Ok(false);
+        }
+    }
+    Ok(true)
+}
+
+/// Runs cases, and prints each that comes out otherwise, and how many came out as written. Refuses where one didn't, and where one
+/// isn't understood.
+pub fn run_cases(rt: &HostRuntime, cases: &[Case], trial: &impl Trial) -> anyhow::Result<()> {
+    let mut as_written: usize = 0;
+    for case in cases {
+        if holds(rt, case, trial)? {
+            as_written = as_written.saturating_add(1);
+        }
+    }
+    println!(rt; "{as_written} cases as written")?;
+    anyhow::ensure!(
+        as_written == cases.len(),
+        "{} cases otherwise",
+        cases.len().saturating_sub(as_written)
+    );
+    Ok(())
+}

@@ -1,0 +1,95 @@
+//! Runs nodes by the table `cases`: a case says of what its node is made, what happens to it, and what has to be answered. Prints
+//! each case that comes out otherwise, and how many came out as written. The status is 1 where one didn't, and where the table has a
+//! line that isn't understood.
+//!
+//! A line `== TITLE` begins a case. Empty lines, and those that begin with `#`, say nothing. Numbers are decimal; channels and places
+//! are counted from 0. Bytes stand in hexadecimal, in groups with spaces between them as one likes; `00*16` is a group so many times.
+//! Before the first case a line `bytes NAME 01 00 ..` gives bytes a name, which then stands for them in every spelling; a further
+//! line of the same name goes on.
+//!
+//! First comes of what the node is made. It runs from the permanent image of its record, over a disk in memory whose calls are
+//! counted from there:
+//!
+//! | Line | Meaning |
+//! |---|---|
+//! | `net sum.net` | the file of the network |
+//! | `inputs i: 1 2 3` | a line of the inputs text |
+//! | `node 1` | the node's number; 0 where it isn't said |
+//! | `sectors 9` | the sectors of its disk; 9 where it isn't said |
+//! | `record fresh opening 00` | the bytes of the record on its disk; a further line goes on |
+//! | `fault call 7 fill 0` | a failure that is prepared on its disk, of a call that is counted from 1 |
+//! | `for CALL 1..12 FILL 0 255` | the case is run for each choice of these numbers, the ends of a range included. The names, in capital letters, stand for them in all its lines, alone or in a sum as `CALL+1`; among bytes they have no place, since their digits are decimal |
+//!
+//! Then comes what happens, line by line, and behind an arrow what has to be answered:
+//!
+//! | Line | Meaning |
+//! |---|---|
+//! | `grant -> job`, `-> none` | a job is granted |
+//! | `install -> taken`, `-> left` | what came of the job that was granted last comes back. It may come back again |
+//! | `install 1`, `install of i: 5 -2 9` | the same of the job that was granted as the first, the second and so on; or of the first job of another such node, which went down as often, on these inputs |
+//! | `deliver 02 01 00 .. -> delivered`, `-> dropped`, `-> not due` | bytes come to the node; `deliver` alone is none |
+//! | `deliver each 0 to 1023 behind 01 00 ..` | for each of these numbers a packet comes, in which the number stands twice behind these bytes, in 8 bytes each: the answer is the first that isn't `delivered`, or that |
+//! | `start 7 -> stored`, `-> not due`, `-> failed`, `-> refused 44` | a tentative image is taken in round 7, of a node that has no process and no channel, or doesn't run |
+//! | `decide 7 -> stored` | the tentative image is made permanent, with the same answers |
+//! | `crash fill 0 restart 9 -> yes`, `crash restart 9 -> no` | a crash, with or without a byte by which what the cell holds is settled; whether the node was up |
+//! | `recover 9 -> recovered`, `-> in doubt`, `-> failed`, `-> refused 44`, `-> not due` | a recovery in round 9 |
+//! | `arm call 2 fill 0 rounds 5 -> done` | a failure of its disk, which keeps the node down for so many rounds |
+//! | `has job -> yes` | whether a job can be granted |
+//! | `job -> process 0 version 0` | of the job that was granted last the process and the version |
+//! | `items 0 -> 5 -2 4`, `room -> 0 64` | the items of a channel that it has at hand; its room on each channel |
+//! | `packets -> 01 00 .., 01 00 ..` | the bytes of each packet that the node sends; `none` |
+//! | `record -> 01 00 ..` | the bytes of the node's record; `none` where it isn't known |
+//! | `state -> up version 0 restart 0` | whether the node is `up`, `down` or `in doubt`, how often it went down, and from which round on it may be recovered |
+//! | `processes -> 0 at 1 with 5 -2` | where each process stands now, `not begun`, `at` a site or `finished`, and its variables; a comma between two |
+//! | `now 1 -> got 0 put 3 let go of 0` | how many items of the channel the node has got and put now, and how many of those that it put its log let go of |
+//! | `log 1 -> 5 3 7` | the items that its log retains |
+//! | `inbox 1 -> from 0 to 3 last 4` | the positions between which the inbox of the channel has items, and the last of these |
+//!
+//! A node that doesn't run answers `none` to the last four. Items that aren't there are `nothing`. An answer that ends in `..` may go on.
+#![tactic(auto)]
+
+mod answer;
+mod bytes;
+mod judging;
+mod opening;
+mod plan;
+mod run;
+mod settings;
+mod showing;
+mod starting;
+mod step;
+mod taking;
+
+use crate::bytes::{NamedBytes, named_in};
+use crate::judging::judged;
+use crate::plan::plan_of;
+use anyhow::Context;
+use case_table::{Case, Difference, Trial, read, run_cases, table_of};
+
+/// Each case is of a node, and may use these bytes by their names.
+#[derive(Drop)]
+struct Nodes<'a> {
+    named: Vec<NamedBytes<'a>>,
+}
+
+impl<'a> Trial for Nodes<'a> {
+    fn found(
+        &self,
+        rt: &HostRuntime,
+        case: &Case,
+        choice: &[u64],
+    ) -> anyhow::Result<Option<Difference>> {
+        let plan = plan_of(rt.alloc(), self.named.as_slice(), case, choice)?;
+        let net = read(rt, &plan.settings.net).context("its network")?;
+        judged(rt.alloc(), &net, plan)
+    }
+}
+
+fn main(rt: HostRuntime) -> anyhow::Result<()> {
+    let text = read(&rt, "cases")?;
+    let table = table_of(rt.alloc(), &text)?;
+    let nodes = Nodes {
+        named: named_in(rt.alloc(), &table.head)?,
+    };
+    run_cases(&rt, &table.cases, &nodes)
+}

@@ -1,0 +1,230 @@
+//! A case's node, step by step.
+
+use crate::answer::{delivery_word, putting_text, recovery_text};
+use crate::opening::{CaseNode, inputs_of, net_of, node_of};
+use crate::settings::Settings;
+use crate::showing::{
+    has_job_text, inbox_text, items_text, job_text, log_text, now_text, packets_text,
+    processes_text, record_text, room_text, state_text,
+};
+use crate::starting::start;
+use crate::step::{Brought, Event, Question, Row, Step};
+use crate::taking::take_in;
+use case_table::yes_or_no;
+use net_check::{Inputs, Net};
+use node::{Delivery, Recovery};
+use proc_step::{Done, Job};
+use std::alloc::Global;
+use std::sync::Arc;
+
+/// The most packets of a row.
+const MAX_ROW: u64 = 10_000;
+
+/// A node with its network and inputs, and what came of the jobs that it granted, in order.
+#[derive(Drop)]
+pub struct Run {
+    net: Arc<Net>,
+    inputs: Inputs,
+    node: CaseNode,
+    outcomes: Vec<Done>,
+}
+
+/// What comes of a job.
+fn done_of(alloc: Global, job: Job) -> anyhow::Result<Done> {
+    match job.run(alloc) {
+        Ok(done) => Ok(done),
+        Err(_) => anyhow::bail!("no memory"),
+    }
+}
+
+/// Lets a node crash and come back so often.
+fn raise(alloc: Global, node: &mut CaseNode, times: u64) -> anyhow::Result<()> {
+    for _time in 0..times {
+        node.crash(None, 0);
+        anyhow::ensure!(
+            node.recover(alloc, 0)? == Recovery::Recovered,
+            "the other node doesn't come back"
+        );
+    }
+    Ok(())
+}
+
+/// What comes of the job that a node grants.
+fn first_done(
+    alloc: Global,
+    node: &mut CaseNode,
+    net: &Arc<Net>,
+    inputs: &Inputs,
+) -> anyhow::Result<Done> {
+    match node.grant(alloc, net, inputs)? {
+        Some(job) => done_of(alloc, job),
+        None => anyhow::bail!("the other node grants no job"),
+    }
+}
+
+/// The bytes of one packet of a row.
+fn packet_of(alloc: Global, head: &[u8], number: u64) -> anyhow::Result<Vec<u8>> {
+    let mut bytes = Vec::from_slice(alloc, head)?;
+    bytes.extend_from_slice(&number.to_be_bytes())?;
+    bytes.extend_from_slice(&number.to_be_bytes())?;
+    Ok(bytes)
+}
+
+impl Run {
+    /// A node of this network's text, as the settings say.
+    pub fn new(alloc: Global, net: &str, settings: &Settings) -> anyhow::Result<Run> {
+        let net = net_of(alloc, net)?;
+        let inputs = inputs_of(alloc, &net, &settings.inputs)?;
+        let node = node_of(alloc, &net, settings)?;
+        Ok(Run {
+            net,
+            inputs,
+            node,
+            outcomes: Vec::new(alloc),
+        })
+    }
+
+    /// Grants a job. What comes of it is kept.
+    fn grant(&mut self, alloc: Global) -> anyhow::Result<String> {
+        match self.node.grant(alloc, &self.net, &self.inputs)? {
+            Some(job) => {
+                self.outcomes.push(done_of(alloc, job)?)?;
+                Ok(String::from_str(alloc, "job")?)
+            }
+            None => Ok(String::from_str(alloc, "none")?),
+        }
+    }
+
+    fn event(&mut self, alloc: Global, event: Event) -> anyhow::Result<String> {
+        let node = &mut self.node;
+        let text = match event {
+            Event::Grant => return self.grant(alloc),
+            Event::Start(round) => putting_text(alloc, start(alloc, node, round)?)?,
+            Event::Decide(round) => putting_text(alloc, node.decide(alloc, round)?)?,
+            Event::Crash { fill, restart } => {
+                String::from_str(alloc, yes_or_no(node.crash(fill, restart)))?
+            }
+            Event::Recover(round) => recovery_text(alloc, node.recover(alloc, round)?)?,
+            Event::Arm { fault, rounds } => {
+                node.arm(fault, rounds)?;
+                String::from_str(alloc, "done")?
+            }
+        };
+        Ok(text)
+    }
+
+    /// What came of the job that was granted as the one of this number, from 1.
+    fn outcome(&self, number: usize) -> anyhow::Result<&Done> {
+        match number.checked_sub(1) {
+            Some(place) => match self.outcomes.get(place) {
+                Some(done) => Ok(done),
+                None => anyhow::bail!("no such job was granted"),
+            },
+            None => anyhow::bail!("no job was granted, or it is counted from 0"),
+        }
+    }
+
+    /// What came of the job that was granted last.
+    fn last(&self) -> anyhow::Result<&Done> {
+        self.outcome(self.outcomes.len())
+    }
+
+    /// What comes of the first job of another such node, which went down as often, on these inputs.
+    fn foreign(&self, alloc: Global, settings: &Settings, inputs: &str) -> anyhow::Result<Done> {
+        let inputs = inputs_of(alloc, &self.net, inputs)?;
+        let mut other = node_of(alloc, &self.net, settings)?;
+        let own = &self.node.state;
+        raise(alloc, &mut other, own.version)?;
+        first_done(alloc, &mut other, &self.net, &inputs)
+    }
+
+    /// Takes in what came of an own job.
+    fn take_own(&mut self, alloc: Global, number: usize) -> anyhow::Result<bool> {
+        let Some(place) = number.checked_sub(1) else {
+            anyhow::bail!("no job was granted, or it is counted from 0");
+        };
+        match self.outcomes.get(place) {
+            Some(done) => take_in(alloc, &mut self.node, &self.net.program.channels, done),
+            None => anyhow::bail!("no such job was granted"),
+        }
+    }
+
+    fn install(
+        &mut self,
+        alloc: Global,
+        settings: &Settings,
+        brought: &Brought,
+    ) -> anyhow::Result<String> {
+        let taken = match brought {
+            Brought::Last => {
+                let last = self.outcomes.len();
+                self.take_own(alloc, last)?
+            }
+            Brought::Earlier(number) => self.take_own(alloc, *number)?,
+            Brought::Foreign(inputs) => {
+                let done = self.foreign(alloc, settings, inputs)?;
+                take_in(alloc, &mut self.node, &self.net.program.channels, &done)?
+            }
+        };
+        let word = if taken { "taken" } else { "left" };
+        Ok(String::from_str(alloc, word)?)
+    }
+
+    fn deliver(&mut self, alloc: Global, bytes: &[u8]) -> anyhow::Result<Delivery> {
+        Ok(self.node.deliver(alloc, &self.net, bytes)?)
+    }
+
+    /// Delivers each packet of a row, up to the first that isn't taken as one.
+    fn deliver_each(&mut self, alloc: Global, row: &Row) -> anyhow::Result<Delivery> {
+        anyhow::ensure!(row.first <= row.last, "it goes from high to low");
+        anyhow::ensure!(row.last - row.first < MAX_ROW, "too many packets");
+        for number in row.first..=row.last {
+            let bytes = packet_of(alloc, &row.head, number)?;
+            let delivery = self.deliver(alloc, &bytes)?;
+            if delivery != Delivery::Delivered {
+                return Ok(delivery);
+            }
+        }
+        Ok(Delivery::Delivered)
+    }
+
+    fn shown(&self, alloc: Global, question: Question) -> anyhow::Result<String> {
+        let node = &self.node;
+        let text = match question {
+            Question::HasJob => has_job_text(alloc, node, &self.net, &self.inputs)?,
+            Question::Packets => packets_text(alloc, node, &self.net)?,
+            Question::Job => job_text(alloc, self.last()?)?,
+            Question::Items(channel) => items_text(alloc, self.last()?, channel)?,
+            Question::Room => room_text(alloc, self.last()?)?,
+            Question::State => state_text(alloc, node)?,
+            Question::Record => record_text(alloc, &node.store)?,
+            Question::Processes => processes_text(alloc, node)?,
+            Question::Now(channel) => now_text(alloc, node, channel)?,
+            Question::Log(channel) => log_text(alloc, node, channel)?,
+            Question::Inbox(channel) => inbox_text(alloc, node, channel)?,
+        };
+        Ok(text)
+    }
+
+    /// What a step answers.
+    pub fn step(
+        &mut self,
+        alloc: Global,
+        settings: &Settings,
+        step: &Step,
+    ) -> anyhow::Result<String> {
+        match step {
+            Step::Event(event) => self.event(alloc, *event),
+            Step::Install(brought) => self.install(alloc, settings, brought),
+            Step::Deliver(bytes) => {
+                let delivery = self.deliver(alloc, bytes)?;
+                Ok(String::from_str(alloc, delivery_word(delivery))?)
+            }
+            Step::DeliverEach(row) => {
+                let delivery = self.deliver_each(alloc, row)?;
+                Ok(String::from_str(alloc, delivery_word(delivery))?)
+            }
+            Step::Ask(question) => self.shown(alloc, *question),
+        }
+    }
+}

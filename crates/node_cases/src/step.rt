@@ -1,0 +1,156 @@
+//! What a line of a case asks for.
+
+use crate::bytes::{NamedBytes, spelled};
+use case_table::{byte, number, size};
+use sector_disk::ArmedFault;
+use std::alloc::Global;
+
+/// Which job's outcome is brought back.
+#[derive(Drop)]
+pub enum Brought {
+    /// That of the job that was granted last.
+    Last,
+    /// That of the job that was granted as the first, the second and so on: counted from 1.
+    Earlier(usize),
+    /// That of the first job of another such node, on these inputs.
+    Foreign(String),
+}
+
+/// An event of the node by itself.
+#[derive(Clone, Copy, Debug)]
+pub enum Event {
+    Grant,
+    Start(u64),
+    Decide(u64),
+    Crash { fill: Option<u8>, restart: u64 },
+    Recover(u64),
+    Arm { fault: ArmedFault, rounds: u64 },
+}
+
+/// What is asked of a node. It changes nothing.
+#[derive(Clone, Copy, Debug)]
+pub enum Question {
+    HasJob,
+    Packets,
+    Job,
+    Items(u8),
+    Room,
+    State,
+    Record,
+    Processes,
+    Now(u8),
+    Log(u8),
+    Inbox(u8),
+}
+
+/// Packets with a number twice at their end: a position, and an item that is the same.
+#[derive(Drop)]
+pub struct Row {
+    pub first: u64,
+    pub last: u64,
+    pub head: Vec<u8>,
+}
+
+/// What a line asks for.
+#[derive(Drop)]
+pub enum Step {
+    Event(Event),
+    Install(Brought),
+    Deliver(Vec<u8>),
+    DeliverEach(Row),
+    Ask(Question),
+}
+
+fn event_of(words: &[&str]) -> anyhow::Result<Option<Event>> {
+    let event = match words {
+        ["grant"] => Event::Grant,
+        ["start", round] => Event::Start(number(round)?),
+        ["decide", round] => Event::Decide(number(round)?),
+        ["crash", "restart", restart] => Event::Crash {
+            fill: None,
+            restart: number(restart)?,
+        },
+        ["crash", "fill", fill, "restart", restart] => Event::Crash {
+            fill: Some(byte(fill)?),
+            restart: number(restart)?,
+        },
+        ["recover", round] => Event::Recover(number(round)?),
+        ["arm", "call", call, "fill", fill, "rounds", rounds] => Event::Arm {
+            fault: ArmedFault {
+                call: number(call)?,
+                fill: byte(fill)?,
+            },
+            rounds: number(rounds)?,
+        },
+        _ => return Ok(None),
+    };
+    Ok(Some(event))
+}
+
+fn question_of(words: &[&str]) -> anyhow::Result<Option<Question>> {
+    let question = match words {
+        ["has", "job"] => Question::HasJob,
+        ["packets"] => Question::Packets,
+        ["job"] => Question::Job,
+        ["items", channel] => Question::Items(byte(channel)?),
+        ["room"] => Question::Room,
+        ["state"] => Question::State,
+        ["record"] => Question::Record,
+        ["processes"] => Question::Processes,
+        ["now", channel] => Question::Now(byte(channel)?),
+        ["log", channel] => Question::Log(byte(channel)?),
+        ["inbox", channel] => Question::Inbox(byte(channel)?),
+        _ => return Ok(None),
+    };
+    Ok(Some(question))
+}
+
+/// The row that stands behind `deliver each`.
+fn row_of(alloc: Global, named: &[NamedBytes], text: &str) -> anyhow::Result<Row> {
+    let Some((numbers, head)) = text.split_once(" behind ") else {
+        anyhow::bail!("nothing stands before the numbers");
+    };
+    let Some((first, last)) = numbers.split_once(" to ") else {
+        anyhow::bail!("{numbers} is no row of numbers");
+    };
+    Ok(Row {
+        first: number(first)?,
+        last: number(last)?,
+        head: spelled(alloc, named, head)?,
+    })
+}
+
+/// What comes to the node from others, or is brought back to it.
+fn arrival_of(alloc: Global, named: &[NamedBytes], text: &str) -> anyhow::Result<Option<Step>> {
+    let step = if let Some(inputs) = text.strip_prefix("install of ") {
+        Step::Install(Brought::Foreign(String::from_str(alloc, inputs)?))
+    } else if let Some(job) = text.strip_prefix("install ") {
+        Step::Install(Brought::Earlier(size(job)?))
+    } else if let Some(row) = text.strip_prefix("deliver each ") {
+        Step::DeliverEach(row_of(alloc, named, row)?)
+    } else if let Some(bytes) = text.strip_prefix("deliver ") {
+        Step::Deliver(spelled(alloc, named, bytes)?)
+    } else {
+        match text {
+            "install" => Step::Install(Brought::Last),
+            "deliver" => Step::Deliver(Vec::new(alloc)),
+            _ => return Ok(None),
+        }
+    };
+    Ok(Some(step))
+}
+
+/// What these words ask for.
+pub fn step_of(alloc: Global, named: &[NamedBytes], text: &str) -> anyhow::Result<Step> {
+    if let Some(step) = arrival_of(alloc, named, text)? {
+        return Ok(step);
+    }
+    let words: Vec<&str> = text.split_whitespace().collect(alloc)?;
+    if let Some(event) = event_of(&words)? {
+        return Ok(Step::Event(event));
+    }
+    match question_of(&words)? {
+        Some(question) => Ok(Step::Ask(question)),
+        None => anyhow::bail!("{text} asks for nothing that is known"),
+    }
+}
