@@ -2,3 +2,4 @@ pub mod Loop
 pub mod Parts
 pub mod Exactness
 pub mod Rising
+pub mod Lengths

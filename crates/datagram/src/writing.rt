@@ -1,7 +1,7 @@
 // From a packet to bytes.
-ghost use Rattle.std.specs.Prelude.{◌≡◌, ◌++◌, [], ◌∷◌, IfOk, OnOk};
+ghost use Rattle.std.specs.Prelude.{◌≡◌, ◌++◌, [], ◌∷◌, length, IfOk, OnOk};
 ghost use Rattle.std.specs.List.{flat_map};
-ghost use Rattle.datagram.specs.PacketText.{IsPacket, IsBody, IsPacketText, AreNeeds, number_text, item_text, need_text, needs_text, body_text, kind_of, reason_number};
+ghost use Rattle.datagram.specs.PacketText.{IsPacket, IsBody, IsPacketText, AreNeeds, number_text, item_text, need_text, needs_text, body_text, kind_of, packet_text, reason_number};
 
 use crate::needs::Needs;
 use crate::packet::{Body, Need, Packet, Reason};
@@ -218,12 +218,31 @@ fn number_of_kind(body: &Body) -> u8
     }
 }
 
-/// The spelling of a packet. Refuses for want of memory alone.
+// How many bytes spell a packet: three, and then eight for a count or an item, two for a channel, and ten for each need.
+#[tactic(auto, using(crate::proofs::Lengths::body_len))]
+fn text_len(packet: &Packet) -> usize
+    requires { IsBody packet.now.body }
+    ensures { result ≡ length (packet_text packet.now) }
+{
+    match &packet.body {
+        Body::Data { .. }
+        | Body::Ack { .. }
+        | Body::Ask { .. }
+        | Body::Covered { .. }
+        | Body::Undone { .. } => 21,
+        Body::Took { needs, .. } => 23 + 10 * needs.len(),
+        Body::Refused { .. } => 14,
+        Body::Kept { .. } => 13,
+        Body::Query { .. } | Body::Commit { .. } | Body::Ended { .. } | Body::Settled { .. } => 11,
+    }
+}
+
+/// The spelling of a packet, in memory of just its length. Refuses for want of memory alone.
 pub fn write_packet(alloc: Global, packet: &Packet) -> Result<Vec<u8>, AllocError>
     requires { IsPacket packet.now }
     ensures { IfOk result (λ text. IsPacketText packet.now text.items) }
 {
-    let mut out = Vec::new(alloc);
+    let mut out = Vec::with_capacity(alloc, text_len(packet))?;
     out.push(number_of_kind(&packet.body))?;
     out.push(packet.from)?;
     out.push(packet.to)?;

@@ -221,7 +221,7 @@ impl Running {
             ≡ packets_from (network_of net.now.program) number
             (Some (running_node kept.now version (running_view self.now)))) }
     {
-        let mut packets = Vec::new(alloc);
+        let mut packets = Vec::with_capacity(alloc, 2 * self.inboxes.len())?;
         add_all_answers(&mut packets, net, number, &kept.permanent, &self.inboxes)?;
         if kept.tentative.is_none() {
             add_all_outgoing(

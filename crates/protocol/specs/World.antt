@@ -16,6 +16,7 @@ pub mod StationView
 pub mod Turns
 pub mod Traffic
 pub mod Steps
+pub mod InFlight
 pub mod Choice
 pub mod Quiet
 pub mod RecoveryLine

@@ -17,6 +17,7 @@ pub mod PairLaws
 pub mod QuietLaws
 pub mod ShownLaws
 pub mod LineLaws
+pub mod FlightLaws
 pub mod TrafficLaws
 pub mod HearLaws
 pub mod SendLaws

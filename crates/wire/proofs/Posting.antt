@@ -1,16 +1,11 @@
 -- What is put in flight, and where.
-use Rattle.std.proofs.Common.{◌≡◌, ℕ, ◌+◌, List, [], ◌∷◌, ◌++◌, replicate, Result, Ok, Err, sym, ap, ◌∙◌}
+use Rattle.std.proofs.Common.{◌≡◌, ℕ, List, [], Result, Ok, Err, sym, ap, ◌∙◌}
 use Rattle.std.specs.Prelude.{slice_set, OnErr}
-use Rattle.std.proofs.lemmas.List.{replicate_more, set-get_or}
+use Rattle.std.proofs.lemmas.List.{set-get_or}
 use Rattle.std.proofs.lemmas.Option.{unwrap_or-slice_get}
-use Rattle.wire.specs.declared.queue.Flight.{Flight}
+
 use Rattle.wire.specs.Queue.{QueueState}
 use Rattle.wire.specs.Wire.{WireState, queue_at, with_queue}
-
--- the last copy is the original
-pub last_one : (copies made : ℕ) (flights : List Flight) (f : Flight) → made + 1 ≡ copies → flights ≡ replicate made f → flights ++ f ∷ [] ≡ replicate copies f
-last_one copies made flights f count is =
-    ap (λ (xs : List Flight). xs ++ f ∷ []) is ∙ replicate_more made f ∙ ap (λ (n : ℕ). replicate n f) count
 
 -- with a node's own queue nothing is changed
 pub same_wire : (wire : WireState) (node : ℕ) → wire ≡ with_queue wire node (queue_at wire node)

@@ -69,23 +69,17 @@ all_sent_behind queues round (s ∷ sendings) more same nodes all =
     all_sent_behind queues round sendings sent (kept ∙ same) nodes (All-tail AreNodes s sendings all)
     ∙ ap (all_sent round sendings) (traffic_sent_behind queues more s.from s.to s.packet round same within)
 
--- a letter goes last in its queue
-pub staged_next : (queues : List QueueState) (rules : List Rule) (from to : ℕ) (packet : List ℕ) (round : ℕ) (d e later : QueueState) (flights : List Flight) (room : ℕ)
-    → to < length queues → flights ≡ next_flights rules (get_or queues to d).counts from to packet round
-    → later ≡ record { flights = (get_or queues to e).flights ++ flights; counts = counted (get_or queues to e).counts from; room = room }
+-- what is sent goes last in its queue
+pub staged_next : (queues : List QueueState) (rules : List Rule) (from to : ℕ) (packet : List ℕ) (round : ℕ) (d later : QueueState) → to < length queues
+    → queue_traffic later ≡ queue_sent rules from to packet round (queue_traffic (get_or queues to d))
     → ruled rules (slice_set queues to later) ≡ traffic_sent from to packet round (ruled rules queues)
-staged_next queues rules from to packet round d e later flights room within made posted =
+staged_next queues rules from to packet round d later within sent =
     let old : WireState = record { queues = queues; rules = rules } in
     let new : WireState = record { queues = slice_set queues to later; rules = rules } in
     let nobody : QueueState = record { flights = []; counts = []; room = 0 } in
-    let queue : QueueState = get_or queues to e in
-    let there : queue_at old to ≡ queue = unwrap_or-slice_get queues to nobody ∙ get_or_default queues to nobody e within in
-    let same : get_or queues to d ≡ queue = get_or_default queues to d e within in
+    let there : queue_at old to ≡ get_or queues to d = unwrap_or-slice_get queues to nobody ∙ get_or_default queues to nobody d within in
     seen_made (queue_sent rules from to packet round) old new to later refl
-    (ap queue_traffic posted
-    ∙ (ap (λ (more : List Flight). let q : QueueTraffic = record { flights = queue.flights ++ more; counts = counted queue.counts from } in q)
-    (made ∙ ap (λ (q : QueueState). next_flights rules q.counts from to packet round) same)
-    ∙ ap (λ (q : QueueState). queue_sent rules from to packet round (queue_traffic q)) (sym there)))
+    (sent ∙ ap (λ (q : QueueState). queue_sent rules from to packet round (queue_traffic q)) (sym there))
 
 -- nothing goes last
 pub nothing_behind : (queues : List QueueTraffic) → all_joined queues (map unsent queues) ≡ queues

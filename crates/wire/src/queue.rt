@@ -5,7 +5,8 @@ ghost use Rattle.std.specs.VecDeque.{deque_len, deque_capacity};
 ghost use Rattle.wire.specs.Queue.{flight, flights_of, is_due, without, with_delay, with_copy, counted};
 
 use crate::bytes::Bytes;
-use crate::rule::{Fate, capped_sum};
+use crate::rule::{Fate, Rule, capped_sum, fate_by};
+use crate::sending::Sending;
 use std::alloc::{AllocError, Global};
 use std::collections::VecDeque;
 use std::marker::Model;
@@ -63,25 +64,26 @@ impl Model for Letter {
     } };
 }
 
-// So many packets in flight, the given one among them.
-fn copies_of(
+// Puts so many of a packet last, the given one behind its copies. Where it refuses, some copies may stand there.
+fn put_copies(
     alloc: Global,
+    flights: &mut VecDeque<Flight>,
     packet: Bytes,
     copies: u64,
     due: u64,
-) -> Result<VecDeque<Flight>, AllocError>
-    ensures { IfOk result (λ flights. flights.items ≡ replicate copies (flight packet due)) }
+) -> Result<(), AllocError>
+    ensures { OnOk result (flights.new.items
+        ≡ flights.old.items ++ replicate copies (flight packet due)) }
 {
-    let mut flights = VecDeque::new(alloc);
     if copies == 0 {
-        return Ok(flights);
+        return Ok(());
     }
     for _ in 0..copies - 1 {
         let packet = packet.copy(alloc)?;
         flights.push_back(Flight { packet, due })?;
     }
     flights.push_back(Flight { packet, due })?;
-    Ok(flights)
+    Ok(())
 }
 
 // Puts packets last, where there is room.
@@ -110,7 +112,8 @@ impl Letter {
         }) }
     {
         let due = capped_sum(round, fate.delay);
-        let flights = copies_of(alloc, packet, fate.copies, due)?;
+        let mut flights = VecDeque::new(alloc);
+        put_copies(alloc, &mut flights, packet, fate.copies, due)?;
         Ok(Letter { from, to, flights })
     }
 
@@ -143,8 +146,8 @@ impl Letter {
 }
 
 impl Queue {
-    ghost use Rattle.wire.specs.Wire.{is_due_at};
-    ghost use Rattle.wire.specs.Traffic.{queue_traffic};
+    ghost use Rattle.wire.specs.Wire.{is_due_at, nth_in};
+    ghost use Rattle.wire.specs.Traffic.{AreNodes, queue_sent, queue_traffic};
     ghost use Rattle.wire.specs.Staging.{joined, unsent, HasRoom};
 
     pub(crate) fn new(alloc: Global) -> Queue
@@ -213,6 +216,36 @@ impl Queue {
         self.flights.reserve(places)
     }
 
+    // One packet more was sent by this node.
+    fn note_sent(&mut self, from: u8)
+        requires { from < NODES }
+        ensures { self.new ≡ record (self.old) { counts = counted self.old.counts from } }
+    {
+        self.counts[from as usize] = capped_sum(self.counts[from as usize], 1);
+    }
+
+    // Puts last what the rules make of a packet, the next one from its node to that of this queue, and counts it. Where
+    // it refuses, the queue is to be dropped: some copies may stand there.
+    pub(crate) fn add(
+        &mut self,
+        alloc: Global,
+        rules: &[Rule],
+        sending: Sending,
+        round: u64,
+    ) -> Result<(), AllocError>
+        requires { AreNodes sending }
+        ensures { OnOk result (queue_traffic self.new
+            ≡ queue_sent rules.now sending.from sending.to sending.packet round
+            (queue_traffic self.old)) }
+    {
+        let Sending { from, to, packet } = sending;
+        let fate = fate_by(rules, from, to, self.next_number(from));
+        let due = capped_sum(round, fate.delay);
+        put_copies(alloc, &mut self.flights, packet, fate.copies, due)?;
+        self.note_sent(from);
+        Ok(())
+    }
+
     // Puts a letter's packets last, where there is room, and counts it.
     pub(crate) fn post(&mut self, from: u8, letter: Letter)
         requires node { from < NODES }
@@ -225,7 +258,7 @@ impl Queue {
         ensures left { self.old.room ≤ self.new.room + length letter.flights }
     {
         put_last(&mut self.flights, letter.into_flights());
-        self.counts[from as usize] = capped_sum(self.counts[from as usize], 1);
+        self.note_sent(from);
     }
 
     // Makes room for a letter's packets, and posts it.
@@ -285,5 +318,13 @@ impl Queue {
         ensures { result ≡ slice_index self.now.counts from }
     {
         self.counts[from as usize]
+    }
+
+    // Which packet from a node the next one is, from 1.
+    fn next_number(&self, from: u8) -> u64
+        requires { from < NODES }
+        ensures { result ≡ nth_in self.now.counts from 0 }
+    {
+        capped_sum(self.count(from), 1)
     }
 }

@@ -3,11 +3,11 @@
 // All memory is taken before the first queue changes: a refusal leaves each as it was.
 ghost use Rattle.std.specs.Prelude.{◌≡◌, ◌≤◌, ◌<◌, All, length, map, IfOk, OnOk, OnErr};
 ghost use Rattle.std.specs.List.{AllZip};
-ghost use Rattle.wire.specs.Traffic.{AreNodes, queues_traffic, next_flights, traffic_sent, all_sent};
+ghost use Rattle.wire.specs.Traffic.{AreNodes, queues_traffic, traffic_sent, all_sent};
 ghost use Rattle.wire.specs.Staging.{all_joined, behind, unsent, HasRoom, ruled};
 
-use crate::queue::{Letter, NODES, Queue};
-use crate::rule::{Rule, capped_sum, fate_by};
+use crate::queue::{NODES, Queue};
+use crate::rule::Rule;
 use crate::sending::Sending;
 use std::alloc::{AllocError, Global};
 
@@ -21,24 +21,6 @@ fn unsent_queues(alloc: Global, queues: &[Queue]) -> Result<Vec<Queue>, AllocErr
         staged.push(queue.unsent(alloc))?;
     }
     Ok(staged)
-}
-
-// A packet made ready: the next one from its node, by what this queue counts.
-fn next_letter(
-    alloc: Global,
-    queue: &Queue,
-    rules: &[Rule],
-    sending: Sending,
-    round: u64,
-) -> Result<Letter, AllocError>
-    requires { AreNodes sending }
-    ensures { IfOk result (λ letter. letter.flights
-        ≡ next_flights rules.now queue.now.counts sending.from sending.to sending.packet round) }
-{
-    let Sending { from, to, packet } = sending;
-    let nth = capped_sum(capped_sum(queue.count(from), 0), 1);
-    let fate = fate_by(rules, from, to, nth);
-    Letter::new(alloc, from, to, packet, fate, round)
 }
 
 // One packet goes last.
@@ -55,9 +37,8 @@ fn stage(
     ensures ok { OnOk result (ruled rules.now staged.new
         ≡ traffic_sent sending.from sending.to sending.packet round (ruled rules.now staged.old)) }
 {
-    let (from, to) = (sending.from, sending.to as usize);
-    let letter = next_letter(alloc, &staged[to], rules, sending, round)?;
-    staged[to].send(from, letter)
+    let queue = &mut staged[sending.to as usize];
+    queue.add(alloc, rules, sending, round)
 }
 
 // One after the other.

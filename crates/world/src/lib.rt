@@ -24,7 +24,7 @@ mod turning;
 mod world;
 
 pub use event::{Event, Freed, Refused, Reply};
-pub use laws::line_law;
+pub use laws::{line_law, traffic_law};
 pub use node::node_count;
 pub use opening::list_outputs;
 pub use output::Output;

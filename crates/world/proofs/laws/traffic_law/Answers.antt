@@ -1,0 +1,14 @@
+use Rattle.protocol.specs.WorldLaws.FlightLaws.{each_was_sent, nothing_at_first, nothing_is_made_up, only_running_send}
+use Rattle.world.proofs.laws.traffic_law.Goals as goal
+
+pub returns-clause-first : goal.returns-clause-first
+returns-clause-first c = nothing_at_first
+
+pub returns-clause-made : goal.returns-clause-made
+returns-clause-made c = nothing_is_made_up
+
+pub returns-clause-step : goal.returns-clause-step
+returns-clause-step c = each_was_sent
+
+pub returns-clause-running : goal.returns-clause-running
+returns-clause-running c = only_running_send
