@@ -1,5 +1,8 @@
 //! Images, as a record has them.
 
+ghost use Rattle.std.specs.Prelude.{◌<◌, IfOk};
+ghost use Rattle.record.specs.Ascending.{AreAscending};
+
 use kahn_net::{Mode, Place, ProcState};
 use record::{End, Image, SavedEnd, SavedProcess};
 use retained::Log;
@@ -53,7 +56,11 @@ fn saved_process(
     })
 }
 
-fn saved_ends(alloc: Global, first: SavedEnd, second: SavedEnd) -> Result<Vec<SavedEnd>, Fail> {
+// Two ends, the first of the lower channel.
+fn saved_ends(alloc: Global, first: SavedEnd, second: SavedEnd) -> Result<Vec<SavedEnd>, Fail>
+    requires { first.channel < second.channel }
+    ensures { IfOk result (λ ends. AreAscending ends.items) }
+{
     let mut ends = Vec::new(alloc);
     ends.push(first)?;
     ends.push(second)?;
