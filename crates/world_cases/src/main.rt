@@ -26,7 +26,7 @@
 //! | `install`, `install 1`, `install of i: 1 2 4` | what came of the job that was granted last comes back, or of the first, the second and so on; or of the first job of another world of the network, on these inputs |
 //! | `run 40` | each node in turn does what `pick` says, with what comes of a job brought back at once, until the world is complete, for so many rounds at most |
 //! | `turns 1 10` | one node does so alone, so many times |
-//! | `chance 1 1500` | so many events of nodes 0 and 1, as `pick` says or of a packet, which this number chooses |
+//! | `chance 1 1500` | so many events, each of a node that this number chooses, as `pick` says or of a packet to it |
 //! | `pick 0 -> grant` | the event that is next for the node |
 //! | `released 1 -> 1 3 6` | what has left by the output; `nothing`, or the first items and `..` |
 //! | `complete -> yes`, `round -> 3`, `nodes -> 2` | what the world says of itself |

@@ -214,7 +214,7 @@ impl Run {
 
     /// An event that this number chooses: an act of the network, or the one that is next for a node.
     fn happen(&mut self, alloc: Global, number: u64) -> anyhow::Result<()> {
-        let node = (number >> 33 & 1) as u8;
+        let node = ((number >> 33) % u64::from(self.nodes().max(1))) as u8;
         match chosen_act(number, node) {
             Some(event) => {
                 apply(alloc, &mut self.world, event)?;
