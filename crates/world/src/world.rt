@@ -12,7 +12,7 @@ ghost use Rattle.protocol.specs.World.Pairs.{AreSameElsewhere};
 ghost use Rattle.protocol.specs.World.Traffic.{TrafficIsSound};
 ghost use Rattle.wire.specs.Traffic.{traffic_of};
 ghost use Rattle.world.specs.RecoveryLine.{StaysInLine, KeepsLine, HasOneLine};
-ghost use Rattle.protocol.specs.World.Replies.{IsTooLarge, LeavesCells, TakesMemory};
+ghost use Rattle.protocol.specs.World.Replies.{IsDropped, IsTooLarge, LeavesCells, TakesMemory};
 ghost use Rattle.world.specs.ReplyView.{answer_view, reply_view};
 ghost use Rattle.protocol.specs.World.Roomy.{HasFullRoom};
 ghost use Rattle.protocol.specs.World.Steps.{traffic_after, is_done_with, are_done_with, round_after, IsAct, IsStep};
@@ -202,6 +202,8 @@ impl<C: StableCell, O: Outlet> World<C, O> {
         ensures roomy { HasFullRoom (event_node (event_view event))
             (capacities self.old.stations.items)
             → IfOk result (λ reply. ¬ (IsTooLarge (reply_view reply))) }
+        // A packet that comes is never dropped, since each in flight spells one for its node.
+        ensures heard { IfOk result (λ reply. ¬ (IsDropped (reply_view reply))) }
         // What it doesn't touch stays as it was: the cells where no record was put, and all of it at a refusal.
         ensures unchanged { LeavesCells (event_view event) (answer_view result)
             → AllZip IsCellUnchanged self.old.stations.items self.new.stations.items }
