@@ -10,6 +10,7 @@ pub mod BoundLaws
 pub mod KeptLaws
 pub mod StepKeeps
 pub mod RoomLaws
+pub mod DropLaws
 pub mod ActLaws
 pub mod GrowLaws
 pub mod OpenLaws

@@ -8,10 +8,11 @@ ghost use Rattle.world.specs.EventView.{event_view};
 ghost use Rattle.protocol.specs.World.Headline.{AreApproximated};
 ghost use Rattle.kahn_net.specs.Nodes.{node_count};
 ghost use Rattle.protocol.specs.World.Invariant.{AreSound, IsNumbered, WorldInvariant};
+ghost use Rattle.protocol.specs.World.Pairs.{AreSameElsewhere};
 ghost use Rattle.protocol.specs.World.Traffic.{TrafficIsSound};
 ghost use Rattle.wire.specs.Traffic.{traffic_of};
 ghost use Rattle.world.specs.RecoveryLine.{StaysInLine, KeepsLine, HasOneLine};
-ghost use Rattle.protocol.specs.World.Replies.{IsTooLarge, LeavesCells, TakesMemory};
+ghost use Rattle.protocol.specs.World.Replies.{IsDropped, IsTooLarge, LeavesCells, TakesMemory};
 ghost use Rattle.world.specs.ReplyView.{answer_view, reply_view};
 ghost use Rattle.protocol.specs.World.Roomy.{HasFullRoom};
 ghost use Rattle.protocol.specs.World.Steps.{traffic_after, is_done_with, are_done_with, round_after, IsAct, IsStep};
@@ -106,6 +107,8 @@ fn act_at<C: StableCell, O: Outlet>(
     ensures same_rooms { capacities stations.new.items ≡ capacities stations.old.items }
     ensures unchanged { LeavesCells (event_view event.now) (answer_view result)
         → AllZip IsCellUnchanged stations.old.items stations.new.items }
+    ensures others { AreSameElsewhere (event_node (event_view event.now)) stations.old.items
+        stations.new.items }
 {
     if number >= stations.len() {
         return Ok(Reply::NotDue);
@@ -199,9 +202,15 @@ impl<C: StableCell, O: Outlet> World<C, O> {
         ensures roomy { HasFullRoom (event_node (event_view event))
             (capacities self.old.stations.items)
             → IfOk result (λ reply. ¬ (IsTooLarge (reply_view reply))) }
+        // A packet that comes is never dropped, since each in flight spells one for its node.
+        ensures heard { IfOk result (λ reply. ¬ (IsDropped (reply_view reply))) }
         // What it doesn't touch stays as it was: the cells where no record was put, and all of it at a refusal.
         ensures unchanged { LeavesCells (event_view event) (answer_view result)
             → AllZip IsCellUnchanged self.old.stations.items self.new.stations.items }
+        // Every station but that of the event's node is the very same, with all that its cell and its outlets hold and
+        // count, whether the event was made or refused.
+        ensures others { AreSameElsewhere (event_node (event_view event))
+            self.old.stations.items self.new.stations.items }
         ensures refused { OnErr result (world_of self.new ≡ world_of self.old) }
         // An event that takes no memory isn't refused.
         ensures memory { OnErr result (TakesMemory (event_view event)) }

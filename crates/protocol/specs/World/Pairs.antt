@@ -1,5 +1,5 @@
--- What an event does to a station's cell, to what has left it, and to what covers that.
-use Rattle.std.specs.Prelude.{◌≡◌, ◌⊎◌, ◌≤◌, ℕ, List, Option}
+-- What an event does to a station's cell, to what has left it, to what covers that, and to the other stations.
+use Rattle.std.specs.Prelude.{◌≡◌, ◌⊎◌, ◌≤◌, ℕ, List, Option, slice_get}
 use Rattle.record.specs.RecordView.{RecordView}
 use Rattle.protocol.specs.World.OutputView.{OutputView}
 use Rattle.protocol.specs.World.StationView.{OutletView}
@@ -23,3 +23,7 @@ pub record HasGrown {C : Type 0} (moment : C → ℕ) (left_since : C → ℕ �
   pub begins : EachBegins before after
   pub covered : AreCoveredSince moment left_since old new after
   pub apart : (before ≡ after) ⊎ (old ≡ new)
+
+-- two lists have the same at each place but this one
+abbrev pub AreSameElsewhere : {A : Type 0} → ℕ → List A → List A → Type 0
+AreSameElsewhere place old new = (k : ℕ) → ¬ (k ≡ place) → slice_get new k ≡ slice_get old k

@@ -1,5 +1,5 @@
 -- What is answered, and what an answer and an event tell of memory and cells.
-use Rattle.std.specs.Prelude.{◌≡◌, Bool, true, false, Option, Some, None}
+use Rattle.std.specs.Prelude.{◌≡◌, ℕ, Bool, true, false, Option, Some, None}
 use Rattle.protocol.specs.Node.JobView.{JobView}
 use Rattle.protocol.specs.declared.delivery.Delivery.{Delivery}
 use Rattle.protocol.specs.declared.delivery.Delivery.TheVariants as delivery
@@ -58,6 +58,10 @@ recovery_reply recovery.Failed = Down
 -- a record that was to be put is longer than its cell has room for
 abbrev pub IsTooLarge : ReplyView → Type 0
 IsTooLarge answer = answer ≡ Refused 22
+
+-- a packet came that spells none for the node
+abbrev pub IsDropped : ReplyView → Type 0
+IsDropped answer = (refusal : ℕ) × (answer ≡ Dropped refusal)
 
 -- no cell was touched by an event but a recovery, as this answer tells
 abbrev pub AnswerLeaves : Option ReplyView → Type 0

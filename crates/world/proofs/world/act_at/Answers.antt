@@ -1,5 +1,5 @@
-use Rattle.std.proofs.Common.{rules, refl, ◌≡◌, ◌<◌, ◌∙◌, ap, sym, subst, length, map, Option, arith}
-use Rattle.std.specs.Prelude.{IfOk}
+use Rattle.std.proofs.Common.{rules, refl, ◌≡◌, ◌<◌, ◌∙◌, ap, sym, subst, length, map, Option, ℕ, arith}
+use Rattle.std.specs.Prelude.{IfOk, slice_set}
 use Rattle.std.proofs.lemmas.List.{length-map}
 use Rattle.protocol.specs.NodeLaws.PlaceLaws.{nodes_few}
 use Rattle.protocol.specs.World.StationView.{StationView}
@@ -13,7 +13,8 @@ use Rattle.ckpt_store.specs.Spelling.{fits_in}
 use Rattle.ckpt_store.specs.StoreView.{cell_in}
 use Rattle.world.specs.EventView.{event_view}
 use Rattle.protocol.specs.WorldLaws.OutputLaws.{set_keeps}
-use Rattle.protocol.specs.WorldLaws.PairLaws.{on_err_map, pairs_refl, pairs_set}
+use Rattle.protocol.specs.World.Pairs.{AreSameElsewhere}
+use Rattle.protocol.specs.WorldLaws.PairLaws.{elsewhere_set, on_err_map, pairs_refl, pairs_set}
 use Rattle.world.specs.WorldView.{station_view}
 use Rattle.world.specs.declared.station.Station.{Station}
 use Rattle.world.proofs.Stations.{all_still, all_grown, all_still_in_line, all_in_line}
@@ -90,3 +91,7 @@ pub returns-clause-traffic : goal.returns-clause-traffic
 returns-clause-traffic g c =
     let there = seen_at (station_view g.O.Outlet.taken g.O.Outlet.failures) c.args.stations.now.items c.args.number c.index_mut.result.now (search rules) c.index_mut.ensures.value in
     subst (λ (station : Option StationView). IfOk c.act.result (λ reply. traffic_of c.act.new.wire ≡ traffic_after (network_of c.args.net.now.value.program) c.args.round (event_view c.args.event.now) (reply_view reply) station (traffic_of c.args.wire.now))) (sym there) c.act.ensures.traffic
+
+pub returns-clause-others : goal.returns-clause-others
+returns-clause-others g c =
+    subst (λ (place : ℕ). AreSameElsewhere place c.args.stations.now.items (slice_set c.args.stations.now.items c.args.number c.act.new.self)) (sym c.requires.at) (elsewhere_set c.args.stations.now.items c.args.number c.act.new.self)

@@ -6,6 +6,7 @@ use Rattle.world.specs.EventView.{event_view}
 use Rattle.protocol.specs.World.Headline.{released_prefix, AreApproximated}
 use Rattle.protocol.specs.World.Invariant.{StationInvariant, WorldInvariant}
 use Rattle.world.specs.ReplyView.{reply_view}
+use Rattle.protocol.specs.WorldLaws.DropLaws.{never_dropped}
 use Rattle.protocol.specs.WorldLaws.RoomLaws.{never_too_large, rooms_of}
 use Rattle.protocol.specs.World.StationView.{StationView}
 use Rattle.protocol.specs.World.Steps.{round_after}
@@ -89,3 +90,10 @@ returns-in-Ok-clause-roomy g c = λ room.
     never_too_large (network_of was.net.value.program) (traffic_of was.wire) was.inputs.value c.deref.result.now (λ (station : Station g.row.C.Denot g.row.O.Denot g.C.StableCell). g.C.StableCell.capacity (cell_in station.node.store))
     was.stations.items c.from-number.result _ was.round (event_view c.args.event) (map view was.stations.items) (reply_view c.in-Ok.reply) (map view c.act_at.new.stations.items)
     was.sound.valid was.sound.stations c.deref.ensures (c.from-number.ensures ∙ c.node_of.ensures) room c.in-Ok.ensures.step
+
+pub returns-in-Ok-clause-heard : goal.returns-in-Ok-clause-heard
+returns-in-Ok-clause-heard g c =
+    let was = c.args.self.now in
+    let view = station_view {cell = g.C.StableCell} g.O.Outlet.taken g.O.Outlet.failures in
+    never_dropped (network_of was.net.value.program) (traffic_of was.wire) was.inputs.value c.deref.result.now (rooms was.stations.items) c.from-number.result was.round (event_view c.args.event)
+    (map view was.stations.items) (reply_view c.in-Ok.reply) (map view c.act_at.new.stations.items) was.sound.numbered was.sound.traffic c.deref.ensures (c.from-number.ensures ∙ c.node_of.ensures) c.in-Ok.ensures.step
