@@ -1,13 +1,18 @@
-//! Times packets written and read, windows, and the wire, in one run: `bench_packets measure` prints a line for each
-//! size, which `bench/packets` sets beside a plain program's. Without an argument it does nothing.
+//! Times packets written and read, windows, and the wire as a world uses it, in one run: `bench_packets measure` prints a
+//! line for each size, which `bench/packets` sets beside a plain program's. Without an argument it does nothing.
 #![tactic(auto)]
 
+ghost use Rattle.std.specs.Prelude.{◌<◌, All, IfOk, OnOk};
+ghost use Rattle.datagram.specs.PacketText.{IsPacket};
+ghost use Rattle.wire.specs.Traffic.{AreNodes};
+ghost use Rattle.wire.specs.declared.queue.TheConstants.{NODES};
+
 use datagram::{Body, Need, Needs, Packet, is_packet, read_packet, write_packet};
-use std::alloc::Global;
+use std::alloc::{AllocError, Global};
 use std::env;
 use std::time::CpuClock;
 use window_link::{LARGEST_WINDOW, RecvWindow, SendWindow};
-use wire::Wire;
+use wire::{Bytes, Sending, Wire};
 
 fn processor_micros(rt: &impl CpuClock) -> anyhow::Result<u64> {
     let time = rt.process_cpu_time()?;
@@ -68,36 +73,122 @@ fn growing_packets(rt: &(impl Print + CpuClock), alloc: Global) -> anyhow::Resul
     Ok(())
 }
 
-fn send(alloc: Global, wire: &mut Wire, to: u8) -> anyhow::Result<()> {
-    if to < 16 {
-        wire.send(alloc, 0, to, Vec::from_elem(alloc, 7u8, 21)?, 0)?;
+// A packet with an item, to this node.
+fn item_to(to: u8) -> Packet {
+    Packet {
+        from: 0,
+        to,
+        body: Body::Data {
+            channel: 1,
+            position: 1,
+            item: 7,
+        },
+    }
+}
+
+// Adds the spelling of a packet to those that are to be sent.
+fn add_spelled(
+    alloc: Global,
+    sendings: &mut Vec<Sending>,
+    packet: &Packet,
+) -> Result<(), AllocError>
+    requires packet { IsPacket packet.now }
+    requires so_far { All AreNodes sendings.old.items }
+    ensures { OnOk result (All AreNodes sendings.new.items) }
+{
+    let bytes = write_packet(alloc, packet)?;
+    sendings.push(Sending {
+        from: packet.from,
+        to: packet.to,
+        packet: Bytes::new(bytes),
+    })?;
+    Ok(())
+}
+
+// So many of a packet as they are sent.
+fn spell_all(alloc: Global, packet: &Packet, count: usize) -> Result<Vec<Sending>, AllocError>
+    requires { IsPacket packet.now }
+    ensures { IfOk result (λ sendings. All AreNodes sendings.items) }
+{
+    let mut sendings = Vec::with_capacity(alloc, count)?;
+    for _ in 0..count {
+        add_spelled(alloc, &mut sendings, packet)?;
+    }
+    Ok(sendings)
+}
+
+// The first packet that is due comes to its node, and is no longer in flight.
+fn deliver(alloc: Global, wire: &mut Wire, to: u8) -> anyhow::Result<()>
+    requires { to < NODES }
+{
+    let Some(place) = wire.first_due(to, 0) else {
+        return Ok(());
+    };
+    if !wire.is_due(to, place, 0) {
+        return Ok(());
+    }
+    if let Some(bytes) = wire.packet(to, place) {
+        let _heard = read_packet(alloc, bytes)?;
+    }
+    if place < wire.len(to) {
+        wire.lose(to, place);
     }
     Ok(())
 }
 
-// Sends to node 1 and takes from there, so many times.
-fn send_and_take(alloc: Global, wire: &mut Wire, times: u64) -> anyhow::Result<()> {
-    for _ in 0..times {
-        send(alloc, wire, 1)?;
-        if wire.len(1) > 0 {
-            let _taken = wire.take(1, 0);
-        }
+// Sends so many packets in one event, and delivers each: all that a world does of them with the wire and the spellings.
+fn send_and_deliver(
+    alloc: Global,
+    wire: &mut Wire,
+    packet: &Packet,
+    together: usize,
+) -> anyhow::Result<()> {
+    if !is_packet(packet) {
+        return Err(anyhow::anyhow!("no packet"));
+    }
+    let sendings = spell_all(alloc, packet, together)?;
+    wire.send_all(alloc, sendings, 0)?;
+    for _ in 0..together {
+        deliver(alloc, wire, packet.to)?;
     }
     Ok(())
+}
+
+// Puts so many packets in flight to node 2.
+fn fill(alloc: Global, wire: &mut Wire, others: usize) -> anyhow::Result<()> {
+    let packet = item_to(2);
+    if is_packet(&packet) {
+        let sendings = spell_all(alloc, &packet, others)?;
+        wire.send_all(alloc, sendings, 0)?;
+    }
+    Ok(())
+}
+
+// Nanoseconds an item, where so many are sent together.
+fn time_items(
+    rt: &impl CpuClock,
+    alloc: Global,
+    wire: &mut Wire,
+    together: usize,
+) -> anyhow::Result<u64> {
+    let packet = item_to(1);
+    let sends = 256_000 / (together as u64).max(1);
+    let start = processor_micros(rt)?;
+    for _ in 0..sends {
+        send_and_deliver(alloc, wire, &packet, together)?;
+    }
+    nanos_each(rt, start, 256_000)
 }
 
 // What is in flight to another node grows: the times should stay.
 fn others_in_flight(rt: &(impl Print + CpuClock), alloc: Global) -> anyhow::Result<()> {
-    let times = 200_000;
-    for others in [10, 1_000, 100_000u64] {
+    for others in [10, 1_000, 100_000usize] {
         let mut wire = Wire::new(alloc)?;
-        for _ in 0..others {
-            send(alloc, &mut wire, 2)?;
-        }
-        let start = processor_micros(rt)?;
-        send_and_take(alloc, &mut wire, times)?;
-        let nanos = nanos_each(rt, start, times)?;
-        println!(rt; "wire {others} {nanos}")?;
+        fill(alloc, &mut wire, others)?;
+        let alone = time_items(rt, alloc, &mut wire, 1)?;
+        println!(rt; "alone {others} {alone}")?;
+        let together = time_items(rt, alloc, &mut wire, 64)?;
+        println!(rt; "together {others} {together}")?;
     }
     Ok(())
 }
