@@ -35,7 +35,10 @@ fn note_start(turns: &mut RoundTurns, putting: Putting, round: u64) -> Reply
             *turns = turns.of(round).with_start();
             Reply::Refused(number)
         }
-        Putting::Failed => Reply::Down,
+        Putting::Failed => {
+            *turns = turns.of(round).with_start();
+            Reply::Down
+        }
     }
 }
 
