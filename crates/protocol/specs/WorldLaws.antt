@@ -11,6 +11,7 @@ pub mod KeptLaws
 pub mod StepKeeps
 pub mod RoomLaws
 pub mod DropLaws
+pub mod DownLaws
 pub mod ActLaws
 pub mod GrowLaws
 pub mod OpenLaws

@@ -11,7 +11,7 @@ pub struct RoundTurns {
     pub round: u64,
     /// How many jobs were granted: 64 at most are counted.
     pub granted: u8,
-    /// A checkpoint was begun, or its beginning refused.
+    /// A checkpoint was begun, or its beginning was refused or failed.
     pub started: bool,
     /// It has sent.
     pub sent: bool,
@@ -57,7 +57,7 @@ impl RoundTurns {
         turns
     }
 
-    /// A checkpoint was begun, or its beginning refused.
+    /// A checkpoint was begun, or its beginning was refused or failed.
     pub fn with_start(self) -> RoundTurns
         ensures { result ≡ count_start self }
     {

@@ -9,3 +9,4 @@ mod Showing
 mod Rests
 mod Places
 mod Packets
+mod Restarts

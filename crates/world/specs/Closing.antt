@@ -13,14 +13,10 @@ use Rattle.world.specs.declared.station.Station.{Station}
 abbrev pub disk_of : {D O : Type 0} {disk : DiskWords D} {cell : CellWords (GateCell D disk)} → Station (GateCell D disk) O cell → D
 disk_of station = disk_in (cell_in station.node.store)
 
--- the outlets of these outputs, in their order
-abbrev pub outlets_in : {O : Type 0} → List (Output O) → List O
-outlets_in {O} outputs = map (λ (output : Output O). output.outlet) outputs
-
 -- the disks of these stations, one each, in their order
 abbrev pub disks_of : {D O : Type 0} {disk : DiskWords D} {cell : CellWords (GateCell D disk)} → List (Station (GateCell D disk) O cell) → List D
 disks_of {D} {O} {disk} {cell} stations = map (λ (station : Station (GateCell D disk) O cell). disk_of station) stations
 
--- their outlets, station by station
-abbrev pub outlets_of : {C O : Type 0} {cell : CellWords C} → List (Station C O cell) → List O
-outlets_of {C} {O} {cell} stations = flat_map (λ (station : Station C O cell). outlets_in station.outputs.items) stations
+-- their outputs, station by station
+abbrev pub all_outputs : {C O : Type 0} {cell : CellWords C} → List (Station C O cell) → List (Output O)
+all_outputs {C} {O} {cell} stations = flat_map (λ (station : Station C O cell). station.outputs.items) stations

@@ -1,11 +1,12 @@
 -- A world without pointers.
-use Rattle.std.specs.Prelude.{ℕ, ℤ, ◌≡◌, List, map, Bool}
+use Rattle.std.specs.Prelude.{ℕ, ℤ, ◌≡◌, List, map, Bool, Some, slice_get}
 use Rattle.kahn_net.specs.Syntax.{network_of}
 use Rattle.record.specs.RecordView.{RecordView}
 use Rattle.gate_cell.specs.declared.cell.StableCell.{Ghosts as CellWords}
 use Rattle.ckpt_store.specs.Spelling.{fits_in}
 use Rattle.ckpt_store.specs.StoreView.{cell_in}
 use Rattle.node.specs.NodeOf.{view_of}
+use Rattle.protocol.specs.Node.ArmedRestarts.{restart_after}
 use Rattle.std.specs.declared.sync.Arc.{Arc}
 use Rattle.std.specs.declared.alloc.Global.{Global}
 use Rattle.net_check.specs.declared.net.Net.{Net}
@@ -52,3 +53,12 @@ IsGrown {C} {O} {cell} taken old new = HasGrown cell.moment cell.left_since (cel
 -- a station has the outlets of these outputs
 abbrev pub HasOutlets : {C O : Type 0} {cell : CellWords C} → List (Output O) → Station C O cell → Type 0
 HasOutlets {C} {O} outputs station = map (λ (output : Output O). output.outlet) station.outputs.items ≡ map (λ (output : Output O). output.outlet) outputs
+
+-- The node of a station whose device failed in an event of this round may be recovered after as many rounds as were armed with the call that
+-- failed, by the first fault armed for it, and one round later where there was none.
+abbrev pub RestartsAsArmed : {C O : Type 0} {cell : CellWords C} → ℕ → Station C O cell → Station C O cell → Type 0
+RestartsAsArmed {cell = cell} round old new = (view_of new.node).restart ≡ restart_after (view_of old.node).armed (cell.failed_call (cell_in new.node.store)) round
+
+-- the same of the station of this place
+abbrev pub RestartsAsArmedAt : {C O : Type 0} {cell : CellWords C} → ℕ → ℕ → List (Station C O cell) → List (Station C O cell) → Type 0
+RestartsAsArmedAt {C} {O} {cell} round place olds news = (old new : Station C O cell) → slice_get olds place ≡ Some old → slice_get news place ≡ Some new → RestartsAsArmed round old new

@@ -12,13 +12,14 @@ ghost use Rattle.wire.specs.Traffic.{all_sent, flights_to, traffic_of, traffic_w
 ghost use Rattle.wire.specs.declared.queue.TheConstants.{NODES};
 ghost use Rattle.world.specs.EventView.{event_view};
 ghost use Rattle.protocol.specs.World.Invariant.{StationInvariant};
+ghost use Rattle.protocol.specs.World.Failing.{WhereItFailed};
 ghost use Rattle.protocol.specs.World.Pairs.{HasMoved};
 ghost use Rattle.protocol.specs.World.RecoveryLine.{next_kept};
 ghost use Rattle.protocol.specs.World.Replies.{LeavesCells, TakesMemory};
 ghost use Rattle.world.specs.ReplyView.{answer_view, reply_view};
 ghost use Rattle.world.specs.StationView.{outlet_views};
 ghost use Rattle.protocol.specs.World.Steps.{has_happened, sendings_of, traffic_after, IsDeliverOf, IsSendOf, IsIdle, IsStationStep};
-ghost use Rattle.world.specs.WorldView.{station_view, IsCellUnchanged};
+ghost use Rattle.world.specs.WorldView.{station_view, IsCellUnchanged, RestartsAsArmed};
 
 use crate::event::{Event, Reply};
 use crate::network::{delay, due_packet, lose, note_delivery, repeat, spell_all};
@@ -157,6 +158,8 @@ impl<C: StableCell, O: Outlet> Station<C, O> {
             ≡ C.capacity (cell_in self.old.node.store) }
         ensures unchanged { LeavesCells (event_view event.now) (answer_view result)
             → IsCellUnchanged self.old self.new }
+        ensures armed { IfOk result (λ reply. WhereItFailed (event_view event.now)
+            (reply_view reply) (RestartsAsArmed round self.old self.new)) }
     {
         match event {
             Event::Deliver { node, place } => self.deliver(alloc, net, wire, *node, *place, round),

@@ -6,11 +6,12 @@ ghost use Rattle.node.specs.NodeOf.{view_of};
 ghost use Rattle.protocol.specs.Node.Starting.{IsLikeNow, decided, with_own_now};
 ghost use Rattle.protocol.specs.World.Pairs.{LeaveEitherSince};
 ghost use Rattle.protocol.specs.World.Replies.{AnswerLeaves, start_reply, decision_reply};
+ghost use Rattle.protocol.specs.World.ReplyView.{Down};
 ghost use Rattle.world.specs.ReplyView.{answer_view, reply_view};
 ghost use Rattle.world.specs.StationView.{outlet_views};
 ghost use Rattle.protocol.specs.World.Turns.{turns_started};
 ghost use Rattle.protocol.specs.World.Steps.{IsBegun, IsDecided};
-ghost use Rattle.world.specs.WorldView.{station_view, IsCellUnchanged};
+ghost use Rattle.world.specs.WorldView.{station_view, IsCellUnchanged, RestartsAsArmed};
 
 use crate::event::Reply;
 use crate::station::Station;
@@ -35,7 +36,10 @@ fn note_start(turns: &mut RoundTurns, putting: Putting, round: u64) -> Reply
             *turns = turns.of(round).with_start();
             Reply::Refused(number)
         }
-        Putting::Failed => Reply::Down,
+        Putting::Failed => {
+            *turns = turns.of(round).with_start();
+            Reply::Down
+        }
     }
 }
 
@@ -69,6 +73,8 @@ impl<C: StableCell, O: Outlet> Station<C, O> {
             (λ reply. IsBegun (fits_in (C.capacity (cell_in self.old.node.store))) round
             (station_view O.taken O.failures self.old) (reply_view reply)
             (station_view O.taken O.failures self.new)) }
+        ensures armed { IfOk result
+            (λ reply. reply_view reply ≡ Down → RestartsAsArmed round self.old self.new) }
         ensures unchanged { AnswerLeaves (answer_view result)
             → IsCellUnchanged self.old self.new }
     {
@@ -92,6 +98,8 @@ impl<C: StableCell, O: Outlet> Station<C, O> {
             (λ reply. IsDecided (fits_in (C.capacity (cell_in self.old.node.store))) round
             (station_view O.taken O.failures self.old) (reply_view reply)
             (station_view O.taken O.failures self.new)) }
+        ensures armed { IfOk result
+            (λ reply. reply_view reply ≡ Down → RestartsAsArmed round self.old self.new) }
         ensures unchanged { AnswerLeaves (answer_view result)
             → IsCellUnchanged self.old self.new }
     {

@@ -1,6 +1,7 @@
 // How a world ends.
-ghost use Rattle.std.specs.Prelude.{◌≡◌, ◌++◌, [], ◌∷◌, IfOk, OnOk};
-ghost use Rattle.world.specs.Closing.{disk_of, disks_of, outlets_in, outlets_of};
+ghost use Rattle.std.specs.Prelude.{◌≡◌, ◌++◌, [], ◌∷◌, IfOk, IsPermutation, OnOk};
+ghost use Rattle.std.specs.List.Sorted.{IsNonDecreasingBy};
+ghost use Rattle.world.specs.Closing.{all_outputs, disk_of, disks_of};
 
 use crate::output::Output;
 use crate::station::Station;
@@ -10,50 +11,79 @@ use outlet::Outlet;
 use sector_disk::Disk;
 use std::alloc::{AllocError, Global};
 
-// Adds the outlets of these outputs.
-fn add_outlets<O: Outlet>(outlets: &mut Vec<O>, outputs: Vec<Output<O>>) -> Result<(), AllocError>
-    ensures { OnOk result (outlets.new.items ≡ outlets.old.items ++ outlets_in outputs.items) }
+// Adds these outputs.
+fn add_outputs<O: Outlet>(
+    outputs: &mut Vec<Output<O>>,
+    own: Vec<Output<O>>,
+) -> Result<(), AllocError>
+    ensures { OnOk result (outputs.new.items ≡ outputs.old.items ++ own.items) }
 {
-    for output in outputs {
-        outlets.push(output.outlet)?;
+    for output in own {
+        outputs.push(output)?;
     }
     Ok(())
 }
 
-// Adds a station's disk, and its outlets.
+// Adds a station's disk, and its outputs.
 fn add_station<D: Disk, O: Outlet>(
     disks: &mut Vec<D>,
-    outlets: &mut Vec<O>,
+    outputs: &mut Vec<Output<O>>,
     station: Station<GateCell<D>, O>,
 ) -> Result<(), AllocError>
     ensures disks { OnOk result (disks.new.items ≡ disks.old.items ++ disk_of station ∷ []) }
-    ensures outlets { OnOk result
-        (outlets.new.items ≡ outlets.old.items ++ outlets_in station.outputs.items) }
+    ensures outputs { OnOk result
+        (outputs.new.items ≡ outputs.old.items ++ station.outputs.items) }
 {
     let Station {
         node,
-        outputs,
+        outputs: own,
         turns: _,
     } = station;
     let store = node.store;
     disks.push(store.close().close())?;
-    add_outlets(outlets, outputs)
+    add_outputs(outputs, own)
+}
+
+// The disks of these stations and their outputs, station by station, of which there are this many at most.
+fn parts_of<D: Disk, O: Outlet>(
+    alloc: Global,
+    stations: Vec<Station<GateCell<D>, O>>,
+    most: usize,
+) -> Result<(Vec<D>, Vec<Output<O>>), AllocError>
+    ensures disks { IfOk result (λ parts. parts.0.items ≡ disks_of stations.items) }
+    ensures outputs { IfOk result (λ parts. parts.1.items ≡ all_outputs stations.items) }
+{
+    let mut disks = Vec::with_capacity(alloc, stations.len())?;
+    let mut outputs = Vec::with_capacity(alloc, most)?;
+    for station in stations {
+        add_station(&mut disks, &mut outputs, station)?;
+    }
+    Ok((disks, outputs))
+}
+
+// Puts outputs into the order of their channels.
+fn sort_outputs<O: Outlet>(outputs: &mut Vec<Output<O>>)
+    ensures moved { IsPermutation outputs.old.items outputs.new.items }
+    ensures sorted { IsNonDecreasingBy (λ output. output.channel) outputs.new.items }
+{
+    outputs.sort_unstable_by_key(|output| output.channel);
 }
 
 impl<D: Disk, O: Outlet> World<GateCell<D>, O> {
-    /// Ends the world: its disks, by node number, and its outlets, station by station and in order of the outputs at each,
-    /// as they stand. No device call is made. Refuses for want of memory alone (1), and then they are gone.
-    pub fn close(self, alloc: Global) -> Result<(Vec<D>, Vec<O>), AllocError>
+    /// Ends the world: its disks, by node number, and its outputs with their outlets, by channel, as they stand. No device
+    /// call is made. Refuses for want of memory alone (1), and then they are gone.
+    pub fn close(self, alloc: Global) -> Result<(Vec<D>, Vec<Output<O>>), AllocError>
         ensures disks { IfOk result (λ closed. closed.0.items ≡ disks_of self.stations.items) }
-        ensures outlets { IfOk result
-            (λ closed. closed.1.items ≡ outlets_of self.stations.items) }
+        // The outputs of all stations and no others, each with its channel and its own outlet,
+        ensures outputs { IfOk result
+            (λ closed. IsPermutation (all_outputs self.stations.items) closed.1.items) }
+        // in ascending order of the channels.
+        ensures channels { IfOk result
+            (λ closed. IsNonDecreasingBy (λ output. output.channel) closed.1.items) }
     {
-        let mut disks = Vec::with_capacity(alloc, self.stations.len())?;
         // There are no more outputs than channels.
-        let mut outlets = Vec::with_capacity(alloc, self.net.program.channels.len())?;
-        for station in self.stations {
-            add_station(&mut disks, &mut outlets, station)?;
-        }
-        Ok((disks, outlets))
+        let mut parts = parts_of(alloc, self.stations, self.net.program.channels.len())?;
+        sort_outputs(&mut parts.1);
+        Ok(parts)
     }
 }

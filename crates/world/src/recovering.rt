@@ -6,11 +6,11 @@ ghost use Rattle.record.specs.Moves.{with_epoch};
 ghost use Rattle.node.specs.NodeOf.{view_of};
 ghost use Rattle.protocol.specs.World.Pairs.{LeaveEitherSince};
 ghost use Rattle.protocol.specs.World.Replies.{crash_reply, recovery_reply};
-ghost use Rattle.protocol.specs.World.ReplyView.{NotDue};
+ghost use Rattle.protocol.specs.World.ReplyView.{Down, NotDue};
 ghost use Rattle.world.specs.ReplyView.{reply_view};
 ghost use Rattle.world.specs.StationView.{outlet_views};
 ghost use Rattle.protocol.specs.World.Steps.{IsArmed, IsBack, IsFallen};
-ghost use Rattle.world.specs.WorldView.{station_view, IsCellUnchanged};
+ghost use Rattle.world.specs.WorldView.{station_view, IsCellUnchanged, RestartsAsArmed};
 
 use crate::event::Reply;
 use crate::station::Station;
@@ -81,6 +81,8 @@ impl<C: StableCell, O: Outlet> Station<C, O> {
             (λ reply. IsBack (fits_in (C.capacity (cell_in self.old.node.store))) round
             (station_view O.taken O.failures self.old) (reply_view reply)
             (station_view O.taken O.failures self.new)) }
+        ensures armed { IfOk result
+            (λ reply. reply_view reply ≡ Down → RestartsAsArmed round self.old self.new) }
         ensures unchanged { IfOk result
             (λ reply. reply_view reply ≡ NotDue → IsCellUnchanged self.old self.new) }
     {

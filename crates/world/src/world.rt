@@ -14,9 +14,10 @@ ghost use Rattle.wire.specs.Traffic.{traffic_of};
 ghost use Rattle.world.specs.RecoveryLine.{StaysInLine, KeepsLine, HasOneLine};
 ghost use Rattle.protocol.specs.World.Replies.{IsDropped, IsTooLarge, LeavesCells, TakesMemory};
 ghost use Rattle.world.specs.ReplyView.{answer_view, reply_view};
+ghost use Rattle.protocol.specs.World.ReplyView.{Down};
 ghost use Rattle.protocol.specs.World.Roomy.{HasFullRoom};
 ghost use Rattle.protocol.specs.World.Steps.{traffic_after, is_done_with, are_done_with, round_after, IsAct, IsStep};
-ghost use Rattle.world.specs.WorldView.{capacities, rooms, station_view, world_view, IsCellUnchanged, IsGrown};
+ghost use Rattle.world.specs.WorldView.{capacities, rooms, station_view, world_view, IsCellUnchanged, IsGrown, RestartsAsArmedAt};
 
 use crate::event::{Event, Refused, Reply};
 use crate::nodes::may_restart;
@@ -109,6 +110,9 @@ fn act_at<C: StableCell, O: Outlet>(
         → AllZip IsCellUnchanged stations.old.items stations.new.items }
     ensures others { AreSameElsewhere (event_node (event_view event.now)) stations.old.items
         stations.new.items }
+    ensures armed { IfOk result (λ reply. reply_view reply ≡ Down
+        → RestartsAsArmedAt round (event_node (event_view event.now))
+        stations.old.items stations.new.items) }
 {
     if number >= stations.len() {
         return Ok(Reply::NotDue);
@@ -207,6 +211,11 @@ impl<C: StableCell, O: Outlet> World<C, O> {
         // What it doesn't touch stays as it was: the cells where no record was put, and all of it at a refusal.
         ensures unchanged { LeavesCells (event_view event) (answer_view result)
             → AllZip IsCellUnchanged self.old.stations.items self.new.stations.items }
+        // A node that is down since its device failed in the event may be recovered after the rounds that were armed with the
+        // call that failed: what its cell tells of that is what counts.
+        ensures armed { IfOk result (λ reply. reply_view reply ≡ Down
+            → RestartsAsArmedAt self.old.round (event_node (event_view event))
+            self.old.stations.items self.new.stations.items) }
         // Every station but that of the event's node is the very same, with all that its cell and its outlets hold and
         // count, whether the event was made or refused.
         ensures others { AreSameElsewhere (event_node (event_view event))

@@ -1,12 +1,12 @@
 //! What stands on the disks of worlds that are closed, and what their outlets have.
 
 use crate::asserting::same;
-use crate::worlds::{ITEMS, OUTPUT, SUM, TestCell, apply, steps, world_of};
+use crate::worlds::{ITEMS, OUTPUT, SUM, TestCell, apply, steps, steps_of_two, world_of};
 use outlet::{ListOutlet, Outlet};
 use sector_disk::{Disk, MemDisk, SECTOR_BYTES};
 use std::alloc::Global;
 use std::test::Fail;
-use world::{Event, Reply, World};
+use world::{Event, Output, Reply, World};
 
 // Kahn's example of 1974 on two nodes.
 const KAHN: &str =
@@ -33,12 +33,12 @@ fn parts_of(
     alloc: Global,
     world: World<TestCell, ListOutlet>,
 ) -> Result<(MemDisk, ListOutlet), Fail> {
-    let (mut disks, mut outlets) = world.close(alloc)?;
-    if disks.len() != 1 || outlets.len() != 1 {
+    let (mut disks, mut outputs) = world.close(alloc)?;
+    if disks.len() != 1 || outputs.len() != 1 {
         return Err("not one disk and one outlet".into());
     }
-    match (disks.pop(), outlets.pop()) {
-        (Some(disk), Some(outlet)) => Ok((disk, outlet)),
+    match (disks.pop(), outputs.pop()) {
+        (Some(disk), Some(output)) => Ok((disk, output.outlet)),
         _ => Err("no disk or no outlet".into()),
     }
 }
@@ -135,11 +135,36 @@ const OTHER_OPENING: &[u8] = &[
 #[test]
 fn the_opening_records_of_two_nodes(rt: HostRuntime) -> Result<(), Fail> {
     let world = world_of(rt.alloc(), KAHN, "")?;
-    let (mut disks, _outlets) = world.close(rt.alloc())?;
+    let (mut disks, _outputs) = world.close(rt.alloc())?;
     let (Some(other), Some(disk)) = (disks.pop(), disks.pop()) else {
         return Err("not two disks".into());
     };
     same(&rt, &begins(disk, OPENING)?, &true, "node 0");
     same(&rt, &begins(other, OTHER_OPENING)?, &true, "node 1");
     Ok(())
+}
+
+// Two running sums, each on a node of its own: inputs 0 and 1, outputs 2 and 3. That of the lower channel is on node 1.
+const SUMS: &str =
+    "kahn 1; input i; input j; output p; output o; process one on 0 { var a; var v; loop { v = get i; a = a + v; put a to o; } } process two on 1 { var a; var v; loop { v = get j; a = a + v; put a to p; } }";
+
+// An output is of this channel, and these items have left by it.
+fn has_left(rt: &HostRuntime, output: &Output<ListOutlet>, channel: u8, items: &[i64]) {
+    same(rt, &output.channel, &channel, "channel");
+    same(rt, &output.outlet.items(), &items, "items");
+}
+
+#[test]
+fn outlets_come_in_the_order_of_their_channels(rt: HostRuntime) -> Result<(), Fail> {
+    let mut world = world_of(rt.alloc(), SUMS, "i: 1 2 3\nj: 4 5")?;
+    steps_of_two(rt.alloc(), &mut world, 20)?;
+    let (_disks, outputs) = world.close(rt.alloc())?;
+    match outputs.as_slice() {
+        [first, second] => {
+            has_left(&rt, first, 2, &[4, 9]);
+            has_left(&rt, second, 3, &[1, 3, 6]);
+            Ok(())
+        }
+        _ => Err("not two outlets".into()),
+    }
 }

@@ -119,9 +119,9 @@ pub(crate) fn apply<O: Outlet>(
     }
 }
 
-// The event that is next for node 0. What comes of a job is brought back at once.
-fn step<O: Outlet>(alloc: Global, world: &mut World<TestCell, O>) -> Result<(), Fail> {
-    let event = world.pick(0);
+// The event that is next for a node. What comes of a job is brought back at once.
+fn step<O: Outlet>(alloc: Global, world: &mut World<TestCell, O>, node: u8) -> Result<(), Fail> {
+    let event = world.pick(node);
     if let Reply::Granted(job) = apply(alloc, world, event)? {
         let Ok(done) = job.run(alloc) else {
             return Err("no memory".into());
@@ -138,7 +138,20 @@ pub(crate) fn steps<O: Outlet>(
     count: usize,
 ) -> Result<(), Fail> {
     for _turn in 0..count {
-        step(alloc, world)?;
+        step(alloc, world, 0)?;
+    }
+    Ok(())
+}
+
+/// So many events that are next for node 0, and as many for node 1.
+pub(crate) fn steps_of_two<O: Outlet>(
+    alloc: Global,
+    world: &mut World<TestCell, O>,
+    count: usize,
+) -> Result<(), Fail> {
+    for _turn in 0..count {
+        step(alloc, world, 0)?;
+        step(alloc, world, 1)?;
     }
     Ok(())
 }

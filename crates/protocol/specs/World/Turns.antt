@@ -32,9 +32,9 @@ abbrev pub turns_granted : Option JobView → ℕ → RoundTurns → RoundTurns
 turns_granted None round turns = turns
 turns_granted (Some job) round turns = count_grant (turns_of round turns)
 
--- a start counts as that of the round unless it couldn't happen, or the node went down in it
+-- a start counts as that of the round unless it couldn't happen: also one that was refused, or in which the node went down
 abbrev pub turns_started : Putting → ℕ → RoundTurns → RoundTurns
 turns_started putting.NotDue round turns = turns
 turns_started putting.Stored round turns = count_start (turns_of round turns)
 turns_started (putting.Refused refusal) round turns = count_start (turns_of round turns)
-turns_started putting.Failed round turns = turns
+turns_started putting.Failed round turns = count_start (turns_of round turns)

@@ -2,6 +2,7 @@ use Rattle.std.proofs.Common.{rules, refl, ◌≡◌, ◌<◌, ◌∙◌, ap, sy
 use Rattle.std.specs.Prelude.{IfOk, slice_set}
 use Rattle.std.proofs.lemmas.List.{length-map}
 use Rattle.protocol.specs.NodeLaws.PlaceLaws.{nodes_few}
+use Rattle.protocol.specs.World.EventView.{event_node}
 use Rattle.protocol.specs.World.StationView.{StationView}
 use Rattle.protocol.specs.World.Steps.{may_restart, traffic_after}
 use Rattle.protocol.specs.WorldLaws.StepKeeps.{all_here}
@@ -17,6 +18,7 @@ use Rattle.protocol.specs.World.Pairs.{AreSameElsewhere}
 use Rattle.protocol.specs.WorldLaws.PairLaws.{elsewhere_set, on_err_map, pairs_refl, pairs_set}
 use Rattle.world.specs.WorldView.{station_view}
 use Rattle.world.specs.declared.station.Station.{Station}
+use Rattle.world.proofs.Restarts.{restarts_at}
 use Rattle.world.proofs.Stations.{all_still, all_grown, all_still_in_line, all_in_line}
 use Rattle.world.proofs.Views.{acted, cell_stays, refused_at, seen_at}
 use Rattle.world.proofs.world.act_at.Goals as goal
@@ -95,3 +97,9 @@ returns-clause-traffic g c =
 pub returns-clause-others : goal.returns-clause-others
 returns-clause-others g c =
     subst (λ (place : ℕ). AreSameElsewhere place c.args.stations.now.items (slice_set c.args.stations.now.items c.args.number c.act.new.self)) (sym c.requires.at) (elsewhere_set c.args.stations.now.items c.args.number c.act.new.self)
+
+pub returns-clause-armed : goal.returns-clause-armed
+returns-clause-armed g c =
+    let x = c.index_mut.result.now in
+    restarts_at c.args.round g.O.Outlet.taken g.O.Outlet.failures (network_of c.args.net.now.value.program) c.args.inputs.now (traffic_of c.args.wire.now) (fits_in (g.C.StableCell.capacity (cell_in x.node.store))) c.may_restart-restarts.result (event_view c.args.event.now)
+    c.args.stations.now.items c.args.number (event_node (event_view c.args.event.now)) x c.act.new.self c.act.result c.requires.at (search rules) c.index_mut.ensures.value c.act.ensures.step c.act.ensures.armed

@@ -4,6 +4,8 @@ use Rattle.protocol.specs.declared.putting.Recovery.{Recovery}
 use Rattle.protocol.specs.declared.putting.Recovery.TheVariants as recovery
 use Rattle.protocol.specs.World.Replies.{recovery_reply}
 use Rattle.protocol.specs.World.ReplyView.{NotDue}
+use Rattle.node.specs.NodeOf.{view_of}
+use Rattle.protocol.specs.WorldLaws.DownLaws.{recovery_restarts}
 use Rattle.world.proofs.Cells.{through}
 use Rattle.world.proofs.station.Station.recover.Goals as goal
 
@@ -28,3 +30,8 @@ was_up recovery.Failed is = absurd (cc)
 
 pub returns-in-Ok-clause-unchanged : goal.returns-in-Ok-clause-unchanged
 returns-in-Ok-clause-unchanged g c = λ not_due. ap cell_in (c.in-Ok.ensures.unchanged (was_up c.in-Ok.recovery (sym c.recovery_reply.ensures ∙ not_due)))
+
+pub returns-in-Ok-clause-armed : goal.returns-in-Ok-clause-armed
+returns-in-Ok-clause-armed g c = λ down.
+    recovery_restarts c.args.round (g.C.StableCell.failed_call (cell_in c.recover.new.self.store)) (view_of c.args.self.now.node) c.in-Ok.recovery (view_of c.recover.new.self) c.in-Ok.ensures.step
+    (sym c.recovery_reply.ensures ∙ down)
