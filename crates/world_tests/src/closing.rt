@@ -5,6 +5,7 @@ use crate::worlds::{ITEMS, OUTPUT, SUM, TestCell, apply, steps, steps_of_two, wo
 use outlet::{ListOutlet, Outlet};
 use sector_disk::{Disk, MemDisk, SECTOR_BYTES};
 use std::alloc::Global;
+use std::process::Abort;
 use std::test::Fail;
 use world::{Event, Output, Reply, World};
 
@@ -149,7 +150,7 @@ const SUMS: &str =
     "kahn 1; input i; input j; output p; output o; process one on 0 { var a; var v; loop { v = get i; a = a + v; put a to o; } } process two on 1 { var a; var v; loop { v = get j; a = a + v; put a to p; } }";
 
 // An output is of this channel, and these items have left by it.
-fn has_left(rt: &HostRuntime, output: &Output<ListOutlet>, channel: u8, items: &[i64]) {
+fn has_left(rt: &impl Abort, output: &Output<ListOutlet>, channel: u8, items: &[i64]) {
     same(rt, &output.channel, &channel, "channel");
     same(rt, &output.outlet.items(), &items, "items");
 }
