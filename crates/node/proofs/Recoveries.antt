@@ -1,6 +1,7 @@
 -- What a crash and a recovery leave of a node.
-use Rattle.std.proofs.Common.{◌≡◌, ◌⊎◌, inl, inr, ⊎_elim, ℕ, ◌<◌, ◌≤◌, true, false, List, length, Option, Some, refl, sym, ◌∙◌, ap, subst}
-use Rattle.std.specs.Prelude.{IsTrue}
+use Rattle.std.proofs.Common.{◌≡◌, ◌⊎◌, inl, inr, ⊎_elim, ℕ, ◌<◌, ◌≤◌, Bool, true, false, List, length, Option, Some, refl, sym, ◌∙◌, ap, subst, arith}
+use Rattle.std.specs.Prelude.{IsTrue, nat_lt}
+use Rattle.std.proofs.lemmas.Bool.{lt-ltb}
 use Rattle.std.specs.Option.{ForSome}
 use Rattle.sector_disk.specs.Clock.{Only}
 use Rattle.gate_cell.specs.declared.cell.StableCell.{Ghosts as CellWords}
@@ -9,15 +10,13 @@ use Rattle.record.specs.Moves.{with_epoch}
 use Rattle.kahn_net.specs.declared.limits.TheConstants.{MAX_COUNT}
 use Rattle.ckpt_store.specs.StoreView.{cell_in, known_in, record_in, Holds}
 use Rattle.ckpt_store.specs.declared.store.Store.{Store}
-use Rattle.protocol.specs.Node.ArmedRestarts.{restart_after}
 use Rattle.protocol.specs.Node.NodeView.{NodeView, ModeView, Down, InDoubt, Runs, with_mode}
 use Rattle.node.specs.NodeView.{node_view, mode_view}
-use Rattle.protocol.specs.Node.Starting.{is_down, crashed, with_kept}
-use Rattle.protocol.specs.Node.Recovering.{IsRecovery, back_answer, restored, restored_mode, put_off}
-use Rattle.node.specs.StoredView.{HasRecord, LeavesNext, LeavesAsBefore}
+use Rattle.protocol.specs.Node.Modes.{is_down, crashed, with_kept}
+use Rattle.protocol.specs.Node.Plans.{Prospect, Undue, Exhausted, HasFailedAt, if_due, putting, unless_spent}
+use Rattle.protocol.specs.Node.Recovering.{recover_prospect, restored, restored_mode}
+use Rattle.node.specs.StoredView.{HasRecord, IsCrashed, LeavesNext}
 use Rattle.node.specs.declared.state.NodeState.{NodeState}
-use Rattle.protocol.specs.declared.putting.Recovery.{Recovery}
-use Rattle.protocol.specs.declared.putting.Recovery.TheVariants.{Failed}
 use Rattle.node.proofs.Records.{crash_keeps, one_of_both, then_crashed}
 
 module _ {C : Type 0} (words : CellWords C) (number restart : ℕ) (old new : Store C words) (before after : NodeState) (has : HasRecord number (mode_view before.mode) old) (up : is_down (mode_view before.mode) ≡ false)
@@ -37,46 +36,47 @@ module _ {C : Type 0} (words : CellWords C) (number restart : ℕ) (old new : St
   pub crash_step : node_view (record_in new) after ≡ crashed restart (node_view (record_in old) before)
   crash_step = stop (record_in new) ∙ ap (λ (r : RecordView). crashed restart (node_view r before)) kept
 
--- a node that comes back, by its record of the next epoch
-pub came_back : (round call : ℕ) (old : NodeView) (next : RecordView) (answer : Recovery) (now : NodeView) → IsTrue (is_down old.mode) → old.kept.epoch < MAX_COUNT → next ≡ with_epoch old.kept
-    → now ≡ with_mode (restored_mode next) (with_kept next old) → answer ≡ back_answer (restored_mode next) → IsRecovery round call old answer now
-came_back round call old next answer now down less is became answers =
-    subst (λ (a : Recovery). IsRecovery round call old a now) (sym answers) (by_mode (restored_mode next) refl)
+-- what a node that is down comes to, with a next epoch and without
+pub back_planned : (node : NodeView) → is_down node.mode ≡ true → node.kept.epoch < MAX_COUNT → recover_prospect node ≡ putting (restored node)
+back_planned node down less =
+    ap (λ (b : Bool). if_due b (unless_spent (nat_lt node.kept.epoch MAX_COUNT) (putting (restored node)))) down ∙ ap (λ (b : Bool). unless_spent b (putting (restored node))) (lt-ltb node.kept.epoch MAX_COUNT less)
+
+pub back_spent : (node : NodeView) → is_down node.mode ≡ true → MAX_COUNT ≤ node.kept.epoch → recover_prospect node ≡ Exhausted
+back_spent node down more =
+    ap (λ (b : Bool). if_due b (unless_spent (nat_lt node.kept.epoch MAX_COUNT) (putting (restored node)))) down ∙ ap (λ (b : Bool). unless_spent b (putting (restored node))) (not_less node.kept.epoch MAX_COUNT more)
   where
-    same : now ≡ restored old
-    same = became ∙ ap (λ (r : RecordView). with_mode (restored_mode r) (with_kept r old)) is
+    not_less : (n m : ℕ) → m ≤ n → nat_lt n m ≡ false
+    not_less n m more = grind (arith, more)
 
-    so : back_answer (restored_mode (with_epoch old.kept)) ≡ back_answer (restored_mode next)
-    so = ap (λ (r : RecordView). back_answer (restored_mode r)) (sym is)
+pub back_undue : (node : NodeView) → is_down node.mode ≡ false → recover_prospect node ≡ Undue
+back_undue node up = ap (λ (b : Bool). if_due b (unless_spent (nat_lt node.kept.epoch MAX_COUNT) (putting (restored node)))) up
 
-    by_mode : (m : ModeView) → restored_mode next ≡ m → IsRecovery round call old (back_answer m) now
-    by_mode Down e = (down, less, so ∙ ap back_answer e, same)
-    by_mode InDoubt e = (down, less, so ∙ ap back_answer e, same)
-    by_mode (Runs running) e = (down, less, so ∙ ap back_answer e, same)
+-- it came back with the record of the next epoch
+pub came_back : (old : NodeView) (next : RecordView) (now : NodeView) → next ≡ with_epoch old.kept → now ≡ with_mode (restored_mode next) (with_kept next old) → now ≡ restored old
+came_back old next now is became = became ∙ ap (λ (r : RecordView). with_mode (restored_mode r) (with_kept r old)) is
 
 module _ {C : Type 0} (words : CellWords C)
     (includes_now : (cell : C) (t : ℕ) (left : Option (List ℕ)) → t ≤ words.moment cell → words.may_leave cell left → words.left_since cell t left)
     (may_stay : (cell : C) → words.may_leave cell (Some (words.value cell)))
     (ready_settled : (cell : C) → IsTrue (words.is_ready cell) → Only (Some (words.value cell)) (words.may_leave cell))
-    (number round call : ℕ) (old mid new : Store C words) (before : NodeState) (has : HasRecord number (mode_view before.mode) old) (down : IsTrue (is_down (mode_view before.mode)))
-    (run : LeavesNext (with_epoch (record_in old)) old mid) (crash : LeavesAsBefore mid new) (settled : Only (Some (words.value (cell_in new))) (words.may_leave (cell_in new))) where
+    (number : ℕ) (old mid new : Store C words) (before after : NodeState) (has : HasRecord number (mode_view before.mode) old) (run : LeavesNext (with_epoch (record_in old)) old mid) (crash : IsCrashed mid new)
+    (restart : ℕ) (stop : (kept : RecordView) → node_view kept after ≡ crashed restart (node_view kept before)) where
+  pub failed_moments : LeavesNext (with_epoch (record_in old)) old new
+  failed_moments = then_crashed words includes_now may_stay ready_settled (with_epoch (record_in old)) old mid new run crash.any_moment
+
   either : (record_in new ≡ record_in old) ⊎ (record_in new ≡ with_epoch (record_in old))
-  either = one_of_both words includes_now may_stay ready_settled (with_epoch (record_in old)) old new has.settled
-      (then_crashed words includes_now may_stay ready_settled (with_epoch (record_in old)) old mid new run crash)
+  either = one_of_both words includes_now may_stay ready_settled (with_epoch (record_in old)) old new has.settled failed_moments
 
   -- the device failed, and the node stays down
-  pub failed_has : HasRecord number (mode_view before.mode) new
+  pub failed_has : HasRecord number (mode_view after.mode) new
   failed_has = record {
     listed = ⊎_elim (λ same. subst (λ (r : RecordView). number < length r.highest) (sym same) has.listed) (λ same. subst (λ (r : RecordView). number < length r.highest) (sym same) has.listed) either;
     named = ⊎_elim (λ same. ap (λ (r : RecordView). r.node) same ∙ has.named) (λ same. ap (λ (r : RecordView). r.node) same ∙ has.named) either;
-    ready = λ up. absurd (cc);
-    settled = settled;
+    ready = λ up. (let down : is_down (mode_view after.mode) ≡ true = ap (λ (n : NodeView). is_down n.mode) (stop (record_in new)) in absurd (cc));
+    settled = crash.settled;
   }
 
-  pub failed_step : (restart : ℕ) → restart ≡ restart_after before.armed.items call round → (after : NodeState) → after ≡ record { mode = before.mode; version = before.version; restart = restart; armed = before.armed }
-      → IsRecovery round call (node_view (record_in old) before) Failed (node_view (record_in new) after)
-  failed_step restart later after is =
-      (down, ⊎_elim (λ same. inl (state ∙ ap (λ (r : RecordView). put_off (restart_after before.armed.items call round) (node_view r before)) same)) (λ same. inr (state ∙ ap (λ (r : RecordView). put_off (restart_after before.armed.items call round) (node_view r before)) same)) either)
-    where
-      state : node_view (record_in new) after ≡ put_off (restart_after before.armed.items call round) (node_view (record_in new) before)
-      state = ap (node_view (record_in new)) is ∙ ap (λ (n : ℕ). node_view (record_in new) (record { mode = before.mode; version = before.version; restart = n; armed = before.armed })) later
+  pub failed_now : HasFailedAt restart (with_epoch (record_in old)) (node_view (record_in old) before) (node_view (record_in new) after)
+  failed_now =
+      ⊎_elim (λ same. inl (ap (λ (r : RecordView). node_view r after) same ∙ stop (record_in old)))
+      (λ same. inr (ap (λ (r : RecordView). node_view r after) same ∙ stop (with_epoch (record_in old)))) either

@@ -7,6 +7,7 @@ pub mod SoundLaws
 pub mod OrderLaws
 pub mod HandedLaws
 pub mod BoundLaws
+pub mod PlanLaws
 pub mod KeptLaws
 pub mod StepKeeps
 pub mod RoomLaws

@@ -6,7 +6,7 @@ ghost use Rattle.ckpt_store.specs.Spelling.{fits_in};
 ghost use Rattle.ckpt_store.specs.StoreView.{cell_in};
 ghost use Rattle.node.specs.NodeOf.{view_of};
 ghost use Rattle.protocol.specs.Node.Sending.{packets_of, IsWritable};
-ghost use Rattle.protocol.specs.Node.Starting.{is_down};
+ghost use Rattle.protocol.specs.Node.Modes.{is_down};
 ghost use Rattle.protocol.specs.World.EventView.{event_node};
 ghost use Rattle.wire.specs.Traffic.{all_sent, flights_to, traffic_of, traffic_without};
 ghost use Rattle.wire.specs.declared.queue.TheConstants.{NODES};

@@ -7,42 +7,30 @@ use Rattle.kahn_net.specs.declared.program.Channel.{Channel}
 use Rattle.kahn_net.specs.declared.program.Port.{Port}
 use Rattle.kahn_net.specs.declared.program.Port.TheVariants.{Outside, Process}
 use Rattle.record.specs.Ends.{base_of, received_of, sent_of}
-use Rattle.record.specs.Moves.{with_epoch}
 use Rattle.record.specs.RecordView.{RecordView}
 use Rattle.ckpt_store.specs.Spelling.{Spells, SpellsSome}
-use Rattle.protocol.specs.Node.Starting.{IsBehind, with_own_now, decided}
+use Rattle.protocol.specs.Node.Plans.{next_record}
+use Rattle.protocol.specs.Node.Starting.{IsBehind}
 use Rattle.protocol.specs.Machine.Images.{Net, IsOutput}
 use Rattle.protocol.specs.Machine.Line.{Sound, Covers, NotBehind}
 use Rattle.protocol.specs.Machine.Observers.{record_seen}
 use Rattle.protocol.specs.Machine.Records.{Record, new_record, effective}
-use Rattle.protocol.specs.World.EventView.{EventView}
-use Rattle.protocol.specs.World.EventView as event
+use Rattle.protocol.specs.World.EventView.{EventView, ByNode, ByNetwork, Install, Release}
 use Rattle.protocol.specs.World.Invariant.{outputs_of}
 use Rattle.protocol.specs.World.OutputView.{OutputView}
 use Rattle.protocol.specs.World.RecordSound.{CoversAll}
 use Rattle.protocol.specs.World.Released.{released_of}
 use Rattle.protocol.specs.World.StationView.{StationView}
+use Rattle.protocol.specs.World.Steps.{Setting, plan_of}
 
 -- ---- the record that an event puts
 
--- The record that an event puts at a station, where it puts one: a start adds a tentative image, a decision makes it permanent, and a recovery
--- begins an epoch. No other event puts a record; with those it is the one that is kept. It is said of every station, also of one where the event
--- isn't due or is refused, so that it is all that such an event may leave, and no more than that.
-abbrev pub next_kept : EventView → StationView → RecordView
-next_kept (event.Deliver k place) station = station.node.kept
-next_kept (event.Grant k) station = station.node.kept
-next_kept (event.Install done) station = station.node.kept
-next_kept (event.Send k) station = station.node.kept
-next_kept (event.Start k) station = with_own_now station.number station.node
-next_kept (event.Decide k) station = decided station.node.kept
-next_kept (event.Release k) station = station.node.kept
-next_kept (event.Crash k fill rounds) station = station.node.kept
-next_kept (event.Recover k) station = with_epoch station.node.kept
-next_kept (event.Arm k fault rounds) station = station.node.kept
-next_kept (event.Idle k) station = station.node.kept
-next_kept (event.Lose k place) station = station.node.kept
-next_kept (event.Repeat k place) station = station.node.kept
-next_kept (event.Delay k place rounds) station = station.node.kept
+-- The record that an event puts at a station, where it puts one, and else the one that is kept: that of the plan of a deed that can happen.
+abbrev pub next_kept : Setting → EventView → StationView → RecordView
+next_kept setting (ByNode k deed) station = next_record (plan_of setting k deed station).prospect station.node.kept
+next_kept setting (Install done) station = station.node.kept
+next_kept setting (Release k) station = station.node.kept
+next_kept setting (ByNetwork k place act) station = station.node.kept
 
 -- ---- a world as the abstract machine sees it
 

@@ -1,8 +1,10 @@
 -- Laws of what is in flight: what holds of the node and the bytes of each packet in flight, and of each that is sent, goes on holding.
-use Rattle.std.proofs.Common.{◌≡◌, ℕ, zero, suc, Bool, true, false, cond, List, [], ◌∷◌, replicate, All, Option, unwrap_or, refl, sym, ap, subst}
-use Rattle.std.specs.Prelude.{IsTrue, slice_get, slice_set, remove, map}
+use Rattle.std.proofs.Common.{◌≡◌, ℕ, zero, suc, Bool, true, false, cond, List, [], ◌∷◌, replicate, All, Option, Some, None, unwrap_or, refl, sym, ap, subst}
+use Rattle.std.specs.Prelude.{IsTrue, not, slice_get, slice_set, remove, map}
 use Rattle.std.proofs.lemmas.List.Elements.{All-nil, All-head, All-tail}
 use Rattle.kahn_net.specs.Syntax.{Network}
+use Rattle.datagram.specs.declared.packet.Packet.{Packet}
+use Rattle.record.specs.RecordView.{RecordView}
 use Rattle.wire.proofs.Passing.{sent_passes, repeated_passes, delayed_passes, gone_passes}
 use Rattle.wire.specs.Queue.{with_delay, with_copy}
 use Rattle.wire.specs.Rules.{fate_of}
@@ -11,14 +13,25 @@ use Rattle.wire.specs.Wire.{nth_in}
 use Rattle.wire.specs.declared.queue.Flight.{Flight}
 use Rattle.wire.specs.declared.queue.TheConstants.{NODES}
 use Rattle.wire.specs.declared.sending.Sending.{Sending}
-use Rattle.protocol.specs.Node.NodeView.{Down, InDoubt, ModeView, Runs, running_in}
-use Rattle.protocol.specs.Node.Sending.{packets_from}
-use Rattle.protocol.specs.Node.Starting.{is_running}
-use Rattle.protocol.specs.World.EventView.{EventView, event_node}
+use Rattle.protocol.specs.Node.ArmedRestarts.{round_later, with_armed}
+use Rattle.protocol.specs.Node.Choosing.{grant_prospect, node_job, with_grant}
+use Rattle.protocol.specs.Node.Delivering.{packet_for, told_by}
+use Rattle.protocol.specs.Node.JobView.{JobView}
+use Rattle.protocol.specs.Node.Modes.{crashed, is_down, is_running, with_kept}
+use Rattle.protocol.specs.Node.NodeView.{Down, InDoubt, ModeView, NodeView, Runs, running_in}
+use Rattle.protocol.specs.Node.Plans.{Prospect, becoming, if_due, packets_by, putting, telling, unless_spent}
+use Rattle.protocol.specs.Node.Recovering.{restored}
+use Rattle.protocol.specs.Node.Sending.{packets_from, packets_of}
+use Rattle.protocol.specs.Node.Starting.{decided, may_decide, may_start, with_own_now}
+use Rattle.protocol.specs.declared.outcome.Outcome.{Outcome}
+use Rattle.protocol.specs.declared.outcome.Outcome.TheVariants as outcome
+use Rattle.protocol.specs.declared.outcome.Refusal.TheVariants.{Spent, TooLarge}
+use Rattle.protocol.specs.World.EventView.{Deed, EventView, NetworkAct, ByNode, ByNetwork, Install, Release, event_node}
 use Rattle.protocol.specs.World.EventView as event
-use Rattle.protocol.specs.World.InFlight.{AllInFlight, AllSent, EachWasSent, NothingAtFirst, NothingIsMadeUp, OnlyRunningSend, sendings_then}
+use Rattle.protocol.specs.World.InFlight.{AllInFlight, AllSent, EachWasSent, NothingAtFirst, NothingIsMadeUp, OnlyRunningSend}
+use Rattle.protocol.specs.World.Replies.{has_happened, outcome_of}
 use Rattle.protocol.specs.World.StationView.{StationView}
-use Rattle.protocol.specs.World.Steps.{has_happened, sending_of, sendings_of, traffic_then}
+use Rattle.protocol.specs.World.Steps.{Setting, deliver_plan, due_bytes, flight_at, plan_of, sending_of, sendings_then, setting_of, traffic_acted, traffic_left, traffic_then}
 
 abbrev nothing : QueueTraffic
 nothing = record { flights = []; counts = [] }
@@ -98,38 +111,94 @@ Passes test to packet = IsTrue (test to packet)
 pub nothing_at_first : NothingAtFirst
 nothing_at_first test = opened_holds (Passes test)
 
-then_passes : (test : ℕ → List ℕ → Bool) (net : Network) (round : ℕ) (e : EventView) (station : Option StationView) (traffic : Traffic)
-    → AllInFlight test traffic → AllSent test (sendings_then net e station) → AllInFlight test (traffic_then net round e station traffic)
-then_passes test net round (event.Deliver k place) station traffic all sent = gone_holds (Passes test) traffic k place all
-then_passes test net round (event.Grant k) station traffic all sent = all
-then_passes test net round (event.Install done) station traffic all sent = all
-then_passes test net round (event.Send k) station traffic all sent = all_sent_holds (Passes test) round (sendings_of net station) traffic all sent
-then_passes test net round (event.Start k) station traffic all sent = all
-then_passes test net round (event.Decide k) station traffic all sent = all
-then_passes test net round (event.Release k) station traffic all sent = all
-then_passes test net round (event.Crash k fill rounds) station traffic all sent = all
-then_passes test net round (event.Recover k) station traffic all sent = all
-then_passes test net round (event.Arm k fault rounds) station traffic all sent = all
-then_passes test net round (event.Idle k) station traffic all sent = all
-then_passes test net round (event.Lose k place) station traffic all sent = gone_holds (Passes test) traffic k place all
-then_passes test net round (event.Repeat k place) station traffic all sent = repeated_holds (Passes test) traffic k place all
-then_passes test net round (event.Delay k place rounds) station traffic all sent = delayed_holds (Passes test) traffic k place rounds all
+left_passes : (test : ℕ → List ℕ → Bool) (traffic : Traffic) (k : ℕ) (came : Option ℕ) → AllInFlight test traffic → AllInFlight test (traffic_left traffic k came)
+left_passes test traffic k None all = all
+left_passes test traffic k (Some place) all = gone_holds (Passes test) traffic k place all
+
+acted_passes : (test : ℕ → List ℕ → Bool) (act : NetworkAct) (traffic : Traffic) (k place : ℕ) → AllInFlight test traffic → AllInFlight test (traffic_acted act traffic k place)
+acted_passes test event.Lose traffic k place all = gone_holds (Passes test) traffic k place all
+acted_passes test event.Repeat traffic k place all = repeated_holds (Passes test) traffic k place all
+acted_passes test (event.Delay rounds) traffic k place all = delayed_holds (Passes test) traffic k place rounds all
+
+then_passes : (test : ℕ → List ℕ → Bool) (setting : Setting) (e : EventView) (station : Option StationView) → AllInFlight test setting.traffic → AllInFlight test (traffic_then setting e station)
+then_passes test setting (ByNode k deed) None all = all
+then_passes test setting (ByNode k deed) (Some station) all = left_passes test setting.traffic k (plan_of setting k deed station).came all
+then_passes test setting (Install done) station all = all
+then_passes test setting (Release k) station all = all
+then_passes test setting (ByNetwork k place act) station all = acted_passes test act setting.traffic k place all
 
 pub nothing_is_made_up : NothingIsMadeUp
-nothing_is_made_up test net round e answer station traffic all sent = at (has_happened answer) sent
+nothing_is_made_up test setting e answer station all sent = at (has_happened answer) sent
   where
-    at : (b : Bool) → AllSent test (cond b (sendings_then net e station) []) → AllInFlight test (cond b (traffic_then net round e station traffic) traffic)
+    at : (b : Bool) → AllSent test (cond b (sendings_then setting e answer station) [])
+        → AllInFlight test (cond b (all_sent setting.round (sendings_then setting e answer station) (traffic_then setting e station)) setting.traffic)
     at false sent = all
-    at true sent = then_passes test net round e station traffic all sent
+    at true sent = all_sent_holds (Passes test) setting.round (sendings_then setting e answer station) (traffic_then setting e station) (then_passes test setting e station all) sent
 
 pub each_was_sent : EachWasSent
 each_was_sent test fits e old answer new step all sent =
-    subst (AllInFlight test) (sym step.traffic) (nothing_is_made_up test old.net old.round e answer (slice_get old.stations (event_node e)) old.traffic all sent)
+    subst (AllInFlight test) (sym step.traffic) (nothing_is_made_up test (setting_of old) e answer (slice_get old.stations (event_node e)) all sent)
+
+-- ---- only a node that runs sends
+
+-- where nothing is to be sent nothing is
+becoming_sends : (node : NodeView) (came : Outcome) → packets_by (becoming node) came ≡ []
+becoming_sends node outcome.NotDue = refl
+becoming_sends node outcome.Made = refl
+becoming_sends node (outcome.Refused TooLarge) = refl
+becoming_sends node (outcome.Refused Spent) = refl
+becoming_sends node outcome.Failed = refl
+
+putting_sends : (node : NodeView) (came : Outcome) → packets_by (putting node) came ≡ []
+putting_sends node outcome.NotDue = refl
+putting_sends node outcome.Made = refl
+putting_sends node (outcome.Refused TooLarge) = refl
+putting_sends node (outcome.Refused Spent) = refl
+putting_sends node outcome.Failed = refl
+
+due_sends : (due : Bool) (prospect : Prospect) (came : Outcome) → packets_by prospect came ≡ [] → packets_by (if_due due prospect) came ≡ []
+due_sends true prospect came none = none
+due_sends false prospect came none = refl
+
+spent_sends : (less : Bool) (prospect : Prospect) (came : Outcome) → packets_by prospect came ≡ [] → packets_by (unless_spent less prospect) came ≡ []
+spent_sends true prospect came none = none
+spent_sends false prospect came none = refl
+
+grant_sends : (job : Option JobView) (node : NodeView) (came : Outcome) → packets_by (grant_prospect job node) came ≡ []
+grant_sends None node came = refl
+grant_sends (Some job) node came = becoming_sends (with_grant (Some job) node) came
+
+telling_sends : (packets : List Packet) (node : NodeView) (came : Outcome) → packets ≡ [] → packets_by (telling packets node) came ≡ []
+telling_sends packets node outcome.NotDue none = refl
+telling_sends packets node outcome.Made none = none
+telling_sends packets node (outcome.Refused TooLarge) none = refl
+telling_sends packets node (outcome.Refused Spent) none = refl
+telling_sends packets node outcome.Failed none = refl
+
+deliver_sends : (net : Network) (place : ℕ) (bytes : Option (List ℕ)) (station : StationView) (came : Outcome) → packets_by (deliver_plan net place bytes station).prospect came ≡ []
+deliver_sends net place None station came = refl
+deliver_sends net place (Some bytes) station came = due_sends (not (is_down station.node.mode)) _ came (becoming_sends (told_by (packet_for net station.number bytes) station.node) came)
+
+silent : (net : Network) (home : ℕ) (kept : RecordView) (version : ℕ) (mode : ModeView) → is_running mode ≡ false → packets_from net home (running_in kept version mode) ≡ []
+silent net home kept version Down none = refl
+silent net home kept version InDoubt none = refl
+silent net home kept version (Runs running) none = absurd (cc)
+
+deed_sends : (setting : Setting) (k : ℕ) (deed : Deed) (station : StationView) (came : Outcome) → is_running station.node.mode ≡ false → packets_by (plan_of setting k deed station).prospect came ≡ []
+deed_sends setting k (event.Deliver place) station came none = deliver_sends setting.net place (due_bytes setting.round (flight_at setting k place)) station came
+deed_sends setting k event.Grant station came none = grant_sends (node_job setting.net setting.inputs station.node) station.node came
+deed_sends setting k event.Send station came none =
+    due_sends (not (is_down station.node.mode)) _ came (telling_sends (packets_of setting.net station.number station.node) station.node came (silent setting.net station.number station.node.kept station.node.version station.node.mode none))
+deed_sends setting k event.Start station came none = due_sends (may_start station.node) _ came (spent_sends _ _ came (putting_sends (with_kept (with_own_now station.number station.node) station.node) came))
+deed_sends setting k event.Decide station came none = due_sends (may_decide station.number station.node) _ came (putting_sends (with_kept (decided station.node.kept) station.node) came)
+deed_sends setting k (event.Crash fill rounds) station came none =
+    due_sends setting.restarts _ came (due_sends (not (is_down station.node.mode)) _ came (becoming_sends (crashed (round_later setting.round rounds) station.node) came))
+deed_sends setting k event.Recover station came none = due_sends setting.restarts _ came (due_sends (is_down station.node.mode) _ came (spent_sends _ _ came (putting_sends (restored station.node) came)))
+deed_sends setting k (event.Arm fault rounds) station came none = becoming_sends (with_armed fault.call rounds station.node) came
+deed_sends setting k event.Idle station came none = becoming_sends station.node came
 
 pub only_running_send : OnlyRunningSend
-only_running_send net station none = at station.node.mode none
-  where
-    at : (mode : ModeView) → is_running mode ≡ false → map sending_of (packets_from net station.number (running_in station.node.kept station.node.version mode)) ≡ []
-    at Down none = refl
-    at InDoubt none = refl
-    at (Runs running) none = absurd (cc)
+only_running_send setting (ByNode k deed) answer station none = ap (map sending_of) (deed_sends setting k deed station (outcome_of answer) none)
+only_running_send setting (Install done) answer station none = refl
+only_running_send setting (Release k) answer station none = refl
+only_running_send setting (ByNetwork k place act) answer station none = refl

@@ -27,7 +27,7 @@ use Rattle.protocol.specs.Node.Layout.{is_incoming, is_on, is_outgoing, comes_in
 use Rattle.protocol.specs.Node.NodeView.{RunningNode}
 use Rattle.protocol.specs.Node.Reached.{InboxIsSound, LinksAreLaidOut, acts_of}
 use Rattle.protocol.specs.Node.Sending.{inbox_packets, data_packets, first_due, items_due, log_packets, outbox_packets, packets_from, IsWritable}
-use Rattle.protocol.specs.Node.Starting.{is_none}
+use Rattle.protocol.specs.Node.Modes.{is_none}
 use Rattle.protocol.specs.NodeLaws.ImageLaws.{entry_of}
 use Rattle.protocol.specs.NodeLaws.NumberedLaws.{where_mark}
 use Rattle.protocol.specs.NodeLaws.ReleaseLaws.{acts_put_prefix, log_entry, log_stands}
