@@ -16,16 +16,16 @@ use Rattle.record.specs.declared.image.End.{End}
 use Rattle.retained.specs.LogState.{log_end}
 use Rattle.record.specs.RecordView.{RecordView}
 use Rattle.wire.specs.Traffic.{Traffic}
-use Rattle.protocol.specs.Node.Layout.{is_on, has_process}
+use Rattle.protocol.specs.Node.Layout.{node_at, producer_of, consumer_of, is_on, has_process}
 use Rattle.protocol.specs.NodeLaws.ImageLaws.{map_got}
 use Rattle.protocol.specs.NodeLaws.InnerLaws.{inner_there}
 use Rattle.protocol.specs.NodeLaws.PlaceLaws.{node_below, some_node}
 use Rattle.protocol.specs.Node.NodeView.{ModeView, Down, InDoubt, Runs, running_in}
 use Rattle.protocol.specs.Node.Starting.{IsBehind, own_at}
-use Rattle.protocol.specs.Machine.Images.{Image, AtMost, IsOutput}
-use Rattle.protocol.specs.Machine.Line.{Sound, NotBehind}
-use Rattle.protocol.specs.Machine.Observers.{decisions_of, decides}
-use Rattle.protocol.specs.Machine.Records.{Record, Tentative, effective, chosen}
+use Rattle.recovery_line.specs.Images.{Image, AtMost, IsOutput}
+use Rattle.recovery_line.specs.Line.{Sound, NotBehind}
+use Rattle.recovery_line.specs.Observers.{decisions_of, decides}
+use Rattle.recovery_line.specs.Records.{Record, Tentative, effective, chosen}
 use Rattle.protocol.specs.World.Covered.{LeavesEither}
 use Rattle.protocol.specs.World.EventView.{EventView}
 use Rattle.protocol.specs.World.EventView as event
@@ -37,7 +37,7 @@ use Rattle.protocol.specs.WorldLaws.ShownLaws.{shown_at}
 use Rattle.protocol.specs.World.OutputView.{OutputView}
 use Rattle.protocol.specs.WorldLaws.RecordLaws.{last_more, record_decided, record_epoch}
 use Rattle.protocol.specs.World.RecordSound.{RecordIsSound}
-use Rattle.protocol.specs.World.RecoveryLine.{next_kept, node_at, producer_of, consumer_of, net_seen, record_or_new, records_seen, outlets_seen, records_of, IsLineOf, FitsOutputs, LeavesInLine, LinesFollow}
+use Rattle.protocol.specs.World.RecoveryLine.{next_kept, net_seen, record_or_new, records_seen, outlets_seen, records_of, IsLineOf, FitsOutputs, LeavesInLine, LinesFollow}
 use Rattle.protocol.specs.World.Released.{released_of}
 use Rattle.protocol.specs.World.Sound.{is_output}
 use Rattle.protocol.specs.World.StationView.{StationView}
