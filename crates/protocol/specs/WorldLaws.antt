@@ -3,6 +3,7 @@ pub mod RecordLaws
 pub mod OutputLaws
 pub mod TurnLaws
 pub mod LeaveLaws
+pub mod PrefixLaws
 pub mod SoundLaws
 pub mod OrderLaws
 pub mod HandedLaws

@@ -1,20 +1,18 @@
 -- The recovery line of a world: what all nodes restart from, if they crash together. The words of the line are those of the abstract machine
--- (specs/Machine); here stands how a world is seen there, and what it is for a line to be in order.
-use Rattle.std.specs.Prelude.{◌≡◌, ℕ, ◌≤◌, List, map, length, Option, Some, None, option_map, slice_get}
+-- (the crate `recovery_line`); here stands how a world is seen there, and what it is for a line to be in order.
+use Rattle.std.specs.Prelude.{◌≡◌, ℕ, ◌≤◌, List, map, length, Option, Some, None, slice_get}
 use Rattle.kahn_net.specs.Nodes.{IsOnOneNode}
-use Rattle.kahn_net.specs.Syntax.{Code, Network}
-use Rattle.kahn_net.specs.declared.program.Channel.{Channel}
-use Rattle.kahn_net.specs.declared.program.Port.{Port}
-use Rattle.kahn_net.specs.declared.program.Port.TheVariants.{Outside, Process}
+use Rattle.kahn_net.specs.Syntax.{Network}
 use Rattle.record.specs.Ends.{base_of, received_of, sent_of}
 use Rattle.record.specs.RecordView.{RecordView}
 use Rattle.ckpt_store.specs.Spelling.{Spells, SpellsSome}
+use Rattle.recovery_line.specs.Images.{Net, IsOutput}
+use Rattle.recovery_line.specs.Line.{Sound, Covers, NotBehind}
+use Rattle.recovery_line.specs.Observers.{record_seen}
+use Rattle.recovery_line.specs.Records.{Record, new_record, effective}
+use Rattle.protocol.specs.Node.Layout.{producer_of, consumer_of}
 use Rattle.protocol.specs.Node.Plans.{next_record}
 use Rattle.protocol.specs.Node.Starting.{IsBehind}
-use Rattle.protocol.specs.Machine.Images.{Net, IsOutput}
-use Rattle.protocol.specs.Machine.Line.{Sound, Covers, NotBehind}
-use Rattle.protocol.specs.Machine.Observers.{record_seen}
-use Rattle.protocol.specs.Machine.Records.{Record, new_record, effective}
 use Rattle.protocol.specs.World.EventView.{EventView, ByNode, ByNetwork, Install, Release}
 use Rattle.protocol.specs.World.Invariant.{outputs_of}
 use Rattle.protocol.specs.World.OutputView.{OutputView}
@@ -33,19 +31,6 @@ next_kept setting (Release k) station = station.node.kept
 next_kept setting (ByNetwork k place act) station = station.node.kept
 
 -- ---- a world as the abstract machine sees it
-
--- the node of the process at this end of a channel; none where the items come from outside or go there
-abbrev pub node_at : Network → Port → Option ℕ
-node_at net Outside = None
-node_at net (Process p) = option_map (λ (code : Code). code.node) (slice_get net.codes p)
-
-abbrev pub producer_of : Network → Option Channel → Option ℕ
-producer_of net None = None
-producer_of net (Some channel) = node_at net channel.producer
-
-abbrev pub consumer_of : Network → Option Channel → Option ℕ
-consumer_of net None = None
-consumer_of net (Some channel) = node_at net channel.consumer
 
 -- the nodes at the two ends of each channel
 abbrev pub net_seen : Network → Net

@@ -15,15 +15,15 @@ use Rattle.record.specs.Ends.{received_at, log_at, base_in, sent_in, base_of, re
 use Rattle.record.specs.declared.image.End.{End}
 use Rattle.retained.specs.LogState.{log_end}
 use Rattle.record.specs.RecordView.{RecordView}
-use Rattle.protocol.specs.Node.Layout.{is_on, has_process}
+use Rattle.protocol.specs.Node.Layout.{node_at, producer_of, consumer_of, is_on, has_process}
 use Rattle.protocol.specs.NodeLaws.ImageLaws.{map_got}
 use Rattle.protocol.specs.NodeLaws.InnerLaws.{inner_there}
 use Rattle.protocol.specs.NodeLaws.PlaceLaws.{node_below, some_node}
 use Rattle.protocol.specs.Node.Starting.{IsBehind}
-use Rattle.protocol.specs.Machine.Images.{Image, AtMost, IsOutput}
-use Rattle.protocol.specs.Machine.Line.{Sound, NotBehind}
-use Rattle.protocol.specs.Machine.Observers.{decisions_of, decides}
-use Rattle.protocol.specs.Machine.Records.{Record, Tentative, effective, chosen}
+use Rattle.recovery_line.specs.Images.{Image, AtMost, IsOutput}
+use Rattle.recovery_line.specs.Line.{Sound, NotBehind}
+use Rattle.recovery_line.specs.Observers.{decisions_of, decides}
+use Rattle.recovery_line.specs.Records.{Record, Tentative, effective, chosen}
 use Rattle.protocol.specs.World.Covered.{LeavesEither}
 use Rattle.protocol.specs.World.EventView.{EventView, ByNode, ByNetwork, Install, Release}
 use Rattle.protocol.specs.World.Invariant.{output_of, outputs_of, AreSound, IsNumbered, StationInvariant}
@@ -34,7 +34,7 @@ use Rattle.protocol.specs.WorldLaws.ShownLaws.{shown_at}
 use Rattle.protocol.specs.World.OutputView.{OutputView}
 use Rattle.protocol.specs.WorldLaws.PlanLaws.{IsSoundSetting, IsSoundStation, deed_sound, next_record_ahead, next_record_sound}
 use Rattle.protocol.specs.World.RecordSound.{RecordIsSound}
-use Rattle.protocol.specs.World.RecoveryLine.{next_kept, node_at, producer_of, consumer_of, net_seen, record_or_new, records_seen, outlets_seen, records_of, IsLineOf, FitsOutputs, LeavesInLine, LinesFollow}
+use Rattle.protocol.specs.World.RecoveryLine.{next_kept, net_seen, record_or_new, records_seen, outlets_seen, records_of, IsLineOf, FitsOutputs, LeavesInLine, LinesFollow}
 use Rattle.protocol.specs.World.Released.{released_of}
 use Rattle.protocol.specs.World.Sound.{is_output}
 use Rattle.protocol.specs.World.StationView.{StationView}

@@ -3,7 +3,8 @@ use Rattle.kahn_net.specs.Syntax.{network_of}
 use Rattle.ckpt_store.specs.Spelling.{fits_in}
 use Rattle.ckpt_store.specs.StoreView.{cell_in}
 use Rattle.world.specs.EventView.{event_view}
-use Rattle.protocol.specs.World.Headline.{released_prefix, AreApproximated}
+use Rattle.protocol.specs.World.Headline.{AreApproximated}
+use Rattle.protocol.specs.WorldLaws.PrefixLaws.{released_prefix}
 use Rattle.protocol.specs.World.Invariant.{StationInvariant, WorldInvariant}
 use Rattle.world.specs.ReplyView.{reply_view}
 use Rattle.protocol.specs.WorldLaws.DropLaws.{never_dropped}
