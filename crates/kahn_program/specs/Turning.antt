@@ -22,7 +22,7 @@ pub record IsStepInRoom (event : EventView) (old : WorldView) (answer : ReplyVie
 abbrev pub Follows : ReplyView → WorldView → WorldView → Type 0
 Follows (Granted job) old new = (done : DoneView) × (done.job ≡ job) × (answer : ReplyView) × IsStepInRoom (Install done) old answer new
 Follows Delivered old new = new ≡ old
-Follows (Dropped refusal) old new = new ≡ old
+Follows Dropped old new = new ≡ old
 Follows Installed old new = new ≡ old
 Follows Discarded old new = new ≡ old
 Follows Sent old new = new ≡ old

@@ -1,6 +1,7 @@
 //! Events, and what comes of them.
 
 use proc_step::{Done, Job};
+use protocol::Refusal;
 use sector_disk::ArmedFault;
 
 /// What can happen. Each names its node, and `Install` that of its job's process.
@@ -73,7 +74,7 @@ pub enum Reply {
     Delivered,
     /// It spells no packet, or one that isn't for this node or names what isn't there: it is gone (33). In a world this can't
     /// happen, since all that is in flight was sent by its nodes.
-    Dropped(u8),
+    Dropped,
     /// The job that was granted.
     Granted(Job),
     /// The turn was taken in.
@@ -85,7 +86,7 @@ pub enum Reply {
     Decided,
     /// A start, a decision or a recovery was refused: its record would be too large (22), or the number of a start or the
     /// epoch of a recovery would pass 2^63 - 1 (44).
-    Refused(u8),
+    Refused(Refusal),
     Released(Freed),
     /// The outlet failed. It took the item or didn't.
     OutletFailed,

@@ -16,7 +16,7 @@ ghost use Rattle.protocol.specs.World.Replies.{IsDropped, IsTooLarge, LeavesCell
 ghost use Rattle.world.specs.ReplyView.{answer_view, reply_view};
 ghost use Rattle.protocol.specs.World.ReplyView.{Down};
 ghost use Rattle.protocol.specs.World.Roomy.{HasFullRoom};
-ghost use Rattle.protocol.specs.World.Steps.{traffic_after, is_done_with, are_done_with, round_after, IsAct, IsStep};
+ghost use Rattle.protocol.specs.World.Steps.{are_done_with, is_done_with, may_restart, round_after, setting_in, traffic_after, IsAct, IsStep};
 ghost use Rattle.world.specs.WorldView.{capacities, rooms, station_view, world_view, IsCellUnchanged, IsGrown, RestartsAsArmedAt};
 
 use crate::event::{Event, Refused, Reply};
@@ -95,15 +95,16 @@ fn act_at<C: StableCell, O: Outlet>(
         ≡ map (station_view O.taken O.failures) stations.old.items)
         × TakesMemory (event_view event.now)) }
     ensures step { IfOk result
-        (λ reply. IsAct (network_of net.now.value.program) inputs.now (traffic_of wire.old) number
-        (rooms stations.old.items) round (event_view event.now)
+        (λ reply. IsAct (setting_in (network_of net.now.value.program) inputs.now
+        (traffic_of wire.old) (may_restart (length stations.old.items)) round) number
+        (rooms stations.old.items) (event_view event.now)
         (map (station_view O.taken O.failures) stations.old.items) (reply_view reply)
         (map (station_view O.taken O.failures) stations.new.items)) }
     ensures traffic { IfOk result
-        (λ reply. traffic_of wire.new ≡ traffic_after (network_of net.now.value.program) round
-        (event_view event.now) (reply_view reply)
-        (slice_get (map (station_view O.taken O.failures) stations.old.items) number)
-        (traffic_of wire.old)) }
+        (λ reply. traffic_of wire.new ≡ traffic_after
+        (setting_in (network_of net.now.value.program) inputs.now (traffic_of wire.old)
+        (may_restart (length stations.old.items)) round) (event_view event.now) (reply_view reply)
+        (slice_get (map (station_view O.taken O.failures) stations.old.items) number)) }
     ensures same_traffic { OnErr result (traffic_of wire.new ≡ traffic_of wire.old) }
     ensures same_rooms { capacities stations.new.items ≡ capacities stations.old.items }
     ensures unchanged { LeavesCells (event_view event.now) (answer_view result)

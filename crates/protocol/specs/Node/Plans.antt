@@ -65,9 +65,9 @@ IsCarriedOut restart plan old (outcome.Refused Spent) new = ⊥
 IsCarriedOut restart plan old outcome.Failed new = IsTrue plan.puts × HasFailedAt restart plan.node.kept old new
 
 abbrev pub IsMade : ℕ → Prospect → NodeView → Outcome → NodeView → Type 0
-IsMade restart Undue old outcome new = (outcome ≡ outcome.NotDue) × (new ≡ old)
-IsMade restart Exhausted old outcome new = (outcome ≡ outcome.Refused Spent) × (new ≡ old)
-IsMade restart (Planned plan) old outcome new = IsCarriedOut restart plan old outcome new
+IsMade restart Undue old came new = (came ≡ outcome.NotDue) × (new ≡ old)
+IsMade restart Exhausted old came new = (came ≡ outcome.Refused Spent) × (new ≡ old)
+IsMade restart (Planned plan) old came new = IsCarriedOut restart plan old came new
 
 -- the record that it puts, or the one that is kept
 abbrev pub plan_record : Plan → RecordView → RecordView
@@ -110,6 +110,6 @@ plan_packets plan (outcome.Refused Spent) = []
 plan_packets plan outcome.Failed = []
 
 abbrev pub packets_by : Prospect → Outcome → List Packet
-packets_by Undue outcome = []
-packets_by Exhausted outcome = []
-packets_by (Planned plan) outcome = plan_packets plan outcome
+packets_by Undue came = []
+packets_by Exhausted came = []
+packets_by (Planned plan) came = plan_packets plan came

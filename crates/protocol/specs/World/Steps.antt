@@ -63,8 +63,11 @@ pub record Setting : Type 0 where
 abbrev pub may_restart : ℕ → Bool
 may_restart nodes = nodes == 1
 
+abbrev pub setting_in : Network → List (List ℤ) → Traffic → Bool → ℕ → Setting
+setting_in net inputs traffic restarts round = record { net = net; inputs = inputs; traffic = traffic; restarts = restarts; round = round }
+
 abbrev pub setting_of : WorldView → Setting
-setting_of world = record { net = world.net; inputs = world.inputs; traffic = world.traffic; restarts = may_restart (length world.stations); round = world.round }
+setting_of world = setting_in world.net world.inputs world.traffic (may_restart (length world.stations)) world.round
 
 -- the packet at a place of those in flight to a node
 abbrev pub flight_at : Setting → ℕ → ℕ → Option Flight
@@ -107,24 +110,44 @@ deliver_plan net place (Some bytes) station = record {
   came = Some place;
 }
 
+abbrev pub grant_plan : Option JobView → ℕ → StationView → StationPlan
+grant_plan job round station = noting (count_grant (turns_of round station.turns)) (grant_prospect job station.node) (grant_reply job)
+
+abbrev pub send_plan : Network → ℕ → StationView → StationPlan
+send_plan net round station =
+    noting (count_send (not (is_none station.node.kept.tentative)) (turns_of round station.turns)) (send_prospect net station.number station.node) reply.Sent
+
+abbrev pub start_plan : ℕ → StationView → StationPlan
+start_plan round station = noting (count_start (turns_of round station.turns)) (start_prospect station.number station.node) reply.Started
+
+abbrev pub decide_plan : StationView → StationPlan
+decide_plan station = plainly (decide_prospect station.number station.node) reply.Decided station
+
+-- a node crashes, and comes back, where nodes may restart
+abbrev pub crash_plan : Bool → ℕ → StationView → StationPlan
+crash_plan restarts restart station = plainly (if_due restarts (crash_prospect restart station.node)) reply.Crashed station
+
+abbrev pub recover_plan : Bool → StationView → StationPlan
+recover_plan restarts station = plainly (if_due restarts (recover_prospect station.node)) (back_reply (restored_mode (with_epoch station.node.kept))) station
+
+-- a fault is armed for this device call, and for how many rounds it is to keep the node down
+abbrev pub arm_plan : ℕ → ℕ → StationView → StationPlan
+arm_plan call rounds station = plainly (becoming (with_armed call rounds station.node)) reply.Acted station
+
+abbrev pub idle_plan : ℕ → StationView → StationPlan
+idle_plan round station = noting (count_idle (turns_of round station.turns)) (becoming station.node) reply.Idled
+
 -- the plan of a deed of node k
 abbrev pub plan_of : Setting → ℕ → Deed → StationView → StationPlan
 plan_of setting k (event.Deliver place) station = deliver_plan setting.net place (due_bytes setting.round (flight_at setting k place)) station
-plan_of setting k event.Grant station =
-    noting (count_grant (turns_of setting.round station.turns)) (grant_prospect (node_job setting.net setting.inputs station.node) station.node)
-    (grant_reply (node_job setting.net setting.inputs station.node))
-plan_of setting k event.Send station =
-    noting (count_send (not (is_none station.node.kept.tentative)) (turns_of setting.round station.turns))
-    (send_prospect setting.net station.number station.node) reply.Sent
-plan_of setting k event.Start station =
-    noting (count_start (turns_of setting.round station.turns)) (start_prospect station.number station.node) reply.Started
-plan_of setting k event.Decide station = plainly (decide_prospect station.number station.node) reply.Decided station
-plan_of setting k (event.Crash fill rounds) station =
-    plainly (if_due setting.restarts (crash_prospect (round_later setting.round rounds) station.node)) reply.Crashed station
-plan_of setting k event.Recover station =
-    plainly (if_due setting.restarts (recover_prospect station.node)) (back_reply (restored_mode (with_epoch station.node.kept))) station
-plan_of setting k (event.Arm fault rounds) station = plainly (becoming (with_armed fault.call rounds station.node)) reply.Acted station
-plan_of setting k event.Idle station = noting (count_idle (turns_of setting.round station.turns)) (becoming station.node) reply.Idled
+plan_of setting k event.Grant station = grant_plan (node_job setting.net setting.inputs station.node) setting.round station
+plan_of setting k event.Send station = send_plan setting.net setting.round station
+plan_of setting k event.Start station = start_plan setting.round station
+plan_of setting k event.Decide station = decide_plan station
+plan_of setting k (event.Crash fill rounds) station = crash_plan setting.restarts (round_later setting.round rounds) station
+plan_of setting k event.Recover station = recover_plan setting.restarts station
+plan_of setting k (event.Arm fault rounds) station = arm_plan fault.call rounds station
+plan_of setting k event.Idle station = idle_plan setting.round station
 
 -- the same station with its node so, its device having failed so often, and what is remembered of its round
 abbrev pub moved_to : NodeView → ℕ → RoundTurns → StationView → StationView

@@ -1,9 +1,11 @@
 -- Laws of what is in flight: what holds of the node and the bytes of each packet in flight, and of each that is sent, goes on holding.
 use Rattle.std.proofs.Common.{◌≡◌, ℕ, zero, suc, Bool, true, false, cond, List, [], ◌∷◌, replicate, All, Option, Some, None, unwrap_or, refl, sym, ap, subst}
-use Rattle.std.specs.Prelude.{IsTrue, not, slice_get, slice_set, remove, map}
+use Rattle.std.specs.Prelude.{IsTrue, nat_lt, not, slice_get, slice_set, remove, map}
 use Rattle.std.proofs.lemmas.List.Elements.{All-nil, All-head, All-tail}
 use Rattle.kahn_net.specs.Syntax.{Network}
 use Rattle.datagram.specs.declared.packet.Packet.{Packet}
+use Rattle.kahn_net.specs.declared.limits.TheConstants.{MAX_COUNT}
+use Rattle.record.specs.Moves.{highest_seen}
 use Rattle.record.specs.RecordView.{RecordView}
 use Rattle.wire.proofs.Passing.{sent_passes, repeated_passes, delayed_passes, gone_passes}
 use Rattle.wire.specs.Queue.{with_delay, with_copy}
@@ -20,9 +22,9 @@ use Rattle.protocol.specs.Node.JobView.{JobView}
 use Rattle.protocol.specs.Node.Modes.{crashed, is_down, is_running, with_kept}
 use Rattle.protocol.specs.Node.NodeView.{Down, InDoubt, ModeView, NodeView, Runs, running_in}
 use Rattle.protocol.specs.Node.Plans.{Prospect, becoming, if_due, packets_by, putting, telling, unless_spent}
-use Rattle.protocol.specs.Node.Recovering.{restored}
+use Rattle.protocol.specs.Node.Recovering.{crash_prospect, recover_prospect, restored}
 use Rattle.protocol.specs.Node.Sending.{packets_from, packets_of}
-use Rattle.protocol.specs.Node.Starting.{decided, may_decide, may_start, with_own_now}
+use Rattle.protocol.specs.Node.Starting.{decide_prospect, decided, may_decide, may_start, start_prospect, with_own_now}
 use Rattle.protocol.specs.declared.outcome.Outcome.{Outcome}
 use Rattle.protocol.specs.declared.outcome.Outcome.TheVariants as outcome
 use Rattle.protocol.specs.declared.outcome.Refusal.TheVariants.{Spent, TooLarge}
@@ -142,7 +144,7 @@ each_was_sent test fits e old answer new step all sent =
 -- ---- only a node that runs sends
 
 -- where nothing is to be sent nothing is
-becoming_sends : (node : NodeView) (came : Outcome) → packets_by (becoming node) came ≡ []
+pub becoming_sends : (node : NodeView) (came : Outcome) → packets_by (becoming node) came ≡ []
 becoming_sends node outcome.NotDue = refl
 becoming_sends node outcome.Made = refl
 becoming_sends node (outcome.Refused TooLarge) = refl
@@ -164,7 +166,7 @@ spent_sends : (less : Bool) (prospect : Prospect) (came : Outcome) → packets_b
 spent_sends true prospect came none = none
 spent_sends false prospect came none = refl
 
-grant_sends : (job : Option JobView) (node : NodeView) (came : Outcome) → packets_by (grant_prospect job node) came ≡ []
+pub grant_sends : (job : Option JobView) (node : NodeView) (came : Outcome) → packets_by (grant_prospect job node) came ≡ []
 grant_sends None node came = refl
 grant_sends (Some job) node came = becoming_sends (with_grant (Some job) node) came
 
@@ -175,7 +177,7 @@ telling_sends packets node (outcome.Refused TooLarge) none = refl
 telling_sends packets node (outcome.Refused Spent) none = refl
 telling_sends packets node outcome.Failed none = refl
 
-deliver_sends : (net : Network) (place : ℕ) (bytes : Option (List ℕ)) (station : StationView) (came : Outcome) → packets_by (deliver_plan net place bytes station).prospect came ≡ []
+pub deliver_sends : (net : Network) (place : ℕ) (bytes : Option (List ℕ)) (station : StationView) (came : Outcome) → packets_by (deliver_plan net place bytes station).prospect came ≡ []
 deliver_sends net place None station came = refl
 deliver_sends net place (Some bytes) station came = due_sends (not (is_down station.node.mode)) _ came (becoming_sends (told_by (packet_for net station.number bytes) station.node) came)
 
@@ -184,16 +186,33 @@ silent net home kept version Down none = refl
 silent net home kept version InDoubt none = refl
 silent net home kept version (Runs running) none = absurd (cc)
 
+pub start_sends : (number : ℕ) (node : NodeView) (came : Outcome) → packets_by (start_prospect number node) came ≡ []
+start_sends number node came =
+    let whole = putting (with_kept (with_own_now number node) node) in
+    due_sends (may_start node) (unless_spent (nat_lt (highest_seen number node.kept) MAX_COUNT) whole) came
+    (spent_sends (nat_lt (highest_seen number node.kept) MAX_COUNT) whole came (putting_sends (with_kept (with_own_now number node) node) came))
+
+pub decide_sends : (number : ℕ) (node : NodeView) (came : Outcome) → packets_by (decide_prospect number node) came ≡ []
+decide_sends number node came = due_sends (may_decide number node) _ came (putting_sends (with_kept (decided node.kept) node) came)
+
+pub crash_sends : (restarts : Bool) (restart : ℕ) (node : NodeView) (came : Outcome) → packets_by (if_due restarts (crash_prospect restart node)) came ≡ []
+crash_sends restarts restart node came = due_sends restarts _ came (due_sends (not (is_down node.mode)) _ came (becoming_sends (crashed restart node) came))
+
+pub recover_sends : (restarts : Bool) (node : NodeView) (came : Outcome) → packets_by (if_due restarts (recover_prospect node)) came ≡ []
+recover_sends restarts node came =
+    due_sends restarts (recover_prospect node) came
+    (due_sends (is_down node.mode) (unless_spent (nat_lt node.kept.epoch MAX_COUNT) (putting (restored node))) came
+    (spent_sends (nat_lt node.kept.epoch MAX_COUNT) (putting (restored node)) came (putting_sends (restored node) came)))
+
 deed_sends : (setting : Setting) (k : ℕ) (deed : Deed) (station : StationView) (came : Outcome) → is_running station.node.mode ≡ false → packets_by (plan_of setting k deed station).prospect came ≡ []
 deed_sends setting k (event.Deliver place) station came none = deliver_sends setting.net place (due_bytes setting.round (flight_at setting k place)) station came
 deed_sends setting k event.Grant station came none = grant_sends (node_job setting.net setting.inputs station.node) station.node came
 deed_sends setting k event.Send station came none =
     due_sends (not (is_down station.node.mode)) _ came (telling_sends (packets_of setting.net station.number station.node) station.node came (silent setting.net station.number station.node.kept station.node.version station.node.mode none))
-deed_sends setting k event.Start station came none = due_sends (may_start station.node) _ came (spent_sends _ _ came (putting_sends (with_kept (with_own_now station.number station.node) station.node) came))
-deed_sends setting k event.Decide station came none = due_sends (may_decide station.number station.node) _ came (putting_sends (with_kept (decided station.node.kept) station.node) came)
-deed_sends setting k (event.Crash fill rounds) station came none =
-    due_sends setting.restarts _ came (due_sends (not (is_down station.node.mode)) _ came (becoming_sends (crashed (round_later setting.round rounds) station.node) came))
-deed_sends setting k event.Recover station came none = due_sends setting.restarts _ came (due_sends (is_down station.node.mode) _ came (spent_sends _ _ came (putting_sends (restored station.node) came)))
+deed_sends setting k event.Start station came none = start_sends station.number station.node came
+deed_sends setting k event.Decide station came none = decide_sends station.number station.node came
+deed_sends setting k (event.Crash fill rounds) station came none = crash_sends setting.restarts (round_later setting.round rounds) station.node came
+deed_sends setting k event.Recover station came none = recover_sends setting.restarts station.node came
 deed_sends setting k (event.Arm fault rounds) station came none = becoming_sends (with_armed fault.call rounds station.node) came
 deed_sends setting k event.Idle station came none = becoming_sends station.node came
 

@@ -1,6 +1,6 @@
 -- Laws of deeds: what a plan makes of a sound station is sound, and what follows of it however it comes out.
 use Rattle.std.proofs.Common.{◌≡◌, ◌⊎◌, inl, inr, ⊎_elim, ℕ, ◌<◌, ◌&&◌, ◌∷◌, Bool, true, false, cond, List, ℤ, [], map, get_or, Option, Some, None, option_map, refl, sym, ap, subst, ◌∙◌, All}
-use Rattle.std.specs.Prelude.{IsTrue, not, nat_lt, slice_get}
+use Rattle.std.specs.Prelude.{◌==◌, IsTrue, not, nat_lt, slice_get}
 use Rattle.std.proofs.lemmas.List.Elements.{All-nil}
 use Rattle.std.proofs.Math.Logic.{∥∥₁_map}
 use Rattle.kahn_net.specs.Fits.{Fits}

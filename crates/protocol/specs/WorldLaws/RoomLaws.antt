@@ -76,7 +76,7 @@ prospect_fits net inputs capacity room old (Planned plan) sound = at plan.puts
 
 module _ (setting : Setting) (sure : IsSoundSetting setting) (capacity : ℕ) (room : MAX_RECORD_BYTES ≤ capacity) where
   pub station_fits : (e : EventView) (old : StationView) (answer : ReplyView) (new : StationView) → IsSoundStation setting old → IsStationStep setting (fits_in capacity) e old answer new → ¬ (IsTooLarge answer)
-  station_fits (ByNode k deed) old answer new sound step large =
+  station_fits (ByNode k deed) old answer new sound step = λ large.
       let prospect = (plan_of setting k deed old).prospect in
       let put : IsPut (room_for (fits_in capacity) prospect) old.failures new.failures (outcome.Refused TooLarge) = subst (IsPut (room_for (fits_in capacity) prospect) old.failures new.failures) (ap outcome_of large) step.put in
       let none : room_for (fits_in capacity) prospect ≡ false = put.0 in

@@ -1,0 +1,67 @@
+-- Deeds come out by their plans.
+use Rattle.std.proofs.Common.{◌≡◌, ℕ, Bool, true, false, cond, List, [], Option, Some, None, Result, Ok, Err, refl, sym, ap, subst, ◌∙◌, All}
+use Rattle.std.specs.Prelude.{IfOk, OnErr}
+use Rattle.std.proofs.lemmas.List.Elements.{All-nil}
+use Rattle.datagram.specs.PacketText.{IsPacket}
+use Rattle.datagram.specs.declared.packet.Packet.{Packet}
+use Rattle.record.specs.RecordView.{RecordView}
+use Rattle.protocol.specs.Node.ArmedRestarts.{restart_after}
+use Rattle.protocol.specs.Node.NodeView.{NodeView}
+use Rattle.protocol.specs.Node.Plans.{Prospect, Undue, becoming, packets_by, room_for, IsMade, IsPut}
+use Rattle.protocol.specs.World.Replies.{answer_by, outcome_of}
+use Rattle.protocol.specs.World.ReplyView.{ReplyView}
+use Rattle.protocol.specs.World.ReplyView as reply
+use Rattle.protocol.specs.World.StationView.{StationView}
+use Rattle.protocol.specs.World.Steps.{IsPlanned, StationPlan, moved_to, turns_by}
+use Rattle.protocol.specs.WorldLaws.FlightLaws.{becoming_sends}
+use Rattle.protocol.specs.declared.outcome.Outcome.{Outcome}
+use Rattle.protocol.specs.declared.outcome.Outcome.TheVariants as outcome
+
+-- the answer tells what came of a deed, where one that is made is answered by nothing else
+pub told : (made : ReplyView) (came : Outcome) → outcome_of made ≡ outcome.Made → outcome_of (answer_by made came) ≡ came
+told made outcome.NotDue is = refl
+told made outcome.Made is = is
+told made (outcome.Refused refusal) is = refl
+told made outcome.Failed is = refl
+
+silent_allowed : (packets : List Packet) → packets ≡ [] → All IsPacket packets
+silent_allowed packets none = subst (All IsPacket) (sym none) (All-nil IsPacket)
+
+module _ (fits : RecordView → Bool) (round : ℕ) (plan : StationPlan) (old new : StationView) where
+  -- a deed with a put, which came out so, and sends nothing
+  pub planned : (call : ℕ) (came : Outcome) (answer made : ReplyView) → outcome_of made ≡ outcome.Made → (came ≡ outcome.Made → made ≡ plan.answer) → answer ≡ answer_by made came
+      → ((o : Outcome) → packets_by plan.prospect o ≡ []) → IsMade (restart_after old.node.armed call round) plan.prospect old.node came new.node → IsPut (room_for fits plan.prospect) old.failures new.failures came
+      → new ≡ moved_to new.node new.failures (turns_by plan.turns old.turns came) old → IsPlanned fits round plan old answer new
+  planned call came answer made is_made right is silent step put same =
+      let came_is : outcome_of answer ≡ came = ap outcome_of is ∙ told made came is_made in
+      record {
+        call = call;
+        step = subst (λ (o : Outcome). IsMade (restart_after old.node.armed call round) plan.prospect old.node o new.node) (sym came_is) step;
+        put = subst (IsPut (room_for fits plan.prospect) old.failures new.failures) (sym came_is) put;
+        answers = (is ∙ by_made came right) ∙ ap (answer_by plan.answer) (sym came_is);
+        allowed = silent_allowed (packets_by plan.prospect (outcome_of answer)) (silent (outcome_of answer));
+        same = same ∙ ap (λ (o : Outcome). moved_to new.node new.failures (turns_by plan.turns old.turns o) old) (sym came_is);
+      }
+    where
+      by_made : (o : Outcome) → (o ≡ outcome.Made → made ≡ plan.answer) → answer_by made o ≡ answer_by plan.answer o
+      by_made outcome.NotDue right = refl
+      by_made outcome.Made right = right refl
+      by_made (outcome.Refused refusal) right = refl
+      by_made outcome.Failed right = refl
+
+  -- one without, that was made
+  pub becomes : (node : NodeView) → plan.prospect ≡ becoming node → outcome_of plan.answer ≡ outcome.Made → (answer : ReplyView) → answer ≡ plan.answer
+      → new ≡ moved_to node old.failures plan.turns old → IsPlanned fits round plan old answer new
+  becomes node is made answer answers same =
+      planned 0 outcome.Made answer plan.answer made (λ e. refl) answers (λ o. ap (λ (p : Prospect). packets_by p o) is ∙ becoming_sends node o)
+      (subst (λ (p : Prospect). IsMade (restart_after old.node.armed 0 round) p old.node outcome.Made new.node) (sym is) (ap (λ (s : StationView). s.node) same))
+      (subst (λ (p : Prospect). IsPut (room_for fits p) old.failures new.failures outcome.Made) (sym is) (refl, ap (λ (s : StationView). s.failures) same))
+      (same ∙ (ap (λ (n : NodeView). moved_to n old.failures plan.turns old) (sym (ap (λ (s : StationView). s.node) same)) ∙ ap (λ (f : ℕ). moved_to new.node f plan.turns old) (sym (ap (λ (s : StationView). s.failures) same))))
+
+  -- or that isn't due
+  pub not_due : plan.prospect ≡ Undue → (answer : ReplyView) → answer ≡ reply.NotDue → new ≡ old → IsPlanned fits round plan old answer new
+  not_due is answer answers same =
+      planned 0 outcome.NotDue answer reply.Acted refl (λ e. absurd (cc)) answers (λ o. ap (λ (p : Prospect). packets_by p o) is)
+      (subst (λ (p : Prospect). IsMade (restart_after old.node.armed 0 round) p old.node outcome.NotDue new.node) (sym is) (refl, ap (λ (s : StationView). s.node) same))
+      (ap (λ (s : StationView). s.failures) same)
+      (same ∙ (ap (λ (n : NodeView). moved_to n old.failures old.turns old) (sym (ap (λ (s : StationView). s.node) same)) ∙ ap (λ (f : ℕ). moved_to new.node f old.turns old) (sym (ap (λ (s : StationView). s.failures) same))))
