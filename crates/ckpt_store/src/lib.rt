@@ -8,6 +8,7 @@ mod moving;
 mod putting;
 mod refusing;
 mod store;
+mod undo;
 
 pub use fault::StoreFault;
 pub use store::{Refused, Store};
