@@ -15,7 +15,8 @@ use Rattle.node.specs.NodeView.{node_view, mode_view}
 use Rattle.protocol.specs.Node.Modes.{is_down, crashed, with_kept}
 use Rattle.protocol.specs.Node.ArmedRestarts.{restart_after}
 use Rattle.protocol.specs.Node.Plans.{Prospect, putting, IsMade, IsPut}
-use Rattle.node.specs.StoredView.{HasRecord, LeavesNext, IsCrashed, has_failed, put_outcome, IsAnswer}
+use Rattle.gate_cell.specs.Setup.{setup_then}
+use Rattle.node.specs.StoredView.{HasRecord, LeavesDevice, LeavesNext, IsCrashed, has_failed, put_outcome, IsAnswer}
 use Rattle.node.specs.declared.state.NodeState.{NodeState}
 use Rattle.protocol.specs.declared.outcome.Outcome.{Outcome}
 use Rattle.node.specs.Putting.{IsPutEvent}
@@ -31,7 +32,7 @@ pub record Ends {C : Type 0} {words : CellWords C} (next : RecordView) (restart 
   pub failed : IsTrue (has_failed put) → ((record_in new ≡ record_in old) ⊎ (record_in new ≡ next)) × ((kept : RecordView) → node_view kept after ≡ crashed restart (node_view kept before))
   pub fits : IsLengthTold (fits_in (words.capacity (cell_in old)) next) put
   pub failures : HasFailures (words.failure_count (cell_in old)) (words.failure_count (cell_in new)) put
-  pub same_room : words.capacity (cell_in new) ≡ words.capacity (cell_in old)
+  pub same_setup : LeavesDevice old new
 
 by_test : (b : Bool) {P : Type 0} → (b ≡ false → P) → (b ≡ true → P) → P
 by_test true f t = t refl
@@ -58,7 +59,8 @@ module _ {C : Type 0} (words : CellWords C)
     failed = λ test. (one_of_both words includes_now may_stay ready_settled (change (record_in old)) old new only moments, (crash test).1);
     fits = change_fits words includes_now may_stay ready_settled cause change old mid put some fine changes;
     failures = subst (λ (n : ℕ). HasFailures (words.failure_count (cell_in old)) n put) (sym (after_crash (λ (s : Store C words). words.failure_count (cell_in s)) (λ test. (crash test).0.failures))) changes.failures;
-    same_room = after_crash (λ (s : Store C words). words.capacity (cell_in s)) (λ test. (crash test).0.same_room) ∙ changes.same_room;
+    same_setup = by_test (has_failed put) (λ test. subst (λ (s : Store C words). LeavesDevice old s) (sym (stays test).0) changes.same_setup)
+        (λ test. setup_then words.capacity words.armed words.call_count (cell_in old) (cell_in mid) (cell_in new) changes.same_setup (crash test).0.same_setup);
   }
     where
       -- what a crash leaves alone is as after the put
@@ -141,23 +143,26 @@ module _ {C : Type 0} {words : CellWords C} (next : RecordView) (restart : ℕ) 
   some_is : {x y : Outcome} → Some x ≡ Some y → x ≡ y
   some_is is = cc
 
-  -- how it comes out
-  ends_step : (x : Outcome) → put_outcome put ≡ Some x → IsMade restart (putting (with_kept next was)) was x now
-  ends_step =
-      by_kind (λ p. OnOk p ((record_in new ≡ next) × IsSome (known_in new) × (after ≡ before)) → OnErr p (has_failed p ≡ false → (record_in new ≡ record_in old) × IsSome (known_in new) × (after ≡ before))
+  -- how it comes out, where the record may grow, or fits as the one before did
+  ends_step : (grows : Bool) → (grows ≡ false → fits_in (words.capacity (cell_in old)) next ≡ true) → (x : Outcome) → put_outcome put ≡ Some x → IsMade restart (putting grows (with_kept next was)) was x now
+  ends_step grows short =
+      by_kind (λ p. IsLengthTold (fits_in (words.capacity (cell_in old)) next) p → OnOk p ((record_in new ≡ next) × IsSome (known_in new) × (after ≡ before)) → OnErr p (has_failed p ≡ false → (record_in new ≡ record_in old) × IsSome (known_in new) × (after ≡ before))
       → (IsTrue (has_failed p) → ((record_in new ≡ record_in old) ⊎ (record_in new ≡ next)) × ((kept : RecordView) → node_view kept after ≡ crashed restart (node_view kept before)))
-      → (x : Outcome) → put_outcome p ≡ Some x → IsMade restart (putting (with_kept next was)) was x now)
-      (λ stored refused failed x is.
-      subst (λ (y : Outcome). IsMade restart (putting (with_kept next was)) was y now) (some_is is) (ap (λ (r : RecordView). node_view r after) stored.0 ∙ ap (node_view next) stored.2))
-      (λ stored refused failed x is. absurd (cc))
-      (λ stored refused failed x is.
+      → (x : Outcome) → put_outcome p ≡ Some x → IsMade restart (putting grows (with_kept next was)) was x now)
+      (λ fits stored refused failed x is.
+      subst (λ (y : Outcome). IsMade restart (putting grows (with_kept next was)) was y now) (some_is is) (ap (λ (r : RecordView). node_view r after) stored.0 ∙ ap (node_view next) stored.2))
+      (λ fits stored refused failed x is. absurd (cc))
+      (λ fits stored refused failed x is.
       let same = refused refl in
-      subst (λ (y : Outcome). IsMade restart (putting (with_kept next was)) was y now) (some_is is) (refl, same_view same.0 same.2))
-      (λ stored refused failed x is.
+      subst (λ (y : Outcome). IsMade restart (putting grows (with_kept next was)) was y now) (some_is is) (it_grows fits, same_view same.0 same.2))
+      (λ fits stored refused failed x is.
       let down = failed refl in
-      subst (λ (y : Outcome). IsMade restart (putting (with_kept next was)) was y now) (some_is is)
+      subst (λ (y : Outcome). IsMade restart (putting grows (with_kept next was)) was y now) (some_is is)
       (refl, ⊎_elim (λ kept. inl (ap (λ (r : RecordView). node_view r after) kept ∙ down.1 (record_in old))) (λ kept. inr (ap (λ (r : RecordView). node_view r after) kept ∙ down.1 next)) down.0))
-      put ends.refusals ends.stored ends.refused ends.failed
+      put ends.refusals ends.fits ends.stored ends.refused ends.failed
+    where
+      it_grows : fits_in (words.capacity (cell_in old)) next ≡ false → grows ≡ true
+      it_grows large = by_test grows (λ no. (let some : fits_in (words.capacity (cell_in old)) next ≡ true = short no in absurd (cc))) (λ is. is)
 
   -- what the cell has to do with it
   ends_put : (x : Outcome) → put_outcome put ≡ Some x → IsPut (fits_in (words.capacity (cell_in old)) next) (words.failure_count (cell_in old)) (words.failure_count (cell_in new)) x
@@ -185,17 +190,17 @@ module _ {C : Type 0} {words : CellWords C} (next : RecordView) (restart : ℕ) 
       put ends.refusals ends.refused ends.failures
 
   -- so all of it
-  pub ends_event : (prospect : Prospect) (round : ℕ) {E : Type 0} (answer : Result Outcome E) → prospect ≡ putting (with_kept next was) → restart ≡ restart_after before.armed.items (words.failed_call (cell_in new)) round
+  pub ends_event : (grows : Bool) → (grows ≡ false → fits_in (words.capacity (cell_in old)) next ≡ true) → (prospect : Prospect) (round : ℕ) {E : Type 0} (answer : Result Outcome E) → prospect ≡ putting grows (with_kept next was) → restart ≡ restart_after before.armed.items (words.failed_call (cell_in new)) round
       → IsAnswer (put_outcome put) answer → IsPutEvent prospect round was now old new answer
-  ends_event prospect round answer planned later is =
+  ends_event grows short prospect round answer planned later is =
       subst (λ (p : Prospect). IsPutEvent p round was now old new answer) (sym planned) (record {
-        step = is_answered (put_outcome put) answer is (λ outcome. IsMade (restart_after before.armed.items (words.failed_call (cell_in new)) round) (putting (with_kept next was)) was outcome now)
-            (subst (λ (n : ℕ). (x : Outcome) → put_outcome put ≡ Some x → IsMade n (putting (with_kept next was)) was x now) later ends_step);
+        step = is_answered (put_outcome put) answer is (λ outcome. IsMade (restart_after before.armed.items (words.failed_call (cell_in new)) round) (putting grows (with_kept next was)) was outcome now)
+            (subst (λ (n : ℕ). (x : Outcome) → put_outcome put ≡ Some x → IsMade n (putting grows (with_kept next was)) was x now) later (ends_step grows short));
         refused = is_refused (put_outcome put) answer is (now ≡ was) (λ none. (ends_refused none).0);
         refused_failures = is_refused (put_outcome put) answer is (words.failure_count (cell_in new) ≡ words.failure_count (cell_in old)) (λ none. (ends_refused none).1);
         put = is_answered (put_outcome put) answer is (IsPut (fits_in (words.capacity (cell_in old)) next) (words.failure_count (cell_in old)) (words.failure_count (cell_in new))) ends_put;
         any_moment = ends.moments;
-        same_room = ends.same_room;
+        same_setup = ends.same_setup;
       })
 
   -- the record, in any case

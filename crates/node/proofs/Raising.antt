@@ -4,6 +4,7 @@ use Rattle.std.specs.Prelude.{IsTrue, IsErrOf, OnOk, OnErr, IfOk, IfErr, IsSome,
 use Rattle.std.proofs.lemmas.Bool.{ltb-true}
 use Rattle.sector_disk.specs.Clock.{Only}
 use Rattle.gate_cell.specs.declared.cell.StableCell.{Ghosts as CellWords}
+use Rattle.gate_cell.specs.Setup.{setup_then}
 use Rattle.record.specs.ImageView.{ImageView}
 use Rattle.record.specs.RecordView.{RecordView}
 use Rattle.record.specs.Moves.{with_epoch}
@@ -17,7 +18,7 @@ use Rattle.ckpt_store.specs.declared.store.Store.{Store}
 use Rattle.ckpt_store.specs.declared.fault.StoreFault.{StoreFault}
 use Rattle.ckpt_store.specs.declared.fault.StoreFault.TheVariants as fault
 use Rattle.node.specs.StoredView.{LeavesNext, IsRaised, IsRaiseRefusal}
-use Rattle.node.proofs.Records.{some_known, still_settled, looked, looked_then, settled_ready, change_moments, change_fits, change_done}
+use Rattle.node.proofs.Records.{some_known, still_settled, looked, looked_on, looked_then, settled_ready, change_moments, change_fits, change_done}
 
 of_reopening : (fits : Bool) (kept : RecordView) (e : StoreFault) → IsOfReopening e → IsRaiseRefusal fits kept e
 of_reopening fits kept fault.NoMemory is = tt
@@ -38,6 +39,10 @@ module _ {C : Type 0} (words : CellWords C)
     (may_stay : (cell : C) → words.may_leave cell (Some (words.value cell)))
     (ready_settled : (cell : C) → IsTrue (words.is_ready cell) → Only (Some (words.value cell)) (words.may_leave cell))
     (old : Store C words) (settled : Only (Some (words.value (cell_in old))) (words.may_leave (cell_in old))) where
+  on_err : {P Q : Type 0} (result : Result ImageView StoreFault) → OnErr result P → (P → Q) → OnErr result Q
+  on_err (Ok x) is so = tt
+  on_err (Err e) is so = so is
+
   -- it couldn't be reopened
   pub not_reopened : (mid : Store C words) (e : StoreFault) → Reopens old mid {T = Unit {0}} (Err e) → IsRaised old mid (Err e)
   not_reopened mid e load = record {
@@ -48,7 +53,8 @@ module _ {C : Type 0} (words : CellWords C)
     failures = record { device = λ is. load.failures.device (device_too e is); otherwise = λ other. load.failures.otherwise (λ is. other (device_so e is)) };
     settled = λ other. still_settled words includes_now may_stay ready_settled old mid settled load.any_moment load.same_value;
     any_moment = looked words includes_now may_stay ready_settled (with_epoch (record_in old)) old mid load.any_moment;
-    same_room = load.same_room;
+    nothing_put = λ other. load.any_moment;
+    same_setup = load.same_setup;
   }
     where
       device_too : (e : StoreFault) → IsErrOf {T = ImageView} (Err e) fault.Device → IsErrOf {T = Unit {0}} (Err e) fault.Device
@@ -65,14 +71,15 @@ module _ {C : Type 0} (words : CellWords C)
       record {
         image = subst (λ (r : RecordView). IfOk result (λ image. image ≡ r.permanent)) same raised.image;
         raised = subst (λ (r : RecordView). OnOk result ((record_in new ≡ with_epoch r) × IsSome (known_in new) × (r.epoch < MAX_COUNT) × IsTrue (fits_in (words.capacity (cell_in old)) (with_epoch r)))) same
-            (subst (λ (n : ℕ). OnOk result ((record_in new ≡ with_epoch (record_in mid)) × IsSome (known_in new) × ((record_in mid).epoch < MAX_COUNT) × IsTrue (fits_in n (with_epoch (record_in mid))))) load.same_room raised.raised);
+            (subst (λ (n : ℕ). OnOk result ((record_in new ≡ with_epoch (record_in mid)) × IsSome (known_in new) × ((record_in mid).epoch < MAX_COUNT) × IsTrue (fits_in n (with_epoch (record_in mid))))) load.same_setup.same_room raised.raised);
         refused = subst (λ (r : RecordView). IfErr result (IsRaiseRefusal (fits_in (words.capacity (cell_in old)) (with_epoch r)) r)) same
-            (subst (λ (n : ℕ). IfErr result (IsRaiseRefusal (fits_in n (with_epoch (record_in mid))) (record_in mid))) load.same_room raised.refused);
+            (subst (λ (n : ℕ). IfErr result (IsRaiseRefusal (fits_in n (with_epoch (record_in mid))) (record_in mid))) load.same_setup.same_room raised.refused);
         same_record = subst (λ (r : RecordView). OnErr result (¬ (IsErrOf result fault.Device) → record_in new ≡ r)) same raised.same_record;
         failures = subst (λ (n : ℕ). HasFailures n (words.failure_count (cell_in new)) result) before raised.failures;
         settled = raised.settled;
         any_moment = subst (λ (r : RecordView). LeavesNext (with_epoch r) old new) same (looked_then words includes_now may_stay ready_settled (with_epoch (record_in mid)) old mid new load.any_moment raised.any_moment);
-        same_room = raised.same_room ∙ load.same_room;
+        nothing_put = on_err result raised.nothing_put (λ quiet other. looked_on words includes_now may_stay ready_settled old mid new load.any_moment (quiet other));
+        same_setup = setup_then words.capacity words.armed words.call_count (cell_in old) (cell_in mid) (cell_in new) load.same_setup raised.same_setup;
       }
 
 module _ {C : Type 0} (words : CellWords C)
@@ -92,7 +99,8 @@ module _ {C : Type 0} (words : CellWords C)
         failures = record { device = λ e. cc; otherwise = λ other. changes.failures.otherwise (λ e. cc) };
         settled = λ other. settled_ready words includes_now may_stay ready_settled new done.1;
         any_moment = change_moments words includes_now may_stay ready_settled refusal_to_raise with_epoch old new (Ok tt) some fine changes;
-        same_room = changes.same_room;
+        nothing_put = tt;
+        same_setup = changes.same_setup;
       }
 
   -- the epoch was raised

@@ -1,5 +1,5 @@
 -- What a crash and a recovery leave of a node.
-use Rattle.std.proofs.Common.{◌≡◌, ◌⊎◌, inl, inr, ⊎_elim, ℕ, ◌<◌, ◌≤◌, Bool, true, false, List, length, Option, Some, refl, sym, ◌∙◌, ap, subst, arith}
+use Rattle.std.proofs.Common.{◌≡◌, ◌⊎◌, inl, inr, ⊎_elim, ℕ, ◌<◌, ◌≤◌, Bool, true, false, List, length, Option, Some, Ok, Err, refl, sym, ◌∙◌, ap, subst, arith}
 use Rattle.std.specs.Prelude.{IsTrue, nat_lt}
 use Rattle.std.proofs.lemmas.Bool.{lt-ltb}
 use Rattle.std.specs.Option.{ForSome}
@@ -13,9 +13,15 @@ use Rattle.ckpt_store.specs.declared.store.Store.{Store}
 use Rattle.protocol.specs.Node.NodeView.{NodeView, ModeView, Down, InDoubt, Runs, with_mode}
 use Rattle.node.specs.NodeView.{node_view, mode_view}
 use Rattle.protocol.specs.Node.Modes.{is_down, crashed, with_kept}
-use Rattle.protocol.specs.Node.Plans.{Prospect, Undue, Exhausted, HasFailedAt, if_due, putting, unless_spent}
+use Rattle.protocol.specs.Node.Plans.{Prospect, Undue, Exhausted, HasFailedAt, if_due, next_record, putting, unless_spent}
+use Rattle.protocol.specs.Node.ArmedRestarts.{restart_after}
+use Rattle.protocol.specs.declared.outcome.Outcome.{Outcome}
+use Rattle.protocol.specs.declared.outcome.Outcome.TheVariants as outcome
+use Rattle.protocol.specs.declared.outcome.Refusal.TheVariants.{Spent}
+use Rattle.ckpt_store.specs.Spelling.{fits_in}
+use Rattle.node.specs.Putting.{IsPutEvent}
 use Rattle.protocol.specs.Node.Recovering.{recover_prospect, restored, restored_mode}
-use Rattle.node.specs.StoredView.{HasRecord, IsCrashed, LeavesNext}
+use Rattle.node.specs.StoredView.{HasRecord, IsCrashed, LeavesDevice, LeavesNext}
 use Rattle.node.specs.declared.state.NodeState.{NodeState}
 use Rattle.node.proofs.Records.{crash_keeps, one_of_both, then_crashed}
 
@@ -37,19 +43,19 @@ module _ {C : Type 0} (words : CellWords C) (number restart : ℕ) (old new : St
   crash_step = stop (record_in new) ∙ ap (λ (r : RecordView). crashed restart (node_view r before)) kept
 
 -- what a node that is down comes to, with a next epoch and without
-pub back_planned : (node : NodeView) → is_down node.mode ≡ true → node.kept.epoch < MAX_COUNT → recover_prospect node ≡ putting (restored node)
+pub back_planned : (node : NodeView) → is_down node.mode ≡ true → node.kept.epoch < MAX_COUNT → recover_prospect node ≡ putting false (restored node)
 back_planned node down less =
-    ap (λ (b : Bool). if_due b (unless_spent (nat_lt node.kept.epoch MAX_COUNT) (putting (restored node)))) down ∙ ap (λ (b : Bool). unless_spent b (putting (restored node))) (lt-ltb node.kept.epoch MAX_COUNT less)
+    ap (λ (b : Bool). if_due b (unless_spent (nat_lt node.kept.epoch MAX_COUNT) (putting false (restored node)))) down ∙ ap (λ (b : Bool). unless_spent b (putting false (restored node))) (lt-ltb node.kept.epoch MAX_COUNT less)
 
 pub back_spent : (node : NodeView) → is_down node.mode ≡ true → MAX_COUNT ≤ node.kept.epoch → recover_prospect node ≡ Exhausted
 back_spent node down more =
-    ap (λ (b : Bool). if_due b (unless_spent (nat_lt node.kept.epoch MAX_COUNT) (putting (restored node)))) down ∙ ap (λ (b : Bool). unless_spent b (putting (restored node))) (not_less node.kept.epoch MAX_COUNT more)
+    ap (λ (b : Bool). if_due b (unless_spent (nat_lt node.kept.epoch MAX_COUNT) (putting false (restored node)))) down ∙ ap (λ (b : Bool). unless_spent b (putting false (restored node))) (not_less node.kept.epoch MAX_COUNT more)
   where
     not_less : (n m : ℕ) → m ≤ n → nat_lt n m ≡ false
     not_less n m more = grind (arith, more)
 
 pub back_undue : (node : NodeView) → is_down node.mode ≡ false → recover_prospect node ≡ Undue
-back_undue node up = ap (λ (b : Bool). if_due b (unless_spent (nat_lt node.kept.epoch MAX_COUNT) (putting (restored node)))) up
+back_undue node up = ap (λ (b : Bool). if_due b (unless_spent (nat_lt node.kept.epoch MAX_COUNT) (putting false (restored node)))) up
 
 -- it came back with the record of the next epoch
 pub came_back : (old : NodeView) (next : RecordView) (now : NodeView) → next ≡ with_epoch old.kept → now ≡ with_mode (restored_mode next) (with_kept next old) → now ≡ restored old
@@ -80,3 +86,49 @@ module _ {C : Type 0} (words : CellWords C)
   failed_now =
       ⊎_elim (λ same. inl (ap (λ (r : RecordView). node_view r after) same ∙ stop (record_in old)))
       (λ same. inr (ap (λ (r : RecordView). node_view r after) same ∙ stop (with_epoch (record_in old)))) either
+
+-- ---- what came of a recovery, with its store
+
+module _ {C : Type 0} {words : CellWords C} (round : ℕ) (was now : NodeView) (old new : Store C words) (same : was.kept ≡ record_in old) {E : Type 0} where
+  -- it came back
+  pub back_event : recover_prospect was ≡ putting false (restored was) → now ≡ restored was → IsTrue (fits_in (words.capacity (cell_in old)) (with_epoch (record_in old)))
+      → words.failure_count (cell_in new) ≡ words.failure_count (cell_in old) → LeavesNext (with_epoch (record_in old)) old new → LeavesDevice old new
+      → IsPutEvent {E = E} (recover_prospect was) round was now old new (Ok outcome.Made)
+  back_event planned came fits failures moments setup = subst (λ (p : Prospect). IsPutEvent {E = E} p round was now old new (Ok outcome.Made)) (sym planned) (record {
+    step = came;
+    refused = tt;
+    refused_failures = tt;
+    put = (subst (λ (r : RecordView). IsTrue (fits_in (words.capacity (cell_in old)) (with_epoch r))) (sym same) fits, failures);
+    any_moment = subst (λ (r : RecordView). LeavesNext (with_epoch r) old new) (sym same) moments;
+    same_setup = setup;
+  })
+
+  -- its device failed
+  pub lost_event : recover_prospect was ≡ putting false (restored was) → HasFailedAt (restart_after was.armed (words.failed_call (cell_in new)) round) (with_epoch was.kept) was now
+      → IsTrue (fits_in (words.capacity (cell_in old)) (with_epoch (record_in old))) → words.failure_count (cell_in old) < words.failure_count (cell_in new) → LeavesNext (with_epoch (record_in old)) old new → LeavesDevice old new
+      → IsPutEvent {E = E} (recover_prospect was) round was now old new (Ok outcome.Failed)
+  lost_event planned lost fits failures moments setup = subst (λ (p : Prospect). IsPutEvent {E = E} p round was now old new (Ok outcome.Failed)) (sym planned) (record {
+    step = (refl, lost);
+    refused = tt;
+    refused_failures = tt;
+    put = (subst (λ (r : RecordView). IsTrue (fits_in (words.capacity (cell_in old)) (with_epoch r))) (sym same) fits, failures);
+    any_moment = subst (λ (r : RecordView). LeavesNext (with_epoch r) old new) (sym same) moments;
+    same_setup = setup;
+  })
+
+  -- there is no next epoch
+  pub last_event : recover_prospect was ≡ Exhausted → now ≡ was → words.failure_count (cell_in new) ≡ words.failure_count (cell_in old) → LeavesNext was.kept old new → LeavesDevice old new
+      → IsPutEvent {E = E} (recover_prospect was) round was now old new (Ok (outcome.Refused Spent))
+  last_event spent stays failures moments setup = subst (λ (p : Prospect). IsPutEvent {E = E} p round was now old new (Ok (outcome.Refused Spent))) (sym spent) (record {
+    step = (refl, stays);
+    refused = tt;
+    refused_failures = tt;
+    put = failures;
+    any_moment = moments;
+    same_setup = setup;
+  })
+
+  -- or memory is missing
+  pub short_event : (e : E) → now ≡ was → words.failure_count (cell_in new) ≡ words.failure_count (cell_in old) → LeavesNext (next_record (recover_prospect was) was.kept) old new → LeavesDevice old new
+      → IsPutEvent {E = E} (recover_prospect was) round was now old new (Err e)
+  short_event e stays failures moments setup = record { step = tt; refused = stays; refused_failures = failures; put = tt; any_moment = moments; same_setup = setup }

@@ -10,6 +10,9 @@ use Rattle.record.specs.RecordView.{RecordView}
 use Rattle.record.specs.Moves.{highest_seen, with_tentative, with_decision}
 use Rattle.record.specs.declared.record.Tentative.{Tentative}
 use Rattle.kahn_net.specs.declared.limits.TheConstants.{MAX_COUNT}
+use Rattle.ckpt_store.proofs.Room.{decision_fits, record_fits}
+use Rattle.gate_cell.specs.Setup.{setup_stays}
+use Rattle.gate_cell.specs.declared.TheConstants.{MAX_VALUE_BYTES}
 use Rattle.ckpt_store.specs.Refusals.{is_held, is_other_held, refusal_to_take, refusal_to_decide}
 use Rattle.ckpt_store.specs.StoreView.{cell_in, record_in, Changes}
 use Rattle.ckpt_store.specs.declared.store.Store.{Store}
@@ -138,15 +141,15 @@ module _ {C : Type 0} (words : CellWords C)
         node = ap (λ (r : RecordView). r.node) is
 
     pub start_event : {E : Type 0} (answer : Result Outcome E) → IsAnswer (put_outcome put) answer → call ≡ words.failed_call (cell_in new) → IsPutEvent (start_prospect number was) round was (node_view (record_in new) after) old new answer
-    start_event answer is failed = ends_event (with_own_now number was) restart old new before after put start_ends (start_prospect number was) round answer planned (ap (λ (n : ℕ). restart_after before.armed.items n round) failed) is
+    start_event answer is failed = ends_event (with_own_now number was) restart old new before after put start_ends true (λ no. absurd (cc)) (start_prospect number was) round answer planned (ap (λ (n : ℕ). restart_after before.armed.items n round) failed) is
       where
         seen_less : nat_lt (highest_seen number (record_in old)) MAX_COUNT ≡ true
         seen_less = lt-ltb (highest_seen number (record_in old)) MAX_COUNT (subst (λ (n : ℕ). n < MAX_COUNT) seen less)
 
-        planned : start_prospect number was ≡ putting (with_kept (with_own_now number was) was)
+        planned : start_prospect number was ≡ putting true (with_kept (with_own_now number was) was)
         planned =
-            ap (λ (b : Bool). if_due b (unless_spent (nat_lt (highest_seen number (record_in old)) MAX_COUNT) (putting (with_kept (with_own_now number was) was)))) due
-            ∙ ap (λ (b : Bool). unless_spent b (putting (with_kept (with_own_now number was) was))) seen_less
+            ap (λ (b : Bool). if_due b (unless_spent (nat_lt (highest_seen number (record_in old)) MAX_COUNT) (putting true (with_kept (with_own_now number was) was)))) due
+            ∙ ap (λ (b : Bool). unless_spent b (putting true (with_kept (with_own_now number was) was))) seen_less
 
   -- ---- a decision
 
@@ -169,9 +172,10 @@ module _ {C : Type 0} (words : CellWords C)
     pub decide_kept : HasRecord number (mode_view after.mode) new
     decide_kept = ends_kept (decided (record_in old)) restart old new before after put decide_ends number has refl refl
 
-    pub decide_event : {E : Type 0} (answer : Result Outcome E) → IsAnswer (put_outcome put) answer → call ≡ words.failed_call (cell_in new) → IsPutEvent (decide_prospect number was) round was (node_view (record_in new) after) old new answer
-    decide_event answer is_answer failed =
-        ends_event (decided (record_in old)) restart old new before after put decide_ends (decide_prospect number was) round answer (ap (λ (b : Bool). if_due b (putting (with_kept (decided (record_in old)) was))) due)
+    pub decide_event : (fits_room : (cell : C) (left : List ℕ) → words.may_leave cell (Some left) → length left ≤ words.capacity cell) (room_is_bounded : (cell : C) → words.capacity cell ≤ MAX_VALUE_BYTES)
+        {E : Type 0} (answer : Result Outcome E) → IsAnswer (put_outcome put) answer → call ≡ words.failed_call (cell_in new) → IsPutEvent (decide_prospect number was) round was (node_view (record_in new) after) old new answer
+    decide_event fits_room room_is_bounded answer is_answer failed =
+        ends_event (decided (record_in old)) restart old new before after put decide_ends false (λ no. decision_fits (words.capacity (cell_in old)) (record_in old) (record_fits words fits_room room_is_bounded may_stay old) (held_number (record_in old).tentative)) (decide_prospect number was) round answer (ap (λ (b : Bool). if_due b (putting false (with_kept (decided (record_in old)) was))) due)
         (ap (λ (n : ℕ). restart_after before.armed.items n round) failed) is_answer
       where
         due : may_decide number was ≡ true
@@ -183,13 +187,13 @@ module _ {C : Type 0} {words : CellWords C} (prospect : Prospect) (round : ℕ) 
   -- the event isn't due
   pub undue_event : prospect ≡ Undue → LeavesNext was.kept store store → IsPutEvent {E = E} prospect round was was store store (Ok outcome.NotDue)
   undue_event is nothing = subst (λ (p : Prospect). IsPutEvent {E = E} p round was was store store (Ok outcome.NotDue)) (sym is)
-      (record { step = (refl, refl); refused = tt; refused_failures = tt; put = refl; any_moment = nothing; same_room = refl })
+      (record { step = (refl, refl); refused = tt; refused_failures = tt; put = refl; any_moment = nothing; same_setup = setup_stays words.capacity words.armed words.call_count (cell_in store) })
 
   -- or a number would pass the greatest
   pub spent_event : prospect ≡ Exhausted → LeavesNext was.kept store store → IsPutEvent {E = E} prospect round was was store store (Ok (outcome.Refused Spent))
   spent_event is nothing = subst (λ (p : Prospect). IsPutEvent {E = E} p round was was store store (Ok (outcome.Refused Spent))) (sym is)
-      (record { step = (refl, refl); refused = tt; refused_failures = tt; put = refl; any_moment = nothing; same_room = refl })
+      (record { step = (refl, refl); refused = tt; refused_failures = tt; put = refl; any_moment = nothing; same_setup = setup_stays words.capacity words.armed words.call_count (cell_in store) })
 
   -- or memory is missing
   pub refused_event : (e : E) → LeavesNext (next_record prospect was.kept) store store → IsPutEvent {E = E} prospect round was was store store (Err e)
-  refused_event e nothing = record { step = tt; refused = refl; refused_failures = refl; put = tt; any_moment = nothing; same_room = refl }
+  refused_event e nothing = record { step = tt; refused = refl; refused_failures = refl; put = tt; any_moment = nothing; same_setup = setup_stays words.capacity words.armed words.call_count (cell_in store) }

@@ -4,7 +4,7 @@ use Rattle.gate_cell.specs.declared.cell.StableCell.{Ghosts as CellWords}
 use Rattle.ckpt_store.specs.Spelling.{fits_in}
 use Rattle.ckpt_store.specs.StoreView.{cell_in}
 use Rattle.ckpt_store.specs.declared.store.Store.{Store}
-use Rattle.node.specs.StoredView.{LeavesNext}
+use Rattle.node.specs.StoredView.{LeavesDevice, LeavesNext}
 use Rattle.protocol.specs.Node.ArmedRestarts.{restart_after}
 use Rattle.protocol.specs.Node.NodeView.{NodeView}
 use Rattle.protocol.specs.Node.Plans.{Prospect, IsMade, IsPut, next_record, room_for}
@@ -21,4 +21,5 @@ pub record IsPutEvent {C : Type 0} {words : CellWords C} (prospect : Prospect) (
   pub put : IfOk result (IsPut (room_for (fits_in (words.capacity (cell_in old))) prospect) (words.failure_count (cell_in old)) (words.failure_count (cell_in new)))
   -- a crash at any moment leaves what it might have left before, or the record that is put
   pub any_moment : LeavesNext (next_record prospect was.kept) old new
-  pub same_room : words.capacity (cell_in new) ≡ words.capacity (cell_in old)
+  -- what fits and what is armed stay, and no call that was counted is forgotten
+  pub same_setup : LeavesDevice old new

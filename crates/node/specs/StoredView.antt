@@ -2,6 +2,7 @@
 use Rattle.std.specs.Prelude.{◌≡◌, ◌⊎◌, ℕ, ◌<◌, ◌≤◌, Bool, true, false, length, Option, Some, None, IsSome, IsTrue, Result, Ok, Err, IfOk, IfErr, OnOk, OnErr, IsErrOf}
 use Rattle.sector_disk.specs.Clock.{Only, LeavesOnly}
 use Rattle.gate_cell.specs.declared.cell.StableCell.{Ghosts as CellWords}
+use Rattle.gate_cell.specs.Setup.{LeavesSetup}
 use Rattle.record.specs.RecordView.{RecordView}
 use Rattle.record.specs.ImageView.{ImageView}
 use Rattle.record.specs.Moves.{with_epoch}
@@ -34,13 +35,17 @@ LeavesNext {words = words} next old new = LeavesOnly words.moment words.left_sin
 abbrev pub LeavesAsBefore : {C : Type 0} {words : CellWords C} → Store C words → Store C words → Type 0
 LeavesAsBefore {words = words} old new = LeavesOnly words.moment words.left_since (cell_in old) (cell_in new) (words.may_leave (cell_in old))
 
+-- as many bytes fit, the same faults are armed, and no device call that was counted is forgotten
+abbrev pub LeavesDevice : {C : Type 0} {words : CellWords C} → Store C words → Store C words → Type 0
+LeavesDevice {words = words} old new = LeavesSetup words.capacity words.armed words.call_count (cell_in old) (cell_in new)
+
 -- What a crash makes of a store that has a record: none is known until it is reopened, and what its cell holds is settled.
 pub record IsCrashed {C : Type 0} {words : CellWords C} (old new : Store C words) : Type 0 where
   pub down : known_in new ≡ None
   pub left : words.may_leave (cell_in old) (Some (words.value (cell_in new)))
   pub settled : Only (Some (words.value (cell_in new))) (words.may_leave (cell_in new))
   pub any_moment : LeavesAsBefore old new
-  pub same_room : words.capacity (cell_in new) ≡ words.capacity (cell_in old)
+  pub same_setup : LeavesDevice old new
   pub failures : words.failure_count (cell_in new) ≡ words.failure_count (cell_in old)
   pub same_failed : words.failed_call (cell_in new) ≡ words.failed_call (cell_in old)
 
@@ -62,7 +67,8 @@ pub record IsRaised {C : Type 0} {words : CellWords C} (old new : Store C words)
   pub failures : HasFailures (words.failure_count (cell_in old)) (words.failure_count (cell_in new)) result
   pub settled : ¬ (IsErrOf result fault.Device) → Only (Some (words.value (cell_in new))) (words.may_leave (cell_in new))
   pub any_moment : LeavesNext (with_epoch (record_in old)) old new
-  pub same_room : words.capacity (cell_in new) ≡ words.capacity (cell_in old)
+  pub nothing_put : OnErr result (¬ (IsErrOf result fault.Device) → LeavesAsBefore old new)
+  pub same_setup : LeavesDevice old new
 
 -- what a put that the store did, or refused, comes to: nothing where memory was missing
 abbrev pub put_outcome : Result (Unit {0}) StoreFault → Option Outcome

@@ -1,5 +1,5 @@
 //! A node, and its events.
-ghost use Rattle.std.specs.Prelude.{◌≡◌, ◌⊎◌, ◌+◌, ◌<◌, ℤ, List, false, not, length, IfOk, IsErrOf, IsSome, IsTrue, None, OnErr, OnOk, Some, is_some, option_map};
+ghost use Rattle.std.specs.Prelude.{◌≡◌, ◌⊎◌, ◌+◌, ◌<◌, ◌++◌, [], ◌∷◌, ℤ, List, false, not, length, IfOk, IsErrOf, IsSome, IsTrue, None, OnErr, OnOk, Some, is_some, option_map};
 ghost use Rattle.kahn_net.specs.Streams.{IsPrefix};
 ghost use Rattle.kahn_net.specs.States.{standing_of};
 ghost use Rattle.kahn_net.specs.Syntax.{network_of};
@@ -19,14 +19,14 @@ ghost use Rattle.protocol.specs.Node.Plans.{LeavesCell};
 ghost use Rattle.protocol.specs.Node.Recovering.{recover_prospect};
 ghost use Rattle.protocol.specs.Node.Starting.{decide_prospect, start_prospect, IsLikeNow};
 ghost use Rattle.node.specs.Putting.{IsPutEvent};
-ghost use Rattle.node.specs.StoredView.{HasRecord, LeavesAsBefore};
+ghost use Rattle.node.specs.StoredView.{HasRecord, LeavesAsBefore, LeavesDevice};
 ghost use Rattle.protocol.specs.Node.Trimming.{HasNext, TookNext, current_log, trimmed_node};
 
 use crate::checkpoint::{decide, start};
 use crate::delivering::deliver;
 use crate::mode::Mode;
 use crate::opening::{open_inboxes, open_outboxes};
-use crate::preparing::arm;
+use crate::preparing::{arm, recount};
 use crate::recover::{crash, recover};
 use crate::running::Running;
 use crate::state::NodeState;
@@ -211,8 +211,7 @@ impl<C: StableCell> Node<C> {
         ensures up { result ≡ not (is_down (view_of self.old).mode) }
         ensures step { IsTrue result → view_of self.new ≡ crashed restart (view_of self.old) }
         ensures any_moment { LeavesAsBefore self.old.store self.new.store }
-        ensures same_room { C.capacity (cell_in self.new.store)
-            ≡ C.capacity (cell_in self.old.store) }
+        ensures same_setup { LeavesDevice self.old.store self.new.store }
         ensures failures { C.failure_count (cell_in self.new.store)
             ≡ C.failure_count (cell_in self.old.store) }
         ensures unknown { IsTrue result → known_in self.new.store ≡ None }
@@ -246,11 +245,33 @@ impl<C: StableCell> Node<C> {
         ensures any_moment { LeavesAsBefore self.old.store self.new.store }
         ensures same_room { C.capacity (cell_in self.new.store)
             ≡ C.capacity (cell_in self.old.store) }
+        ensures on_device { OnOk result (C.armed (cell_in self.new.store)
+            ≡ C.armed (cell_in self.old.store) ++ fault ∷ []) }
+        ensures not_armed { OnErr result
+            (C.armed (cell_in self.new.store) ≡ C.armed (cell_in self.old.store)) }
+        ensures same_calls { C.call_count (cell_in self.new.store)
+            ≡ C.call_count (cell_in self.old.store) }
         ensures failures { C.failure_count (cell_in self.new.store)
             ≡ C.failure_count (cell_in self.old.store) }
         ensures same_number { self.new.number ≡ self.old.number }
     {
         arm(self.number, &mut self.state, &mut self.store, fault, rounds)
+    }
+
+    /// Begins the count of its device's calls anew, where there is a device. What is armed stays armed.
+    pub fn recount(&mut self)
+        ensures view { view_of self.new ≡ view_of self.old }
+        ensures any_moment { LeavesAsBefore self.old.store self.new.store }
+        ensures same_room { C.capacity (cell_in self.new.store)
+            ≡ C.capacity (cell_in self.old.store) }
+        ensures same_faults { C.armed (cell_in self.new.store) ≡ C.armed (cell_in self.old.store) }
+        ensures none_counted { C.call_count (cell_in self.new.store) ≡ 0 }
+        ensures none_failed { C.failed_call (cell_in self.new.store) ≡ 0 }
+        ensures failures { C.failure_count (cell_in self.new.store)
+            ≡ C.failure_count (cell_in self.old.store) }
+        ensures same_number { self.new.number ≡ self.old.number }
+    {
+        recount(self.number, &self.state, &mut self.store);
     }
 
     /// Hands an outlet the item of this channel that comes next for it, and lets the log go of what the outlet has.

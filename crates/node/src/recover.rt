@@ -6,7 +6,7 @@ ghost use Rattle.protocol.specs.Node.Modes.{crashed, is_down};
 ghost use Rattle.protocol.specs.Node.Recovering.{recover_prospect, restored_from};
 ghost use Rattle.node.specs.NodeView.{mode_view, node_view};
 ghost use Rattle.node.specs.Putting.{IsPutEvent};
-ghost use Rattle.node.specs.StoredView.{HasRecord, IsRaised, LeavesAsBefore};
+ghost use Rattle.node.specs.StoredView.{HasRecord, IsRaised, LeavesAsBefore, LeavesDevice};
 
 use crate::checkpoint::go_down;
 use crate::mode::Mode;
@@ -32,7 +32,7 @@ pub(crate) fn crash<C: StableCell>(
     ensures step { IsTrue result → node_view (record_in store.new) state.new
         ≡ crashed restart (node_view (record_in store.old) state.old) }
     ensures any_moment { LeavesAsBefore store.old store.new }
-    ensures same_room { C.capacity (cell_in store.new) ≡ C.capacity (cell_in store.old) }
+    ensures same_setup { LeavesDevice store.old store.new }
     ensures failures { C.failure_count (cell_in store.new) ≡ C.failure_count (cell_in store.old) }
     ensures unknown { IsTrue result → known_in store.new ≡ None }
     ensures unchanged { result ≡ false → (store.new ≡ store.old) × (state.new ≡ state.old) }

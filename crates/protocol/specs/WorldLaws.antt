@@ -9,6 +9,7 @@ pub mod OrderLaws
 pub mod HandedLaws
 pub mod BoundLaws
 pub mod PlanLaws
+pub mod DeedLaws
 pub mod KeptLaws
 pub mod StepKeeps
 pub mod RoomLaws

@@ -7,13 +7,15 @@ use Rattle.datagram.specs.declared.packet.Packet.{Packet}
 use Rattle.record.specs.RecordView.{RecordView}
 use Rattle.protocol.specs.Node.ArmedRestarts.{restart_after}
 use Rattle.protocol.specs.Node.NodeView.{NodeView}
-use Rattle.protocol.specs.Node.Plans.{Prospect, Undue, becoming, packets_by, room_for, IsMade, IsPut}
-use Rattle.protocol.specs.World.Replies.{answer_by, outcome_of}
+use Rattle.protocol.specs.Node.Plans.{Prospect, Undue, becoming, packets_by, room_for, IsMade, IsPut, LeavesCell}
+use Rattle.protocol.specs.declared.round_turns.RoundTurns.{RoundTurns}
+use Rattle.protocol.specs.WorldLaws.PlanLaws.{made_restarts}
+use Rattle.protocol.specs.World.Replies.{AnswerLeaves, answer_by, outcome_of}
 use Rattle.protocol.specs.World.ReplyView.{ReplyView}
 use Rattle.protocol.specs.World.ReplyView as reply
 use Rattle.protocol.specs.World.StationView.{StationView}
 use Rattle.protocol.specs.World.Steps.{IsPlanned, StationPlan, moved_to, turns_by}
-use Rattle.protocol.specs.WorldLaws.FlightLaws.{becoming_sends}
+use Rattle.protocol.specs.WorldLaws.DeedLaws.{becoming_sends}
 use Rattle.protocol.specs.declared.outcome.Outcome.{Outcome}
 use Rattle.protocol.specs.declared.outcome.Outcome.TheVariants as outcome
 
@@ -65,3 +67,34 @@ module _ (fits : RecordView → Bool) (round : ℕ) (plan : StationPlan) (old ne
       (subst (λ (p : Prospect). IsMade (restart_after old.node.armed 0 round) p old.node outcome.NotDue new.node) (sym is) (refl, ap (λ (s : StationView). s.node) same))
       (ap (λ (s : StationView). s.failures) same)
       (same ∙ (ap (λ (n : NodeView). moved_to n old.failures old.turns old) (sym (ap (λ (s : StationView). s.node) same)) ∙ ap (λ (f : ℕ). moved_to new.node f old.turns old) (sym (ap (λ (s : StationView). s.failures) same))))
+
+-- a station whose node, device and memory of the round are so
+pub seen_moved : (old : StationView) (number failures : ℕ) (node : NodeView) (turns noted : RoundTurns) → number ≡ old.number → turns ≡ noted
+    → record { number = number; node = node; failures = failures; outlets = old.outlets; turns = turns } ≡ moved_to node failures noted old
+seen_moved old number failures node turns noted same_number same_turns =
+    ap (λ (n : ℕ). record { number = n; node = node; failures = failures; outlets = old.outlets; turns = turns }) same_number
+    ∙ ap (λ (t : RoundTurns). record { number = old.number; node = node; failures = failures; outlets = old.outlets; turns = t }) same_turns
+
+-- a node whose device failed comes back as its call was armed
+pub restarts_by : (restart : ℕ) (prospect : Prospect) (old new : NodeView) (came : Outcome) (answer made : ReplyView) → outcome_of made ≡ outcome.Made → answer ≡ answer_by made came → IsMade restart prospect old came new → answer ≡ reply.Down
+    → new.restart ≡ restart
+restarts_by restart prospect old new came answer made is_made is step down =
+    let failed : came ≡ outcome.Failed = sym (ap outcome_of is ∙ told made came is_made) ∙ ap outcome_of down in
+    made_restarts restart prospect old new (subst (λ (o : Outcome). IsMade restart prospect old o new) failed step)
+
+-- the cell wasn't touched by an event that puts a record, as its answer tells
+pub start_leaves : (came : Outcome) → AnswerLeaves (Some (answer_by reply.Started came)) → LeavesCell (Ok came)
+start_leaves outcome.NotDue leaves = tt
+start_leaves outcome.Made leaves = absurd leaves
+start_leaves (outcome.Refused refusal) leaves = tt
+start_leaves outcome.Failed leaves = absurd leaves
+
+pub decide_leaves : (came : Outcome) → AnswerLeaves (Some (answer_by reply.Decided came)) → LeavesCell (Ok came)
+decide_leaves outcome.NotDue leaves = tt
+decide_leaves outcome.Made leaves = absurd leaves
+decide_leaves (outcome.Refused refusal) leaves = tt
+decide_leaves outcome.Failed leaves = absurd leaves
+
+-- nothing happened, as the answer tells
+pub nothing_came : (made : ReplyView) (came : Outcome) → outcome_of made ≡ outcome.Made → answer_by made came ≡ reply.NotDue → came ≡ outcome.NotDue
+nothing_came made came is_made none = sym (told made came is_made) ∙ ap outcome_of none

@@ -8,7 +8,10 @@ use Rattle.kahn_net.specs.Syntax.{Network}
 use Rattle.wire.specs.Traffic.{Traffic}
 use Rattle.protocol.specs.Node.NodeView.{NodeView}
 use Rattle.protocol.specs.Node.Trimming.{current_log, trimmed_node}
-use Rattle.protocol.specs.World.Invariant.{outputs_of}
+use Rattle.kahn_net.specs.Nodes.{node_count}
+use Rattle.protocol.specs.World.Invariant.{outputs_of, AreSound, IsNumbered}
+use Rattle.protocol.specs.WorldLaws.PlanLaws.{IsSoundStation}
+use Rattle.protocol.specs.WorldLaws.StepKeeps.{all_here}
 use Rattle.protocol.specs.WorldLaws.OutputLaws.{map_at, set_same}
 use Rattle.protocol.specs.World.OutputView.{OutputView}
 use Rattle.world.specs.OutputView.{output_view, outputs_view}
@@ -92,6 +95,22 @@ pub setting_is : {S : Type 0} (view : S → StationView) (net : Network) (given 
 setting_is view net given inputs traffic xs round same =
     ap (λ (lists : List (List ℤ)). setting_in net lists traffic (may_restart (length xs)) round) same
     ∙ ap (λ (n : ℕ). setting_in net inputs traffic (may_restart n) round) (sym (length-map xs view))
+
+-- whether nodes may restart, by the number of stations
+pub restarts_are : {S : Type 0} (net : Network) (inputs : List (List ℤ)) (traffic : Traffic) (xs : List S) (restarts : Bool) (count round : ℕ) → restarts ≡ may_restart count → count ≡ length xs
+    → setting_in net inputs traffic restarts round ≡ setting_in net inputs traffic (may_restart (length xs)) round
+restarts_are net inputs traffic xs restarts count round may many = ap (λ (b : Bool). setting_in net inputs traffic b round) (may ∙ ap may_restart many)
+
+-- the station of this place is a sound one
+pub sound_at : {S : Type 0} (view : S → StationView) (net : Network) (inputs : List (List ℤ)) (traffic : Traffic) (xs : List S) (place : ℕ) (x : S) (restarts : Bool) (count round : ℕ) → restarts ≡ may_restart count → count ≡ length xs
+    → length (map view xs) ≡ node_count net → IsNumbered (map view xs) → AreSound net inputs (map view xs) → place < length xs → x ≡ get_or xs place x → IsSoundStation (setting_in net inputs traffic restarts round) (view x)
+sound_at view net inputs traffic xs place x restarts count round may many all numbered sound within is =
+    let there : slice_get (map view xs) place ≡ Some (view x) = map_at view xs place x (slice_get_read xs (length xs) place x refl within is) in
+    record {
+      inv = sound place (view x) there;
+      named = (let named = numbered place (view x) there in named.1 ∙ sym named.0);
+      here = λ alone. all_here net (map view xs) all numbered place (view x) there (ap may_restart (length-map xs view ∙ sym many) ∙ (sym may ∙ alone));
+    }
 
 -- what is true of the station of this place
 pub seen_at : {S : Type 0} (view : S → StationView) (xs : List S) (place : ℕ) (x : S) → place < length xs → x ≡ get_or xs place x → slice_get (map view xs) place ≡ Some (view x)

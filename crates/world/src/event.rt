@@ -1,4 +1,5 @@
 //! Events, and what comes of them.
+ghost use Rattle.std.specs.Prelude.{◌≡◌};
 
 use proc_step::{Done, Job};
 use protocol::Refusal;
@@ -58,6 +59,33 @@ pub enum Event {
         place: usize,
         rounds: u64,
     },
+}
+
+impl Event {
+    ghost use Rattle.protocol.specs.World.EventView.{event_node};
+    ghost use Rattle.world.specs.EventView.{event_view};
+
+    /// Its node.
+    pub fn node(&self) -> u8
+        ensures { result ≡ event_node (event_view self.now) }
+    {
+        match self {
+            Event::Install(done) => done.job.node(),
+            Event::Deliver { node, .. } => *node,
+            Event::Grant(node) => *node,
+            Event::Send(node) => *node,
+            Event::Start(node) => *node,
+            Event::Decide(node) => *node,
+            Event::Release(node) => *node,
+            Event::Crash { node, .. } => *node,
+            Event::Recover(node) => *node,
+            Event::Arm { node, .. } => *node,
+            Event::Idle(node) => *node,
+            Event::Lose { node, .. } => *node,
+            Event::Repeat { node, .. } => *node,
+            Event::Delay { node, .. } => *node,
+        }
+    }
 }
 
 /// How far an output's items have left the system: so many of this channel.

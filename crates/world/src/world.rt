@@ -46,28 +46,6 @@ pub struct World<C: StableCell, O: Outlet> {
         (world_view O.taken O.failures net inputs stations.items (traffic_of wire) round) },
 }
 
-// The node of an event.
-fn node_of(event: &Event) -> u8
-    ensures { result ≡ event_node (event_view event.now) }
-{
-    match event {
-        Event::Install(done) => done.job.node(),
-        Event::Deliver { node, .. } => *node,
-        Event::Grant(node) => *node,
-        Event::Send(node) => *node,
-        Event::Start(node) => *node,
-        Event::Decide(node) => *node,
-        Event::Release(node) => *node,
-        Event::Crash { node, .. } => *node,
-        Event::Recover(node) => *node,
-        Event::Arm { node, .. } => *node,
-        Event::Idle(node) => *node,
-        Event::Lose { node, .. } => *node,
-        Event::Repeat { node, .. } => *node,
-        Event::Delay { node, .. } => *node,
-    }
-}
-
 // An event at the station of this number, where there is one.
 fn act_at<C: StableCell, O: Outlet>(
     alloc: Global,
@@ -226,7 +204,7 @@ impl<C: StableCell, O: Outlet> World<C, O> {
         ensures memory { OnErr result (TakesMemory (event_view event)) }
         ensures handed_back { IfErr result (λ refused. refused.event ≡ event) }
     {
-        let number = usize::from(node_of(&event));
+        let number = usize::from(event.node());
         match act_at(
             alloc,
             &self.net,

@@ -15,11 +15,12 @@ abbrev pub refusal_number : Refusal → ℕ
 refusal_number TooLarge = 22
 refusal_number Spent = 44
 
--- An event that can be made: the node afterwards; whether its record, that of the node afterwards, is put first; what is sent; and what is
--- sent in its place where the record is too large.
+-- An event that can be made: the node afterwards; whether its record, that of the node afterwards, is put first; whether that may be longer than
+-- the one before, so that it may be too large; what is sent; and what is sent in its place where the record is too large.
 pub record Plan : Type 0 where
   pub node : NodeView
   pub puts : Bool
+  pub grows : Bool
   pub packets : List Packet
   pub refused : List Packet
 
@@ -31,15 +32,15 @@ pub data Prospect : Type 0 where
 
 -- a node afterwards, and nothing else
 abbrev pub becoming : NodeView → Prospect
-becoming node = Planned (record { node = node; puts = false; packets = []; refused = [] })
+becoming node = Planned (record { node = node; puts = false; grows = false; packets = []; refused = [] })
 
--- a node afterwards whose record is put first
-abbrev pub putting : NodeView → Prospect
-putting node = Planned (record { node = node; puts = true; packets = []; refused = [] })
+-- a node afterwards whose record is put first, which is longer than the one before, or isn't
+abbrev pub putting : Bool → NodeView → Prospect
+putting grows node = Planned (record { node = node; puts = true; grows = grows; packets = []; refused = [] })
 
 -- nothing but packets that are sent
 abbrev pub telling : List Packet → NodeView → Prospect
-telling packets node = Planned (record { node = node; puts = false; packets = packets; refused = [] })
+telling packets node = Planned (record { node = node; puts = false; grows = false; packets = packets; refused = [] })
 
 -- where it can happen
 abbrev pub if_due : Bool → Prospect → Prospect
@@ -56,11 +57,11 @@ unless_spent less prospect = if less then prospect else Exhausted
 abbrev pub HasFailedAt : ℕ → RecordView → NodeView → NodeView → Type 0
 HasFailedAt restart next old new = (new ≡ crashed restart old) ⊎ (new ≡ crashed restart (with_kept next old))
 
--- A plan is made; or its record is too large, and nothing is done; or the device fails, where there is a record to put.
+-- A plan is made; or its record, which grows, is too large, and nothing is done; or the device fails, where there is a record to put.
 abbrev pub IsCarriedOut : ℕ → Plan → NodeView → Outcome → NodeView → Type 0
 IsCarriedOut restart plan old outcome.NotDue new = ⊥
 IsCarriedOut restart plan old outcome.Made new = new ≡ plan.node
-IsCarriedOut restart plan old (outcome.Refused TooLarge) new = IsTrue plan.puts × (new ≡ old)
+IsCarriedOut restart plan old (outcome.Refused TooLarge) new = IsTrue plan.grows × (new ≡ old)
 IsCarriedOut restart plan old (outcome.Refused Spent) new = ⊥
 IsCarriedOut restart plan old outcome.Failed new = IsTrue plan.puts × HasFailedAt restart plan.node.kept old new
 

@@ -29,30 +29,16 @@ use Rattle.protocol.specs.World.ReplyView as reply
 use Rattle.protocol.specs.World.StationView.{StationView}
 use Rattle.protocol.specs.World.Steps.{IsAct, IsActOf, IsRelease, IsStationStep, Setting, WorldView, bytes_when, deliver_plan, due_bytes, flight_at, next_release, plan_of, setting_of}
 use Rattle.protocol.specs.World.Traffic.{BytesAreSound, SpellsSound, TrafficIsSound}
-use Rattle.protocol.specs.WorldLaws.TrafficLaws.{arrives_sound}
-
--- a packet was dropped
-abbrev is_dropped : ReplyView → Bool
-is_dropped reply.Dropped = true
-is_dropped answer = false
+use Rattle.protocol.specs.WorldLaws.DeedLaws.{deed_is, is_dropped}
 
 not_so : (answer : ReplyView) → is_dropped answer ≡ false → ¬ (IsDropped answer)
 not_so answer is dropped = (let so : is_dropped answer ≡ true = ap is_dropped dropped in absurd (cc))
 
 -- ---- answers to what isn't a delivery
 
-grant_is : (job : Option JobView) → is_dropped (grant_reply job) ≡ false
-grant_is None = refl
-grant_is (Some job) = refl
-
 install_is : (applied : Bool) → is_dropped (install_reply applied) ≡ false
 install_is true = refl
 install_is false = refl
-
-back_is : (mode : ModeView) → is_dropped (back_reply mode) ≡ false
-back_is Down = refl
-back_is InDoubt = refl
-back_is (Runs running) = refl
 
 act_is : (there : Bool) → is_dropped (act_reply there) ≡ false
 act_is true = refl
@@ -68,49 +54,12 @@ by_outcome made outcome.Made other = other
 by_outcome made (outcome.Refused refusal) other = refl
 by_outcome made outcome.Failed other = refl
 
--- ---- deliveries
-
--- bytes that are sound spell a packet for the node
-right_now : (net : Network) (home : ℕ) (packet : Packet) → packet.to ≡ home → names_right net packet ≡ true → if_right net home (Some packet) ≡ Some packet
-right_now net home packet here names = ap (λ (b : Bool). cond b (Some packet) None) (and_from (packet.to == home) (names_right net packet) (eq-eqb packet.to home here) names)
-
-spells_one : (net : Network) (inputs : List (List ℤ)) (home : ℕ) (bytes : List ℕ) → SpellsSound net inputs home bytes → packet_for net home bytes ≡ None → ⊥
-spells_one net inputs home bytes says none =
-    let one : packet_for net home bytes ≡ Some says.packet = ap (if_right net home) (whole_again bytes says.packet says.text) ∙ right_now net home says.packet says.here says.names in
-    cc
-
-heard_is : (found : Option Packet) → (found ≡ None → ⊥) → is_dropped (delivery_reply (delivery_of false found)) ≡ false
-heard_is None some = absurd (some refl)
-heard_is (Some packet) some = refl
+-- ---- events
 
 module _ (setting : Setting) (flying : TrafficIsSound setting.net setting.inputs setting.traffic) where
-  came_is : (k place : ℕ) (old : StationView) → old.number ≡ k → (flight : Option Flight) → flight_at setting k place ≡ flight → is_dropped (deliver_plan setting.net place (due_bytes setting.round flight) old).answer ≡ false
-  came_is k place old here None is = refl
-  came_is k place old here (Some flight) is = at (is_due setting.round flight)
-    where
-      sound : BytesAreSound setting.net setting.inputs old.number flight.packet
-      sound =
-          subst (λ (n : ℕ). BytesAreSound setting.net setting.inputs n flight.packet) (sym here)
-          (arrives_sound setting.net setting.inputs setting.traffic k place flight.packet flying (ap (option_map (λ (f : Flight). f.packet)) is))
-
-      at : (due : Bool) → is_dropped (deliver_plan setting.net place (bytes_when due flight.packet) old).answer ≡ false
-      at false = refl
-      at true = heard_is (packet_for setting.net old.number flight.packet) (λ none. ∥∥₁_elim sound ⊥_prop (λ says. spells_one setting.net setting.inputs old.number flight.packet says none))
-
-  deed_is : (k : ℕ) (deed : Deed) (old : StationView) → old.number ≡ k → is_dropped (plan_of setting k deed old).answer ≡ false
-  deed_is k (event.Deliver place) old here = came_is k place old here (flight_at setting k place) refl
-  deed_is k event.Grant old here = grant_is (node_job setting.net setting.inputs old.node)
-  deed_is k event.Send old here = refl
-  deed_is k event.Start old here = refl
-  deed_is k event.Decide old here = refl
-  deed_is k (event.Crash fill rounds) old here = refl
-  deed_is k event.Recover old here = back_is (restored_mode (with_epoch old.node.kept))
-  deed_is k (event.Arm fault rounds) old here = refl
-  deed_is k event.Idle old here = refl
-
   station_hears : (room : RecordView → Bool) (e : EventView) (old : StationView) (answer : ReplyView) (new : StationView) → old.number ≡ event_node e → IsStationStep setting room e old answer new → ¬ (IsDropped answer)
   station_hears room (ByNode k deed) old answer new here step =
-      not_so answer (ap is_dropped step.answers ∙ by_outcome (plan_of setting k deed old).answer (outcome_of answer) (deed_is k deed old here))
+      not_so answer (ap is_dropped step.answers ∙ by_outcome (plan_of setting k deed old).answer (outcome_of answer) (deed_is setting flying k deed old here))
   station_hears room (Install done) old answer new here step = not_so answer (ap is_dropped step.answers ∙ install_is step.applied)
   station_hears room (Release k) old answer new here step = not_so answer (release_is setting.round (next_release setting.round old) old answer new step)
   station_hears room (ByNetwork k place act) old answer new here step = not_so answer (ap is_dropped step.0 ∙ act_is (is_some (flight_at setting k place)))

@@ -1,12 +1,7 @@
 -- Laws of what is in flight: what holds of the node and the bytes of each packet in flight, and of each that is sent, goes on holding.
 use Rattle.std.proofs.Common.{◌≡◌, ℕ, zero, suc, Bool, true, false, cond, List, [], ◌∷◌, replicate, All, Option, Some, None, unwrap_or, refl, sym, ap, subst}
-use Rattle.std.specs.Prelude.{IsTrue, nat_lt, not, slice_get, slice_set, remove, map}
+use Rattle.std.specs.Prelude.{IsTrue, slice_get, slice_set, remove, map}
 use Rattle.std.proofs.lemmas.List.Elements.{All-nil, All-head, All-tail}
-use Rattle.kahn_net.specs.Syntax.{Network}
-use Rattle.datagram.specs.declared.packet.Packet.{Packet}
-use Rattle.kahn_net.specs.declared.limits.TheConstants.{MAX_COUNT}
-use Rattle.record.specs.Moves.{highest_seen}
-use Rattle.record.specs.RecordView.{RecordView}
 use Rattle.wire.proofs.Passing.{sent_passes, repeated_passes, delayed_passes, gone_passes}
 use Rattle.wire.specs.Queue.{with_delay, with_copy}
 use Rattle.wire.specs.Rules.{fate_of}
@@ -15,25 +10,12 @@ use Rattle.wire.specs.Wire.{nth_in}
 use Rattle.wire.specs.declared.queue.Flight.{Flight}
 use Rattle.wire.specs.declared.queue.TheConstants.{NODES}
 use Rattle.wire.specs.declared.sending.Sending.{Sending}
-use Rattle.protocol.specs.Node.ArmedRestarts.{round_later, with_armed}
-use Rattle.protocol.specs.Node.Choosing.{grant_prospect, node_job, with_grant}
-use Rattle.protocol.specs.Node.Delivering.{packet_for, told_by}
-use Rattle.protocol.specs.Node.JobView.{JobView}
-use Rattle.protocol.specs.Node.Modes.{crashed, is_down, is_running, with_kept}
-use Rattle.protocol.specs.Node.NodeView.{Down, InDoubt, ModeView, NodeView, Runs, running_in}
-use Rattle.protocol.specs.Node.Plans.{Prospect, becoming, if_due, packets_by, putting, telling, unless_spent}
-use Rattle.protocol.specs.Node.Recovering.{crash_prospect, recover_prospect, restored}
-use Rattle.protocol.specs.Node.Sending.{packets_from, packets_of}
-use Rattle.protocol.specs.Node.Starting.{decide_prospect, decided, may_decide, may_start, start_prospect, with_own_now}
-use Rattle.protocol.specs.declared.outcome.Outcome.{Outcome}
-use Rattle.protocol.specs.declared.outcome.Outcome.TheVariants as outcome
-use Rattle.protocol.specs.declared.outcome.Refusal.TheVariants.{Spent, TooLarge}
-use Rattle.protocol.specs.World.EventView.{Deed, EventView, NetworkAct, ByNode, ByNetwork, Install, Release, event_node}
+use Rattle.protocol.specs.World.EventView.{EventView, NetworkAct, ByNode, ByNetwork, Install, Release, event_node}
 use Rattle.protocol.specs.World.EventView as event
-use Rattle.protocol.specs.World.InFlight.{AllInFlight, AllSent, EachWasSent, NothingAtFirst, NothingIsMadeUp, OnlyRunningSend}
-use Rattle.protocol.specs.World.Replies.{has_happened, outcome_of}
+use Rattle.protocol.specs.World.InFlight.{AllInFlight, AllSent, EachWasSent, NothingAtFirst, NothingIsMadeUp}
+use Rattle.protocol.specs.World.Replies.{has_happened}
 use Rattle.protocol.specs.World.StationView.{StationView}
-use Rattle.protocol.specs.World.Steps.{Setting, deliver_plan, due_bytes, flight_at, plan_of, sending_of, sendings_then, setting_of, traffic_acted, traffic_left, traffic_then}
+use Rattle.protocol.specs.World.Steps.{Setting, plan_of, sendings_then, setting_of, traffic_acted, traffic_left, traffic_then}
 
 abbrev nothing : QueueTraffic
 nothing = record { flights = []; counts = [] }
@@ -140,84 +122,3 @@ nothing_is_made_up test setting e answer station all sent = at (has_happened ans
 pub each_was_sent : EachWasSent
 each_was_sent test fits e old answer new step all sent =
     subst (AllInFlight test) (sym step.traffic) (nothing_is_made_up test (setting_of old) e answer (slice_get old.stations (event_node e)) all sent)
-
--- ---- only a node that runs sends
-
--- where nothing is to be sent nothing is
-pub becoming_sends : (node : NodeView) (came : Outcome) → packets_by (becoming node) came ≡ []
-becoming_sends node outcome.NotDue = refl
-becoming_sends node outcome.Made = refl
-becoming_sends node (outcome.Refused TooLarge) = refl
-becoming_sends node (outcome.Refused Spent) = refl
-becoming_sends node outcome.Failed = refl
-
-putting_sends : (node : NodeView) (came : Outcome) → packets_by (putting node) came ≡ []
-putting_sends node outcome.NotDue = refl
-putting_sends node outcome.Made = refl
-putting_sends node (outcome.Refused TooLarge) = refl
-putting_sends node (outcome.Refused Spent) = refl
-putting_sends node outcome.Failed = refl
-
-due_sends : (due : Bool) (prospect : Prospect) (came : Outcome) → packets_by prospect came ≡ [] → packets_by (if_due due prospect) came ≡ []
-due_sends true prospect came none = none
-due_sends false prospect came none = refl
-
-spent_sends : (less : Bool) (prospect : Prospect) (came : Outcome) → packets_by prospect came ≡ [] → packets_by (unless_spent less prospect) came ≡ []
-spent_sends true prospect came none = none
-spent_sends false prospect came none = refl
-
-pub grant_sends : (job : Option JobView) (node : NodeView) (came : Outcome) → packets_by (grant_prospect job node) came ≡ []
-grant_sends None node came = refl
-grant_sends (Some job) node came = becoming_sends (with_grant (Some job) node) came
-
-telling_sends : (packets : List Packet) (node : NodeView) (came : Outcome) → packets ≡ [] → packets_by (telling packets node) came ≡ []
-telling_sends packets node outcome.NotDue none = refl
-telling_sends packets node outcome.Made none = none
-telling_sends packets node (outcome.Refused TooLarge) none = refl
-telling_sends packets node (outcome.Refused Spent) none = refl
-telling_sends packets node outcome.Failed none = refl
-
-pub deliver_sends : (net : Network) (place : ℕ) (bytes : Option (List ℕ)) (station : StationView) (came : Outcome) → packets_by (deliver_plan net place bytes station).prospect came ≡ []
-deliver_sends net place None station came = refl
-deliver_sends net place (Some bytes) station came = due_sends (not (is_down station.node.mode)) _ came (becoming_sends (told_by (packet_for net station.number bytes) station.node) came)
-
-silent : (net : Network) (home : ℕ) (kept : RecordView) (version : ℕ) (mode : ModeView) → is_running mode ≡ false → packets_from net home (running_in kept version mode) ≡ []
-silent net home kept version Down none = refl
-silent net home kept version InDoubt none = refl
-silent net home kept version (Runs running) none = absurd (cc)
-
-pub start_sends : (number : ℕ) (node : NodeView) (came : Outcome) → packets_by (start_prospect number node) came ≡ []
-start_sends number node came =
-    let whole = putting (with_kept (with_own_now number node) node) in
-    due_sends (may_start node) (unless_spent (nat_lt (highest_seen number node.kept) MAX_COUNT) whole) came
-    (spent_sends (nat_lt (highest_seen number node.kept) MAX_COUNT) whole came (putting_sends (with_kept (with_own_now number node) node) came))
-
-pub decide_sends : (number : ℕ) (node : NodeView) (came : Outcome) → packets_by (decide_prospect number node) came ≡ []
-decide_sends number node came = due_sends (may_decide number node) _ came (putting_sends (with_kept (decided node.kept) node) came)
-
-pub crash_sends : (restarts : Bool) (restart : ℕ) (node : NodeView) (came : Outcome) → packets_by (if_due restarts (crash_prospect restart node)) came ≡ []
-crash_sends restarts restart node came = due_sends restarts _ came (due_sends (not (is_down node.mode)) _ came (becoming_sends (crashed restart node) came))
-
-pub recover_sends : (restarts : Bool) (node : NodeView) (came : Outcome) → packets_by (if_due restarts (recover_prospect node)) came ≡ []
-recover_sends restarts node came =
-    due_sends restarts (recover_prospect node) came
-    (due_sends (is_down node.mode) (unless_spent (nat_lt node.kept.epoch MAX_COUNT) (putting (restored node))) came
-    (spent_sends (nat_lt node.kept.epoch MAX_COUNT) (putting (restored node)) came (putting_sends (restored node) came)))
-
-deed_sends : (setting : Setting) (k : ℕ) (deed : Deed) (station : StationView) (came : Outcome) → is_running station.node.mode ≡ false → packets_by (plan_of setting k deed station).prospect came ≡ []
-deed_sends setting k (event.Deliver place) station came none = deliver_sends setting.net place (due_bytes setting.round (flight_at setting k place)) station came
-deed_sends setting k event.Grant station came none = grant_sends (node_job setting.net setting.inputs station.node) station.node came
-deed_sends setting k event.Send station came none =
-    due_sends (not (is_down station.node.mode)) _ came (telling_sends (packets_of setting.net station.number station.node) station.node came (silent setting.net station.number station.node.kept station.node.version station.node.mode none))
-deed_sends setting k event.Start station came none = start_sends station.number station.node came
-deed_sends setting k event.Decide station came none = decide_sends station.number station.node came
-deed_sends setting k (event.Crash fill rounds) station came none = crash_sends setting.restarts (round_later setting.round rounds) station.node came
-deed_sends setting k event.Recover station came none = recover_sends setting.restarts station.node came
-deed_sends setting k (event.Arm fault rounds) station came none = becoming_sends (with_armed fault.call rounds station.node) came
-deed_sends setting k event.Idle station came none = becoming_sends station.node came
-
-pub only_running_send : OnlyRunningSend
-only_running_send setting (ByNode k deed) answer station none = ap (map sending_of) (deed_sends setting k deed station (outcome_of answer) none)
-only_running_send setting (Install done) answer station none = refl
-only_running_send setting (Release k) answer station none = refl
-only_running_send setting (ByNetwork k place act) answer station none = refl

@@ -12,7 +12,8 @@ use Rattle.protocol.specs.World.Replies.{outcome_of}
 use Rattle.protocol.specs.World.ReplyView.{ReplyView}
 use Rattle.protocol.specs.World.StationView.{StationView}
 use Rattle.protocol.specs.World.Steps.{IsRelease, IsStationStep, Setting, next_release, plan_of}
-use Rattle.protocol.specs.WorldLaws.PlanLaws.{IsSoundSetting, IsSoundStation, deed_sound, made_kept, next_record_node}
+use Rattle.protocol.specs.WorldLaws.DeedLaws.{deed_sound}
+use Rattle.protocol.specs.WorldLaws.PlanLaws.{IsSoundSetting, IsSoundStation, made_kept, next_record_node}
 
 install_kept : (channels : List Channel) (done : DoneView) (old : NodeView) (applied : Bool) (new : NodeView) → IsInstall channels done.job done.after done.taken done.sent old applied new → new.kept ≡ old.kept
 install_kept channels done old true new step = ap (λ (n : NodeView). n.kept) step.1

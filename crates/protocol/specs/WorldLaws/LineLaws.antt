@@ -32,7 +32,8 @@ use Rattle.protocol.specs.WorldLaws.OrderLaws.{behind_itself}
 use Rattle.protocol.specs.WorldLaws.OutputLaws.{map_at, output_there}
 use Rattle.protocol.specs.WorldLaws.ShownLaws.{shown_at}
 use Rattle.protocol.specs.World.OutputView.{OutputView}
-use Rattle.protocol.specs.WorldLaws.PlanLaws.{IsSoundSetting, IsSoundStation, deed_sound, next_record_ahead, next_record_sound}
+use Rattle.protocol.specs.WorldLaws.DeedLaws.{deed_sound}
+use Rattle.protocol.specs.WorldLaws.PlanLaws.{IsSoundSetting, IsSoundStation, next_record_ahead, next_record_sound}
 use Rattle.protocol.specs.World.RecordSound.{RecordIsSound}
 use Rattle.protocol.specs.World.RecoveryLine.{next_kept, net_seen, record_or_new, records_seen, outlets_seen, records_of, IsLineOf, FitsOutputs, LeavesInLine, LinesFollow}
 use Rattle.protocol.specs.World.Released.{released_of}

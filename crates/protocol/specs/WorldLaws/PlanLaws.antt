@@ -104,7 +104,7 @@ module _ (net : Network) (inputs : List (List ℤ)) where
   same_keeps old new same inv = subst (StationInvariant net inputs) (sym same) inv
 
   -- one that is down, with a sound record
-  down_keeps : (restart : ℕ) (node : NodeView) (failures : ℕ) (turns : RoundTurns) (old : StationView) → RecordIsSound net inputs node.kept (outputs_of old.outlets) → StationInvariant net inputs (moved_to (crashed restart node) failures turns old)
+  pub down_keeps : (restart : ℕ) (node : NodeView) (failures : ℕ) (turns : RoundTurns) (old : StationView) → RecordIsSound net inputs node.kept (outputs_of old.outlets) → StationInvariant net inputs (moved_to (crashed restart node) failures turns old)
   down_keeps restart node failures turns old kept = record { kept = kept; runs = λ run is. absurd (cc) }
 
   -- the node as it runs
@@ -114,7 +114,7 @@ module _ (net : Network) (inputs : List (List ℤ)) where
   -- ---- plans
 
   -- a node afterwards with the same record
-  sound_becoming : (node : NodeView) (old : StationView) → StationInvariant net inputs (moved_to node old.failures old.turns old) → node.kept ≡ old.node.kept → IsSoundProspect net inputs old (becoming node)
+  pub sound_becoming : (node : NodeView) (old : StationView) → StationInvariant net inputs (moved_to node old.failures old.turns old) → node.kept ≡ old.node.kept → IsSoundProspect net inputs old (becoming node)
   sound_becoming node old keeps same = record {
     keeps = keeps;
     stays = λ none. same;
@@ -124,11 +124,11 @@ module _ (net : Network) (inputs : List (List ℤ)) where
     refusable = All-nil (IsSendable net inputs);
   }
 
-  sound_if_due : (old : StationView) (due : Bool) (prospect : Prospect) → (due ≡ true → IsSoundProspect net inputs old prospect) → IsSoundProspect net inputs old (if_due due prospect)
+  pub sound_if_due : (old : StationView) (due : Bool) (prospect : Prospect) → (due ≡ true → IsSoundProspect net inputs old prospect) → IsSoundProspect net inputs old (if_due due prospect)
   sound_if_due old true prospect sound = sound refl
   sound_if_due old false prospect sound = tt
 
-  sound_unless_spent : (old : StationView) (less : Bool) (prospect : Prospect) → IsSoundProspect net inputs old prospect → IsSoundProspect net inputs old (unless_spent less prospect)
+  pub sound_unless_spent : (old : StationView) (less : Bool) (prospect : Prospect) → IsSoundProspect net inputs old prospect → IsSoundProspect net inputs old (unless_spent less prospect)
   sound_unless_spent old true prospect sound = sound
   sound_unless_spent old false prospect sound = tt
 
@@ -153,7 +153,7 @@ module _ (net : Network) (inputs : List (List ℤ)) where
           subst (λ (n : RunningNode). RunsSoundly net inputs n (outputs_of old.outlets)) (sym (after_grant_is old.node.kept old.node.version job before.0) ∙ before.2)
           (record { order = order_granted job node sound.order; sound = granted_sound net inputs (outputs_of old.outlets) job node next sound.sound })
 
-  grant_sound : (old : StationView) → StationInvariant net inputs old → IsSoundProspect net inputs old (grant_prospect (node_job net inputs old.node) old.node)
+  pub grant_sound : (old : StationView) → StationInvariant net inputs old → IsSoundProspect net inputs old (grant_prospect (node_job net inputs old.node) old.node)
   grant_sound old inv = at (node_job net inputs old.node) refl
     where
       at : (job : Option JobView) → node_job net inputs old.node ≡ job → IsSoundProspect net inputs old (grant_prospect job old.node)
@@ -203,7 +203,7 @@ module _ (net : Network) (inputs : List (List ℤ)) where
   own_ahead old InDoubt = behind_itself old.node.kept.permanent
   own_ahead old (Runs running) = behind_itself old.node.kept.permanent
 
-  start_sound : (old : StationView) → IsValid net → StationInvariant net inputs old → may_start old.node ≡ true → IsSoundPlan net inputs old (record { node = with_kept (with_own_now old.number old.node) old.node; puts = true; packets = []; refused = [] })
+  pub start_sound : (old : StationView) → IsValid net → StationInvariant net inputs old → may_start old.node ≡ true → IsSoundPlan net inputs old (record { node = with_kept (with_own_now old.number old.node) old.node; puts = true; grows = true; packets = []; refused = [] })
   start_sound old valid inv due = record {
     keeps = moved_keeps (with_kept (with_own_now old.number old.node) old.node) old.failures old.turns old (own_now_kept old valid inv) runs;
     stays = λ none. absurd (cc);
@@ -222,7 +222,7 @@ module _ (net : Network) (inputs : List (List ℤ)) where
           sym (ap (λ (kept : RecordView). running_in kept old.node.version (Runs now.0)) (own_now old now.0 now.1)) ∙ (sym (ap (running_in (with_own_now old.number old.node) old.node.version) now.1) ∙ is) in
           let same : keeping (with_own old.number now.0.current old.node.kept) (running_node old.node.kept old.node.version now.0) ≡ run = cc in
           subst (λ (n : RunningNode). RunsSoundly net inputs n (outputs_of old.outlets)) same (own_sound old now.0 inv now.1)
-  decide_sound : (old : StationView) → StationInvariant net inputs old → IsSoundPlan net inputs old (record { node = with_kept (decided old.node.kept) old.node; puts = true; packets = []; refused = [] })
+  pub decide_sound : (old : StationView) → StationInvariant net inputs old → IsSoundPlan net inputs old (record { node = with_kept (decided old.node.kept) old.node; puts = true; grows = false; packets = []; refused = [] })
   decide_sound old inv = record {
     keeps = moved_keeps (with_kept (decided old.node.kept) old.node) old.failures old.turns old (record_decided net inputs (outputs_of old.outlets) old.node.kept inv.kept) runs;
     stays = λ none. absurd (cc);
@@ -269,7 +269,7 @@ module _ (net : Network) (inputs : List (List ℤ)) where
             sound = restarted_sound net inputs (outputs_of old.outlets) (with_epoch old.node.kept) old.node.version valid here free (epoch_kept old inv);
           })
 
-  back_sound : (old : StationView) → IsValid net → AllHere net old.node.kept.node → StationInvariant net inputs old → IsSoundPlan net inputs old (record { node = restored old.node; puts = true; packets = []; refused = [] })
+  pub back_sound : (old : StationView) → IsValid net → AllHere net old.node.kept.node → StationInvariant net inputs old → IsSoundPlan net inputs old (record { node = restored old.node; puts = true; grows = false; packets = []; refused = [] })
   back_sound old valid here inv = record {
     keeps = restored_keeps old old.failures old.turns valid here inv;
     stays = λ none. absurd (cc);
@@ -309,7 +309,7 @@ module _ (net : Network) (inputs : List (List ℤ)) where
       at true e = e
       at false e = absurd (cc)
 
-  deliver_sound : (bytes : List ℕ) (to : ℕ) (old : StationView) → IsValid net → Fits net inputs → BytesAreSound net inputs to bytes → StationInvariant net inputs old
+  pub deliver_sound : (bytes : List ℕ) (to : ℕ) (old : StationView) → IsValid net → Fits net inputs → BytesAreSound net inputs to bytes → StationInvariant net inputs old
       → IsSoundProspect net inputs old (deliver_prospect (packet_for net old.number bytes) old.node)
   deliver_sound bytes to old valid fits sound inv = at (packet_for net old.number bytes) refl
     where
@@ -335,53 +335,6 @@ module _ (net : Network) (inputs : List (List ℤ)) (valid : IsValid net) (stati
   -- what it sends may be written
   pub station_writable : All IsWritable (packets_of net station.number station.node)
   station_writable = (let may : All (IsSendable net inputs) (packets_of net station.number station.node) = station_sendable in λ k d within. (may k d within).writable)
-
--- ---- each deed has a sound plan
-
-module _ (setting : Setting) (sure : IsSoundSetting setting) (old : StationView) (sound : IsSoundStation setting old) where
-  came_sound : (k place : ℕ) (flight : Option Flight) → flight_at setting k place ≡ flight → IsSoundProspect setting.net setting.inputs old (deliver_plan setting.net place (due_bytes setting.round flight) old).prospect
-  came_sound k place None is = tt
-  came_sound k place (Some flight) is = at (is_due setting.round flight)
-    where
-      at : (due : Bool) → IsSoundProspect setting.net setting.inputs old (deliver_plan setting.net place (bytes_when due flight.packet) old).prospect
-      at false = tt
-      at true =
-          deliver_sound setting.net setting.inputs flight.packet k old sure.valid sure.fits
-          (arrives_sound setting.net setting.inputs setting.traffic k place flight.packet sure.traffic (ap (option_map (λ (f : Flight). f.packet)) is)) sound.inv
-
-  pub deed_sound : (k : ℕ) (deed : Deed) → IsSoundProspect setting.net setting.inputs old (plan_of setting k deed old).prospect
-  deed_sound k (event.Deliver place) = came_sound k place (flight_at setting k place) refl
-  deed_sound k event.Grant = grant_sound setting.net setting.inputs old sound.inv
-  deed_sound k event.Send =
-      sound_if_due setting.net setting.inputs old (not (is_down old.node.mode)) (Planned (record { node = old.node; puts = false; packets = packets_of setting.net old.number old.node; refused = [] })) (λ up. record {
-        keeps = moved_keeps setting.net setting.inputs old.node old.failures old.turns old sound.inv.kept sound.inv.runs;
-        stays = λ none. refl;
-        same_node = refl;
-        ahead = behind_itself old.node.kept.permanent;
-        sendable = station_sendable setting.net setting.inputs sure.valid old sound.inv sound.named;
-        refusable = All-nil (IsSendable setting.net setting.inputs);
-      })
-  deed_sound k event.Start =
-      sound_if_due setting.net setting.inputs old (may_start old.node) _
-      (λ due. sound_unless_spent setting.net setting.inputs old _ (Planned (record { node = with_kept (with_own_now old.number old.node) old.node; puts = true; packets = []; refused = [] }))
-      (start_sound setting.net setting.inputs old sure.valid sound.inv due))
-  deed_sound k event.Decide =
-      sound_if_due setting.net setting.inputs old _ (Planned (record { node = with_kept (decided old.node.kept) old.node; puts = true; packets = []; refused = [] }))
-      (λ due. decide_sound setting.net setting.inputs old sound.inv)
-  deed_sound k (event.Crash fill rounds) =
-      let down = crashed (round_later setting.round rounds) old.node in
-      sound_if_due setting.net setting.inputs old setting.restarts _
-      (λ may. sound_if_due setting.net setting.inputs old (not (is_down old.node.mode)) (becoming down)
-      (λ up. sound_becoming setting.net setting.inputs down old (down_keeps setting.net setting.inputs (round_later setting.round rounds) old.node old.failures old.turns old sound.inv.kept) refl))
-  deed_sound k event.Recover =
-      sound_if_due setting.net setting.inputs old setting.restarts _
-      (λ may. sound_if_due setting.net setting.inputs old (is_down old.node.mode) _
-      (λ down. sound_unless_spent setting.net setting.inputs old _ (Planned (record { node = restored old.node; puts = true; packets = []; refused = [] }))
-      (back_sound setting.net setting.inputs old sure.valid (sound.here may) sound.inv)))
-  deed_sound k (event.Arm fault rounds) =
-      sound_becoming setting.net setting.inputs (with_armed fault.call rounds old.node) old
-      (moved_keeps setting.net setting.inputs (with_armed fault.call rounds old.node) old.failures old.turns old sound.inv.kept sound.inv.runs) refl
-  deed_sound k event.Idle = sound_becoming setting.net setting.inputs old.node old (moved_keeps setting.net setting.inputs old.node old.failures old.turns old sound.inv.kept sound.inv.runs) refl
 
 -- ---- however a plan comes out
 

@@ -20,7 +20,8 @@ use Rattle.protocol.specs.World.ReplyView as reply
 use Rattle.protocol.specs.World.Roomy.{HasFullRoom}
 use Rattle.protocol.specs.World.StationView.{StationView}
 use Rattle.protocol.specs.World.Steps.{IsAct, IsActOf, IsRelease, IsStationStep, Setting, WorldView, flight_at, next_release, plan_of, setting_of}
-use Rattle.protocol.specs.WorldLaws.PlanLaws.{IsSoundProspect, IsSoundSetting, IsSoundStation, deed_sound}
+use Rattle.protocol.specs.WorldLaws.DeedLaws.{deed_sound}
+use Rattle.protocol.specs.WorldLaws.PlanLaws.{IsSoundProspect, IsSoundSetting, IsSoundStation}
 use Rattle.protocol.specs.WorldLaws.StepKeeps.{world_station, world_sure}
 
 -- how long a record is, by its parts

@@ -52,7 +52,8 @@ use Rattle.protocol.specs.WorldLaws.KeptLaws.{step_node, step_number}
 use Rattle.protocol.specs.WorldLaws.LeaveLaws.{sound_released}
 use Rattle.protocol.specs.WorldLaws.OrderLaws.{order_ahead}
 use Rattle.protocol.specs.WorldLaws.OutputLaws.{map_at, set_cases}
-use Rattle.protocol.specs.WorldLaws.PlanLaws.{IsSoundPlan, IsSoundProspect, IsSoundSetting, IsSoundStation, deed_sound, made_keeps, moved_keeps, ran, runs_at, runs_now, same_keeps}
+use Rattle.protocol.specs.WorldLaws.DeedLaws.{deed_sound}
+use Rattle.protocol.specs.WorldLaws.PlanLaws.{IsSoundPlan, IsSoundProspect, IsSoundSetting, IsSoundStation, made_keeps, moved_keeps, ran, runs_at, runs_now, same_keeps}
 use Rattle.protocol.specs.WorldLaws.RecordLaws.{record_of}
 use Rattle.protocol.specs.WorldLaws.SendLaws.{IsSendable}
 use Rattle.protocol.specs.WorldLaws.TrafficLaws.{all_sent_sound, delayed_sound, gone_sound, repeated_sound, spelled_sound}

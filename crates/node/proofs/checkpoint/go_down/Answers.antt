@@ -10,7 +10,7 @@ returns-clause-store g c = record {
   left = c.crash.ensures.left;
   settled = c.crash.ensures.settled;
   any_moment = c.crash.ensures.any_moment;
-  same_room = c.crash.ensures.same_room;
+  same_setup = c.crash.ensures.same_setup;
   failures = c.crash.ensures.failures;
   same_failed = c.crash.ensures.same_failed;
 }
