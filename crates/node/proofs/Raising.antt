@@ -1,24 +1,24 @@
 -- A store that is reopened and put into its next epoch.
-use Rattle.std.proofs.Common.{◌≡◌, ℕ, ◌<◌, ◌≤◌, Bool, true, false, List, Option, Some, None, Result, Ok, Err, refl, ◌∙◌, ap, subst}
+use Rattle.std.proofs.Common.{◌≡◌, ℕ, ◌<◌, ◌≤◌, Bool, true, false, List, Option, Some, None, Result, Ok, Err, refl, sym, inl, ◌∙◌, ap, subst, arith}
 use Rattle.std.specs.Prelude.{IsTrue, IsErrOf, OnOk, OnErr, IfOk, IfErr, IsSome, nat_lt, cond}
 use Rattle.std.proofs.lemmas.Bool.{ltb-true}
-use Rattle.sector_disk.specs.Clock.{Only}
+use Rattle.sector_disk.specs.Clock.{LeavesOnly, Only}
 use Rattle.gate_cell.specs.declared.cell.StableCell.{Ghosts as CellWords}
 use Rattle.gate_cell.specs.Setup.{setup_then}
 use Rattle.record.specs.ImageView.{ImageView}
 use Rattle.record.specs.RecordView.{RecordView}
 use Rattle.record.specs.Moves.{with_epoch}
 use Rattle.kahn_net.specs.declared.limits.TheConstants.{MAX_COUNT}
-use Rattle.ckpt_store.specs.Spelling.{fits_in}
+use Rattle.ckpt_store.specs.Spelling.{fits_in, IsLengthTold}
 use Rattle.ckpt_store.specs.Loading.{IsOfReopening}
 use Rattle.ckpt_store.specs.Refusals.{refusal_to_raise, first_refusal, ComesFirst}
-use Rattle.ckpt_store.specs.StoreFault.{HasFailures}
+use Rattle.ckpt_store.specs.StoreFault.{HasFailures, IsOfPut}
 use Rattle.ckpt_store.specs.StoreView.{cell_in, known_in, record_in, record_spelled, Changes, Reopens}
 use Rattle.ckpt_store.specs.declared.store.Store.{Store}
 use Rattle.ckpt_store.specs.declared.fault.StoreFault.{StoreFault}
 use Rattle.ckpt_store.specs.declared.fault.StoreFault.TheVariants as fault
-use Rattle.node.specs.StoredView.{LeavesNext, IsRaised, IsRaiseRefusal}
-use Rattle.node.proofs.Records.{some_known, still_settled, looked, looked_on, looked_then, settled_ready, change_moments, change_fits, change_done}
+use Rattle.node.specs.StoredView.{LeavesAsBefore, LeavesNext, IsRaised, IsRaiseRefusal}
+use Rattle.node.proofs.Records.{some_known, still_settled, looked, looked_on, looked_then, settled_ready, change_refusals, change_moments, change_fits, change_done}
 
 of_reopening : (fits : Bool) (kept : RecordView) (e : StoreFault) → IsOfReopening e → IsRaiseRefusal fits kept e
 of_reopening fits kept fault.NoMemory is = tt
@@ -54,6 +54,7 @@ module _ {C : Type 0} (words : CellWords C)
     settled = λ other. still_settled words includes_now may_stay ready_settled old mid settled load.any_moment load.same_value;
     any_moment = looked words includes_now may_stay ready_settled (with_epoch (record_in old)) old mid load.any_moment;
     nothing_put = λ other. load.any_moment;
+    held_up = λ more. load.any_moment;
     same_setup = load.same_setup;
   }
     where
@@ -79,6 +80,7 @@ module _ {C : Type 0} (words : CellWords C)
         settled = raised.settled;
         any_moment = subst (λ (r : RecordView). LeavesNext (with_epoch r) old new) same (looked_then words includes_now may_stay ready_settled (with_epoch (record_in mid)) old mid new load.any_moment raised.any_moment);
         nothing_put = on_err result raised.nothing_put (λ quiet other. looked_on words includes_now may_stay ready_settled old mid new load.any_moment (quiet other));
+        held_up = on_err result raised.held_up (λ quiet more. looked_on words includes_now may_stay ready_settled old mid new load.any_moment (quiet (subst (λ (r : RecordView). MAX_COUNT ≤ r.epoch) (sym same) more)));
         same_setup = setup_then words.capacity words.armed words.call_count (cell_in old) (cell_in mid) (cell_in new) load.same_setup raised.same_setup;
       }
 
@@ -100,6 +102,7 @@ module _ {C : Type 0} (words : CellWords C)
         settled = λ other. settled_ready words includes_now may_stay ready_settled new done.1;
         any_moment = change_moments words includes_now may_stay ready_settled refusal_to_raise with_epoch old new (Ok tt) some fine changes;
         nothing_put = tt;
+        held_up = tt;
         same_setup = changes.same_setup;
       }
 
@@ -113,3 +116,74 @@ module _ {C : Type 0} (words : CellWords C)
       at : (b : Bool) → nat_lt (record_in old).epoch MAX_COUNT ≡ b → IsRaised old new (Ok image)
       at true test = raised_so new image is changes (ltb-true (record_in old).epoch MAX_COUNT test) (ap (λ (b : Bool). cond b None (Some fault.Spent)) test)
       at false test = let no : ComesFirst {T = Unit {0}} (Some fault.Spent) (Ok tt) = spent test in absurd (cc)
+
+  -- or it wasn't: nothing was put but where the device failed
+  module _ (only_now : (cell : C) (left : Option (List ℕ)) → words.left_since cell (words.moment cell) left → words.may_leave cell left) (new : Store C words) (e : StoreFault)
+      (changes : Changes refusal_to_raise with_epoch old new {T = Unit {0}} (Err e)) where
+    still : cell_in new ≡ cell_in old → LeavesAsBefore old new
+    still same = subst (λ (c : C). LeavesOnly words.moment words.left_since (cell_in old) c (words.may_leave (cell_in old))) (sym same)
+        (record { later = omega arith; each = λ left was. only_now (cell_in old) left was; before = λ t left le was. inl was; keeps = λ t left le had. had })
+
+    device_so : IsErrOf {T = Unit {0}} (Err e) fault.Device → IsErrOf {T = ImageView} (Err e) fault.Device
+    device_so is = let same : e ≡ fault.Device = cc in ap Err same
+
+    device_too : IsErrOf {T = ImageView} (Err e) fault.Device → IsErrOf {T = Unit {0}} (Err e) fault.Device
+    device_too is = let same : e ≡ fault.Device = cc in ap Err same
+
+    of_put : (fits : Bool) (f : StoreFault) → (record_in old).epoch < MAX_COUNT → IsOfPut f → IsLengthTold {T = Unit {0}} fits (Err f) → IsRaiseRefusal fits (record_in old) f
+    of_put fits fault.NoMemory less is long = tt
+    of_put fits fault.Device less is long = tt
+    of_put fits fault.TooLarge less is long = (less, long)
+    of_put fits fault.Reopen less is long = absurd is
+    of_put fits fault.Truncated less is long = absurd is
+    of_put fits fault.Version less is long = absurd is
+    of_put fits fault.Malformed less is long = absurd is
+    of_put fits fault.HoldsOther less is long = absurd is
+    of_put fits fault.PastNumber less is long = absurd is
+    of_put fits fault.NotHeld less is long = absurd is
+    of_put fits fault.Unsettled less is long = absurd is
+    of_put fits fault.Spent less is long = absurd is
+
+    -- there is no next epoch
+    spent_is : nat_lt (record_in old).epoch MAX_COUNT ≡ false → e ≡ fault.Spent
+    spent_is test =
+        let first : ComesFirst {T = Unit {0}} (Some fault.Spent) (Err e) =
+        subst (λ (o : Option StoreFault). ComesFirst {T = Unit {0}} o (Err e)) (ap (first_refusal refusal_to_raise) (some_known words old some) ∙ ap (λ (b : Bool). cond b None (Some fault.Spent)) test) changes.refusals in
+        cc
+
+    by_test : {P : Type 0} → (nat_lt (record_in old).epoch MAX_COUNT ≡ true → P) → (nat_lt (record_in old).epoch MAX_COUNT ≡ false → P) → P
+    by_test {P} t f = at (nat_lt (record_in old).epoch MAX_COUNT) t f
+      where
+        at : (b : Bool) → (b ≡ true → P) → (b ≡ false → P) → P
+        at true t f = t refl
+        at false t f = f refl
+
+    fine : nat_lt (record_in old).epoch MAX_COUNT ≡ true → refusal_to_raise (record_in old) ≡ None
+    fine test = ap (λ (b : Bool). cond b None (Some fault.Spent)) test
+
+    not_spent : MAX_COUNT ≤ (record_in old).epoch → nat_lt (record_in old).epoch MAX_COUNT ≡ true → ⊥
+    not_spent more test = (let less : (record_in old).epoch < MAX_COUNT = ltb-true (record_in old).epoch MAX_COUNT test in absurd (omega (arith, more, less)))
+
+    held : nat_lt (record_in old).epoch MAX_COUNT ≡ false → LeavesAsBefore old new
+    held test = still (changes.same_cell (λ is. (let same = spent_is test in cc)))
+
+    pub refused_so : IsRaised old new (Err e)
+    refused_so = record {
+      image = tt;
+      raised = tt;
+      refused = by_test (λ test. of_put (fits_in (words.capacity (cell_in old)) (with_epoch (record_in old))) e (ltb-true (record_in old).epoch MAX_COUNT test)
+          (change_refusals words includes_now may_stay ready_settled refusal_to_raise with_epoch old new (Err e) some (fine test) changes)
+          (change_fits words includes_now may_stay ready_settled refusal_to_raise with_epoch old new (Err e) some (fine test) changes))
+          (λ test. subst (IsRaiseRefusal (fits_in (words.capacity (cell_in old)) (with_epoch (record_in old))) (record_in old)) (sym (spent_is test)) (not_less (record_in old).epoch MAX_COUNT test));
+      same_record = λ other. ap (λ (c : C). record_spelled (words.value c)) (changes.same_cell (λ is. other (device_so is)));
+      failures = record { device = λ is. changes.failures.device (device_too is); otherwise = λ other. changes.failures.otherwise (λ is. other (device_so is)) };
+      settled = λ other. subst (λ (c : C). Only (Some (words.value c)) (words.may_leave c)) (sym (changes.same_cell (λ is. other (device_so is)))) settled;
+      any_moment = by_test (λ test. change_moments words includes_now may_stay ready_settled refusal_to_raise with_epoch old new (Err e) some (fine test) changes)
+          (λ test. looked words includes_now may_stay ready_settled (with_epoch (record_in old)) old new (held test));
+      nothing_put = λ other. still (changes.same_cell (λ is. other (device_so is)));
+      held_up = λ more. by_test (λ test. absurd (not_spent more test)) held;
+      same_setup = changes.same_setup;
+    }
+      where
+        not_less : (n m : ℕ) → nat_lt n m ≡ false → m ≤ n
+        not_less n m test = grind (arith, test)

@@ -148,8 +148,8 @@ module _ {C : Type 0} (words : CellWords C)
 
         planned : start_prospect number was ≡ putting true (with_kept (with_own_now number was) was)
         planned =
-            ap (λ (b : Bool). if_due b (unless_spent (nat_lt (highest_seen number (record_in old)) MAX_COUNT) (putting true (with_kept (with_own_now number was) was)))) due
-            ∙ ap (λ (b : Bool). unless_spent b (putting true (with_kept (with_own_now number was) was))) seen_less
+            ap (λ (b : Bool). if_due b (unless_spent false (nat_lt (highest_seen number (record_in old)) MAX_COUNT) (putting true (with_kept (with_own_now number was) was)))) due
+            ∙ ap (λ (b : Bool). unless_spent false b (putting true (with_kept (with_own_now number was) was))) seen_less
 
   -- ---- a decision
 
@@ -185,15 +185,15 @@ module _ {C : Type 0} (words : CellWords C)
 
 module _ {C : Type 0} {words : CellWords C} (prospect : Prospect) (round : ℕ) (was : NodeView) (store : Store C words) {E : Type 0} where
   -- the event isn't due
-  pub undue_event : prospect ≡ Undue → LeavesNext was.kept store store → IsPutEvent {E = E} prospect round was was store store (Ok outcome.NotDue)
-  undue_event is nothing = subst (λ (p : Prospect). IsPutEvent {E = E} p round was was store store (Ok outcome.NotDue)) (sym is)
+  pub undue_event : prospect ≡ Undue → LeavesNext was.kept store store → IsPutEvent prospect round was was store store {E = E} (Ok outcome.NotDue)
+  undue_event is nothing = subst (λ (p : Prospect). IsPutEvent p round was was store store {E = E} (Ok outcome.NotDue)) (sym is)
       (record { step = (refl, refl); refused = tt; refused_failures = tt; put = refl; any_moment = nothing; same_setup = setup_stays words.capacity words.armed words.call_count (cell_in store) })
 
   -- or a number would pass the greatest
-  pub spent_event : prospect ≡ Exhausted → LeavesNext was.kept store store → IsPutEvent {E = E} prospect round was was store store (Ok (outcome.Refused Spent))
-  spent_event is nothing = subst (λ (p : Prospect). IsPutEvent {E = E} p round was was store store (Ok (outcome.Refused Spent))) (sym is)
-      (record { step = (refl, refl); refused = tt; refused_failures = tt; put = refl; any_moment = nothing; same_setup = setup_stays words.capacity words.armed words.call_count (cell_in store) })
+  pub spent_event : prospect ≡ Exhausted false → LeavesNext was.kept store store → IsPutEvent prospect round was was store store {E = E} (Ok (outcome.Refused Spent))
+  spent_event is nothing = subst (λ (p : Prospect). IsPutEvent p round was was store store {E = E} (Ok (outcome.Refused Spent))) (sym is)
+      (record { step = refl; refused = tt; refused_failures = tt; put = refl; any_moment = nothing; same_setup = setup_stays words.capacity words.armed words.call_count (cell_in store) })
 
   -- or memory is missing
-  pub refused_event : (e : E) → LeavesNext (next_record prospect was.kept) store store → IsPutEvent {E = E} prospect round was was store store (Err e)
+  pub refused_event : (e : E) → LeavesNext (next_record prospect was.kept) store store → IsPutEvent prospect round was was store store {E = E} (Err e)
   refused_event e nothing = record { step = tt; refused = refl; refused_failures = refl; put = tt; any_moment = nothing; same_setup = setup_stays words.capacity words.armed words.call_count (cell_in store) }

@@ -67,7 +67,9 @@ pub record IsRaised {C : Type 0} {words : CellWords C} (old new : Store C words)
   pub failures : HasFailures (words.failure_count (cell_in old)) (words.failure_count (cell_in new)) result
   pub settled : ¬ (IsErrOf result fault.Device) → Only (Some (words.value (cell_in new))) (words.may_leave (cell_in new))
   pub any_moment : LeavesNext (with_epoch (record_in old)) old new
+  -- where it was refused, or there is no next epoch, nothing was put
   pub nothing_put : OnErr result (¬ (IsErrOf result fault.Device) → LeavesAsBefore old new)
+  pub held_up : OnErr result (MAX_COUNT ≤ (record_in old).epoch → LeavesAsBefore old new)
   pub same_setup : LeavesDevice old new
 
 -- what a put that the store did, or refused, comes to: nothing where memory was missing

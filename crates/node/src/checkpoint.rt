@@ -42,7 +42,7 @@ fn has_failed(put: &Result<(), StoreFault>) -> bool
 }
 
 // The device failed: the node goes down in the same event, or stays so, and what its cell holds is settled.
-pub(crate) fn go_down<C: StableCell>(state: &mut NodeState, store: &mut Store<C>, round: u64)
+fn go_down<C: StableCell>(state: &mut NodeState, store: &mut Store<C>, round: u64)
     ensures store { IsCrashed store.old store.new }
     ensures state { (kept : RecordView) → node_view kept state.new
         ≡ crashed (restart_after state.old.armed.items (C.failed_call (cell_in store.new)) round)
@@ -54,7 +54,7 @@ pub(crate) fn go_down<C: StableCell>(state: &mut NodeState, store: &mut Store<C>
 }
 
 // Ends an event by what came of its put.
-fn end_put<C: StableCell>(
+pub(crate) fn end_put<C: StableCell>(
     put: Result<(), StoreFault>,
     state: &mut NodeState,
     store: &mut Store<C>,
@@ -67,10 +67,11 @@ fn end_put<C: StableCell>(
         ≡ crashed (restart_after state.old.armed.items (C.failed_call (cell_in store.new)) round)
         (node_view kept state.old)) }
 {
-    if has_failed(&put) {
-        go_down(state, store, round);
+    if !has_failed(&put) {
+        return outcome_of(&put);
     }
-    outcome_of(&put)
+    go_down(state, store, round);
+    Ok(Outcome::Failed)
 }
 
 // The highest number that a node has used.

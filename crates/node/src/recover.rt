@@ -8,13 +8,13 @@ ghost use Rattle.node.specs.NodeView.{mode_view, node_view};
 ghost use Rattle.node.specs.Putting.{IsPutEvent};
 ghost use Rattle.node.specs.StoredView.{HasRecord, IsRaised, LeavesAsBefore, LeavesDevice};
 
-use crate::checkpoint::go_down;
+use crate::checkpoint::end_put;
 use crate::mode::Mode;
 use crate::running::Running;
 use crate::state::NodeState;
 use ckpt_store::{Store, StoreFault};
 use gate_cell::StableCell;
-use protocol::{Outcome, Refusal};
+use protocol::Outcome;
 use record::Image;
 use std::alloc::{AllocError, Global};
 
@@ -125,12 +125,6 @@ pub(crate) fn recover<C: StableCell>(
             state.mode = mode_from(alloc, image, holds(store));
             Ok(Outcome::Made)
         }
-        Err(StoreFault::NoMemory) => Err(AllocError),
-        Err(StoreFault::Device) => {
-            go_down(state, store, round);
-            Ok(Outcome::Failed)
-        }
-        Err(StoreFault::Spent) => Ok(Outcome::Refused(Refusal::Spent)),
-        Err(_) => Ok(Outcome::Refused(Refusal::TooLarge)),
+        Err(fault) => end_put(Err(fault), state, store, round),
     }
 }

@@ -24,10 +24,11 @@ pub record Plan : Type 0 where
   pub packets : List Packet
   pub refused : List Packet
 
--- What an event comes to: it can't happen; or a number would pass the greatest; or it is as planned.
+-- What an event comes to: it can't happen; or a number would pass the greatest, which may be seen only behind a look at the device; or it is as
+-- planned.
 pub data Prospect : Type 0 where
   Undue : Prospect
-  Exhausted : Prospect
+  Exhausted : (looks : Bool) → Prospect
   Planned : (plan : Plan) → Prospect
 
 -- a node afterwards, and nothing else
@@ -47,8 +48,8 @@ abbrev pub if_due : Bool → Prospect → Prospect
 if_due due prospect = if due then prospect else Undue
 
 -- and where no number passes the greatest
-abbrev pub unless_spent : Bool → Prospect → Prospect
-unless_spent less prospect = if less then prospect else Exhausted
+abbrev pub unless_spent : Bool → Bool → Prospect → Prospect
+unless_spent looks less prospect = if less then prospect else Exhausted looks
 
 -- ---- how it comes out
 
@@ -65,9 +66,17 @@ IsCarriedOut restart plan old (outcome.Refused TooLarge) new = IsTrue plan.grows
 IsCarriedOut restart plan old (outcome.Refused Spent) new = ⊥
 IsCarriedOut restart plan old outcome.Failed new = IsTrue plan.puts × HasFailedAt restart plan.node.kept old new
 
+-- A number would pass the greatest: that is refused, and nothing is done; or the device fails before, where it is looked at.
+abbrev pub IsHeldUp : ℕ → Bool → NodeView → Outcome → NodeView → Type 0
+IsHeldUp restart looks old outcome.NotDue new = ⊥
+IsHeldUp restart looks old outcome.Made new = ⊥
+IsHeldUp restart looks old (outcome.Refused TooLarge) new = ⊥
+IsHeldUp restart looks old (outcome.Refused Spent) new = new ≡ old
+IsHeldUp restart looks old outcome.Failed new = IsTrue looks × (new ≡ crashed restart old)
+
 abbrev pub IsMade : ℕ → Prospect → NodeView → Outcome → NodeView → Type 0
 IsMade restart Undue old came new = (came ≡ outcome.NotDue) × (new ≡ old)
-IsMade restart Exhausted old came new = (came ≡ outcome.Refused Spent) × (new ≡ old)
+IsMade restart (Exhausted looks) old came new = IsHeldUp restart looks old came new
 IsMade restart (Planned plan) old came new = IsCarriedOut restart plan old came new
 
 -- the record that it puts, or the one that is kept
@@ -76,13 +85,13 @@ plan_record plan kept = if plan.puts then plan.node.kept else kept
 
 abbrev pub next_record : Prospect → RecordView → RecordView
 next_record Undue kept = kept
-next_record Exhausted kept = kept
+next_record (Exhausted looks) kept = kept
 next_record (Planned plan) kept = plan_record plan kept
 
 -- the cell has room for the record that it puts, if it puts one
 abbrev pub room_for : (RecordView → Bool) → Prospect → Bool
 room_for fits Undue = true
-room_for fits Exhausted = true
+room_for fits (Exhausted looks) = true
 room_for fits (Planned plan) = if plan.puts then fits plan.node.kept else true
 
 -- What the cell has to do with that, whose device failed so often before and after: the record has room unless it was refused since it has none,
@@ -112,5 +121,5 @@ plan_packets plan outcome.Failed = []
 
 abbrev pub packets_by : Prospect → Outcome → List Packet
 packets_by Undue came = []
-packets_by Exhausted came = []
+packets_by (Exhausted looks) came = []
 packets_by (Planned plan) came = plan_packets plan came

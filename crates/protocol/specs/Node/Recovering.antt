@@ -34,4 +34,4 @@ restored_from image false = Runs (record { current = image; out = None; last = N
 
 -- a node that is down comes back, if there is a next epoch
 abbrev pub recover_prospect : NodeView → Prospect
-recover_prospect node = if_due (is_down node.mode) (unless_spent (nat_lt node.kept.epoch MAX_COUNT) (putting false (restored node)))
+recover_prospect node = if_due (is_down node.mode) (unless_spent true (nat_lt node.kept.epoch MAX_COUNT) (putting false (restored node)))

@@ -52,7 +52,7 @@ decided kept = with_decision (held_number kept.tentative) [] kept
 -- how a tentative image is taken, under the next number, if there is one
 abbrev pub start_prospect : ℕ → NodeView → Prospect
 start_prospect number node =
-    if_due (may_start node) (unless_spent (nat_lt (highest_seen number node.kept) MAX_COUNT) (putting true (with_kept (with_own_now number node) node)))
+    if_due (may_start node) (unless_spent false (nat_lt (highest_seen number node.kept) MAX_COUNT) (putting true (with_kept (with_own_now number node) node)))
 
 -- and how it is made permanent
 abbrev pub decide_prospect : ℕ → NodeView → Prospect

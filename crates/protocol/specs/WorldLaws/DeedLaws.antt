@@ -63,9 +63,9 @@ due_sends : (due : Bool) (prospect : Prospect) (came : Outcome) → packets_by p
 due_sends true prospect came none = none
 due_sends false prospect came none = refl
 
-spent_sends : (less : Bool) (prospect : Prospect) (came : Outcome) → packets_by prospect came ≡ [] → packets_by (unless_spent less prospect) came ≡ []
-spent_sends true prospect came none = none
-spent_sends false prospect came none = refl
+spent_sends : (looks less : Bool) (prospect : Prospect) (came : Outcome) → packets_by prospect came ≡ [] → packets_by (unless_spent looks less prospect) came ≡ []
+spent_sends looks true prospect came none = none
+spent_sends looks false prospect came none = refl
 
 pub grant_sends : (job : Option JobView) (node : NodeView) (came : Outcome) → packets_by (grant_prospect job node) came ≡ []
 grant_sends None node came = refl
@@ -90,8 +90,8 @@ silent net home kept version (Runs running) none = absurd (cc)
 pub start_sends : (number : ℕ) (node : NodeView) (came : Outcome) → packets_by (start_prospect number node) came ≡ []
 start_sends number node came =
     let whole = putting true (with_kept (with_own_now number node) node) in
-    due_sends (may_start node) (unless_spent (nat_lt (highest_seen number node.kept) MAX_COUNT) whole) came
-    (spent_sends (nat_lt (highest_seen number node.kept) MAX_COUNT) whole came (putting_sends true (with_kept (with_own_now number node) node) came))
+    due_sends (may_start node) (unless_spent false (nat_lt (highest_seen number node.kept) MAX_COUNT) whole) came
+    (spent_sends false (nat_lt (highest_seen number node.kept) MAX_COUNT) whole came (putting_sends true (with_kept (with_own_now number node) node) came))
 
 pub decide_sends : (number : ℕ) (node : NodeView) (came : Outcome) → packets_by (decide_prospect number node) came ≡ []
 decide_sends number node came = due_sends (may_decide number node) _ came (putting_sends false (with_kept (decided node.kept) node) came)
@@ -102,8 +102,8 @@ crash_sends restarts restart node came = due_sends restarts _ came (due_sends (n
 pub recover_sends : (restarts : Bool) (node : NodeView) (came : Outcome) → packets_by (if_due restarts (recover_prospect node)) came ≡ []
 recover_sends restarts node came =
     due_sends restarts (recover_prospect node) came
-    (due_sends (is_down node.mode) (unless_spent (nat_lt node.kept.epoch MAX_COUNT) (putting false (restored node))) came
-    (spent_sends (nat_lt node.kept.epoch MAX_COUNT) (putting false (restored node)) came (putting_sends false (restored node) came)))
+    (due_sends (is_down node.mode) (unless_spent true (nat_lt node.kept.epoch MAX_COUNT) (putting false (restored node))) came
+    (spent_sends true (nat_lt node.kept.epoch MAX_COUNT) (putting false (restored node)) came (putting_sends false (restored node) came)))
 
 -- ---- what is dropped
 
@@ -178,7 +178,7 @@ module _ (setting : Setting) (sure : IsSoundSetting setting) (old : StationView)
       })
   deed_sound k event.Start =
       sound_if_due setting.net setting.inputs old (may_start old.node) _
-      (λ due. sound_unless_spent setting.net setting.inputs old _ (Planned (record { node = with_kept (with_own_now old.number old.node) old.node; puts = true; grows = true; packets = []; refused = [] }))
+      (λ due. sound_unless_spent setting.net setting.inputs old false _ (Planned (record { node = with_kept (with_own_now old.number old.node) old.node; puts = true; grows = true; packets = []; refused = [] }))
       (start_sound setting.net setting.inputs old sure.valid sound.inv due))
   deed_sound k event.Decide =
       sound_if_due setting.net setting.inputs old _ (Planned (record { node = with_kept (decided old.node.kept) old.node; puts = true; grows = false; packets = []; refused = [] }))
@@ -191,7 +191,7 @@ module _ (setting : Setting) (sure : IsSoundSetting setting) (old : StationView)
   deed_sound k event.Recover =
       sound_if_due setting.net setting.inputs old setting.restarts _
       (λ may. sound_if_due setting.net setting.inputs old (is_down old.node.mode) _
-      (λ down. sound_unless_spent setting.net setting.inputs old _ (Planned (record { node = restored old.node; puts = true; grows = false; packets = []; refused = [] }))
+      (λ down. sound_unless_spent setting.net setting.inputs old true _ (Planned (record { node = restored old.node; puts = true; grows = false; packets = []; refused = [] }))
       (back_sound setting.net setting.inputs old sure.valid (sound.here may) sound.inv)))
   deed_sound k (event.Arm fault rounds) =
       sound_becoming setting.net setting.inputs (with_armed fault.call rounds old.node) old

@@ -25,7 +25,7 @@ use Rattle.protocol.specs.Node.JobView.{JobView}
 use Rattle.protocol.specs.Node.Layout.{AllHere}
 use Rattle.protocol.specs.Node.Modes.{crashed, is_down, is_none, is_running, keeping, with_kept}
 use Rattle.protocol.specs.Node.NodeView.{NodeView, ModeView, Down, InDoubt, Runs, RunningView, RunningNode, running_node, running_in, running_of, on_mode}
-use Rattle.protocol.specs.Node.Plans.{Plan, Prospect, Undue, Exhausted, Planned, becoming, if_due, unless_spent, HasFailedAt, IsCarriedOut, IsMade, next_record, plan_record}
+use Rattle.protocol.specs.Node.Plans.{Plan, Prospect, Undue, Exhausted, Planned, becoming, if_due, unless_spent, HasFailedAt, IsCarriedOut, IsHeldUp, IsMade, next_record, plan_record}
 use Rattle.protocol.specs.Node.Recovering.{restored, restored_with}
 use Rattle.protocol.specs.Node.Sending.{packets_from, packets_of, IsWritable}
 use Rattle.protocol.specs.Node.Starting.{IsBehind, decided, may_start, own_at, with_own, with_own_now}
@@ -75,7 +75,7 @@ pub record IsSoundPlan (net : Network) (inputs : List (List ℤ)) (old : Station
 
 abbrev pub IsSoundProspect : Network → List (List ℤ) → StationView → Prospect → Type 0
 IsSoundProspect net inputs old Undue = Unit {0}
-IsSoundProspect net inputs old Exhausted = Unit {0}
+IsSoundProspect net inputs old (Exhausted looks) = Unit {0}
 IsSoundProspect net inputs old (Planned plan) = IsSoundPlan net inputs old plan
 
 -- a node that runs after a change ran before it
@@ -128,9 +128,9 @@ module _ (net : Network) (inputs : List (List ℤ)) where
   sound_if_due old true prospect sound = sound refl
   sound_if_due old false prospect sound = tt
 
-  pub sound_unless_spent : (old : StationView) (less : Bool) (prospect : Prospect) → IsSoundProspect net inputs old prospect → IsSoundProspect net inputs old (unless_spent less prospect)
-  sound_unless_spent old true prospect sound = sound
-  sound_unless_spent old false prospect sound = tt
+  pub sound_unless_spent : (old : StationView) (looks less : Bool) (prospect : Prospect) → IsSoundProspect net inputs old prospect → IsSoundProspect net inputs old (unless_spent looks less prospect)
+  sound_unless_spent old looks true prospect sound = sound
+  sound_unless_spent old looks false prospect sound = tt
 
   -- ---- a job that is granted
 
@@ -351,7 +351,7 @@ module _ (net : Network) (inputs : List (List ℤ)) (old : StationView) where
   next_by : (P : RecordView → Type 0) → P old.node.kept → (prospect : Prospect) → IsSoundProspect net inputs old prospect → ((plan : Plan) → IsSoundPlan net inputs old plan → P plan.node.kept)
       → P (next_record prospect old.node.kept)
   next_by P was Undue sound of_plan = was
-  next_by P was Exhausted sound of_plan = was
+  next_by P was (Exhausted looks) sound of_plan = was
   next_by P was (Planned plan) sound of_plan = subst P (record_is plan sound) (of_plan plan sound)
 
   pub next_record_sound : (prospect : Prospect) → IsSoundProspect net inputs old prospect → StationInvariant net inputs old → RecordIsSound net inputs (next_record prospect old.node.kept) (outputs_of old.outlets)
@@ -376,10 +376,17 @@ module _ (net : Network) (inputs : List (List ℤ)) (old : StationView) where
   carried_kept restart plan (outcome.Refused Spent) node sound step = absurd step
   carried_kept restart plan outcome.Failed node sound step = ⊎_elim (λ same. inl same) (λ next. inr (next ∙ record_is plan sound)) (failed_kept restart plan.node.kept node step.1)
 
+  held_kept : (restart : ℕ) (looks : Bool) (outcome : Outcome) (node : NodeView) → IsHeldUp restart looks old.node outcome node → node.kept ≡ old.node.kept
+  held_kept restart looks outcome.NotDue node step = absurd step
+  held_kept restart looks outcome.Made node step = absurd step
+  held_kept restart looks (outcome.Refused TooLarge) node step = absurd step
+  held_kept restart looks (outcome.Refused Spent) node step = ap (λ (n : NodeView). n.kept) step
+  held_kept restart looks outcome.Failed node step = ap (λ (n : NodeView). n.kept) step.1
+
   pub made_kept : (restart : ℕ) (prospect : Prospect) (outcome : Outcome) (node : NodeView) → IsSoundProspect net inputs old prospect → IsMade restart prospect old.node outcome node
       → (node.kept ≡ old.node.kept) ⊎ (node.kept ≡ next_record prospect old.node.kept)
   made_kept restart Undue outcome node sound step = inl (ap (λ (n : NodeView). n.kept) step.1)
-  made_kept restart Exhausted outcome node sound step = inl (ap (λ (n : NodeView). n.kept) step.1)
+  made_kept restart (Exhausted looks) outcome node sound step = inl (held_kept restart looks outcome node step)
   made_kept restart (Planned plan) outcome node sound step = carried_kept restart plan outcome node sound step
 
   -- and the station is sound
@@ -397,14 +404,23 @@ module _ (net : Network) (inputs : List (List ℤ)) (old : StationView) where
       ⊎_elim (λ same. subst (λ (n : NodeView). StationInvariant net inputs (moved_to n failures turns old)) (sym same) (down_keeps net inputs restart old.node failures turns old inv.kept))
       (λ same. subst (λ (n : NodeView). StationInvariant net inputs (moved_to n failures turns old)) (sym same) (down_keeps net inputs restart (with_kept plan.node.kept old.node) failures turns old sound.keeps.kept)) step.1
 
+  held_keeps : (restart : ℕ) (looks : Bool) (outcome : Outcome) (node : NodeView) (failures : ℕ) (turns : RoundTurns) → StationInvariant net inputs old → IsHeldUp restart looks old.node outcome node
+      → StationInvariant net inputs (moved_to node failures turns old)
+  held_keeps restart looks outcome.NotDue node failures turns inv step = absurd step
+  held_keeps restart looks outcome.Made node failures turns inv step = absurd step
+  held_keeps restart looks (outcome.Refused TooLarge) node failures turns inv step = absurd step
+  held_keeps restart looks (outcome.Refused Spent) node failures turns inv step = stays_so node failures turns inv step
+  held_keeps restart looks outcome.Failed node failures turns inv step =
+      subst (λ (n : NodeView). StationInvariant net inputs (moved_to n failures turns old)) (sym step.1) (down_keeps net inputs restart old.node failures turns old inv.kept)
+
   pub made_keeps : (restart : ℕ) (prospect : Prospect) (outcome : Outcome) (node : NodeView) (failures : ℕ) (turns : RoundTurns) → StationInvariant net inputs old → IsSoundProspect net inputs old prospect
       → IsMade restart prospect old.node outcome node → StationInvariant net inputs (moved_to node failures turns old)
   made_keeps restart Undue outcome node failures turns inv sound step = stays_so node failures turns inv step.1
-  made_keeps restart Exhausted outcome node failures turns inv sound step = stays_so node failures turns inv step.1
+  made_keeps restart (Exhausted looks) outcome node failures turns inv sound step = held_keeps restart looks outcome node failures turns inv step
   made_keeps restart (Planned plan) outcome node failures turns inv sound step = carried_keeps restart plan outcome node failures turns inv sound step
 
 -- From which round on a node may be recovered whose device failed
 pub made_restarts : (restart : ℕ) (prospect : Prospect) (old new : NodeView) → IsMade restart prospect old outcome.Failed new → new.restart ≡ restart
 made_restarts restart Undue old new step = (let other = step.0 in absurd (cc))
-made_restarts restart Exhausted old new step = (let other = step.0 in absurd (cc))
+made_restarts restart (Exhausted looks) old new step = ap (λ (n : NodeView). n.restart) step.1
 made_restarts restart (Planned plan) old new step = ⊎_elim (λ same. ap (λ (n : NodeView). n.restart) same) (λ same. ap (λ (n : NodeView). n.restart) same) step.1

@@ -68,7 +68,7 @@ release_fits round (Some place) old answer new step =
 prospect_fits : (net : Network) (inputs : List (List ℤ)) (capacity : ℕ) → MAX_RECORD_BYTES ≤ capacity → (old : StationView) (prospect : Prospect) → IsSoundProspect net inputs old prospect
     → room_for (fits_in capacity) prospect ≡ true
 prospect_fits net inputs capacity room old Undue sound = refl
-prospect_fits net inputs capacity room old Exhausted sound = refl
+prospect_fits net inputs capacity room old (Exhausted looks) sound = refl
 prospect_fits net inputs capacity room old (Planned plan) sound = at plan.puts
     where
       at : (b : Bool) → cond b (fits_in capacity plan.node.kept) true ≡ true

@@ -262,7 +262,7 @@ module _ (net : Network) (inputs : List (List ℤ)) where
 
   sendable : (old : StationView) (prospect : Prospect) → IsSoundProspect net inputs old prospect → (outcome : Outcome) → All (IsSendable net inputs) (packets_by prospect outcome)
   sendable old Undue sound outcome = All-nil (IsSendable net inputs)
-  sendable old Exhausted sound outcome = All-nil (IsSendable net inputs)
+  sendable old (Exhausted looks) sound outcome = All-nil (IsSendable net inputs)
   sendable old (Planned plan) sound outcome = plan_sendable old plan sound outcome
 
   left_sound : (traffic : Traffic) (k : ℕ) (came : Option ℕ) → TrafficIsSound net inputs traffic → TrafficIsSound net inputs (traffic_left traffic k came)
