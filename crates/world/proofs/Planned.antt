@@ -1,20 +1,25 @@
 -- Deeds come out by their plans.
-use Rattle.std.proofs.Common.{◌≡◌, ℕ, Bool, true, false, cond, List, [], Option, Some, None, Result, Ok, Err, refl, sym, ap, subst, ◌∙◌, All}
-use Rattle.std.specs.Prelude.{IfOk, OnErr}
+use Rattle.std.proofs.Common.{◌≡◌, ℕ, Bool, cond, List, [], Option, Some, None, Ok, refl, sym, ap, subst, ◌∙◌, All}
+use Rattle.std.specs.Prelude.{is_some, option_map}
 use Rattle.std.proofs.lemmas.List.Elements.{All-nil}
 use Rattle.datagram.specs.PacketText.{IsPacket}
 use Rattle.datagram.specs.declared.packet.Packet.{Packet}
 use Rattle.record.specs.RecordView.{RecordView}
 use Rattle.protocol.specs.Node.ArmedRestarts.{restart_after}
-use Rattle.protocol.specs.Node.NodeView.{NodeView}
+use Rattle.proc_step.specs.declared.job.Job.{Job}
+use Rattle.node.specs.JobView.{job_view}
+use Rattle.protocol.specs.Node.Choosing.{with_grant}
+use Rattle.protocol.specs.Node.JobView.{JobView}
+use Rattle.protocol.specs.Node.NodeView.{NodeView, ModeView, Down, InDoubt, Runs}
 use Rattle.protocol.specs.Node.Plans.{Prospect, Undue, becoming, packets_by, room_for, IsMade, IsPut, LeavesCell}
 use Rattle.protocol.specs.declared.round_turns.RoundTurns.{RoundTurns}
 use Rattle.protocol.specs.WorldLaws.PlanLaws.{made_restarts}
-use Rattle.protocol.specs.World.Replies.{AnswerLeaves, answer_by, outcome_of}
+use Rattle.protocol.specs.World.Replies.{AnswerLeaves, answer_by, grant_reply, outcome_of}
 use Rattle.protocol.specs.World.ReplyView.{ReplyView}
 use Rattle.protocol.specs.World.ReplyView as reply
 use Rattle.protocol.specs.World.StationView.{StationView}
-use Rattle.protocol.specs.World.Steps.{IsPlanned, StationPlan, moved_to, turns_by}
+use Rattle.protocol.specs.World.Steps.{IsPlanned, StationPlan, grant_plan, moved_to, turns_by}
+use Rattle.protocol.specs.World.Turns.{turns_of, count_grant}
 use Rattle.protocol.specs.WorldLaws.DeedLaws.{becoming_sends}
 use Rattle.protocol.specs.declared.outcome.Outcome.{Outcome}
 use Rattle.protocol.specs.declared.outcome.Outcome.TheVariants as outcome
@@ -74,6 +79,36 @@ pub seen_moved : (old : StationView) (number failures : ℕ) (node : NodeView) (
 seen_moved old number failures node turns noted same_number same_turns =
     ap (λ (n : ℕ). record { number = n; node = node; failures = failures; outlets = old.outlets; turns = turns }) same_number
     ∙ ap (λ (t : RoundTurns). record { number = old.number; node = node; failures = failures; outlets = old.outlets; turns = t }) same_turns
+
+-- a job is granted, or none, and that is noted
+none_granted : (node : NodeView) → with_grant None node ≡ node
+none_granted node = by_mode node.mode refl
+  where
+    by_mode : (mode : ModeView) → node.mode ≡ mode → with_grant None node ≡ node
+    by_mode Down is = refl
+    by_mode InDoubt is = refl
+    by_mode (Runs running) is = refl
+
+pub grants : (fits : RecordView → Bool) (round : ℕ) (job : Option JobView) (given : Option Job) (old : StationView) (number failures : ℕ) (node : NodeView) (turns : RoundTurns) (answer : ReplyView)
+    → option_map job_view given ≡ job → answer ≡ grant_reply (option_map job_view given) → node ≡ with_grant job old.node → number ≡ old.number → failures ≡ old.failures
+    → turns ≡ cond (is_some given) (count_grant (turns_of round old.turns)) old.turns
+    → IsPlanned fits round (grant_plan job round old) old answer (record { number = number; node = node; failures = failures; outlets = old.outlets; turns = turns })
+grants fits round job None old number failures node turns answer is answers moved same_number same_failures noted =
+    let new : StationView = record { number = number; node = node; failures = failures; outlets = old.outlets; turns = turns } in
+    subst (λ (o : Option JobView). IsPlanned fits round (grant_plan o round old) old answer new) is
+    (not_due fits round (grant_plan None round old) old new refl answer answers
+    (seen_moved old number failures node turns old.turns same_number noted
+    ∙ ap (λ (n : NodeView). moved_to n failures old.turns old) ((moved ∙ ap (λ (o : Option JobView). with_grant o old.node) (sym is)) ∙ none_granted old.node)
+    ∙ ap (λ (f : ℕ). moved_to old.node f old.turns old) same_failures))
+grants fits round job (Some given) old number failures node turns answer is answers moved same_number same_failures noted =
+    let some = Some (job_view given) in
+    let counted = count_grant (turns_of round old.turns) in
+    let new : StationView = record { number = number; node = node; failures = failures; outlets = old.outlets; turns = turns } in
+    subst (λ (o : Option JobView). IsPlanned fits round (grant_plan o round old) old answer new) is
+    (becomes fits round (grant_plan some round old) old new (with_grant some old.node) refl refl answer answers
+    (seen_moved old number failures node turns counted same_number noted
+    ∙ ap (λ (n : NodeView). moved_to n failures counted old) (moved ∙ ap (λ (o : Option JobView). with_grant o old.node) (sym is))
+    ∙ ap (λ (f : ℕ). moved_to (with_grant some old.node) f counted old) same_failures))
 
 -- a node whose device failed comes back as its call was armed
 pub restarts_by : (restart : ℕ) (prospect : Prospect) (old new : NodeView) (came : Outcome) (answer made : ReplyView) → outcome_of made ≡ outcome.Made → answer ≡ answer_by made came → IsMade restart prospect old came new → answer ≡ reply.Down
