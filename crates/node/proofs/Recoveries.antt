@@ -10,7 +10,7 @@ use Rattle.record.specs.Moves.{with_epoch}
 use Rattle.kahn_net.specs.declared.limits.TheConstants.{MAX_COUNT}
 use Rattle.ckpt_store.specs.StoreView.{cell_in, known_in, record_in, Holds}
 use Rattle.ckpt_store.specs.declared.store.Store.{Store}
-use Rattle.protocol.specs.Node.NodeView.{NodeView, ModeView, Down, InDoubt, Runs, with_mode}
+use Rattle.protocol.specs.Node.NodeView.{NodeView, with_mode}
 use Rattle.node.specs.NodeView.{node_view, mode_view}
 use Rattle.protocol.specs.Node.Modes.{is_down, crashed, with_kept}
 use Rattle.protocol.specs.Node.Plans.{Prospect, Undue, Exhausted, HasFailedAt, if_due, next_record, putting, unless_spent}
@@ -214,22 +214,27 @@ module _ {C : Type 0} (words : CellWords C)
   no_memory : (answer : Result Outcome AllocError) → Known fault.NoMemory answer
   no_memory (Ok outcome) raised is stays failed = absurd is
   no_memory (Err e) raised is stays failed =
-      let same = stays refl in
-      (same_has fault.NoMemory refl raised same, short_event round was now old new refl e (same_now fault.NoMemory refl raised same) (same_count fault.NoMemory refl raised same)
-      (nothing_then fault.NoMemory refl raised same.0 (next_record (recover_prospect was) was.kept)) (same_device fault.NoMemory raised same.0))
+      let same = stays refl in (
+        same_has fault.NoMemory refl raised same,
+        short_event round was now old new refl e (same_now fault.NoMemory refl raised same) (same_count fault.NoMemory refl raised same)
+            (nothing_then fault.NoMemory refl raised same.0 (next_record (recover_prospect was) was.kept)) (same_device fault.NoMemory raised same.0),
+      )
 
   no_epoch : MAX_COUNT ≤ (record_in old).epoch → (answer : Result Outcome AllocError) → Known fault.Spent answer
   no_epoch more (Err e) raised is stays failed = absurd is
   no_epoch more (Ok came) raised is stays failed =
-      let same = stays refl in
-      (same_has fault.Spent refl raised same, subst (λ (o : Outcome). IsPutEvent (recover_prospect was) round was now old new {E = AllocError} (Ok o)) (sym is)
-      (last_event round was now old new refl (back_spent was down more) (same_now fault.Spent refl raised same) (same_count fault.Spent refl raised same) (nothing_then fault.Spent refl raised same.0 was.kept) (same_device fault.Spent raised same.0)))
+      let same = stays refl in (
+        same_has fault.Spent refl raised same,
+        subst (λ (o : Outcome). IsPutEvent (recover_prospect was) round was now old new {E = AllocError} (Ok o)) (sym is)
+            (last_event round was now old new refl (back_spent was down more) (same_now fault.Spent refl raised same) (same_count fault.Spent refl raised same) (nothing_then fault.Spent refl raised same.0 was.kept) (same_device fault.Spent raised same.0)),
+      )
 
   no_device : (answer : Result Outcome AllocError) → Known fault.Device answer
   no_device (Err e) raised is stays failed = absurd is
-  no_device (Ok came) raised is stays failed =
-      (failed_has words includes_now may_stay ready_settled number old mid new before after has raised.any_moment lost.0 restart lost.1,
-      subst (λ (o : Outcome). IsPutEvent (recover_prospect was) round was now old new {E = AllocError} (Ok o)) (sym is) (at (nat_lt (record_in old).epoch MAX_COUNT) refl))
+  no_device (Ok came) raised is stays failed = (
+    failed_has words includes_now may_stay ready_settled number old mid new before after has raised.any_moment lost.0 restart lost.1,
+    subst (λ (o : Outcome). IsPutEvent (recover_prospect was) round was now old new {E = AllocError} (Ok o)) (sym is) (at (nat_lt (record_in old).epoch MAX_COUNT) refl),
+  )
     where
       lost : IsCrashed mid new × ((kept : RecordView) → node_view kept after ≡ crashed (restart_after before.armed.items (words.failed_call (cell_in new)) round) (node_view kept before))
       lost = failed refl

@@ -1,6 +1,6 @@
 -- A start and a decision as puts of the next record.
-use Rattle.std.proofs.Common.{◌≡◌, inr, ℕ, ◌+◌, ◌<◌, ◌≤◌, Bool, true, false, ◌&&◌, List, [], length, Option, Some, None, Result, Ok, Err, refl, sym, ◌∙◌, ap, subst, arith, eqb}
-use Rattle.std.specs.Prelude.{IsTrue, IfOk, is_some, cond, nat_le, nat_lt}
+use Rattle.std.proofs.Common.{◌≡◌, ℕ, ◌+◌, ◌<◌, ◌≤◌, Bool, true, false, ◌&&◌, List, [], length, Option, Some, None, Result, Ok, Err, refl, sym, ◌∙◌, ap, subst, arith, eqb}
+use Rattle.std.specs.Prelude.{IsTrue, is_some, cond, nat_le, nat_lt}
 use Rattle.std.proofs.lemmas.Bool.{le-ltb, lt-ltb, eq-eqb}
 use Rattle.std.proofs.lemmas.List.{length-set}
 use Rattle.sector_disk.specs.Clock.{Only}

@@ -1,5 +1,5 @@
 // Checkpoints: a node takes a tentative image, and makes it permanent.
-ghost use Rattle.std.specs.Prelude.{◌≡◌, ◌<◌, false, IfOk, IsTrue, Some, length};
+ghost use Rattle.std.specs.Prelude.{◌≡◌, ◌<◌, false, IsTrue, Some, length};
 ghost use Rattle.ckpt_store.specs.StoreView.{cell_in, record_in};
 ghost use Rattle.protocol.specs.Node.ArmedRestarts.{restart_after};
 ghost use Rattle.protocol.specs.Node.Modes.{crashed};

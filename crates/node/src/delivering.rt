@@ -17,12 +17,7 @@ use std::alloc::{AllocError, Global};
 use window_link::Arrival;
 
 // The packet for this node that these bytes spell, if they spell one.
-fn read_for(
-    alloc: Global,
-    net: &Net,
-    home: u8,
-    bytes: &[u8],
-) -> Result<Option<Packet>, AllocError>
+fn read_for(alloc: Global, net: &Net, home: u8, bytes: &[u8]) -> Result<Option<Packet>, AllocError>
     ensures { IfOk result
         (λ found. found ≡ packet_for (network_of net.now.program) home bytes.now) }
 {

@@ -1,5 +1,5 @@
 -- What has left the stations of a list, after an event at one of them, and what a crash meanwhile leaves of each.
-use Rattle.std.proofs.Common.{◌≡◌, ◌⊎◌, inl, inr, ℕ, ◌<◌, Bool, true, List, ℤ, length, get_or, Option, map, refl, sym, ap, subst}
+use Rattle.std.proofs.Common.{◌≡◌, ◌⊎◌, inl, inr, ℕ, ◌<◌, Bool, List, ℤ, length, get_or, Option, map, refl, sym, ap, subst}
 use Rattle.std.specs.Prelude.{Result, Ok, Err, IfOk, OnErr, slice_set}
 use Rattle.std.specs.List.{AllZip}
 use Rattle.std.specs.declared.alloc.AllocError.{AllocError}
@@ -33,7 +33,7 @@ use Rattle.protocol.specs.WorldLaws.PlanLaws.{IsSoundSetting, IsSoundStation}
 use Rattle.world.specs.WorldView.{station_view, IsGrown}
 use Rattle.world.specs.declared.event.Reply.{Reply}
 use Rattle.world.specs.declared.station.Station.{Station}
-use Rattle.world.proofs.Views.{same_outputs, seen_at}
+use Rattle.world.proofs.Views.{same_outputs}
 
 module _ (setting : Setting) (sure : IsSoundSetting setting) (room : RecordView → Bool) (event : EventView) where
   -- what is seen after an event that was refused, or wasn't

@@ -1,7 +1,7 @@
 -- What is known of each deed: its plan is sound, a node that doesn't run sends nothing by it, and nothing that comes by it is dropped. A further deed
 -- has a case in each of the three laws that go by deeds, at the end of this file.
-use Rattle.std.proofs.Common.{◌≡◌, ℕ, ◌∷◌, Bool, true, false, cond, ℤ, List, [], map, Option, Some, None, option_map, refl, sym, ap, subst, ◌∙◌}
-use Rattle.std.specs.Prelude.{◌==◌, nat_lt, not, slice_get}
+use Rattle.std.proofs.Common.{◌≡◌, ℕ, Bool, true, false, cond, ℤ, List, [], map, Option, Some, None, option_map, refl, sym, ap, subst, ◌∙◌}
+use Rattle.std.specs.Prelude.{◌==◌, nat_lt, not}
 use Rattle.std.proofs.Math.Logic.{∥∥₁_elim}
 use Rattle.std.proofs.lemmas.Bool.{and_from, eq-eqb}
 use Rattle.std.proofs.lemmas.List.Elements.{All-nil}
@@ -38,11 +38,11 @@ use Rattle.protocol.specs.World.StationView.{StationView}
 use Rattle.protocol.specs.World.Steps.{Setting, bytes_when, deliver_plan, due_bytes, flight_at, plan_of, sending_of}
 use Rattle.protocol.specs.World.Traffic.{BytesAreSound, SpellsSound, TrafficIsSound}
 use Rattle.protocol.specs.WorldLaws.OrderLaws.{behind_itself}
-use Rattle.protocol.specs.WorldLaws.PlanLaws.{IsSoundPlan, IsSoundProspect, IsSoundSetting, IsSoundStation, back_sound, decide_sound, deliver_sound, down_keeps, grant_sound, moved_keeps, sound_becoming, sound_if_due, sound_unless_spent, start_sound, station_sendable}
+use Rattle.protocol.specs.WorldLaws.PlanLaws.{IsSoundProspect, IsSoundSetting, IsSoundStation, back_sound, decide_sound, deliver_sound, down_keeps, grant_sound, moved_keeps, sound_becoming, sound_if_due, sound_unless_spent, start_sound, station_sendable}
 use Rattle.protocol.specs.WorldLaws.SendLaws.{IsSendable}
 use Rattle.protocol.specs.WorldLaws.TrafficLaws.{arrives_sound}
--- ---- what is sent
 
+-- ---- what is sent
 
 -- where nothing is to be sent nothing is
 pub becoming_sends : (node : NodeView) (came : Outcome) → packets_by (becoming node) came ≡ []

@@ -1,34 +1,20 @@
 -- No packet that comes is dropped, where each one in flight is sound.
-use Rattle.std.proofs.Common.{◌≡◌, ⊎_elim, ℕ, Bool, true, false, cond, ℤ, List, length, Option, Some, None, option_map, refl, sym, ap, subst, ◌∙◌}
-use Rattle.std.specs.Prelude.{◌==◌, slice_get, is_some}
-use Rattle.std.proofs.Math.Logic.{∥∥₁_elim}
-use Rattle.std.proofs.lemmas.Bool.{and_from, eq-eqb}
-use mathlib.Core.HLevel.{⊥_prop}
-use Rattle.datagram.proofs.Exactness.{whole_again}
-use Rattle.datagram.specs.Reading.{whole_at}
-use Rattle.datagram.specs.declared.packet.Packet.{Packet}
-use Rattle.kahn_net.specs.Syntax.{Network}
+use Rattle.std.proofs.Common.{◌≡◌, ⊎_elim, ℕ, Bool, true, false, List, Option, Some, None, refl, ap, subst, ◌∙◌}
+use Rattle.std.specs.Prelude.{slice_get, is_some}
+
 use Rattle.record.specs.RecordView.{RecordView}
-use Rattle.wire.specs.Queue.{is_due}
-use Rattle.wire.specs.declared.queue.Flight.{Flight}
-use Rattle.protocol.specs.Node.Addresses.{names_right}
-use Rattle.protocol.specs.Node.Choosing.{node_job}
-use Rattle.protocol.specs.Node.Delivering.{delivery_of, if_right, packet_for}
-use Rattle.protocol.specs.Node.JobView.{JobView}
-use Rattle.protocol.specs.Node.NodeView.{ModeView, Down, InDoubt, Runs}
-use Rattle.protocol.specs.Node.Recovering.{restored_mode}
-use Rattle.record.specs.Moves.{with_epoch}
+
 use Rattle.protocol.specs.declared.outcome.Outcome.{Outcome}
 use Rattle.protocol.specs.declared.outcome.Outcome.TheVariants as outcome
-use Rattle.protocol.specs.World.EventView.{Deed, EventView, ByNode, ByNetwork, Install, Release, event_node}
+use Rattle.protocol.specs.World.EventView.{EventView, ByNode, ByNetwork, Install, Release, event_node}
 use Rattle.protocol.specs.World.EventView as event
 use Rattle.protocol.specs.World.Invariant.{WorldInvariant}
-use Rattle.protocol.specs.World.Replies.{act_reply, answer_by, back_reply, delivery_reply, grant_reply, install_reply, outcome_of, IsDropped}
+use Rattle.protocol.specs.World.Replies.{act_reply, answer_by, install_reply, outcome_of, IsDropped}
 use Rattle.protocol.specs.World.ReplyView.{ReplyView}
 use Rattle.protocol.specs.World.ReplyView as reply
 use Rattle.protocol.specs.World.StationView.{StationView}
-use Rattle.protocol.specs.World.Steps.{IsAct, IsActOf, IsRelease, IsStationStep, Setting, WorldView, bytes_when, deliver_plan, due_bytes, flight_at, next_release, plan_of, setting_of}
-use Rattle.protocol.specs.World.Traffic.{BytesAreSound, SpellsSound, TrafficIsSound}
+use Rattle.protocol.specs.World.Steps.{IsAct, IsActOf, IsRelease, IsStationStep, Setting, WorldView, flight_at, next_release, plan_of, setting_of}
+use Rattle.protocol.specs.World.Traffic.{TrafficIsSound}
 use Rattle.protocol.specs.WorldLaws.DeedLaws.{deed_is, is_dropped}
 
 not_so : (answer : ReplyView) → is_dropped answer ≡ false → ¬ (IsDropped answer)

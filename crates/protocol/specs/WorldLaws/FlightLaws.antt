@@ -1,6 +1,6 @@
 -- Laws of what is in flight: what holds of the node and the bytes of each packet in flight, and of each that is sent, goes on holding.
 use Rattle.std.proofs.Common.{◌≡◌, ℕ, zero, suc, Bool, true, false, cond, List, [], ◌∷◌, replicate, All, Option, Some, None, unwrap_or, refl, sym, ap, subst}
-use Rattle.std.specs.Prelude.{IsTrue, slice_get, slice_set, remove, map}
+use Rattle.std.specs.Prelude.{IsTrue, slice_get, slice_set, remove}
 use Rattle.std.proofs.lemmas.List.Elements.{All-nil, All-head, All-tail}
 use Rattle.wire.proofs.Passing.{sent_passes, repeated_passes, delayed_passes, gone_passes}
 use Rattle.wire.specs.Queue.{with_delay, with_copy}

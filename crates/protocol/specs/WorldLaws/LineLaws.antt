@@ -124,7 +124,6 @@ module _ (setting : Setting) (sure : IsSoundSetting setting) where
       ahead kept (inl it) = subst (λ (r : RecordView). IsBehind old.node.kept.permanent r.permanent) (sym it) (behind_itself old.node.kept.permanent)
       ahead kept (inr it) = subst (λ (r : RecordView). IsBehind old.node.kept.permanent r.permanent) (sym it) (next_ahead setting sure e old sound)
 
-
   -- so the permanent image that is kept in the end isn't behind
   pub step_ahead : (room : RecordView → Bool) (e : EventView) (old : StationView) (answer : ReplyView) (new : StationView) → IsSoundStation setting old → IsStationStep setting room e old answer new
       → IsBehind old.node.kept.permanent new.node.kept.permanent

@@ -1,12 +1,12 @@
 -- Laws of deeds: what a plan makes of a sound station is sound, and what follows of it however it comes out.
-use Rattle.std.proofs.Common.{◌≡◌, ◌⊎◌, inl, inr, ⊎_elim, ℕ, ◌<◌, ◌&&◌, ◌∷◌, Bool, true, false, cond, List, ℤ, [], map, get_or, Option, Some, None, option_map, refl, sym, ap, subst, ◌∙◌, All}
-use Rattle.std.specs.Prelude.{◌==◌, IsTrue, not, nat_lt, slice_get}
+use Rattle.std.proofs.Common.{◌≡◌, ◌⊎◌, inl, inr, ⊎_elim, ℕ, ◌&&◌, Bool, true, false, cond, List, ℤ, [], Option, Some, None, refl, sym, ap, subst, ◌∙◌, All}
+use Rattle.std.specs.Prelude.{◌==◌, not}
 use Rattle.std.proofs.lemmas.List.Elements.{All-nil}
 use Rattle.std.proofs.Math.Logic.{∥∥₁_map}
 use Rattle.kahn_net.specs.Fits.{Fits}
 use Rattle.kahn_net.specs.Syntax.{Network}
 use Rattle.kahn_net.specs.Valid.{IsValid}
-use Rattle.kahn_net.specs.declared.limits.TheConstants.{MAX_COUNT}
+
 use Rattle.datagram.proofs.Exactness.{whole_again}
 use Rattle.datagram.specs.Reading.{whole_at}
 use Rattle.datagram.specs.declared.packet.Body.{Body}
@@ -14,16 +14,14 @@ use Rattle.datagram.specs.declared.packet.Packet.{Packet}
 use Rattle.record.specs.Moves.{with_epoch}
 use Rattle.record.specs.RecordView.{RecordView}
 use Rattle.record.specs.declared.record.Tentative.{Tentative}
-use Rattle.wire.specs.Queue.{is_due}
-use Rattle.wire.specs.Traffic.{Traffic, flights_to}
-use Rattle.wire.specs.declared.queue.Flight.{Flight}
+
 use Rattle.protocol.specs.Node.Addresses.{names_right}
-use Rattle.protocol.specs.Node.ArmedRestarts.{round_later, with_armed}
+
 use Rattle.protocol.specs.Node.Choosing.{after_grant, granted, grant_prospect, job_at, next_job, node_job, with_grant}
-use Rattle.protocol.specs.Node.Delivering.{deliver_prospect, heard, hearing, if_right, packet_for, told_by}
+use Rattle.protocol.specs.Node.Delivering.{deliver_prospect, heard, hearing, if_right, packet_for}
 use Rattle.protocol.specs.Node.JobView.{JobView}
 use Rattle.protocol.specs.Node.Layout.{AllHere}
-use Rattle.protocol.specs.Node.Modes.{crashed, is_down, is_none, is_running, keeping, with_kept}
+use Rattle.protocol.specs.Node.Modes.{crashed, is_down, is_running, keeping, with_kept}
 use Rattle.protocol.specs.Node.NodeView.{NodeView, ModeView, Down, InDoubt, Runs, RunningView, RunningNode, running_node, running_in, running_of, on_mode}
 use Rattle.protocol.specs.Node.Plans.{Plan, Prospect, Undue, Exhausted, Planned, becoming, if_due, unless_spent, HasFailedAt, IsCarriedOut, IsHeldUp, IsMade, next_record, plan_record}
 use Rattle.protocol.specs.Node.Recovering.{restored, restored_with}
@@ -33,12 +31,12 @@ use Rattle.protocol.specs.declared.outcome.Outcome.{Outcome}
 use Rattle.protocol.specs.declared.outcome.Outcome.TheVariants as outcome
 use Rattle.protocol.specs.declared.outcome.Refusal.TheVariants.{TooLarge, Spent}
 use Rattle.protocol.specs.declared.round_turns.RoundTurns.{RoundTurns}
-use Rattle.protocol.specs.World.EventView.{Deed}
+
 use Rattle.protocol.specs.World.EventView as event
 use Rattle.protocol.specs.World.Invariant.{outputs_of, RunsSoundly, StationInvariant}
 use Rattle.protocol.specs.World.RecordSound.{RecordIsSound}
 use Rattle.protocol.specs.World.StationView.{StationView}
-use Rattle.protocol.specs.World.Steps.{Setting, bytes_when, deliver_plan, due_bytes, flight_at, moved_to, plan_of}
+use Rattle.protocol.specs.World.Steps.{Setting, moved_to}
 use Rattle.protocol.specs.World.Traffic.{BodyIsSound, BytesAreSound, TrafficIsSound}
 use Rattle.protocol.specs.WorldLaws.BoundLaws.{own_bounded}
 use Rattle.protocol.specs.WorldLaws.HearLaws.{body_known, hear_sound, order_heard}
@@ -46,7 +44,6 @@ use Rattle.protocol.specs.WorldLaws.OrderLaws.{behind_itself, order_granted, ord
 use Rattle.protocol.specs.WorldLaws.RecordLaws.{current_sound, record_of, record_own, record_decided, record_epoch, last_more, restarted, restarted_sound, restarted_order}
 use Rattle.protocol.specs.WorldLaws.SendLaws.{running_sendable, IsSendable}
 use Rattle.protocol.specs.WorldLaws.SoundLaws.{granted_sound, stored_sound, decided_sound}
-use Rattle.protocol.specs.WorldLaws.TrafficLaws.{arrives_sound}
 
 -- ---- what is known of a station and what is around it
 
@@ -222,6 +219,7 @@ module _ (net : Network) (inputs : List (List ℤ)) where
           sym (ap (λ (kept : RecordView). running_in kept old.node.version (Runs now.0)) (own_now old now.0 now.1)) ∙ (sym (ap (running_in (with_own_now old.number old.node) old.node.version) now.1) ∙ is) in
           let same : keeping (with_own old.number now.0.current old.node.kept) (running_node old.node.kept old.node.version now.0) ≡ run = cc in
           subst (λ (n : RunningNode). RunsSoundly net inputs n (outputs_of old.outlets)) same (own_sound old now.0 inv now.1)
+
   pub decide_sound : (old : StationView) → StationInvariant net inputs old → IsSoundPlan net inputs old (record { node = with_kept (decided old.node.kept) old.node; puts = true; grows = false; packets = []; refused = [] })
   decide_sound old inv = record {
     keeps = moved_keeps (with_kept (decided old.node.kept) old.node) old.failures old.turns old (record_decided net inputs (outputs_of old.outlets) old.node.kept inv.kept) runs;

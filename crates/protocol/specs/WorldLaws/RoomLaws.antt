@@ -70,10 +70,10 @@ prospect_fits : (net : Network) (inputs : List (List ℤ)) (capacity : ℕ) → 
 prospect_fits net inputs capacity room old Undue sound = refl
 prospect_fits net inputs capacity room old (Exhausted looks) sound = refl
 prospect_fits net inputs capacity room old (Planned plan) sound = at plan.puts
-    where
-      at : (b : Bool) → cond b (fits_in capacity plan.node.kept) true ≡ true
-      at true = bounded_fits capacity plan.node.kept room sound.keeps.kept.bounded
-      at false = refl
+  where
+    at : (b : Bool) → cond b (fits_in capacity plan.node.kept) true ≡ true
+    at true = bounded_fits capacity plan.node.kept room sound.keeps.kept.bounded
+    at false = refl
 
 module _ (setting : Setting) (sure : IsSoundSetting setting) (capacity : ℕ) (room : MAX_RECORD_BYTES ≤ capacity) where
   pub station_fits : (e : EventView) (old : StationView) (answer : ReplyView) (new : StationView) → IsSoundStation setting old → IsStationStep setting (fits_in capacity) e old answer new → ¬ (IsTooLarge answer)

@@ -19,7 +19,7 @@ use Rattle.record.specs.Ends.{log_of, base_of, sent_of}
 use Rattle.record.specs.ImageView.{ImageView}
 use Rattle.record.specs.RecordView.{RecordView}
 use Rattle.wire.specs.Traffic.{Traffic, all_sent}
-use Rattle.wire.specs.declared.sending.Sending.{Sending}
+
 use Rattle.protocol.specs.Node.ArmedRestarts.{restart_after}
 use Rattle.protocol.specs.Node.Installing.{turned, IsOut, IsInstall}
 use Rattle.protocol.specs.Node.Layout.{is_on, AllHere}
@@ -45,7 +45,7 @@ use Rattle.protocol.specs.World.ReplyView.{ReplyView}
 use Rattle.protocol.specs.World.ReplyView as reply
 use Rattle.protocol.specs.World.Sound.{IsSound}
 use Rattle.protocol.specs.World.StationView.{StationView}
-use Rattle.protocol.specs.World.Steps.{IsActOf, IsAct, IsPlanned, IsRelease, IsReleaseAt, IsStationStep, IsStep, Setting, WorldView, first_waiting, may_restart, moved_to, next_release, plan_of, round_after, sending_of, sendings_then, setting_of, traffic_acted, traffic_after, traffic_left, traffic_then}
+use Rattle.protocol.specs.World.Steps.{IsActOf, IsAct, IsRelease, IsReleaseAt, IsStationStep, IsStep, Setting, WorldView, first_waiting, may_restart, moved_to, next_release, plan_of, round_after, sending_of, sendings_then, setting_of, traffic_acted, traffic_after, traffic_left, traffic_then}
 use Rattle.protocol.specs.World.Traffic.{SendingIsSound, TrafficIsSound}
 use Rattle.protocol.specs.WorldLaws.HandedLaws.{next_waits, next_there, took_or_not, took_begins, took_one, took_goes_on}
 use Rattle.protocol.specs.WorldLaws.KeptLaws.{step_node, step_number}
