@@ -48,7 +48,7 @@ module _ {C : Type 0} (words : CellWords C)
     failures = record { device = λ is. load.failures.device (device_too e is); otherwise = λ other. load.failures.otherwise (λ is. other (device_so e is)) };
     settled = λ other. still_settled words includes_now may_stay ready_settled old mid settled load.any_moment load.same_value;
     any_moment = looked words includes_now may_stay ready_settled (with_epoch (record_in old)) old mid load.any_moment;
-    same_room = load.same_room;
+    same_room = load.same_setup.same_room;
   }
     where
       device_too : (e : StoreFault) → IsErrOf {T = ImageView} (Err e) fault.Device → IsErrOf {T = Unit {0}} (Err e) fault.Device
@@ -65,14 +65,14 @@ module _ {C : Type 0} (words : CellWords C)
       record {
         image = subst (λ (r : RecordView). IfOk result (λ image. image ≡ r.permanent)) same raised.image;
         raised = subst (λ (r : RecordView). OnOk result ((record_in new ≡ with_epoch r) × IsSome (known_in new) × (r.epoch < MAX_COUNT) × IsTrue (fits_in (words.capacity (cell_in old)) (with_epoch r)))) same
-            (subst (λ (n : ℕ). OnOk result ((record_in new ≡ with_epoch (record_in mid)) × IsSome (known_in new) × ((record_in mid).epoch < MAX_COUNT) × IsTrue (fits_in n (with_epoch (record_in mid))))) load.same_room raised.raised);
+            (subst (λ (n : ℕ). OnOk result ((record_in new ≡ with_epoch (record_in mid)) × IsSome (known_in new) × ((record_in mid).epoch < MAX_COUNT) × IsTrue (fits_in n (with_epoch (record_in mid))))) load.same_setup.same_room raised.raised);
         refused = subst (λ (r : RecordView). IfErr result (IsRaiseRefusal (fits_in (words.capacity (cell_in old)) (with_epoch r)) r)) same
-            (subst (λ (n : ℕ). IfErr result (IsRaiseRefusal (fits_in n (with_epoch (record_in mid))) (record_in mid))) load.same_room raised.refused);
+            (subst (λ (n : ℕ). IfErr result (IsRaiseRefusal (fits_in n (with_epoch (record_in mid))) (record_in mid))) load.same_setup.same_room raised.refused);
         same_record = subst (λ (r : RecordView). OnErr result (¬ (IsErrOf result fault.Device) → record_in new ≡ r)) same raised.same_record;
         failures = subst (λ (n : ℕ). HasFailures n (words.failure_count (cell_in new)) result) before raised.failures;
         settled = raised.settled;
         any_moment = subst (λ (r : RecordView). LeavesNext (with_epoch r) old new) same (looked_then words includes_now may_stay ready_settled (with_epoch (record_in mid)) old mid new load.any_moment raised.any_moment);
-        same_room = raised.same_room ∙ load.same_room;
+        same_room = raised.same_room ∙ load.same_setup.same_room;
       }
 
 module _ {C : Type 0} (words : CellWords C)
@@ -92,7 +92,7 @@ module _ {C : Type 0} (words : CellWords C)
         failures = record { device = λ e. cc; otherwise = λ other. changes.failures.otherwise (λ e. cc) };
         settled = λ other. settled_ready words includes_now may_stay ready_settled new done.1;
         any_moment = change_moments words includes_now may_stay ready_settled refusal_to_raise with_epoch old new (Ok tt) some fine changes;
-        same_room = changes.same_room;
+        same_room = changes.same_setup.same_room;
       }
 
   -- the epoch was raised

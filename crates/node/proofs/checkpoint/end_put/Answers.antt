@@ -11,7 +11,7 @@ returns-clause-failed g c = λ test. (
     left = c.crash.ensures.left;
     settled = c.crash.ensures.settled;
     any_moment = c.crash.ensures.any_moment;
-    same_room = c.crash.ensures.same_room;
+    same_room = c.crash.ensures.same_setup.same_room;
     failures = c.crash.ensures.failures;
     same_failed = c.crash.ensures.same_failed;
   },
