@@ -13,11 +13,13 @@ listed (Some xs) = xs
 
 -- a node that a decision names, from the least that is left on
 abbrev pub participant_field : ℕ → ℕ → ℕ → ℕ → Field
-participant_field node nodes least p = record { width = 1; allows = λ v. nat_le least v && (nat_lt v nodes && not (v == node)); value = p }
+participant_field node nodes least p =
+    record { width = 1; allows = λ v. nat_le least v && (nat_lt v nodes && not (v == node)); value = p }
 
 -- a log whose base is at most this, and whose end is at least that
 abbrev pub log_fields : ℕ → ℕ → LogState → List Field
-log_fields limit from log = at_most 8 limit log.base ∷ retained_count log.base from (length log.items) ∷ map item log.items
+log_fields limit from log =
+    at_most 8 limit log.base ∷ retained_count log.base from (length log.items) ∷ map item log.items
 
 -- how many nodes a decision names
 abbrev pub participant_count_field : ℕ → Field
@@ -28,7 +30,8 @@ abbrev pub initiator_field : List ℕ → ℕ → Field
 initiator_field highest initiator = record { width = 1; allows = λ v. nat_lt v (length highest); value = initiator }
 
 abbrev pub held_number_field : List ℕ → ℕ → ℕ → Field
-held_number_field highest initiator number = record { width = 8; allows = λ v. nat_le 1 v && (v == slice_index highest initiator); value = number }
+held_number_field highest initiator number =
+    record { width = 8; allows = λ v. nat_le 1 v && (v == slice_index highest initiator); value = number }
 
 -- how many nodes there are, one of which is this
 abbrev pub nodes_field : ℕ → ℕ → Field

@@ -1,9 +1,8 @@
 // Which images and records may be written: each field is tested in its turn.
-ghost use Rattle.std.specs.Prelude.{◌≡◌, ◌↔◌, ◌<◌, [], ◌∷◌, length, suc, IsTrue, Some, None, option_copied, slice_index, map};
+ghost use Rattle.std.specs.Prelude.{◌≡◌, ◌↔◌, ◌<◌, [], length, suc, IsTrue, Some, None, option_copied, slice_index, map};
 ghost use Rattle.kahn_net.specs.States.{standing_in};
 ghost use Rattle.kahn_net.specs.declared.limits.TheConstants.{MAX_PROCESSES, MAX_VARIABLES, MAX_CHANNELS};
 ghost use Rattle.record.specs.ProcessView.{SavedProcessView};
-ghost use Rattle.record.specs.ImageView.{ImageView};
 ghost use Rattle.record.specs.declared.image.SavedEnd.{SavedEnd};
 ghost use Rattle.ckpt_codec.specs.Fields.{IsAllowed, AreAllowed};
 ghost use Rattle.ckpt_codec.specs.RecordText.{any, at_most, exactly, between, retained_count, wanted, wanted_or, count, variables_of, role_of, first_of, rest_of, processes_in, ends_in, mode_fields, participants as participant_fields, decision_fields, process_fields, processes_fields, end_fields, saved_end_fields, ends_fields, image_fields, tentative_fields, head_fields, IsRecord};
