@@ -12,6 +12,6 @@ mod words;
 pub use comparing::{Difference, is_wanted, parts_of};
 pub use names::{Name, filled};
 pub use numbers::{byte, item, number, size};
-pub use running::{Trial, read, run_cases};
-pub use table::{Case, Line, Table, table_of};
+pub use running::{Trial, read, run_cases, run_wrong_cases};
+pub use table::{Case, Line, Table, table_of, table_of_texts};
 pub use words::{listed, yes_or_no};
