@@ -21,9 +21,10 @@ following first came next rest e (inr (behind, same)) =
 pub something_follows : (first came rest : List ℕ) → came ≡ first ++ rest → 0 < length rest
     → (IsTrue (nat_eq (slice_index_or rest 0 0) 32) → Begins first came) × (Begins first came → IsTrue (nat_eq (slice_index_or rest 0 0) 32))
 something_follows first came [] e some = absurd (omega (arith, some))
-something_follows first came (next ∷ rest) e some =
-    ((λ t. let space : next ≡ 32 = search (rules, t) in inr (rest, e ∙ ap (λ n. first ++ n ∷ rest) space)),
-     λ b. let space : next ≡ 32 = following first came next rest e b in search (rules, Decides-eqb, space))
+something_follows first came (next ∷ rest) e some = (
+  (λ t. let space : next ≡ 32 = search (rules, t) in inr (rest, e ∙ ap (λ n. first ++ n ∷ rest) space)),
+  λ b. let space : next ≡ 32 = following first came next rest e b in search (rules, Decides-eqb, space),
+)
 
 pub nothing_begins : (first came : List ℕ) → ((rest : List ℕ) → came ≢ first ++ rest) → (IsTrue false → Begins first came) × (Begins first came → IsTrue false)
 nothing_begins first came never = ((λ f. absurd (true≢false (sym f))), λ b. absurd (elim b [ inl same ↦ never [] (same ∙ sym (append-nil first)) | inr further ↦ never (32 ∷ further.0) further.1 ]))

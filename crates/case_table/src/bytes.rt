@@ -1,7 +1,8 @@
 //! Bytes that are spelled in the table.
 
+use crate::numbers::size;
+use crate::table::Line;
 use anyhow::Context;
-use case_table::Line;
 use std::alloc::Global;
 
 /// Bytes that have a name in the whole table.
@@ -11,8 +12,8 @@ pub struct NamedBytes<'a> {
     bytes: Vec<u8>,
 }
 
-/// The most bytes of one spelling: no cell holds a longer value.
-const MAX_BYTES: usize = 1 << 20;
+/// The most bytes of one spelling: no cell holds a value of more than half as many.
+const MAX_BYTES: usize = 1 << 21;
 
 /// The bytes of this name, if there are some.
 fn bytes_named<'a>(named: &'a [NamedBytes<'a>], name: &str) -> Option<&'a [u8]> {
@@ -59,11 +60,7 @@ fn put_group(
         return put_bytes(out, bytes);
     }
     match group.split_once("*") {
-        Some((repeated, times)) => put_repeated(
-            out,
-            &digits(alloc, repeated)?,
-            case_table::size(times)?,
-        ),
+        Some((repeated, times)) => put_repeated(out, &digits(alloc, repeated)?, size(times)?),
         None => put_bytes(out, &digits(alloc, group)?),
     }
 }

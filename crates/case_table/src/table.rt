@@ -93,7 +93,11 @@ fn read_table<'a>(alloc: Global, kind: Kind, text: &'a str) -> anyhow::Result<Ta
     let mut case: Option<Case<'a>> = None;
     for (place, whole) in text.lines().enumerate() {
         let number = place.saturating_add(1);
-        let text = if kind == Kind::Words { whole.trim() } else { whole };
+        let text = if kind == Kind::Words {
+            whole.trim()
+        } else {
+            whole
+        };
         if let Some(title) = text.strip_prefix("== ") {
             add_case(&mut cases, case)?;
             case = Some(Case::new(alloc, title, number));

@@ -82,7 +82,11 @@ fn tokens_text(alloc: Global, bytes: &[u8]) -> anyhow::Result<String> {
     let lines = match tokens(alloc, text) {
         Ok(found) => token_lines(alloc, found.as_slice())?,
         Err(fault) => {
-            format!(in alloc; "refused {} {}\n", fault.number(), fault.line().unwrap_or(0))?
+            format!(in alloc;
+                "refused {} {}\n",
+                fault.number(),
+                fault.line().unwrap_or(0)
+            )?
         }
     };
     Ok(lines)

@@ -34,14 +34,16 @@ mod texts;
 use crate::asking::outcomes;
 use crate::judging::differing;
 use crate::plan::plan_of;
-use case_table::{Case, Difference, Table, Trial, read, run_cases, run_wrong_cases, table_of_texts};
+use case_table::{
+    Case, Difference, Table, Trial, read, run_cases, run_wrong_cases, table_of_texts,
+};
 use std::alloc::Global;
 
 /// Each case is of texts.
 #[derive(Clone, Copy, Debug)]
-struct Texts;
+struct TextCases;
 
-impl Trial for Texts {
+impl Trial for TextCases {
     fn found(
         &self,
         rt: &HostRuntime,
@@ -67,6 +69,6 @@ fn main(rt: HostRuntime) -> anyhow::Result<()> {
     let alloc = rt.alloc();
     let text = read(&rt, "cases")?;
     let wrong = read(&rt, "wrong_cases")?;
-    run_cases(&rt, &cases_of(alloc, &text)?.cases, &Texts)?;
-    run_wrong_cases(&rt, &cases_of(alloc, &wrong)?.cases, &Texts)
+    run_cases(&rt, &cases_of(alloc, &text)?.cases, &TextCases)?;
+    run_wrong_cases(&rt, &cases_of(alloc, &wrong)?.cases, &TextCases)
 }

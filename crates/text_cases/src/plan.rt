@@ -92,7 +92,10 @@ fn set_taking(writer: &mut Writer, how: &str) -> anyhow::Result<()> {
         writer.room = Some(size(room)?);
         return Ok(());
     }
-    anyhow::ensure!(how == "fails at the flush", "{how} is nothing that a writer does");
+    anyhow::ensure!(
+        how == "fails at the flush",
+        "{how} is nothing that a writer does"
+    );
     writer.fails_at_flush = true;
     Ok(())
 }
@@ -194,8 +197,7 @@ impl Plan {
 pub fn plan_of(rt: &HostRuntime, case: &Case) -> anyhow::Result<Plan> {
     let mut plan = Plan::new(rt.alloc());
     for Line { number, text } in &case.lines {
-        plan.add(rt, text)
-            .context(format_args!("line {number}"))?;
+        plan.add(rt, text).context(format_args!("line {number}"))?;
     }
     Ok(plan)
 }
