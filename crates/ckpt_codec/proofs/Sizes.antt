@@ -12,7 +12,7 @@ use Rattle.record.specs.DecisionView.{DecisionView}
 use Rattle.record.specs.ProcessView.{SavedProcessView}
 use Rattle.record.specs.ImageView.{ImageView}
 use Rattle.record.specs.RecordView.{RecordView}
-use Rattle.record.specs.Moves.{with_permanent, without_tentative, with_decision, with_epoch}
+use Rattle.record.specs.Moves.{with_permanent, with_decision, with_epoch}
 use Rattle.record.specs.declared.image.SavedEnd.{SavedEnd}
 use Rattle.record.specs.declared.image.End.{End}
 use Rattle.record.specs.declared.image.End.TheVariants.{Receives, Sends, Both}
@@ -21,7 +21,7 @@ use Rattle.ckpt_codec.specs.Fields.{number_text}
 use Rattle.ckpt_codec.specs.RecordText.{variables_of, role_of, record_text}
 use Rattle.ckpt_codec.specs.Spelling.{item_text, items_text, mode_text, state_text, process_text, log_text, end_text, saved_end_text, process_list_text, end_list_text, image_text, participants_text, decision_text, tentative_text, highest_text, head_text}
 use Rattle.ckpt_codec.specs.Lengths.{mode_length, process_length, end_length, saved_end_length, image_length, decision_length, tentative_length, record_length, undecided_length, named_length, named_count, with_decided, spelled_length}
-use Rattle.ckpt_codec.specs.SizeLaws.{permanent_is_shorter, tentative_is_shorter, decision_is_shorter, epoch_is_shorter}
+use Rattle.ckpt_codec.specs.SizeLaws.{permanent_is_shorter, decision_is_shorter, epoch_is_shorter}
 use Rattle.ckpt_codec.proofs.Spelled.{record-spelled}
 
 length-number : (width n : ℕ) → length (number_text width n) ≡ width
@@ -172,9 +172,6 @@ no_longer kept next shorter =
 
 pub permanent_is_no_longer : (kept : RecordView) → spelled_length (with_permanent kept) ≤ spelled_length kept
 permanent_is_no_longer kept = no_longer kept (with_permanent kept) (permanent_is_shorter kept)
-
-pub without_is_no_longer : (kept : RecordView) → spelled_length (without_tentative kept) ≤ spelled_length kept
-without_is_no_longer kept = no_longer kept (without_tentative kept) (tentative_is_shorter kept)
 
 pub decision_is_no_longer : (number : ℕ) (kept : RecordView) → spelled_length (with_decision number [] kept) ≤ spelled_length kept
 decision_is_no_longer number kept = no_longer kept (with_decision number [] kept) (decision_is_shorter number kept)

@@ -58,5 +58,5 @@ module _ {C : Type 0} (words : CellWords C) (fits_room : (cell : C) (left : List
     pub record_fits : fits_in (words.capacity (cell_in store)) (record_in store) ≡ true
     record_fits = ⊎_elim (λ fits. fits)
         (λ no. absurd (∥∥₁_elim (store.kept.leaves (Some (words.value store.cell)) (value_may_stay store.cell)) (λ x y. absurd x)
-            (λ e. true≢false (sym (holds_fits e.0 e.1) ∙ ap (λ r. fits_in (words.capacity store.cell) r) (sym (spelled_is e.0 (words.value store.cell) e.1)) ∙ no))))
+        (λ e. true≢false (sym (holds_fits e.0 e.1) ∙ ap (λ r. fits_in (words.capacity store.cell) r) (sym (spelled_is e.0 (words.value store.cell) e.1)) ∙ no))))
         (cases_Bool (fits_in (words.capacity store.cell) (record_in store)))

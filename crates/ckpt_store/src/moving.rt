@@ -98,8 +98,8 @@ fn add_decision(kept: &mut Record, number: u64, participants: Vec<u8>) -> Option
     ))
 }
 
-/// Makes the tentative image of the node's own instance permanent, with the decision that these nodes have to confirm, if there
-/// are any.
+/// Makes the tentative image of the node's own instance permanent, with the decision that these nodes have to confirm,
+/// if there are any.
 pub fn decide(kept: &mut Record, number: u64, participants: Vec<u8>) -> Undo
     requires { IsTrue (is_held kept.old.node number kept.old.tentative) }
     ensures next { kept.new ≡ with_decision number participants.items kept.old }

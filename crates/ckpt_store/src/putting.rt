@@ -39,8 +39,8 @@ pub fn put_record<C: StableCell>(
     Ok(())
 }
 
-// Puts a record that was changed in place, and takes the change back where that is refused. After a failure of the device no record
-// is known.
+// Puts a record that was changed in place, and takes the change back where that is refused. After a failure of the device
+// no record is known.
 pub fn put_changed<C: StableCell>(
     alloc: Global,
     cell: &mut C,

@@ -9,7 +9,10 @@ use std::mem;
 #[derive(Drop)]
 pub enum Undo {
     /// A tentative image was taken: the entry of its initiator, as it was.
-    Take { initiator: u8, entry: u64 },
+    Take {
+        initiator: u8,
+        entry: u64,
+    },
     /// That of an instance became permanent: the permanent one before, and the decision where another took its place.
     Promote {
         initiator: u8,
@@ -18,11 +21,17 @@ pub enum Undo {
         decision: Option<Option<Decision>>,
     },
     /// A tentative image went: the one that was held.
-    GiveUp { held: Option<Tentative> },
+    GiveUp {
+        held: Option<Tentative>,
+    },
     /// A decision took the place of another one: that, or none.
-    Settle { decision: Option<Decision> },
+    Settle {
+        decision: Option<Decision>,
+    },
     /// The epoch rose: the tentative image that went with it, if one did.
-    Raise { own: Option<Tentative> },
+    Raise {
+        own: Option<Tentative>,
+    },
 }
 
 fn untake(kept: &mut Record, initiator: u8, entry: u64)
