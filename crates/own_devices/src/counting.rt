@@ -111,4 +111,6 @@ impl<D: Disk> Disk for CountingDisk<D> {
     ghost is_whole = { λ own. D.is_whole own.disk };
 
     ghost is_addressable = { λ own. D.is_addressable own.disk };
+
+    ghost is_countable = { λ own. D.is_countable own.disk };
 }

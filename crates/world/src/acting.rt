@@ -18,7 +18,7 @@ ghost use Rattle.protocol.specs.World.ReplyView.{Down};
 ghost use Rattle.world.specs.ReplyView.{answer_view, reply_view};
 ghost use Rattle.world.specs.StationView.{outlet_views};
 ghost use Rattle.protocol.specs.World.Steps.{deliver_plan, due_bytes, idle_plan, plan_sendings, send_plan, setting_in, traffic_after, IsPlanned, IsStationStep};
-ghost use Rattle.world.specs.WorldView.{station_view, IsCellUnchanged, RestartsAsArmed};
+ghost use Rattle.world.specs.WorldView.{station_view, IsCellUnchanged, LeavesDeviceBy, RestartsAsArmed};
 
 use crate::event::{Event, Reply};
 use crate::network::{delay, due_packet, lose, note_delivery, repeat, spell_all};
@@ -164,6 +164,8 @@ impl<C: StableCell, O: Outlet> Station<C, O> {
         ensures same_traffic { OnErr result (traffic_of wire.new ≡ traffic_of wire.old) }
         ensures same_room { C.capacity (cell_in self.new.node.store)
             ≡ C.capacity (cell_in self.old.node.store) }
+        ensures device { LeavesDeviceBy (event_view event.now) (answer_view result)
+            self.old self.new }
         ensures unchanged { LeavesCells (event_view event.now) (answer_view result)
             → IsCellUnchanged self.old self.new }
         ensures armed { IfOk result (λ reply. reply_view reply ≡ Down

@@ -3,6 +3,7 @@ ghost use Rattle.std.specs.Prelude.{◌≡◌, ◌≤◌, IfOk, OnErr};
 ghost use Rattle.ckpt_store.specs.Spelling.{fits_in};
 ghost use Rattle.ckpt_store.specs.StoreView.{cell_in};
 ghost use Rattle.node.specs.NodeOf.{view_of};
+ghost use Rattle.node.specs.StoredView.{LeavesDevice};
 ghost use Rattle.protocol.specs.Node.Plans.{next_record};
 ghost use Rattle.protocol.specs.Node.Starting.{decide_prospect, start_prospect, IsLikeNow};
 ghost use Rattle.protocol.specs.World.Pairs.{LeaveEitherSince};
@@ -54,8 +55,7 @@ impl<C: StableCell, O: Outlet> Station<C, O> {
             (next_record (start_prospect self.old.node.number (view_of self.old.node))
             (view_of self.old.node).kept) }
         ensures later { C.moment (cell_in self.old.node.store) ≤ C.moment (cell_in self.new.node.store) }
-        ensures same_room { C.capacity (cell_in self.new.node.store)
-            ≡ C.capacity (cell_in self.old.node.store) }
+        ensures same_setup { LeavesDevice self.old.node.store self.new.node.store }
         ensures refused { OnErr result
             (station_view O.taken O.failures self.new ≡ station_view O.taken O.failures self.old) }
         ensures step { IfOk result
@@ -83,8 +83,7 @@ impl<C: StableCell, O: Outlet> Station<C, O> {
             (next_record (decide_prospect self.old.node.number (view_of self.old.node))
             (view_of self.old.node).kept) }
         ensures later { C.moment (cell_in self.old.node.store) ≤ C.moment (cell_in self.new.node.store) }
-        ensures same_room { C.capacity (cell_in self.new.node.store)
-            ≡ C.capacity (cell_in self.old.node.store) }
+        ensures same_setup { LeavesDevice self.old.node.store self.new.node.store }
         ensures refused { OnErr result
             (station_view O.taken O.failures self.new ≡ station_view O.taken O.failures self.old) }
         ensures step { IfOk result

@@ -4,16 +4,19 @@ ghost use Rattle.ckpt_store.specs.Spelling.{fits_in};
 ghost use Rattle.ckpt_store.specs.StoreView.{cell_in};
 ghost use Rattle.node.specs.NodeOf.{view_of};
 ghost use Rattle.node.specs.NodeView.{mode_view};
+ghost use Rattle.node.specs.StoredView.{LeavesDevice};
 ghost use Rattle.protocol.specs.Node.ArmedRestarts.{round_later};
 ghost use Rattle.protocol.specs.Node.Plans.{next_record};
 ghost use Rattle.protocol.specs.Node.Recovering.{recover_prospect};
+ghost use Rattle.protocol.specs.World.EventView.{ByNode};
+ghost use Rattle.protocol.specs.World.EventView as event;
 ghost use Rattle.protocol.specs.World.Pairs.{LeaveEitherSince};
 ghost use Rattle.protocol.specs.World.Replies.{back_reply};
 ghost use Rattle.protocol.specs.World.ReplyView.{Crashed, Down, NotDue};
 ghost use Rattle.protocol.specs.World.Steps.{IsPlanned, arm_plan, crash_plan, recover_plan};
-ghost use Rattle.world.specs.ReplyView.{reply_view};
+ghost use Rattle.world.specs.ReplyView.{answer_view, reply_view};
 ghost use Rattle.world.specs.StationView.{outlet_views};
-ghost use Rattle.world.specs.WorldView.{station_view, IsCellUnchanged, RestartsAsArmed};
+ghost use Rattle.world.specs.WorldView.{armed_then, station_view, IsCellUnchanged, RestartsAsArmed};
 
 use crate::checkpoints::answer_by;
 use crate::event::Reply;
@@ -55,8 +58,7 @@ impl<C: StableCell, O: Outlet> Station<C, O> {
             (view_of self.old.node).kept }
         ensures later { C.moment (cell_in self.old.node.store)
             ≤ C.moment (cell_in self.new.node.store) }
-        ensures same_room { C.capacity (cell_in self.new.node.store)
-            ≡ C.capacity (cell_in self.old.node.store) }
+        ensures same_setup { LeavesDevice self.old.node.store self.new.node.store }
         ensures step { IsPlanned (fits_in (C.capacity (cell_in self.old.node.store))) round
             (crash_plan true (round_later round rounds) (station_view O.taken O.failures self.old))
             (station_view O.taken O.failures self.old) (reply_view result)
@@ -76,8 +78,7 @@ impl<C: StableCell, O: Outlet> Station<C, O> {
             (next_record (recover_prospect (view_of self.old.node)) (view_of self.old.node).kept) }
         ensures later { C.moment (cell_in self.old.node.store)
             ≤ C.moment (cell_in self.new.node.store) }
-        ensures same_room { C.capacity (cell_in self.new.node.store)
-            ≡ C.capacity (cell_in self.old.node.store) }
+        ensures same_setup { LeavesDevice self.old.node.store self.new.node.store }
         ensures refused { OnErr result
             (station_view O.taken O.failures self.new ≡ station_view O.taken O.failures self.old) }
         ensures step { IfOk result
@@ -115,6 +116,11 @@ impl<C: StableCell, O: Outlet> Station<C, O> {
             ≤ C.moment (cell_in self.new.node.store) }
         ensures same_room { C.capacity (cell_in self.new.node.store)
             ≡ C.capacity (cell_in self.old.node.store) }
+        ensures armed { C.armed (cell_in self.new.node.store)
+            ≡ armed_then (ByNode 0 (event.Arm fault rounds)) (answer_view result)
+            (C.armed (cell_in self.old.node.store)) }
+        ensures same_calls { C.call_count (cell_in self.new.node.store)
+            ≡ C.call_count (cell_in self.old.node.store) }
         ensures refused { OnErr result
             (station_view O.taken O.failures self.new ≡ station_view O.taken O.failures self.old) }
         ensures step { IfOk result

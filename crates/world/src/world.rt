@@ -17,7 +17,7 @@ ghost use Rattle.world.specs.ReplyView.{answer_view, reply_view};
 ghost use Rattle.protocol.specs.World.ReplyView.{Down};
 ghost use Rattle.protocol.specs.World.Roomy.{HasFullRoom};
 ghost use Rattle.protocol.specs.World.Steps.{are_done_with, is_done_with, may_restart, round_after, setting_in, traffic_after, IsAct, IsStep};
-ghost use Rattle.world.specs.WorldView.{capacities, rooms, station_view, world_view, IsCellUnchanged, IsGrown, RestartsAsArmedAt};
+ghost use Rattle.world.specs.WorldView.{capacities, rooms, station_view, world_view, IsCellUnchanged, IsGrown, LeavesDeviceAt, RestartsAsArmedAt};
 
 use crate::event::{Event, Refused, Reply};
 use crate::nodes::may_restart;
@@ -84,7 +84,9 @@ fn act_at<C: StableCell, O: Outlet>(
         (may_restart (length stations.old.items)) round) (event_view event.now) (reply_view reply)
         (slice_get (map (station_view O.taken O.failures) stations.old.items) number)) }
     ensures same_traffic { OnErr result (traffic_of wire.new ≡ traffic_of wire.old) }
-    ensures same_rooms { capacities stations.new.items ≡ capacities stations.old.items }
+    ensures same_capacities { capacities stations.new.items ≡ capacities stations.old.items }
+    ensures device { LeavesDeviceAt (event_view event.now) (answer_view result)
+        (event_node (event_view event.now)) stations.old.items stations.new.items }
     ensures unchanged { LeavesCells (event_view event.now) (answer_view result)
         → AllZip IsCellUnchanged stations.old.items stations.new.items }
     ensures others { AreSameElsewhere (event_node (event_view event.now)) stations.old.items
@@ -195,6 +197,10 @@ impl<C: StableCell, O: Outlet> World<C, O> {
         ensures armed { IfOk result (λ reply. reply_view reply ≡ Down
             → RestartsAsArmedAt self.old.round (event_node (event_view event))
             self.old.stations.items self.new.stations.items) }
+        // No fault is armed on the device of its node but that of an `Arm` which isn't refused, behind those armed before, none
+        // is disarmed, and no device call that was counted is forgotten.
+        ensures device { LeavesDeviceAt (event_view event) (answer_view result)
+            (event_node (event_view event)) self.old.stations.items self.new.stations.items }
         // Every station but that of the event's node is the very same, with all that its cell and its outlets hold and
         // count, whether the event was made or refused.
         ensures others { AreSameElsewhere (event_node (event_view event))

@@ -1,4 +1,4 @@
-use Rattle.std.proofs.Common.{rules, refl, ◌≡◌, ◌<◌, ◌∙◌, sym, subst, length, map, Option, ℕ, arith}
+use Rattle.std.proofs.Common.{rules, refl, ◌≡◌, ◌<◌, ◌≤◌, ◌∙◌, sym, subst, length, map, Option, ℕ, arith}
 use Rattle.std.specs.Prelude.{IfOk, slice_get, slice_set}
 use Rattle.std.proofs.lemmas.List.{length-map}
 use Rattle.protocol.specs.NodeLaws.PlaceLaws.{nodes_few}
@@ -6,7 +6,7 @@ use Rattle.protocol.specs.World.EventView.{event_node}
 use Rattle.protocol.specs.World.StationView.{StationView}
 use Rattle.protocol.specs.World.Steps.{setting_in, traffic_after, IsAct, Setting}
 use Rattle.wire.specs.Traffic.{traffic_of}
-use Rattle.world.specs.ReplyView.{reply_view}
+use Rattle.world.specs.ReplyView.{answer_view, reply_view}
 use Rattle.std.proofs.lemmas.Option.{slice_get_read}
 use Rattle.kahn_net.specs.Syntax.{network_of}
 use Rattle.ckpt_store.specs.Spelling.{fits_in}
@@ -17,7 +17,7 @@ use Rattle.protocol.specs.World.Pairs.{AreSameElsewhere}
 use Rattle.protocol.specs.WorldLaws.PairLaws.{elsewhere_set, on_err_map, pairs_refl, pairs_set}
 use Rattle.world.specs.WorldView.{station_view}
 use Rattle.world.specs.declared.station.Station.{Station}
-use Rattle.world.proofs.Restarts.{restarts_at}
+use Rattle.world.proofs.Restarts.{devices_at, devices_nowhere, restarts_at}
 use Rattle.world.proofs.Stations.{all_still, all_grown, all_still_in_line, all_in_line}
 use Rattle.world.proofs.Views.{acted, cell_stays, refused_at, restarts_are, seen_at, sound_at}
 use Rattle.world.proofs.world.act_at.Goals as goal
@@ -84,8 +84,8 @@ returns-clause-step g c =
     (restarts_are net c.args.inputs.now (traffic_of c.args.wire.now) c.args.stations.now.items c.may_restart-restarts.result c.len-2.result c.args.round c.may_restart-restarts.ensures (search rules))
     (acted (setting_in net c.args.inputs.now (traffic_of c.args.wire.now) c.may_restart-restarts.result c.args.round) view room (event_view c.args.event.now) c.args.stations.now.items c.args.number c.index_mut.result.now _ c.act.result (search rules) c.index_mut.ensures.value c.act.ensures.step)
 
-pub returns-clause-same_rooms : goal.returns-clause-same_rooms
-returns-clause-same_rooms g c =
+pub returns-clause-same_capacities : goal.returns-clause-same_capacities
+returns-clause-same_capacities g c =
     set_keeps (λ (station : Station g.row.C.Denot g.row.O.Denot g.C.StableCell). g.C.StableCell.capacity (cell_in station.node.store)) c.args.stations.now.items c.args.number c.index_mut.result.now _
     (slice_get_read c.args.stations.now.items _ c.args.number c.index_mut.result.now refl (search rules) c.index_mut.ensures.value) c.act.ensures.same_room
 
@@ -108,3 +108,12 @@ returns-clause-others g c =
 pub returns-clause-armed : goal.returns-clause-armed
 returns-clause-armed g c =
     restarts_at c.args.round c.args.stations.now.items c.args.number (event_node (event_view c.args.event.now)) c.index_mut.result.now c.act.new.self c.act.result c.requires.at (search rules) c.index_mut.ensures.value c.act.ensures.armed
+
+pub returns-clause-device : goal.returns-clause-device
+returns-clause-device g c =
+    devices_at (event_view c.args.event.now) (answer_view c.act.result) c.args.stations.now.items c.args.number (event_node (event_view c.args.event.now)) c.index_mut.result.now c.act.new.self c.requires.at (search rules) c.index_mut.ensures.value c.act.ensures.device
+
+pub returns-then-number-len-clause-device : goal.returns-then-number-len-clause-device
+returns-then-number-len-clause-device g c =
+    let out : length c.args.stations.now.items ≤ c.args.number = search rules in
+    devices_nowhere (event_view c.args.event.now) _ c.args.stations.now.items c.args.number (event_node (event_view c.args.event.now)) c.requires.at out

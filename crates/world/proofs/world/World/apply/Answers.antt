@@ -78,12 +78,12 @@ returns-in-Err-clause-settled g c = one_line {cell = g.C.StableCell} g.O.Outlet.
 pub returns-in-Ok-clause-same_rooms : goal.returns-in-Ok-clause-same_rooms
 returns-in-Ok-clause-same_rooms g c =
     let capacity = λ (station : Station g.row.C.Denot g.row.O.Denot g.C.StableCell). g.C.StableCell.capacity (cell_in station.node.store) in
-    rooms_of capacity c.act_at.new.stations.items ∙ (ap (map fits_in) c.in-Ok.ensures.same_rooms ∙ sym (rooms_of capacity c.args.self.now.stations.items))
+    rooms_of capacity c.act_at.new.stations.items ∙ (ap (map fits_in) c.in-Ok.ensures.same_capacities ∙ sym (rooms_of capacity c.args.self.now.stations.items))
 
 pub returns-in-Err-clause-same_rooms : goal.returns-in-Err-clause-same_rooms
 returns-in-Err-clause-same_rooms g c =
     let capacity = λ (station : Station g.row.C.Denot g.row.O.Denot g.C.StableCell). g.C.StableCell.capacity (cell_in station.node.store) in
-    rooms_of capacity c.act_at.new.stations.items ∙ (ap (map fits_in) c.in-Err.ensures.same_rooms ∙ sym (rooms_of capacity c.args.self.now.stations.items))
+    rooms_of capacity c.act_at.new.stations.items ∙ (ap (map fits_in) c.in-Err.ensures.same_capacities ∙ sym (rooms_of capacity c.args.self.now.stations.items))
 
 pub returns-in-Ok-clause-roomy : goal.returns-in-Ok-clause-roomy
 returns-in-Ok-clause-roomy g c = λ room.
