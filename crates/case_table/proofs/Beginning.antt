@@ -1,6 +1,6 @@
 -- An answer that is taken apart where what is wanted of it ends.
-use Rattle.std.proofs.Common.{rules, ℕ, List, [], ◌∷◌, ◌++◌, ◌≡◌, ◌≢◌, ◌<◌, length, nat_eq, slice_index_or, refl, false, true≢false, sym, ◌∙◌, ap, inl, inr, arith}
-use Rattle.std.specs.Prelude.{IsTrue, ◌⊎◌}
+use Rattle.std.proofs.Common.{rules, ℕ, List, [], ◌∷◌, ◌++◌, ◌≡◌, ◌≢◌, ◌<◌, length, nat_eq, slice_index_or, false, true≢false, sym, ◌∙◌, ap, inl, inr, arith}
+use Rattle.std.specs.Prelude.{IsTrue}
 use Rattle.std.proofs.lemmas.List.{append_cancel_left, append-nil}
 use Rattle.std.proofs.lemmas.Bool.Decides.{Decides-eqb}
 use Rattle.case_table.specs.Wanted.{Begins}

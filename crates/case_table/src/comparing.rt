@@ -1,6 +1,6 @@
 //! What is wanted, and what came.
 
-ghost use Rattle.std.specs.Prelude.{List, ℕ, ◌≡◌, ◌≢◌, ◌++◌, ◌∷◌, ◌↔◌, ◌⊎◌, IsTrue, codes};
+ghost use Rattle.std.specs.Prelude.{List, ℕ, ◌≡◌, ◌≢◌, ◌++◌, ◌↔◌, IsTrue, codes};
 ghost use Rattle.case_table.specs.Wanted.{Begins};
 
 /// A step that came out otherwise than written.

@@ -10,17 +10,17 @@ use Rattle.record.specs.Moves.{with_epoch}
 use Rattle.kahn_net.specs.declared.limits.TheConstants.{MAX_COUNT}
 use Rattle.ckpt_store.specs.StoreView.{cell_in, known_in, record_in, Holds}
 use Rattle.ckpt_store.specs.declared.store.Store.{Store}
-use Rattle.protocol.specs.Node.NodeView.{NodeView, with_mode}
+use Rattle.protocol.specs.Node.NodeView.{NodeView}
 use Rattle.node.specs.NodeView.{node_view, mode_view}
-use Rattle.protocol.specs.Node.Modes.{is_down, crashed, with_kept}
-use Rattle.protocol.specs.Node.Plans.{Prospect, Undue, Exhausted, HasFailedAt, if_due, next_record, putting, unless_spent}
+use Rattle.protocol.specs.Node.Modes.{is_down, crashed}
+use Rattle.protocol.specs.Node.Plans.{Prospect, Exhausted, HasFailedAt, if_due, next_record, putting, unless_spent}
 use Rattle.protocol.specs.Node.ArmedRestarts.{restart_after}
 use Rattle.protocol.specs.declared.outcome.Outcome.{Outcome}
 use Rattle.protocol.specs.declared.outcome.Outcome.TheVariants as outcome
 use Rattle.protocol.specs.declared.outcome.Refusal.TheVariants.{Spent}
 use Rattle.ckpt_store.specs.Spelling.{fits_in}
 use Rattle.node.specs.Putting.{IsPutEvent}
-use Rattle.protocol.specs.Node.Recovering.{recover_prospect, restored, restored_mode}
+use Rattle.protocol.specs.Node.Recovering.{recover_prospect, restored}
 use Rattle.node.specs.StoredView.{HasRecord, IsAnswer, IsCrashed, IsRaised, IsRaiseRefusal, LeavesAsBefore, LeavesDevice, LeavesNext, has_failed, put_outcome}
 use Rattle.node.specs.declared.state.NodeState.{NodeState}
 use Rattle.gate_cell.specs.Setup.{setup_then}
@@ -59,13 +59,6 @@ back_spent node down more =
     not_less : (n m : ℕ) → m ≤ n → nat_lt n m ≡ false
     not_less n m more = grind (arith, more)
 
-pub back_undue : (node : NodeView) → is_down node.mode ≡ false → recover_prospect node ≡ Undue
-back_undue node up = ap (λ (b : Bool). if_due b (unless_spent true (nat_lt node.kept.epoch MAX_COUNT) (putting false (restored node)))) up
-
--- it came back with the record of the next epoch
-pub came_back : (old : NodeView) (next : RecordView) (now : NodeView) → next ≡ with_epoch old.kept → now ≡ with_mode (restored_mode next) (with_kept next old) → now ≡ restored old
-came_back old next now is became = became ∙ ap (λ (r : RecordView). with_mode (restored_mode r) (with_kept r old)) is
-
 module _ {C : Type 0} (words : CellWords C)
     (includes_now : (cell : C) (t : ℕ) (left : Option (List ℕ)) → t ≤ words.moment cell → words.may_leave cell left → words.left_since cell t left)
     (may_stay : (cell : C) → words.may_leave cell (Some (words.value cell)))
@@ -95,19 +88,6 @@ module _ {C : Type 0} (words : CellWords C)
 -- ---- what came of a recovery, with its store
 
 module _ {C : Type 0} {words : CellWords C} (round : ℕ) (was now : NodeView) (old new : Store C words) (same : was.kept ≡ record_in old) {E : Type 0} where
-  -- it came back
-  pub back_event : recover_prospect was ≡ putting false (restored was) → now ≡ restored was → IsTrue (fits_in (words.capacity (cell_in old)) (with_epoch (record_in old)))
-      → words.failure_count (cell_in new) ≡ words.failure_count (cell_in old) → LeavesNext (with_epoch (record_in old)) old new → LeavesDevice old new
-      → IsPutEvent (recover_prospect was) round was now old new {E = E} (Ok outcome.Made)
-  back_event planned came fits failures moments setup = subst (λ (p : Prospect). IsPutEvent p round was now old new {E = E} (Ok outcome.Made)) (sym planned) (record {
-    step = came;
-    refused = tt;
-    refused_failures = tt;
-    put = (subst (λ (r : RecordView). IsTrue (fits_in (words.capacity (cell_in old)) (with_epoch r))) (sym same) fits, failures);
-    any_moment = subst (λ (r : RecordView). LeavesNext (with_epoch r) old new) (sym same) moments;
-    same_setup = setup;
-  })
-
   -- its device failed
   pub lost_event : recover_prospect was ≡ putting false (restored was) → HasFailedAt (restart_after was.armed (words.failed_call (cell_in new)) round) (with_epoch was.kept) was now
       → IsTrue (fits_in (words.capacity (cell_in old)) (with_epoch (record_in old))) → words.failure_count (cell_in old) < words.failure_count (cell_in new) → LeavesNext (with_epoch (record_in old)) old new → LeavesDevice old new

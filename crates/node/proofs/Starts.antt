@@ -1,5 +1,5 @@
 -- A start and a decision as puts of the next record.
-use Rattle.std.proofs.Common.{◌≡◌, ℕ, ◌+◌, ◌<◌, ◌≤◌, Bool, true, false, ◌&&◌, List, [], length, Option, Some, None, Result, Ok, Err, refl, sym, ◌∙◌, ap, subst, arith, eqb}
+use Rattle.std.proofs.Common.{◌≡◌, ℕ, ◌+◌, ◌<◌, ◌≤◌, Bool, true, false, ◌&&◌, List, [], length, Option, Some, None, Result, refl, sym, ◌∙◌, ap, subst, arith, eqb}
 use Rattle.std.specs.Prelude.{IsTrue, is_some, cond, nat_le, nat_lt}
 use Rattle.std.proofs.lemmas.Bool.{le-ltb, lt-ltb, eq-eqb}
 use Rattle.std.proofs.lemmas.List.{length-set}
@@ -11,7 +11,6 @@ use Rattle.record.specs.Moves.{highest_seen, with_tentative, with_decision}
 use Rattle.record.specs.declared.record.Tentative.{Tentative}
 use Rattle.kahn_net.specs.declared.limits.TheConstants.{MAX_COUNT}
 use Rattle.ckpt_store.proofs.Room.{decision_fits, record_fits}
-use Rattle.gate_cell.specs.Setup.{setup_stays}
 use Rattle.gate_cell.specs.declared.TheConstants.{MAX_VALUE_BYTES}
 use Rattle.ckpt_store.specs.Refusals.{is_held, is_other_held, refusal_to_take, refusal_to_decide}
 use Rattle.ckpt_store.specs.StoreView.{cell_in, record_in, Changes}
@@ -23,13 +22,12 @@ use Rattle.protocol.specs.declared.armed_restart.ArmedRestart.{ArmedRestart}
 use Rattle.protocol.specs.Node.NodeView.{NodeView, ModeView, Down, InDoubt, Runs, RunningView, running_in}
 use Rattle.node.specs.NodeView.{node_view, mode_view}
 use Rattle.protocol.specs.Node.Starting.{is_own, own_number, held_number, may_start, may_decide, own_at, with_own_now, decided, start_prospect, decide_prospect}
-use Rattle.protocol.specs.Node.Plans.{Prospect, Undue, Exhausted, if_due, unless_spent, putting, next_record}
+use Rattle.protocol.specs.Node.Plans.{if_due, unless_spent, putting}
 use Rattle.protocol.specs.Node.Modes.{is_none, is_running, is_down, crashed, with_kept}
-use Rattle.node.specs.StoredView.{HasRecord, IsCrashed, LeavesNext, has_failed, put_outcome, IsAnswer}
+use Rattle.node.specs.StoredView.{HasRecord, IsCrashed, has_failed, put_outcome, IsAnswer}
 use Rattle.node.specs.declared.state.NodeState.{NodeState}
 use Rattle.protocol.specs.declared.outcome.Outcome.{Outcome}
 use Rattle.protocol.specs.declared.outcome.Outcome.TheVariants as outcome
-use Rattle.protocol.specs.declared.outcome.Refusal.TheVariants.{Spent}
 use Rattle.node.specs.Putting.{IsPutEvent}
 use Rattle.node.proofs.Checkpoints.{Ends, ended, ends_event, ends_kept}
 
@@ -180,20 +178,3 @@ module _ {C : Type 0} (words : CellWords C)
       where
         due : may_decide number was ≡ true
         due = ap (λ (b : Bool). b && is_own number (record_in old).tentative) runs ∙ (own_is number (record_in old).tentative held is).2
-
--- ---- where nothing was put
-
-module _ {C : Type 0} {words : CellWords C} (prospect : Prospect) (round : ℕ) (was : NodeView) (store : Store C words) {E : Type 0} where
-  -- the event isn't due
-  pub undue_event : prospect ≡ Undue → LeavesNext was.kept store store → IsPutEvent prospect round was was store store {E = E} (Ok outcome.NotDue)
-  undue_event is nothing = subst (λ (p : Prospect). IsPutEvent p round was was store store {E = E} (Ok outcome.NotDue)) (sym is)
-      (record { step = (refl, refl); refused = tt; refused_failures = tt; put = refl; any_moment = nothing; same_setup = setup_stays words.capacity words.armed words.call_count (cell_in store) })
-
-  -- or a number would pass the greatest
-  pub spent_event : prospect ≡ Exhausted false → LeavesNext was.kept store store → IsPutEvent prospect round was was store store {E = E} (Ok (outcome.Refused Spent))
-  spent_event is nothing = subst (λ (p : Prospect). IsPutEvent p round was was store store {E = E} (Ok (outcome.Refused Spent))) (sym is)
-      (record { step = refl; refused = tt; refused_failures = tt; put = refl; any_moment = nothing; same_setup = setup_stays words.capacity words.armed words.call_count (cell_in store) })
-
-  -- or memory is missing
-  pub refused_event : (e : E) → LeavesNext (next_record prospect was.kept) store store → IsPutEvent prospect round was was store store {E = E} (Err e)
-  refused_event e nothing = record { step = tt; refused = refl; refused_failures = refl; put = tt; any_moment = nothing; same_setup = setup_stays words.capacity words.armed words.call_count (cell_in store) }

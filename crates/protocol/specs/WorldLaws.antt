@@ -14,7 +14,6 @@ pub mod KeptLaws
 pub mod StepKeeps
 pub mod RoomLaws
 pub mod DropLaws
-pub mod DownLaws
 pub mod ActLaws
 pub mod GrowLaws
 pub mod OpenLaws

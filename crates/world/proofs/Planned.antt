@@ -19,13 +19,12 @@ use Rattle.protocol.specs.Node.Delivering.{delivery_of, packet_for, told_by}
 use Rattle.protocol.specs.Node.JobView.{JobView}
 use Rattle.protocol.specs.Node.NodeView.{NodeView, ModeView, Down, InDoubt, Runs, on_mode, with_mode}
 use Rattle.protocol.specs.Node.Modes.{is_down}
-use Rattle.protocol.specs.Node.Plans.{Prospect, Undue, becoming, if_due, packets_by, putting, room_for, unless_spent, IsMade, IsPut, LeavesCell}
+use Rattle.protocol.specs.Node.Plans.{Prospect, Undue, becoming, if_due, packets_by, putting, room_for, unless_spent, IsMade, IsPut}
 use Rattle.protocol.specs.Node.Recovering.{recover_prospect, restored, restored_mode}
 use Rattle.protocol.specs.declared.round_turns.RoundTurns.{RoundTurns}
-use Rattle.protocol.specs.WorldLaws.PlanLaws.{made_restarts}
 use Rattle.protocol.specs.World.EventView.{EventView, ByNode}
 use Rattle.protocol.specs.World.EventView as event
-use Rattle.protocol.specs.World.Replies.{AnswerLeaves, answer_by, back_reply, delivery_reply, grant_reply, has_happened, outcome_of}
+use Rattle.protocol.specs.World.Replies.{answer_by, back_reply, delivery_reply, grant_reply, has_happened, outcome_of}
 use Rattle.protocol.specs.World.ReplyView.{ReplyView}
 use Rattle.protocol.specs.World.ReplyView as reply
 use Rattle.protocol.specs.World.StationView.{StationView}
@@ -141,10 +140,13 @@ module _ (fits : RecordView → Bool) (round : ℕ) (net : Network) (place : ℕ
     where
       packet : Option Packet
       packet = packet_for net old.number bytes
+
       plan : StationPlan
       plan = deliver_plan net place (Some bytes) old
+
       due_if : Bool → Prospect
       due_if down = if_due (not down) (becoming (told_by packet old.node))
+
       by_mode : (down : Bool) → is_down old.node.mode ≡ down → IsPlanned fits round plan old answer new
       by_mode true is =
           not_due fits round plan old new (ap due_if is) answer (came.answers ∙ ap (λ (d : Bool). delivery_reply (delivery_of d packet)) is)
@@ -178,30 +180,6 @@ turns_kept turns outcome.Made = refl
 turns_kept turns (outcome.Refused refusal) = refl
 turns_kept turns outcome.Failed = refl
 
--- a node whose device failed comes back as its call was armed
-pub restarts_by : (restart : ℕ) (prospect : Prospect) (old new : NodeView) (came : Outcome) (answer made : ReplyView) → outcome_of made ≡ outcome.Made → answer ≡ answer_by made came → IsMade restart prospect old came new → answer ≡ reply.Down
-    → new.restart ≡ restart
-restarts_by restart prospect old new came answer made is_made is step down =
-    let failed : came ≡ outcome.Failed = sym (ap outcome_of is ∙ told made came is_made) ∙ ap outcome_of down in
-    made_restarts restart prospect old new (subst (λ (o : Outcome). IsMade restart prospect old o new) failed step)
-
--- the cell wasn't touched by an event that puts a record, as its answer tells
-pub start_leaves : (came : Outcome) → AnswerLeaves (Some (answer_by reply.Started came)) → LeavesCell (Ok came)
-start_leaves outcome.NotDue leaves = tt
-start_leaves outcome.Made leaves = absurd leaves
-start_leaves (outcome.Refused refusal) leaves = tt
-start_leaves outcome.Failed leaves = absurd leaves
-
-pub decide_leaves : (came : Outcome) → AnswerLeaves (Some (answer_by reply.Decided came)) → LeavesCell (Ok came)
-decide_leaves outcome.NotDue leaves = tt
-decide_leaves outcome.Made leaves = absurd leaves
-decide_leaves (outcome.Refused refusal) leaves = tt
-decide_leaves outcome.Failed leaves = absurd leaves
-
--- nothing happened, as the answer tells
-pub nothing_came : (made : ReplyView) (came : Outcome) → outcome_of made ≡ outcome.Made → answer_by made came ≡ reply.NotDue → came ≡ outcome.NotDue
-nothing_came made came is_made none = sym (told made came is_made) ∙ ap outcome_of none
-
 -- what is in flight behind a delivery: without the packet that came, if one did
 pub delivered_traffic : (fits : RecordView → Bool) (setting : Setting) (k place : ℕ) (old new : StationView) (answer : ReplyView)
     → IsPlanned fits setting.round (plan_of setting k (event.Deliver place) old) old answer new
@@ -212,6 +190,7 @@ delivered_traffic fits setting k place old new answer came = by_found (due_bytes
     behind found reply =
         let plan = deliver_plan setting.net place found old in
         cond (has_happened reply) (all_sent setting.round (plan_sendings plan reply) (traffic_left setting.traffic k plan.came)) setting.traffic
+
     by_found : (found : Option (List ℕ)) → IsPlanned fits setting.round (deliver_plan setting.net place found old) old answer new
         → cond (has_happened answer) (traffic_without setting.traffic k place) setting.traffic ≡ behind found answer
     by_found None came =

@@ -6,7 +6,6 @@ use Rattle.std.proofs.Math.Logic.{∥∥₁_map}
 use Rattle.kahn_net.specs.Fits.{Fits}
 use Rattle.kahn_net.specs.Syntax.{Network}
 use Rattle.kahn_net.specs.Valid.{IsValid}
-
 use Rattle.datagram.proofs.Exactness.{whole_again}
 use Rattle.datagram.specs.Reading.{whole_at}
 use Rattle.datagram.specs.declared.packet.Body.{Body}
@@ -14,9 +13,7 @@ use Rattle.datagram.specs.declared.packet.Packet.{Packet}
 use Rattle.record.specs.Moves.{with_epoch}
 use Rattle.record.specs.RecordView.{RecordView}
 use Rattle.record.specs.declared.record.Tentative.{Tentative}
-
 use Rattle.protocol.specs.Node.Addresses.{names_right}
-
 use Rattle.protocol.specs.Node.Choosing.{after_grant, granted, grant_prospect, job_at, next_job, node_job, with_grant}
 use Rattle.protocol.specs.Node.Delivering.{deliver_prospect, heard, hearing, if_right, packet_for}
 use Rattle.protocol.specs.Node.JobView.{JobView}
@@ -31,7 +28,6 @@ use Rattle.protocol.specs.declared.outcome.Outcome.{Outcome}
 use Rattle.protocol.specs.declared.outcome.Outcome.TheVariants as outcome
 use Rattle.protocol.specs.declared.outcome.Refusal.TheVariants.{TooLarge, Spent}
 use Rattle.protocol.specs.declared.round_turns.RoundTurns.{RoundTurns}
-
 use Rattle.protocol.specs.World.EventView as event
 use Rattle.protocol.specs.World.Invariant.{outputs_of, RunsSoundly, StationInvariant}
 use Rattle.protocol.specs.World.RecordSound.{RecordIsSound}
@@ -416,9 +412,3 @@ module _ (net : Network) (inputs : List (List ℤ)) (old : StationView) where
   made_keeps restart Undue outcome node failures turns inv sound step = stays_so node failures turns inv step.1
   made_keeps restart (Exhausted looks) outcome node failures turns inv sound step = held_keeps restart looks outcome node failures turns inv step
   made_keeps restart (Planned plan) outcome node failures turns inv sound step = carried_keeps restart plan outcome node failures turns inv sound step
-
--- From which round on a node may be recovered whose device failed
-pub made_restarts : (restart : ℕ) (prospect : Prospect) (old new : NodeView) → IsMade restart prospect old outcome.Failed new → new.restart ≡ restart
-made_restarts restart Undue old new step = (let other = step.0 in absurd (cc))
-made_restarts restart (Exhausted looks) old new step = ap (λ (n : NodeView). n.restart) step.1
-made_restarts restart (Planned plan) old new step = ⊎_elim (λ same. ap (λ (n : NodeView). n.restart) same) (λ same. ap (λ (n : NodeView). n.restart) same) step.1

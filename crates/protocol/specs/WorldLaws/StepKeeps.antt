@@ -19,7 +19,6 @@ use Rattle.record.specs.Ends.{log_of, base_of, sent_of}
 use Rattle.record.specs.ImageView.{ImageView}
 use Rattle.record.specs.RecordView.{RecordView}
 use Rattle.wire.specs.Traffic.{Traffic, all_sent}
-
 use Rattle.protocol.specs.Node.ArmedRestarts.{restart_after}
 use Rattle.protocol.specs.Node.Installing.{turned, IsOut, IsInstall}
 use Rattle.protocol.specs.Node.Layout.{is_on, AllHere}
