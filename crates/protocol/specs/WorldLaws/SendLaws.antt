@@ -60,7 +60,7 @@ got_take k xs j x is = prefix_item (take k xs) xs j x (prefix_of (record { rest 
 
 -- ---- the nodes at the ends of a channel
 
-address_of : Option Code → ℕ
+abbrev address_of : Option Code → ℕ
 address_of code = address (option_map (λ (c : Code). c.node) code)
 
 -- a process stands at one end on the node, and one at the other end on another node
