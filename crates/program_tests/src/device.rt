@@ -11,13 +11,10 @@ use sector_disk::{Disk, MemDisk};
 use std::alloc::{AllocError, Global};
 use std::sync::Arc;
 use std::test::Fail;
-use world::{Event, Reply, World, list_outputs, node_count};
+use world::{Event, Reply, SECTORS, World, list_outputs, node_count};
 
 const SUM: &str =
     "kahn 1; input i; output o; process sum on 0 { var a; var v; loop { v = get i; a = a + v; put a to o; } }";
-
-/// The sectors of a disk with room behind the gate for a record of 1,048,576 bytes in each of its two areas.
-const SECTORS: usize = 4_101;
 
 type DiskWorld = World<GateCell<MemDisk>, ListOutlet>;
 

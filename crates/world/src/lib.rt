@@ -14,6 +14,7 @@ mod network;
 mod nodes;
 mod opening;
 mod output;
+mod outputs;
 mod picking;
 mod quiet;
 mod recovering;
@@ -26,8 +27,13 @@ mod world;
 pub use event::{Event, Freed, Refused, Reply};
 pub use laws::{line_law, traffic_law};
 pub use node::node_count;
-pub use opening::list_outputs;
+pub use opening::OpeningRefused;
 pub use output::Output;
+pub use outputs::{OutletMaker, list_outputs, outputs_of};
 pub use protocol::RoundTurns;
 pub use station::Station;
 pub use world::World;
+
+/// The sectors of a disk on which a cell has room for any record: behind the gate for one of 1,048,576 bytes in each of
+/// its two areas.
+pub const SECTORS: usize = 4_101;

@@ -58,7 +58,10 @@ pub(crate) fn world_of(
     }
     let net = Arc::new(alloc, net)?;
     let inputs = Arc::new(alloc, inputs)?;
-    Ok(World::new(alloc, net, inputs, disks, outputs)?)
+    match World::new(alloc, net, inputs, disks, outputs) {
+        Ok(world) => Ok(world),
+        Err(refused) => Err(refused.fault.into()),
+    }
 }
 
 // The one output of the running sum, with an outlet that fails.
@@ -104,7 +107,10 @@ pub(crate) fn weak_world(
     }
     let net = Arc::new(alloc, net)?;
     let inputs = Arc::new(alloc, inputs)?;
-    Ok(World::new(alloc, net, inputs, disks, outputs)?)
+    match World::new(alloc, net, inputs, disks, outputs) {
+        Ok(world) => Ok(world),
+        Err(refused) => Err(refused.fault.into()),
+    }
 }
 
 /// One event.
