@@ -2,6 +2,7 @@
 //! case, and how a case that comes out otherwise is found and printed. What a case means is each program's own.
 #![tactic(auto)]
 
+mod bytes;
 mod comparing;
 mod names;
 mod numbers;
@@ -9,9 +10,10 @@ mod running;
 mod table;
 mod words;
 
+pub use bytes::{NamedBytes, named_in, spelled};
 pub use comparing::{Difference, is_wanted, parts_of};
 pub use names::{Name, filled};
 pub use numbers::{byte, item, number, size};
-pub use running::{Trial, read, run_cases};
-pub use table::{Case, Line, Table, table_of};
+pub use running::{Trial, read, run_cases, run_wrong_cases};
+pub use table::{Case, Line, Table, table_of, table_of_texts};
 pub use words::{listed, yes_or_no};

@@ -41,15 +41,35 @@ fn report(
     println!(rt; "  came: {}", difference.came)
 }
 
-/// Whether a case comes out as written, for each choice of its numbers.
+/// What comes out otherwise than a case says, for one choice.
+fn found_in(
+    rt: &HostRuntime,
+    case: &Case,
+    choice: &[u64],
+    trial: &impl Trial,
+) -> anyhow::Result<Option<Difference>> {
+    trial
+        .found(rt, case, choice)
+        .context(format_args!("the case of line {}", case.line))
+}
+
+/// Whether a case comes out as written, for each choice of its numbers. Prints the first that doesn't.
 fn holds(rt: &HostRuntime, case: &Case, trial: &impl Trial) -> anyhow::Result<bool> {
     let all = choices(rt.alloc(), &case.names)?;
     for choice in &all {
-        let found = trial
-            .found(rt, case, choice)
-            .context(format_args!("the case of line {}", case.line))?;
-        if let Some(difference) = found {
+        if let Some(difference) = found_in(rt, case, choice, trial)? {
             report(rt, case, choice, &difference)?;
+            return Ok(false);
+        }
+    }
+    Ok(true)
+}
+
+/// Whether a case comes out otherwise, for each choice of its numbers.
+fn fails(rt: &HostRuntime, case: &Case, trial: &impl Trial) -> anyhow::Result<bool> {
+    let all = choices(rt.alloc(), &case.names)?;
+    for choice in &all {
+        if found_in(rt, case, choice, trial)?.is_none() {
             return Ok(false);
         }
     }
@@ -71,5 +91,19 @@ pub fn run_cases(rt: &HostRuntime, cases: &[Case], trial: &impl Trial) -> anyhow
         "{} cases otherwise",
         cases.len().saturating_sub(as_written)
     );
+    Ok(())
+}
+
+/// Runs cases each of which is wrong on purpose, and prints how many came out otherwise. Refuses where one came out as written: a
+/// program that lets it pass would let every case pass.
+pub fn run_wrong_cases(rt: &HostRuntime, cases: &[Case], trial: &impl Trial) -> anyhow::Result<()> {
+    for case in cases {
+        anyhow::ensure!(
+            fails(rt, case, trial)?,
+            "the wrong case of line {} came out as written",
+            case.line
+        );
+    }
+    println!(rt; "{} wrong cases found", cases.len())?;
     Ok(())
 }

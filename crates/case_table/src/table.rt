@@ -11,6 +11,15 @@ pub struct Line<'a> {
     pub text: &'a str,
 }
 
+/// What the lines of a table are.
+#[derive(Clone, Copy, Debug, PartialEq, Eq)]
+enum Kind {
+    /// Words. Empty lines, and those that begin with `#`, say nothing, and a line `for ..` gives names their numbers.
+    Words,
+    /// Parts of texts, which stand as they are.
+    Texts,
+}
+
 /// A case, as it stands in the table.
 #[derive(Drop)]
 pub struct Case<'a> {
@@ -32,17 +41,15 @@ impl<'a> Case<'a> {
     }
 
     /// A further line of the case.
-    fn add(&mut self, alloc: Global, line: Line<'a>) -> anyhow::Result<()> {
-        match line.text.strip_prefix("for ") {
-            Some(rest) => {
+    fn add(&mut self, alloc: Global, kind: Kind, line: Line<'a>) -> anyhow::Result<()> {
+        if let Kind::Words = kind {
+            if let Some(rest) = line.text.strip_prefix("for ") {
                 let words: Vec<&'a str> = rest.split_whitespace().collect(alloc)?;
-                add_names(alloc, &mut self.names, words.as_slice())
-            }
-            None => {
-                self.lines.push(line)?;
-                Ok(())
+                return add_names(alloc, &mut self.names, words.as_slice());
             }
         }
+        self.lines.push(line)?;
+        Ok(())
     }
 
     /// Whether each of its names stands for a number, and is used.
@@ -74,30 +81,50 @@ pub struct Table<'a> {
     pub cases: Vec<Case<'a>>,
 }
 
+/// Whether a line says nothing.
+fn is_remark(text: &str) -> bool {
+    text.is_empty() || text.starts_with("#")
+}
+
 /// The table of a text.
-pub fn table_of<'a>(alloc: Global, text: &'a str) -> anyhow::Result<Table<'a>> {
+fn read_table<'a>(alloc: Global, kind: Kind, text: &'a str) -> anyhow::Result<Table<'a>> {
     let mut head = Vec::new(alloc);
     let mut cases = Vec::new(alloc);
     let mut case: Option<Case<'a>> = None;
-    for (place, text) in text.lines().enumerate() {
+    for (place, whole) in text.lines().enumerate() {
         let number = place.saturating_add(1);
-        let text = text.trim();
-        if text.is_empty() || text.starts_with("#") {
-            continue;
-        }
+        let text = if kind == Kind::Words {
+            whole.trim()
+        } else {
+            whole
+        };
         if let Some(title) = text.strip_prefix("== ") {
             add_case(&mut cases, case)?;
             case = Some(Case::new(alloc, title, number));
             continue;
         }
+        if is_remark(text) && (kind == Kind::Words || case.is_none()) {
+            continue;
+        }
+        let line = Line { number, text };
         match &mut case {
             Some(open) => open
-                .add(alloc, Line { number, text })
+                .add(alloc, kind, line)
                 .context(format_args!("line {number}"))?,
-            None => head.push(Line { number, text })?,
+            None => head.push(line)?,
         }
     }
     add_case(&mut cases, case)?;
     anyhow::ensure!(!cases.is_empty(), "no case stands in the table");
     Ok(Table { head, cases })
+}
+
+/// The table of a text, with a line for each thing that a case says.
+pub fn table_of<'a>(alloc: Global, text: &'a str) -> anyhow::Result<Table<'a>> {
+    read_table(alloc, Kind::Words, text)
+}
+
+/// The table of a text whose cases are made of texts: each line of a case stands as it is, also an empty one.
+pub fn table_of_texts<'a>(alloc: Global, text: &'a str) -> anyhow::Result<Table<'a>> {
+    read_table(alloc, Kind::Texts, text)
 }

@@ -12,3 +12,4 @@ mod Spelled
 mod Walking
 pub mod Sizes
 mod Fitting
+mod Testing

@@ -1,5 +1,5 @@
 -- The lengths of spellings.
-use Rattle.std.proofs.Common.{◌≡◌, ℕ, ◌+◌, ◌*◌, ℤ, List, [], ◌∷◌, ◌++◌, length, Option, Some, None, refl, sym, ap, ◌∙◌, length-append, arith}
+use Rattle.std.proofs.Common.{◌≡◌, ℕ, ◌+◌, ◌*◌, ◌≤◌, ℤ, List, [], ◌∷◌, ◌++◌, length, Option, Some, None, refl, sym, ap, ◌∙◌, length-append, arith}
 use Rattle.std.specs.Prelude.{sum_by}
 use Rattle.std.specs.List.{flat_map}
 use Rattle.std.proofs.lemmas.List.Concat.{flat_map-cons}
@@ -12,6 +12,7 @@ use Rattle.record.specs.DecisionView.{DecisionView}
 use Rattle.record.specs.ProcessView.{SavedProcessView}
 use Rattle.record.specs.ImageView.{ImageView}
 use Rattle.record.specs.RecordView.{RecordView}
+use Rattle.record.specs.Moves.{with_permanent, with_decision, with_epoch}
 use Rattle.record.specs.declared.image.SavedEnd.{SavedEnd}
 use Rattle.record.specs.declared.image.End.{End}
 use Rattle.record.specs.declared.image.End.TheVariants.{Receives, Sends, Both}
@@ -20,6 +21,7 @@ use Rattle.ckpt_codec.specs.Fields.{number_text}
 use Rattle.ckpt_codec.specs.RecordText.{variables_of, role_of, record_text}
 use Rattle.ckpt_codec.specs.Spelling.{item_text, items_text, mode_text, state_text, process_text, log_text, end_text, saved_end_text, process_list_text, end_list_text, image_text, participants_text, decision_text, tentative_text, highest_text, head_text}
 use Rattle.ckpt_codec.specs.Lengths.{mode_length, process_length, end_length, saved_end_length, image_length, decision_length, tentative_length, record_length, undecided_length, named_length, named_count, with_decided, spelled_length}
+use Rattle.ckpt_codec.specs.SizeLaws.{permanent_is_shorter, decision_is_shorter, epoch_is_shorter}
 use Rattle.ckpt_codec.proofs.Spelled.{record-spelled}
 
 length-number : (width n : ℕ) → length (number_text width n) ≡ width
@@ -159,6 +161,23 @@ length-record kept =
 pub length-spelled : (kept : RecordView) (n : ℕ) → n ≡ record_length kept → n ≡ spelled_length kept
 unfolding spelled_length
 length-spelled kept n is = is ∙ sym (length-record kept)
+
+-- a move that lets an image go, or none, makes the spelling no longer
+no_longer : (kept next : RecordView) → record_length next ≤ record_length kept → spelled_length next ≤ spelled_length kept
+unfolding spelled_length
+no_longer kept next shorter =
+    let before = length-record kept in
+    let after = length-record next in
+    omega (arith, before, after, shorter)
+
+pub permanent_is_no_longer : (kept : RecordView) → spelled_length (with_permanent kept) ≤ spelled_length kept
+permanent_is_no_longer kept = no_longer kept (with_permanent kept) (permanent_is_shorter kept)
+
+pub decision_is_no_longer : (number : ℕ) (kept : RecordView) → spelled_length (with_decision number [] kept) ≤ spelled_length kept
+decision_is_no_longer number kept = no_longer kept (with_decision number [] kept) (decision_is_shorter number kept)
+
+pub epoch_is_no_longer : (kept : RecordView) → spelled_length (with_epoch kept) ≤ spelled_length kept
+epoch_is_no_longer kept = no_longer kept (with_epoch kept) (epoch_is_shorter kept)
 
 named-decision : (decision : Option DecisionView) → named_length (named_count decision) ≡ decision_length decision
 named-decision None = refl

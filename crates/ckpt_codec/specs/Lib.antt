@@ -6,3 +6,4 @@ pub mod Spelling
 pub mod Lengths
 pub mod SizeLaws
 pub mod ItemLaws
+pub mod Testing

@@ -13,7 +13,7 @@ use record::{Image, SavedEnd, SavedProcess};
 use std::alloc::Global;
 
 // How many processes the first image has.
-fn wanted_processes(like: Option<&Image>) -> Option<usize>
+pub(crate) fn wanted_processes(like: Option<&Image>) -> Option<usize>
     ensures { result ≡ wanted (λ (i : ImageView). length i.processes) (option_copied like.entry) }
 {
     match like {
@@ -23,7 +23,7 @@ fn wanted_processes(like: Option<&Image>) -> Option<usize>
 }
 
 // How many ends the first image has.
-fn wanted_ends(like: Option<&Image>) -> Option<usize>
+pub(crate) fn wanted_ends(like: Option<&Image>) -> Option<usize>
     ensures { result ≡ wanted (λ (i : ImageView). length i.ends) (option_copied like.entry) }
 {
     match like {

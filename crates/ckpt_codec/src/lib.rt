@@ -4,6 +4,7 @@
 //! first offence from the left.
 #![tactic(auto)]
 
+mod allowed;
 mod ends;
 mod fault;
 mod fields;
@@ -16,6 +17,7 @@ mod putting;
 mod reading;
 mod writing;
 
+pub use allowed::{are_participants, is_image, is_record};
 pub use fault::CodecFault;
 pub use laws::{
     bounded_records_fit, moves_keep_bounds, moves_make_no_longer, no_spelling_begins_another,

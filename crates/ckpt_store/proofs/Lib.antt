@@ -7,3 +7,4 @@ pub mod Loads
 pub mod Undone
 pub mod Changes
 pub mod Seen
+pub mod Room

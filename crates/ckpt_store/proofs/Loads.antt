@@ -6,6 +6,7 @@ use Rattle.std.proofs.Math.Logic.{∥∥₁_elim}
 use Rattle.sector_disk.specs.Clock.{Only, LeavesOnly}
 use Rattle.sector_disk.proofs.Moments.{joined}
 use Rattle.gate_cell.specs.declared.cell.StableCell.{Ghosts as CellWords}
+use Rattle.gate_cell.specs.Setup.{LeavesSetup, setup_then}
 use Rattle.gate_cell.specs.declared.fault.CellFault.TheVariants as cell
 use Rattle.gate_cell.specs.CellFault.{HasCause}
 use Rattle.record.specs.RecordView.{RecordView}
@@ -56,7 +57,7 @@ told_reopen codec.Truncated e = cc
 told_reopen codec.Version e = cc
 told_reopen codec.Malformed e = cc
 
-module _ {C : Type 0} (words : CellWords C) (old new : C) (got : List ℕ) (moments : LeavesOnly words.moment words.left_since old new (words.may_leave old)) (same_value : words.value new ≡ words.value old) (same_room : words.capacity new ≡ words.capacity old)
+module _ {C : Type 0} (words : CellWords C) (old new : C) (got : List ℕ) (moments : LeavesOnly words.moment words.left_since old new (words.may_leave old)) (same_value : words.value new ≡ words.value old) (same_setup : LeavesSetup words.capacity words.armed words.call_count old new)
     {B : Type 0} (bytes : B) (cause : HasCause {T = B} (words.failure_count old) (words.failure_count new) (words.is_ready old) (words.is_ready new) (Ok bytes)) (value : got ≡ words.value old) where
   -- it was ready
   was_ready : IsTrue (words.is_ready old)
@@ -75,7 +76,7 @@ module _ {C : Type 0} (words : CellWords C) (old new : C) (got : List ℕ) (mome
     unchanged = λ e. cc;
     stays_ready = λ other. cause.stays_ready;
     same_value = same_value;
-    same_room = same_room;
+    same_setup = same_setup;
     any_moment = moments;
   }
 
@@ -93,7 +94,7 @@ module _ {C : Type 0} (words : CellWords C) (old new : C) (got : List ℕ) (mome
     unchanged = λ e. absurd (told_reopen told (same_fault e));
     stays_ready = λ other. cause.stays_ready;
     same_value = same_value;
-    same_room = same_room;
+    same_setup = same_setup;
     any_moment = moments;
   }
     where
@@ -154,9 +155,9 @@ of_reopening Spent is other = absurd is
 
 module _ {C : Type 0} (words : CellWords C) (old mid new : C) (fault : StoreFault) (leaves : (left : Option (List ℕ)) → words.may_leave old left → SpellsSome left) (value_may_stay : words.may_leave old (Some (words.value old)))
     (includes_now : (left : Option (List ℕ)) → words.moment old ≤ words.moment mid → words.may_leave mid left → words.left_since mid (words.moment old) left) where
-  pub reload_refused : IsTrue (words.is_ready mid) → words.value mid ≡ words.value old → words.capacity mid ≡ words.capacity old → words.failure_count mid ≡ words.failure_count old → LeavesOnly words.moment words.left_since old mid (words.may_leave old)
+  pub reload_refused : IsTrue (words.is_ready mid) → words.value mid ≡ words.value old → LeavesSetup words.capacity words.armed words.call_count old mid → words.failure_count mid ≡ words.failure_count old → LeavesOnly words.moment words.left_since old mid (words.may_leave old)
       → IsLoad words mid new (Err fault) → (known : Option RecordView) → known ≡ None → IsReload words old new known {T = Unit {0}} (Err fault)
-  reload_refused ready value room failures first load known none = record {
+  reload_refused ready value setup failures first load known none = record {
     some = tt;
     only = λ kept is. tt;
     none = none;
@@ -167,7 +168,7 @@ module _ {C : Type 0} (words : CellWords C) (old mid new : C) (fault : StoreFaul
       otherwise = λ other. load.failures.otherwise (λ e. other (ap Err (same_record e))) ∙ failures;
     };
     same_value = load.same_value ∙ value;
-    same_room = load.same_room ∙ room;
+    same_setup = setup_then words.capacity words.armed words.call_count old mid new setup load.same_setup;
     any_moment = joined words.moment words.left_since old mid new (words.may_leave old) (words.may_leave mid) first load.any_moment (λ left now. first.each left (includes_now left first.later now));
   }
     where

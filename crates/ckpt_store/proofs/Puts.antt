@@ -5,6 +5,7 @@ use Rattle.std.proofs.lemmas.Bool.{lt-leb, and_right, true≢false}
 use Rattle.sector_disk.specs.Clock.{LeavesOnly}
 use Rattle.sector_disk.proofs.Moments.{weakened}
 use Rattle.gate_cell.specs.declared.cell.StableCell.{Ghosts as CellWords}
+use Rattle.gate_cell.specs.Setup.{LeavesSetup}
 use Rattle.gate_cell.specs.declared.fault.CellFault.{CellFault}
 use Rattle.gate_cell.specs.declared.fault.CellFault.TheVariants as cell
 use Rattle.gate_cell.specs.CellFault.{HasCause}
@@ -17,7 +18,7 @@ use Rattle.ckpt_store.specs.Spelling.{Spells, fits_in}
 use Rattle.ckpt_store.specs.Putting.{IsPut}
 
 -- bytes that spell a record are as long as its spelling
-length_spelled : (kept : RecordView) (bytes : List ℕ) → IsRecordText kept bytes → spelled_length kept ≡ length bytes
+pub length_spelled : (kept : RecordView) (bytes : List ℕ) → IsRecordText kept bytes → spelled_length kept ≡ length bytes
 unfolding spelled_length
 length_spelled kept bytes text = ap (length {A = ℕ}) (sym text.spelled)
 
@@ -34,7 +35,7 @@ stays words one only_now = record { later = omega arith; each = only_now; before
 
 module _ {C : Type 0} (words : CellWords C) (next : RecordView) where
   module _ (old new : C) (bytes : List ℕ) (text : IsRecordText next bytes) (fits : fits_in (words.capacity old) next ≡ true) (was_ready : IsTrue (words.is_ready old))
-      (moments : LeavesOnly words.moment words.left_since old new (λ left. words.may_leave old left ⊎ (left ≡ Some bytes))) (same_room : words.capacity new ≡ words.capacity old) where
+      (moments : LeavesOnly words.moment words.left_since old new (λ left. words.may_leave old left ⊎ (left ≡ Some bytes))) (same_setup : LeavesSetup words.capacity words.armed words.call_count old new) where
     -- what a crash leaves of the cell, as records
     moments_spelled : LeavesOnly words.moment words.left_since old new (λ left. words.may_leave old left ⊎ Spells next left)
     moments_spelled = weakened words.moment words.left_since old new (λ left. words.may_leave old left ⊎ Spells next left) (λ left. words.may_leave old left ⊎ (left ≡ Some bytes)) moments
@@ -54,7 +55,7 @@ module _ {C : Type 0} (words : CellWords C) (next : RecordView) where
       failures = record { device = λ e. cc; otherwise = λ not_device. cause.otherwise (λ e. cc) };
       unchanged = λ not_device. unchanged (inl refl);
       any_moment = moments_spelled;
-      same_room = same_room;
+      same_setup = same_setup;
     }
     put_refused cell.Device too_large unchanged cause = record {
       ready = tt;
@@ -64,7 +65,7 @@ module _ {C : Type 0} (words : CellWords C) (next : RecordView) where
       failures = record { device = λ e. cause.device refl; otherwise = λ not_device. absurd (not_device refl) };
       unchanged = λ not_device. absurd (not_device refl);
       any_moment = moments_spelled;
-      same_room = same_room;
+      same_setup = same_setup;
     }
     put_refused cell.TooLarge too_large unchanged cause = absurd (within (words.capacity old) next bytes text fits (too_large.0 refl).1)
     put_refused cell.Reopen too_large unchanged cause = absurd (true≢false (sym was_ready ∙ cause.reopen.0 refl))

@@ -1,43 +1,25 @@
--- What takes a move back gives the record before it.
-use Rattle.std.proofs.Common.{◌≡◌, ℕ, zero, suc, ◌+◌, ◌-◌, ◌<◌, ◌≤◌, Bool, true, false, List, [], ◌∷◌, length, get_or, Option, Some, None, refl, sym, ◌∙◌, ap, subst, arith}
+-- What takes a tentative image back that was taken gives the record before it.
+use Rattle.std.proofs.Common.{◌≡◌, ℕ, zero, suc, ◌-◌, ◌<◌, ◌≤◌, Bool, true, false, List, [], ◌∷◌, length, get_or, Option, Some, None, refl, sym, ◌∙◌, ap, subst, arith}
 use Rattle.std.specs.Prelude.{if◌then◌else◌, is_some, ◌==◌, ◌&&◌, nat_le, nat_lt, slice_set, slice_index}
-use Rattle.std.proofs.lemmas.Bool.{eqb-true, and_parts, not-false, leb-false, ltb-false, lt-ltb}
+use Rattle.std.proofs.lemmas.Bool.{eqb-true, and_parts, not-false, leb-false, ltb-false}
 use Rattle.std.proofs.lemmas.Option.{none-some, same_Some}
+use Rattle.std.proofs.lemmas.List.{length-set}
 use Rattle.std.proofs.lemmas.List.Elements.{All-head, All-tail}
 use Rattle.kahn_net.specs.declared.limits.TheConstants.{MAX_COUNT}
-use Rattle.record.specs.DecisionView.{DecisionView}
 use Rattle.record.specs.ImageView.{ImageView}
 use Rattle.record.specs.RecordView.{RecordView}
 use Rattle.record.specs.declared.record.Tentative.{Tentative}
-use Rattle.record.specs.Moves.{highest_seen, with_tentative, with_permanent, with_decision, with_epoch, last_image, decision_or, without_own}
+use Rattle.record.specs.Moves.{highest_seen, with_tentative}
 use Rattle.ckpt_codec.specs.Fields.{Field, IsAllowed, AreAllowed}
 use Rattle.ckpt_codec.specs.RecordText.{IsRecord, flag, image_fields, tentative_fields}
-use Rattle.ckpt_store.specs.Undoing.{untaken, demoted, with_held, with_unsettled, replaced, restored, is_own, own_in, held_or, lowered}
-use Rattle.ckpt_store.specs.Refusals.{is_held, is_other_held, refusal_to_take, refusal_unless_held, refusal_to_raise}
+use Rattle.ckpt_store.specs.Restoring.{untaken, with_held}
+use Rattle.ckpt_store.specs.Undoing.{TakesBack}
+use Rattle.ckpt_store.specs.declared.undo.Undo.TheVariants.{Take}
+use Rattle.ckpt_store.specs.Refusals.{is_held, is_other_held, refusal_to_take}
 use Rattle.ckpt_store.specs.declared.fault.StoreFault.{StoreFault}
-use Rattle.ckpt_store.specs.declared.fault.StoreFault.TheVariants.{HoldsOther, PastNumber, NotHeld, Unsettled, Spent}
+use Rattle.ckpt_store.specs.declared.fault.StoreFault.TheVariants.{HoldsOther, PastNumber, Unsettled, Spent}
 use Rattle.ckpt_store.proofs.Parts.{parts_of}
 use Rattle.ckpt_store.proofs.Changes.{IsOfRecord}
-
--- where the instance is held there is no cause to refuse
-pub held_fine : (initiator number : ℕ) (kept : RecordView) → is_held initiator number kept.tentative ≡ true → refusal_unless_held initiator number kept ≡ None
-held_fine initiator number kept held = (let choice : Bool → Option StoreFault = λ b. if b then None else Some NotHeld in ap choice held)
-
-held_again : (initiator number : ℕ) (permanent : ImageView) (held : Option Tentative) → is_held initiator number held ≡ true → Some (record { initiator = initiator; number = number; image = last_image permanent held }) ≡ held
-held_again initiator number permanent None is = cc
-held_again initiator number permanent (Some t) is =
-    let same = and_parts _ _ is in
-    let mine : initiator ≡ t.initiator = sym (eqb-true t.initiator initiator same.0) in
-    let its : number ≡ t.number = sym (eqb-true t.number number same.1) in
-    ap (λ i. Some (record t { initiator = i; number = number })) mine ∙ ap (λ n. Some (record t { number = n })) its
-
-pub demoted_permanent : (initiator number : ℕ) (kept now : RecordView) (permanent : ImageView) → is_held initiator number kept.tentative ≡ true → now ≡ with_permanent kept → permanent ≡ kept.permanent → demoted initiator number permanent now ≡ kept
-demoted_permanent initiator number kept now permanent held made before =
-    ap (λ r. demoted initiator number permanent r) made
-    ∙ ap (λ i. demoted initiator number i (with_permanent kept)) before
-    ∙ ap (λ t. with_held t kept) (held_again initiator number kept.permanent kept.tentative held)
-
--- ---- a tentative image that was taken
 
 -- no cause to refuse, one by one
 pub record MayTake (initiator number : ℕ) (kept : RecordView) : Type 0 where
@@ -92,7 +74,7 @@ none_held highest permanent initiator number (Some t) all no_other above =
     let here : get_or highest t.initiator 0 ≡ get_or highest initiator 0 = ap (λ i. get_or highest i 0) mine in
     absurd (omega (arith, its, entry, here, above))
 
-pub free_to_take : (initiator number : ℕ) (kept : RecordView) → IsRecord kept → MayTake initiator number kept → kept.tentative ≡ None
+free_to_take : (initiator number : ℕ) (kept : RecordView) → IsRecord kept → MayTake initiator number kept → kept.tentative ≡ None
 free_to_take initiator number kept all may = none_held kept.highest kept.permanent initiator number kept.tentative (parts_of kept all).tentative may.no_other may.above
 
 set_back : (xs : List ℕ) (i n : ℕ) → slice_set (slice_set xs i n) i (get_or xs i 0) ≡ xs
@@ -100,55 +82,16 @@ set_back [] i n = refl
 set_back (x ∷ xs) zero n = refl
 set_back (x ∷ xs) (suc i) n = ap (λ ys. x ∷ ys) (set_back xs i n)
 
-pub untaken_tentative : (initiator number entry : ℕ) (image : ImageView) (kept now : RecordView) → kept.tentative ≡ None → now ≡ with_tentative initiator number image kept → entry ≡ highest_seen initiator kept → untaken initiator entry now ≡ kept
+untaken_tentative : (initiator number entry : ℕ) (image : ImageView) (kept now : RecordView) → kept.tentative ≡ None → now ≡ with_tentative initiator number image kept → entry ≡ highest_seen initiator kept → untaken initiator entry now ≡ kept
 untaken_tentative initiator number entry image kept now free made before =
     ap (λ r. untaken initiator entry r) made
     ∙ ap (λ e. untaken initiator e (with_tentative initiator number image kept)) before
     ∙ ap (λ hs. record kept { highest = hs; tentative = None }) (set_back kept.highest initiator number)
     ∙ ap (λ t. with_held t kept) (sym free)
 
--- ---- a decision that was added
-
-restored_decision : (before : Option DecisionView) (number : ℕ) (ps : List ℕ) → restored (replaced ps before) (decision_or before number ps) ≡ before
-restored_decision before number [] = refl
-restored_decision before number (p ∷ ps) = refl
-
-pub undecided : (number : ℕ) (ps : List ℕ) (kept promoted settled back : RecordView) (permanent : ImageView) (before : Option (Option DecisionView)) → is_held kept.node number kept.tentative ≡ true
-    → promoted ≡ with_permanent kept → permanent ≡ kept.permanent → settled ≡ with_unsettled (decision_or promoted.decision number ps) promoted → before ≡ replaced ps promoted.decision
-    → back ≡ with_unsettled (restored before settled.decision) settled → demoted kept.node number permanent back ≡ kept
-undecided number ps kept promoted settled back permanent before held made was settled_is before_is back_is =
-    let again : back ≡ promoted =
-    back_is
-    ∙ ap (λ s. with_unsettled (restored before (s.decision)) s) settled_is
-    ∙ ap (λ b. with_unsettled (restored b (decision_or promoted.decision number ps)) promoted) before_is
-    ∙ ap (λ d. with_unsettled d promoted) (restored_decision promoted.decision number ps) in
-    demoted_permanent kept.node number kept back permanent held (again ∙ made) was
-
-pub decided_next : (number : ℕ) (ps : List ℕ) (kept promoted settled : RecordView) → promoted ≡ with_permanent kept → settled ≡ with_unsettled (decision_or promoted.decision number ps) promoted → settled ≡ with_decision number ps kept
-decided_next number ps kept promoted settled made settled_is = settled_is ∙ ap (λ r. with_unsettled (decision_or r.decision number ps) r) made
-
--- ---- an epoch that was raised
-
-held_as_before : (node : ℕ) (held : Option Tentative) → held_or (own_in node held) (without_own node held) ≡ held
-held_as_before node None = by_test (is_own node None)
-  where
-    by_test : (b : Bool) → held_or (if b then None else None) None ≡ None
-    by_test true = refl
-    by_test false = refl
-held_as_before node (Some t) = by_test (t.initiator == node)
-  where
-    by_test : (b : Bool) → held_or (if b then Some t else None) (if b then None else Some t) ≡ Some t
-    by_test true = refl
-    by_test false = refl
-
-pub lowered_epoch : (kept now : RecordView) (own : Option Tentative) → now ≡ with_epoch kept → own ≡ own_in kept.node kept.tentative → lowered own now ≡ kept
-lowered_epoch kept now own made is =
-    let epoch : kept.epoch + 1 - 1 ≡ kept.epoch = omega arith in
-    ap (λ r. lowered own r) made
-    ∙ ap (λ o. lowered o (with_epoch kept)) is
-    ∙ ap (λ n. record kept { epoch = n; tentative = held_or (own_in kept.node kept.tentative) (without_own kept.node kept.tentative) }) epoch
-    ∙ ap (λ t. with_held t kept) (held_as_before kept.node kept.tentative)
-
--- where there is a next epoch there is no cause to refuse
-pub raise_fine : (kept : RecordView) → kept.epoch < MAX_COUNT → refusal_to_raise kept ≡ None
-raise_fine kept less = (let choice : Bool → Option StoreFault = λ b. if b then None else Some Spent in ap choice (lt-ltb kept.epoch MAX_COUNT less))
+pub taken_back : (initiator number entry : ℕ) (image : ImageView) (kept now : RecordView) → IsRecord kept → initiator < length kept.highest → refusal_to_take initiator number kept ≡ None
+    → now ≡ with_tentative initiator number image kept → entry ≡ highest_seen initiator kept → TakesBack kept now (Take initiator entry)
+taken_back initiator number entry image kept now all listed fine made before = record {
+  applies = subst (λ (r : RecordView). initiator < length r.highest) (sym made) (omega (arith, length-set kept.highest initiator number, listed));
+  gives = untaken_tentative initiator number entry image kept now (free_to_take initiator number kept all (may_take initiator number kept fine)) made before;
+}

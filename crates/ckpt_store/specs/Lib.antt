@@ -1,5 +1,6 @@
 pub mod StoreFault
 pub mod Refusals
+pub mod Restoring
 pub mod Undoing
 pub mod Shapes
 pub mod Spelling

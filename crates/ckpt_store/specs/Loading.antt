@@ -2,6 +2,7 @@
 use Rattle.std.specs.Prelude.{◌≡◌, ◌⊎◌, ◌↔◌, ℕ, false, List, Option, Some, None, IsSome, Result, Ok, Err, IfOk, IfErr, OnOk, OnErr, IsErrOf}
 use Rattle.sector_disk.specs.Clock.{LeavesOnly}
 use Rattle.gate_cell.specs.declared.cell.StableCell.{Ghosts as CellWords}
+use Rattle.gate_cell.specs.Setup.{LeavesSetup}
 use Rattle.record.specs.RecordView.{RecordView}
 use Rattle.ckpt_codec.specs.RecordText.{IsRecordText}
 use Rattle.ckpt_codec.specs.Faults.{IsTruncated, IsOfAnotherVersion, IsRuledOut, IsTooMuch}
@@ -79,7 +80,7 @@ pub record IsLoad {C : Type 0} (words : CellWords C) (old new : C) (result : Res
   pub stays_ready : ¬ (IsErrOf result Device) → words.is_ready new ≡ words.is_ready old
   -- the value stays, and a crash at any moment leaves what it might have left before
   pub same_value : words.value new ≡ words.value old
-  pub same_room : words.capacity new ≡ words.capacity old
+  pub same_setup : LeavesSetup words.capacity words.armed words.call_count old new
   pub any_moment : LeavesOnly words.moment words.left_since old new (words.may_leave old)
 
 -- A cell that holds a record was reopened, in whatever state it was, and its record is known again; or that was refused.
@@ -93,5 +94,5 @@ pub record IsReload {C : Type 0} (words : CellWords C) (old new : C) (known_now 
   pub failures : HasFailures (words.failure_count old) (words.failure_count new) result
   -- the value stays, and a crash at any moment leaves what it might have left before
   pub same_value : words.value new ≡ words.value old
-  pub same_room : words.capacity new ≡ words.capacity old
+  pub same_setup : LeavesSetup words.capacity words.armed words.call_count old new
   pub any_moment : LeavesOnly words.moment words.left_since old new (words.may_leave old)

@@ -2,6 +2,7 @@
 use Rattle.std.specs.Prelude.{◌≡◌, ◌⊎◌, Option, Some, None, option_map, Result, IfErr, OnOk, OnErr, IsErrOf, IsTrue}
 use Rattle.sector_disk.specs.Clock.{LeavesOnly}
 use Rattle.gate_cell.specs.declared.cell.StableCell.{Ghosts as CellWords}
+use Rattle.gate_cell.specs.Setup.{LeavesSetup}
 use Rattle.record.specs.RecordView.{RecordView}
 use Rattle.ckpt_codec.specs.RecordText.{IsRecordText}
 use Rattle.ckpt_store.specs.StoreFault.{IsOfPut, HasFailures}
@@ -23,7 +24,8 @@ pub record IsPut {C : Type 0} (words : CellWords C) (next : RecordView) (old new
   pub unchanged : OnErr result (¬ (IsErrOf result Device) → new ≡ old)
   -- a crash at any moment leaves what it might have left before, or a spelling of the record
   pub any_moment : LeavesOnly words.moment words.left_since old new (λ left. words.may_leave old left ⊎ Spells next left)
-  pub same_room : words.capacity new ≡ words.capacity old
+  -- what fits and what is armed stay, and no call that was counted is forgotten
+  pub same_setup : LeavesSetup words.capacity words.armed words.call_count old new
 
 -- A record that is known was changed to the next one by one put, or that was refused; `cause` tells the refusals for which the record
 -- itself gives cause. What is known is the record, or none where the store has to be reopened.
@@ -44,7 +46,8 @@ pub record IsChange {C : Type 0} (words : CellWords C) (cause : RecordView → O
   pub one_of_both : IsErrOf result Device → SpellsAny known (Some (words.value new)) ⊎ SpellsAny (option_map next known) (Some (words.value new))
   -- a crash at any moment leaves what it might have left before, or a spelling of the next record
   pub any_moment : LeavesOnly words.moment words.left_since old new (λ left. words.may_leave old left ⊎ SpellsAny (option_map next known) left)
-  pub same_room : words.capacity new ≡ words.capacity old
+  -- what fits and what is armed stay, and no call that was counted is forgotten
+  pub same_setup : LeavesSetup words.capacity words.armed words.call_count old new
 
 -- Nothing was to be done, and nothing was.
 pub record IsIdle {C : Type 0} (old new : C) (known known_now : Option RecordView) {T : Type 0} (result : Result T StoreFault) : Type 0 where

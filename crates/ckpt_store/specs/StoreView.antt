@@ -71,7 +71,8 @@ Opens {words = words} cell result = IsLoad words cell (cell_after result) (answe
 abbrev pub Reopens : {C : Type 0} {words : CellWords C} → Store C words → Store C words → {T : Type 0} → Result T StoreFault → Type 0
 Reopens {words = words} old new result = IsReload words old.cell new.cell new.known result
 
--- The record, whether it is known, and what a crash leaves of it are as before, at every moment.
+-- The record, whether it is known, and what a crash leaves of it are as before, at every moment; and so are the cell's
+-- room and the count of the device's failures. What is armed, and how many calls are counted, is another matter.
 pub record IsUntouched {C : Type 0} {words : CellWords C} (old new : Store C words) : Type 0 where
   pub same_record : new.known ≡ old.known
   pub same_value : words.value new.cell ≡ words.value old.cell

@@ -10,11 +10,9 @@ ghost use Rattle.ckpt_store.specs.Spelling.{IsKept, IsLike, AreOthers};
 ghost use Rattle.ckpt_store.specs.Putting.{IsChange, IsIdle};
 
 use crate::fault::StoreFault;
-use crate::moving::{
-    confirmed_by, confirmed_length, demote, give_up, hold, lower, promote, raise, replace_decision,
-    settle, take, unsettle, untake,
-};
-use crate::putting::{has_room, put_record};
+use crate::moving;
+use crate::moving::{confirmed_by, confirmed_length, give_up, promote, raise, settle, take};
+use crate::putting::{has_room, put_changed};
 use crate::refusing::{is_held, is_named, refusal_to_take};
 use gate_cell::StableCell;
 use kahn_net::MAX_COUNT;
@@ -44,21 +42,8 @@ pub fn take_tentative<C: StableCell>(
         *known = Some(kept);
         return Err(fault);
     }
-    let entry = take(&mut kept, initiator, number, image);
-    match put_record(alloc, cell, &kept) {
-        Ok(()) => {
-            *known = Some(kept);
-            Ok(())
-        }
-        Err(fault) => {
-            if fault.is_failure() {
-                return Err(fault);
-            }
-            untake(&mut kept, initiator, entry);
-            *known = Some(kept);
-            Err(fault)
-        }
-    }
+    let undo = take(&mut kept, initiator, number, image);
+    put_changed(alloc, cell, known, kept, undo)
 }
 
 // The tentative image of an instance becomes permanent.
@@ -81,21 +66,8 @@ pub fn make_permanent<C: StableCell>(
         *known = Some(kept);
         return Err(StoreFault::NotHeld);
     }
-    let permanent = promote(&mut kept);
-    match put_record(alloc, cell, &kept) {
-        Ok(()) => {
-            *known = Some(kept);
-            Ok(())
-        }
-        Err(fault) => {
-            if fault.is_failure() {
-                return Err(fault);
-            }
-            demote(&mut kept, initiator, number, permanent);
-            *known = Some(kept);
-            Err(fault)
-        }
-    }
+    let undo = promote(&mut kept, initiator, number);
+    put_changed(alloc, cell, known, kept, undo)
 }
 
 // The tentative image of an instance goes.
@@ -118,21 +90,8 @@ pub fn drop_tentative<C: StableCell>(
         *known = Some(kept);
         return Err(StoreFault::NotHeld);
     }
-    let held = give_up(&mut kept);
-    match put_record(alloc, cell, &kept) {
-        Ok(()) => {
-            *known = Some(kept);
-            Ok(())
-        }
-        Err(fault) => {
-            if fault.is_failure() {
-                return Err(fault);
-            }
-            hold(&mut kept, held);
-            *known = Some(kept);
-            Err(fault)
-        }
-    }
+    let undo = give_up(&mut kept);
+    put_changed(alloc, cell, known, kept, undo)
 }
 
 // The tentative image of the node's own instance becomes permanent, with a decision that these nodes have to confirm.
@@ -152,28 +111,12 @@ pub fn decide<C: StableCell>(
     let Some(mut kept) = known.take() else {
         return Err(StoreFault::Reopen);
     };
-    let node = kept.node;
-    if !is_held(&kept, node, number) {
+    if !is_held(&kept, kept.node, number) {
         *known = Some(kept);
         return Err(StoreFault::NotHeld);
     }
-    let permanent = promote(&mut kept);
-    let before = settle(&mut kept, number, participants);
-    match put_record(alloc, cell, &kept) {
-        Ok(()) => {
-            *known = Some(kept);
-            Ok(())
-        }
-        Err(fault) => {
-            if fault.is_failure() {
-                return Err(fault);
-            }
-            unsettle(&mut kept, before);
-            demote(&mut kept, node, number, permanent);
-            *known = Some(kept);
-            Err(fault)
-        }
-    }
+    let undo = moving::decide(&mut kept, number, participants);
+    put_changed(alloc, cell, known, kept, undo)
 }
 
 // A node of a decision has confirmed it.
@@ -210,21 +153,8 @@ pub fn confirm<C: StableCell>(
             return Err(StoreFault::NoMemory);
         }
     };
-    let before = replace_decision(&mut kept, decision);
-    match put_record(alloc, cell, &kept) {
-        Ok(()) => {
-            *known = Some(kept);
-            Ok(())
-        }
-        Err(fault) => {
-            if fault.is_failure() {
-                return Err(fault);
-            }
-            let _ = replace_decision(&mut kept, before);
-            *known = Some(kept);
-            Err(fault)
-        }
-    }
+    let undo = settle(&mut kept, decision);
+    put_changed(alloc, cell, known, kept, undo)
 }
 
 // The epoch rises, and a tentative image of the node's own goes with it.
@@ -245,19 +175,6 @@ pub fn raise_epoch<C: StableCell>(
         *known = Some(kept);
         return Err(StoreFault::Spent);
     }
-    let own = raise(&mut kept);
-    match put_record(alloc, cell, &kept) {
-        Ok(()) => {
-            *known = Some(kept);
-            Ok(())
-        }
-        Err(fault) => {
-            if fault.is_failure() {
-                return Err(fault);
-            }
-            lower(&mut kept, own);
-            *known = Some(kept);
-            Err(fault)
-        }
-    }
+    let undo = raise(&mut kept);
+    put_changed(alloc, cell, known, kept, undo)
 }

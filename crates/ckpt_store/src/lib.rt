@@ -8,6 +8,9 @@ mod moving;
 mod putting;
 mod refusing;
 mod store;
+mod testing;
+mod undo;
 
 pub use fault::StoreFault;
 pub use store::{Refused, Store};
+pub use testing::{are_others, is_like};

@@ -1,45 +1,49 @@
-// The moves of a record, each in place, and what takes it back. No image is copied.
-ghost use Rattle.std.specs.Prelude.{◌≡◌, ◌<◌, ◌≤◌, ◌^◌, length, IsSome, IsTrue, IfOk, Some};
+// The moves of a record, each in place, with what takes it back. No image is copied.
+ghost use Rattle.std.specs.Prelude.{◌≡◌, ◌<◌, ◌≤◌, ◌^◌, length, IsSome, IsTrue, IfOk, Some, None};
 ghost use Rattle.std.specs.Option.{ForSome};
-ghost use Rattle.record.specs.Moves.{highest_seen, with_tentative, with_permanent, without_tentative, with_confirmed, with_epoch, confirmed, without_node, decision_or, decision_by};
+ghost use Rattle.record.specs.Moves.{highest_seen, with_tentative, with_permanent, without_tentative, with_decision, with_confirmed, with_epoch, confirmed, without_node, without_own, decision_or, decision_by};
 ghost use Rattle.ckpt_codec.specs.RecordText.{IsRecord};
 ghost use Rattle.ckpt_codec.specs.Lengths.{spelled_length, named_count};
-ghost use Rattle.ckpt_store.specs.Refusals.{is_named_by};
-ghost use Rattle.ckpt_store.specs.Undoing.{untaken, demoted, with_held, with_unsettled, replaced, restored, own_in, lowered};
+ghost use Rattle.ckpt_store.specs.Refusals.{is_held, is_named_by, refusal_to_take};
+ghost use Rattle.ckpt_store.specs.Restoring.{with_held, with_unsettled, replaced, own_in};
+ghost use Rattle.ckpt_store.specs.Undoing.{TakesBack};
 
 use crate::refusing::is_own_held;
+use crate::undo::Undo;
 use ckpt_codec::spelled_length_with;
 use kahn_net::MAX_COUNT;
 use record::{Decision, Image, Record, Tentative};
 use std::alloc::{AllocError, Global};
 use std::mem;
 
-/// Takes a tentative image, and gives the entry that stood before.
-pub fn take(kept: &mut Record, initiator: u8, number: u64, image: Image) -> u64
-    requires { initiator < length kept.old.highest }
-    ensures next { kept.new ≡ with_tentative initiator number image kept.old }
-    ensures entry { result ≡ highest_seen initiator kept.old }
+// The highest number seen of an initiator.
+fn entry_of(kept: &Record, initiator: u8) -> u64
+    requires { initiator < length kept.now.highest }
+    ensures { result ≡ highest_seen initiator kept.now }
 {
-    let entry = kept.highest[usize::from(initiator)];
+    kept.highest[usize::from(initiator)]
+}
+
+/// Takes a tentative image of an instance.
+pub fn take(kept: &mut Record, initiator: u8, number: u64, image: Image) -> Undo
+    requires record { IsRecord kept.old }
+    requires listed { initiator < length kept.old.highest }
+    requires fine { refusal_to_take initiator number kept.old ≡ None }
+    ensures next { kept.new ≡ with_tentative initiator number image kept.old }
+    ensures back { TakesBack kept.old kept.new result }
+{
+    let entry = entry_of(kept, initiator);
     kept.highest[usize::from(initiator)] = number;
     kept.tentative = Some(Tentative {
         initiator,
         number,
         image,
     });
-    entry
+    Undo::Take { initiator, entry }
 }
 
-pub fn untake(kept: &mut Record, initiator: u8, entry: u64)
-    requires { initiator < length kept.old.highest }
-    ensures { kept.new ≡ untaken initiator entry kept.old }
-{
-    kept.highest[usize::from(initiator)] = entry;
-    kept.tentative = None;
-}
-
-/// Makes the tentative image permanent, and gives the permanent one that stood before.
-pub fn promote(kept: &mut Record) -> Image
+// Makes the tentative image permanent, and gives the permanent one that stood before.
+fn swap_image(kept: &mut Record) -> Image
     requires { IsSome kept.old.tentative }
     ensures next { kept.new ≡ with_permanent kept.old }
     ensures permanent { result ≡ kept.old.permanent }
@@ -52,41 +56,32 @@ pub fn promote(kept: &mut Record) -> Image
     mem::replace(&mut kept.permanent, image)
 }
 
-pub fn demote(kept: &mut Record, initiator: u8, number: u64, permanent: Image)
-    ensures { kept.new ≡ demoted initiator number permanent kept.old }
+/// Makes the tentative image of an instance permanent.
+pub fn promote(kept: &mut Record, initiator: u8, number: u64) -> Undo
+    requires { IsTrue (is_held initiator number kept.old.tentative) }
+    ensures next { kept.new ≡ with_permanent kept.old }
+    ensures back { TakesBack kept.old kept.new result }
 {
-    let image = mem::replace(&mut kept.permanent, permanent);
-    kept.tentative = Some(Tentative {
+    let permanent = swap_image(kept);
+    Undo::Promote {
         initiator,
         number,
-        image,
-    });
+        permanent,
+        decision: None,
+    }
 }
 
-/// Lets go of the tentative image, and gives it.
-pub fn give_up(kept: &mut Record) -> Option<Tentative>
+/// Lets go of the tentative image.
+pub fn give_up(kept: &mut Record) -> Undo
     ensures next { kept.new ≡ without_tentative kept.old }
-    ensures held { result ≡ kept.old.tentative }
+    ensures back { TakesBack kept.old kept.new result }
 {
-    kept.tentative.take()
+    let held = kept.tentative.take();
+    Undo::GiveUp { held }
 }
 
-pub fn hold(kept: &mut Record, held: Option<Tentative>)
-    ensures { kept.new ≡ with_held held kept.old }
-{
-    kept.tentative = held;
-}
-
-/// Puts a decision in the place of the one before, and gives that.
-pub fn replace_decision(kept: &mut Record, decision: Option<Decision>) -> Option<Decision>
-    ensures next { kept.new ≡ with_unsettled decision kept.old }
-    ensures before { result ≡ kept.old.decision }
-{
-    mem::replace(&mut kept.decision, decision)
-}
-
-/// Adds the decision that these nodes have to confirm, if there are any, and gives the one whose place it took.
-pub fn settle(kept: &mut Record, number: u64, participants: Vec<u8>) -> Option<Option<Decision>>
+// Adds the decision that these nodes have to confirm, if there are any, and gives the one whose place it took.
+fn add_decision(kept: &mut Record, number: u64, participants: Vec<u8>) -> Option<Option<Decision>>
     ensures next { kept.new
         ≡ with_unsettled (decision_or kept.old.decision number participants.items) kept.old }
     ensures before { result ≡ replaced participants.items kept.old.decision }
@@ -94,8 +89,8 @@ pub fn settle(kept: &mut Record, number: u64, participants: Vec<u8>) -> Option<O
     if participants.is_empty() {
         return None;
     }
-    Some(replace_decision(
-        kept,
+    Some(mem::replace(
+        &mut kept.decision,
         Some(Decision {
             number,
             participants,
@@ -103,12 +98,31 @@ pub fn settle(kept: &mut Record, number: u64, participants: Vec<u8>) -> Option<O
     ))
 }
 
-pub fn unsettle(kept: &mut Record, before: Option<Option<Decision>>)
-    ensures { kept.new ≡ with_unsettled (restored before kept.old.decision) kept.old }
+/// Makes the tentative image of the node's own instance permanent, with the decision that these nodes have to confirm,
+/// if there are any.
+pub fn decide(kept: &mut Record, number: u64, participants: Vec<u8>) -> Undo
+    requires { IsTrue (is_held kept.old.node number kept.old.tentative) }
+    ensures next { kept.new ≡ with_decision number participants.items kept.old }
+    ensures back { TakesBack kept.old kept.new result }
 {
-    if let Some(decision) = before {
-        kept.decision = decision;
+    let initiator = kept.node;
+    let permanent = swap_image(kept);
+    let decision = add_decision(kept, number, participants);
+    Undo::Promote {
+        initiator,
+        number,
+        permanent,
+        decision,
     }
+}
+
+/// Puts a decision, or none, in the place of the one before.
+pub fn settle(kept: &mut Record, decision: Option<Decision>) -> Undo
+    ensures next { kept.new ≡ with_unsettled decision kept.old }
+    ensures back { TakesBack kept.old kept.new result }
+{
+    let before = mem::replace(&mut kept.decision, decision);
+    Undo::Settle { decision: before }
 }
 
 // The nodes of a decision but one.
@@ -195,26 +209,25 @@ pub fn confirmed_length(kept: &Record, number: u64, node: u8) -> usize
     spelled_length_with(kept, named_then(kept, number, node))
 }
 
-/// Raises the epoch, lets go of a tentative image of the node's own, and gives that.
-pub fn raise(kept: &mut Record) -> Option<Tentative>
-    requires { kept.old.epoch < MAX_COUNT }
-    ensures next { kept.new ≡ with_epoch kept.old }
+// Lets go of a tentative image of the node's own, and gives that.
+fn give_up_own(kept: &mut Record) -> Option<Tentative>
+    ensures next { kept.new ≡ with_held (without_own kept.old.node kept.old.tentative) kept.old }
     ensures own { result ≡ own_in kept.old.node kept.old.tentative }
 {
-    kept.epoch += 1;
     if is_own_held(kept) {
-        give_up(kept)
+        kept.tentative.take()
     } else {
         None
     }
 }
 
-pub fn lower(kept: &mut Record, own: Option<Tentative>)
-    requires { 0 < kept.old.epoch }
-    ensures { kept.new ≡ lowered own kept.old }
+/// Raises the epoch, and lets go of a tentative image of the node's own.
+pub fn raise(kept: &mut Record) -> Undo
+    requires { kept.old.epoch < MAX_COUNT }
+    ensures next { kept.new ≡ with_epoch kept.old }
+    ensures back { TakesBack kept.old kept.new result }
 {
-    kept.epoch -= 1;
-    if own.is_some() {
-        kept.tentative = own;
-    }
+    kept.epoch += 1;
+    let own = give_up_own(kept);
+    Undo::Raise { own }
 }

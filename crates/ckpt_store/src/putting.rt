@@ -1,10 +1,13 @@
 // One put of a record.
-ghost use Rattle.std.specs.Prelude.{◌≡◌, IsTrue};
+ghost use Rattle.std.specs.Prelude.{◌≡◌, IsTrue, Some};
 ghost use Rattle.ckpt_codec.specs.RecordText.{IsRecord};
-ghost use Rattle.ckpt_store.specs.Spelling.{has_room};
-ghost use Rattle.ckpt_store.specs.Putting.{IsPut};
+ghost use Rattle.ckpt_store.specs.Spelling.{has_room, IsKept};
+ghost use Rattle.ckpt_store.specs.Refusals.{no_refusal};
+ghost use Rattle.ckpt_store.specs.Putting.{IsPut, IsChange};
+ghost use Rattle.ckpt_store.specs.Undoing.{undone, IsUndoable};
 
 use crate::fault::StoreFault;
+use crate::undo::Undo;
 use ckpt_codec::{MAX_RECORD_BYTES, spelled_length, write_record};
 use gate_cell::StableCell;
 use record::Record;
@@ -34,4 +37,38 @@ pub fn put_record<C: StableCell>(
     let bytes = write_record(alloc, next)?;
     cell.put(bytes.as_slice())?;
     Ok(())
+}
+
+// Puts a record that was changed in place, and takes the change back where that is refused. After a failure of the device
+// no record is known.
+pub fn put_changed<C: StableCell>(
+    alloc: Global,
+    cell: &mut C,
+    known: &mut Option<Record>,
+    next: Record,
+    undo: Undo,
+) -> Result<(), StoreFault>
+    requires kept { IsKept C.value C.is_ready C.may_leave cell.old (Some (undone undo next)) }
+    requires record { IsRecord next }
+    requires applies { IsUndoable undo next }
+    ensures kept { IsKept C.value C.is_ready C.may_leave cell.new known.new }
+    ensures change { IsChange ⟦<C as StableCell>⟧ no_refusal (λ before. next)
+        cell.old cell.new (Some (undone undo next)) known.new result }
+{
+    let mut next = next;
+    match put_record(alloc, cell, &next) {
+        Ok(()) => {
+            *known = Some(next);
+            Ok(())
+        }
+        Err(fault) => {
+            if fault.is_failure() {
+                *known = None;
+                return Err(fault);
+            }
+            undo.undo(&mut next);
+            *known = Some(next);
+            Err(fault)
+        }
+    }
 }

@@ -1,7 +1,7 @@
 // For which changes a record gives cause to refuse.
 ghost use Rattle.std.specs.Prelude.{◌≡◌, ◌<◌, length};
 ghost use Rattle.ckpt_store.specs.Refusals.{is_held, is_other_held, refusal_to_take, is_named_by};
-ghost use Rattle.ckpt_store.specs.Undoing.{is_own};
+ghost use Rattle.ckpt_store.specs.Restoring.{is_own};
 
 use crate::fault::StoreFault;
 use kahn_net::MAX_COUNT;

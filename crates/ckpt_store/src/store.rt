@@ -1,7 +1,8 @@
 //! One record in one stable cell.
-ghost use Rattle.std.specs.Prelude.{◌≡◌, ◌<◌, length, false, Some, None, IfOk, IsSome, IsTrue, MatchResult};
+ghost use Rattle.std.specs.Prelude.{◌≡◌, ◌<◌, ◌++◌, [], ◌∷◌, length, false, Some, None, IfOk, OnOk, OnErr, IsSome, IsTrue, MatchResult};
 ghost use Rattle.std.specs.Option.{ForSome};
 ghost use Rattle.sector_disk.specs.Clock.{Only, LeavesOnly};
+ghost use Rattle.gate_cell.specs.Setup.{LeavesSetup};
 ghost use Rattle.record.specs.Moves.{with_tentative, with_permanent, without_tentative, with_decision, with_confirmed, with_epoch};
 ghost use Rattle.ckpt_store.specs.Refusals.{refusal_to_take, refusal_unless_held, refusal_to_decide, refusal_to_raise, no_refusal, has_effect};
 ghost use Rattle.ckpt_store.specs.Spelling.{IsKept, IsLike, AreOthers};
@@ -182,7 +183,9 @@ impl<C: StableCell> Store<C> {
 
         ensures any_moment { LeavesOnly C.moment C.left_since (cell_in self.old) (cell_in self.new)
             (C.may_leave (cell_in self.old)) }
-        ensures same_room { C.capacity (cell_in self.new) ≡ C.capacity (cell_in self.old) }
+        ensures same_setup { LeavesSetup C.capacity C.armed C.call_count
+            (cell_in self.old) (cell_in self.new) }
+        ensures same_calls { C.call_count (cell_in self.new) ≡ C.call_count (cell_in self.old) }
         ensures failures { C.failure_count (cell_in self.new)
             ≡ C.failure_count (cell_in self.old) }
         ensures same_failed { C.failed_call (cell_in self.new) ≡ C.failed_call (cell_in self.old) }
@@ -201,14 +204,22 @@ impl<C: StableCell> Store<C> {
 
     /// Prepares a failure of the device, where there is one. Without memory (1) it prepares nothing.
     pub fn arm(&mut self, fault: ArmedFault) -> Result<(), AllocError>
-        ensures { IsUntouched self.old self.new }
+        ensures untouched { IsUntouched self.old self.new }
+        ensures armed { OnOk result
+            (C.armed (cell_in self.new) ≡ C.armed (cell_in self.old) ++ fault ∷ []) }
+        ensures not_armed { OnErr result (C.armed (cell_in self.new) ≡ C.armed (cell_in self.old)) }
+        ensures same_calls { C.call_count (cell_in self.new) ≡ C.call_count (cell_in self.old) }
+        ensures same_failed { C.failed_call (cell_in self.new) ≡ C.failed_call (cell_in self.old) }
     {
         self.cell.arm(fault)
     }
 
-    /// Begins the device's count of calls anew, where there is a device.
+    /// Begins the device's count of calls anew, where there is a device. What is armed stays armed.
     pub fn recount(&mut self)
-        ensures { IsUntouched self.old self.new }
+        ensures untouched { IsUntouched self.old self.new }
+        ensures same_faults { C.armed (cell_in self.new) ≡ C.armed (cell_in self.old) }
+        ensures none_counted { C.call_count (cell_in self.new) ≡ 0 }
+        ensures none_failed { C.failed_call (cell_in self.new) ≡ 0 }
     {
         self.cell.recount();
     }

@@ -306,7 +306,7 @@ one_packet packet other spelling one two =
     (begins_none packet other spelling [] one (subst (λ (text : List ℕ). IsPacketText other text) (sym (append-nil spelling)) two)).1
 
 -- what is read of all the bytes
-whole_takes : (bytes : List ℕ) (packet : Packet) → AreBytes bytes → whole_at bytes ≡ Some packet → IsPacketText packet bytes
+pub whole_takes : (bytes : List ℕ) (packet : Packet) → AreBytes bytes → whole_at bytes ≡ Some packet → IsPacketText packet bytes
 unfolding whole_at
 whole_takes bytes packet fits e =
     let a = after_found (packet_at bytes) (λ x. cond (nat_eq (length x.1) 0) (Some x.0) None) packet e in
@@ -318,7 +318,7 @@ whole_takes bytes packet fits e =
       spelled = t.0 ∙ ap (λ (r : List ℕ). packet_text a.0.0 ++ r) nothing ∙ append-nil (packet_text a.0.0);
     })
 
-whole_again : (bytes : List ℕ) (packet : Packet) → IsPacketText packet bytes → whole_at bytes ≡ Some packet
+pub whole_again : (bytes : List ℕ) (packet : Packet) → IsPacketText packet bytes → whole_at bytes ≡ Some packet
 unfolding whole_at
 whole_again bytes packet text =
     let read : packet_at bytes ≡ Some (packet, [])

@@ -255,6 +255,9 @@ pub fn read_packet(alloc: Global, bytes: &[u8]) -> Result<Packet, PacketFault>
     ensures refused { IsErrOf result PacketFault.BadPacket
         → (packet : PacketValue) → ¬ (IsPacketText packet bytes.now) }
 
+    // So what is answered is a function of the bytes, unless memory runs out.
+    ensures whole { Reads (λ packet. packet) result (whole_at bytes.now) }
+
     // Only a `Took` takes memory.
     ensures memory { IsErrOf result PacketFault.NoMemory → BeginsAsTook bytes.now }
 {

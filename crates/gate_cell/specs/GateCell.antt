@@ -1,5 +1,6 @@
 -- What a cell on a disk shows. `disk` stands for the disk's own words.
 use Rattle.std.specs.Prelude.{◌≡◌, ℕ, Bool, List, length, take, Option, Some, IsTrue}
+use Rattle.sector_disk.specs.declared.disk.ArmedFault.{ArmedFault}
 use Rattle.sector_disk.specs.declared.disk.Disk.{Ghosts as DiskWords}
 use Rattle.sector_disk.specs.Clock.{Only}
 use Rattle.gate_cell.specs.Layout.{stands_for, value_on, room_on, named, frame_size, IsGate, IsFrame}
@@ -41,6 +42,10 @@ left_since_of {D} {disk} cell = StoodSince disk.left_since disk.sector_count cel
 abbrev pub content_of : {D : Type 0} {disk : DiskWords D} → GateCell D disk → List ℕ
 content_of {D} {disk} cell = disk.content cell.disk
 
+-- the faults that are armed on its disk
+abbrev pub armed_of : {D : Type 0} {disk : DiskWords D} → GateCell D disk → List ArmedFault
+armed_of {D} {disk} cell = disk.armed cell.disk
+
 -- the device calls since the last recount
 abbrev pub calls_of : {D : Type 0} {disk : DiskWords D} → GateCell D disk → ℕ
 calls_of {D} {disk} cell = disk.call_count cell.disk
@@ -58,10 +63,11 @@ pub record IsOpened {D : Type 0} {words : DiskWords D} (disk : D) (cell : GateCe
   pub ready : IsTrue cell.ready
   pub value : stands_for (words.sector_count disk) (words.content disk) ≡ Some (value_of cell)
 
--- it is ready, with this value framed in area 0, and no device call is counted
+-- it is ready, with this value framed in area 0, and no device call is counted, nor a failed one
 pub record IsFormatted {D : Type 0} {words : DiskWords D} (value : List ℕ) (cell : GateCell D words) : Type 0 where
   pub ready : IsTrue cell.ready
   pub holds : value_of cell ≡ value
   pub frame : HoldsFrame value (words.sector_count cell.disk) (content_of cell)
   pub gate : IsGate 0 (content_of cell)
   pub uncounted : calls_of cell ≡ 0
+  pub none_failed : failed_call_of cell ≡ 0

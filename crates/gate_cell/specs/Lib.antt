@@ -1,5 +1,6 @@
 pub mod CellFault
 pub mod Calls
+pub mod Setup
 pub mod Layout
 pub mod Stands
 pub mod GateCell

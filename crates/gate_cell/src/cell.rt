@@ -1,7 +1,10 @@
 //! One value that outlives a crash.
-ghost use Rattle.std.specs.Prelude.{◌≡◌, ◌⊎◌, ◌<◌, ◌≤◌, ◌↔◌, Bool, false, List, ℕ, length, IfOk, OnOk, OnErr, IsErrOf, IsTrue, IsSome, Option, Some};
+ghost use Rattle.std.specs.Prelude.{◌≡◌, ◌⊎◌, ◌<◌, ◌≤◌, ◌↔◌, ◌++◌, [], ◌∷◌, Bool, false, List, ℕ, length, IfOk, OnOk, OnErr, IsErrOf, IsTrue, IsSome, Option, Some};
 ghost use Rattle.sector_disk.specs.Clock.{Only, LeavesOnly};
+ghost use Rattle.sector_disk.specs.declared.disk.ArmedFault.{ArmedFault};
 ghost use Rattle.gate_cell.specs.CellFault.{HasCause, HasDeviceCause};
+ghost use Rattle.gate_cell.specs.Setup.{LeavesSetup};
+ghost use Rattle.gate_cell.specs.declared.TheConstants.{MAX_VALUE_BYTES};
 
 use crate::fault::CellFault;
 use sector_disk::ArmedFault;
@@ -25,6 +28,12 @@ pub trait StableCell: Drop {
 
     /// The most bytes of a value that fits.
     ghost capacity: { Self → ℕ };
+
+    /// The failures of the device that are armed, in the order of arming.
+    ghost armed: { Self → List ArmedFault };
+
+    /// The device calls since the last recount.
+    ghost call_count: { Self → ℕ };
 
     /// How often the device has failed.
     ghost failure_count: { Self → ℕ };
@@ -57,7 +66,7 @@ pub trait StableCell: Drop {
         // A crash at any moment of the call leaves what it might have left before.
         ensures any_moment { LeavesOnly moment left_since self.old self.new (may_leave self.old) }
         ensures same_value { value self.new ≡ value self.old }
-        ensures same_room { capacity self.new ≡ capacity self.old }
+        ensures same_setup { LeavesSetup capacity armed call_count self.old self.new }
 
         ensures too_large { ¬ (IsErrOf result CellFault.TooLarge) }
         ensures unchanged { (IsErrOf result CellFault.NoMemory ⊎ IsErrOf result CellFault.Reopen)
@@ -73,7 +82,7 @@ pub trait StableCell: Drop {
         // A crash at any moment of the call leaves what it might have left before, or the new value.
         ensures any_moment { LeavesOnly moment left_since self.old self.new
             (λ left. may_leave self.old left ⊎ (left ≡ Some new.now)) }
-        ensures same_room { capacity self.new ≡ capacity self.old }
+        ensures same_setup { LeavesSetup capacity armed call_count self.old self.new }
 
         ensures too_large { IsErrOf result CellFault.TooLarge
             ↔ (IsTrue (is_ready self.old) × (capacity self.old < length new.now)) }
@@ -89,7 +98,8 @@ pub trait StableCell: Drop {
         ensures left { may_leave self.old (Some (value self.new)) }
         ensures settled { Only (Some (value self.new)) (may_leave self.new) }
         ensures any_moment { LeavesOnly moment left_since self.old self.new (may_leave self.old) }
-        ensures same_room { capacity self.new ≡ capacity self.old }
+        ensures same_setup { LeavesSetup capacity armed call_count self.old self.new }
+        ensures same_calls { call_count self.new ≡ call_count self.old }
         ensures down { is_ready self.new ≡ false }
         ensures failures { failure_count self.new ≡ failure_count self.old }
         ensures same_failed { failed_call self.new ≡ failed_call self.old };
@@ -100,7 +110,7 @@ pub trait StableCell: Drop {
         ensures not_ready { OnErr result (is_ready self.new ≡ false) }
         ensures same_value { value self.new ≡ value self.old }
         ensures any_moment { LeavesOnly moment left_since self.old self.new (may_leave self.old) }
-        ensures same_room { capacity self.new ≡ capacity self.old }
+        ensures same_setup { LeavesSetup capacity armed call_count self.old self.new }
         ensures cause { HasDeviceCause (failure_count self.old) (failure_count self.new) result };
 
     /// Prepares a failure of the device, where there is one. Without memory (1) it prepares nothing.
@@ -108,17 +118,22 @@ pub trait StableCell: Drop {
         ensures same_value { value self.new ≡ value self.old }
         ensures any_moment { LeavesOnly moment left_since self.old self.new (may_leave self.old) }
         ensures same_room { capacity self.new ≡ capacity self.old }
+        ensures same_calls { call_count self.new ≡ call_count self.old }
         ensures same_readiness { is_ready self.new ≡ is_ready self.old }
         ensures failures { failure_count self.new ≡ failure_count self.old }
-        ensures same_failed { failed_call self.new ≡ failed_call self.old };
+        ensures same_failed { failed_call self.new ≡ failed_call self.old }
+        ensures armed { OnOk result (armed self.new ≡ armed self.old ++ fault ∷ []) }
+        ensures not_armed { OnErr result (armed self.new ≡ armed self.old) };
 
-    /// Begins the device's count of calls anew, where there is a device.
+    /// Begins the device's count of calls anew, where there is a device. What is armed stays armed.
     fn recount(&mut self)
         ensures same_value { value self.new ≡ value self.old }
         ensures any_moment { LeavesOnly moment left_since self.old self.new (may_leave self.old) }
         ensures same_room { capacity self.new ≡ capacity self.old }
+        ensures same_faults { armed self.new ≡ armed self.old }
         ensures same_readiness { is_ready self.new ≡ is_ready self.old }
         ensures failures { failure_count self.new ≡ failure_count self.old }
+        ensures none_counted { call_count self.new ≡ 0 }
         ensures none_failed { failed_call self.new ≡ 0 };
 
     /// While the cell is ready, a crash leaves the value and nothing else.
@@ -130,6 +145,13 @@ pub trait StableCell: Drop {
 
     /// What a crash leaves is a value, in every state.
     ghost opens: { (cell : Self) (left : Option (List ℕ)) → may_leave cell left → IsSome left };
+
+    /// A value that a crash may leave fits, in every state. So does the value of the cell, since it may be left.
+    ghost fits_room: { (cell : Self) (left : List ℕ)
+        → may_leave cell (Some left) → length left ≤ capacity cell };
+
+    /// No cell has room for more than a value may have.
+    ghost room_is_bounded: { (cell : Self) → capacity cell ≤ MAX_VALUE_BYTES };
 
     /// What a crash may leave now is among what it might have left since an earlier moment.
     ghost includes_now: { (cell : Self) (t : ℕ) (left : Option (List ℕ))

@@ -5,7 +5,8 @@ ghost use Rattle.sector_disk.specs.Disk.{SameSetup};
 ghost use Rattle.gate_cell.specs.Calls.{HasStopped, count_after_calls};
 ghost use Rattle.gate_cell.specs.CellFault.{HasCause, HasDeviceCause};
 ghost use Rattle.gate_cell.specs.Layout.{other_area, HoldsNoValue, HasNoRoom, IsGate, IsSettled};
-ghost use Rattle.gate_cell.specs.Stands.{AlwaysStands, Looks, only_value, stands_for_content, stands_for_one};
+ghost use Rattle.gate_cell.specs.Stands.{AlwaysStands, Looks, only_value, stands_for_content, stands_for_one, stood_fits, room_bound};
+ghost use Rattle.gate_cell.specs.Setup.{LeavesSetup};
 ghost use Rattle.gate_cell.specs.declared.fault.CellFault.TheVariants.{NoMemory, Device, TooLarge, Reopen};
 
 use crate::access::{find_value, look, make_sure, write_sectors, write_through};
@@ -159,13 +160,17 @@ impl<D: Disk> GateCell<D> {
 }
 
 impl<D: Disk> StableCell for GateCell<D> {
-    ghost use Rattle.gate_cell.specs.GateCell.{disk_in, value_of, is_ready_of, capacity_of, failures_of, failed_call_of, moment_of, may_leave_of, left_since_of, content_of, calls_of, IsDurable, HoldsFrame};
+    ghost use Rattle.gate_cell.specs.GateCell.{disk_in, value_of, is_ready_of, capacity_of, failures_of, failed_call_of, moment_of, may_leave_of, left_since_of, content_of, armed_of, calls_of, IsDurable, HoldsFrame};
 
     ghost value = { value_of };
 
     ghost is_ready = { is_ready_of };
 
     ghost capacity = { capacity_of };
+
+    ghost armed = { armed_of };
+
+    ghost call_count = { calls_of };
 
     ghost failure_count = { failures_of };
 
@@ -183,6 +188,10 @@ impl<D: Disk> StableCell for GateCell<D> {
         g.stands (D.content_may_stay g.disk) };
 
     ghost opens = { λ g left might. stands_for_one _ _ g.stands left might };
+
+    ghost fits_room = { λ g left might. stood_fits (D.sector_count g.disk) might.0 left might.2 };
+
+    ghost room_is_bounded = { λ g. room_bound (D.sector_count g.disk) };
 
     ghost includes_now = { λ g t left le now.
         (now.0, D.includes_now g.disk t now.0 le now.1, now.2) };
@@ -202,7 +211,7 @@ impl<D: Disk> StableCell for GateCell<D> {
         ensures any_moment { LeavesOnly moment_of left_since_of self.old self.new
             (may_leave_of self.old) }
         ensures same_value { value_of self.new ≡ value_of self.old }
-        ensures same_room { capacity_of self.new ≡ capacity_of self.old }
+        ensures same_setup { LeavesSetup capacity_of armed_of calls_of self.old self.new }
         ensures too_large { ¬ (IsErrOf result CellFault.TooLarge) }
         ensures unchanged { (IsErrOf result CellFault.NoMemory ⊎ IsErrOf result CellFault.Reopen)
             → self.new ≡ self.old }
@@ -231,7 +240,7 @@ impl<D: Disk> StableCell for GateCell<D> {
         ensures ok { OnOk result (value_of self.new ≡ new.now) }
         ensures any_moment { LeavesOnly moment_of left_since_of self.old self.new
             (λ left. may_leave_of self.old left ⊎ (left ≡ Some new.now)) }
-        ensures same_room { capacity_of self.new ≡ capacity_of self.old }
+        ensures same_setup { LeavesSetup capacity_of armed_of calls_of self.old self.new }
         ensures too_large { IsErrOf result CellFault.TooLarge
             ↔ (IsTrue (is_ready_of self.old) × (capacity_of self.old < length new.now)) }
         ensures unchanged { (IsErrOf result CellFault.NoMemory ⊎ IsErrOf result CellFault.TooLarge
@@ -272,7 +281,8 @@ impl<D: Disk> StableCell for GateCell<D> {
         ensures settled { Only (Some (value_of self.new)) (may_leave_of self.new) }
         ensures any_moment { LeavesOnly moment_of left_since_of self.old self.new
             (may_leave_of self.old) }
-        ensures same_room { capacity_of self.new ≡ capacity_of self.old }
+        ensures same_setup { LeavesSetup capacity_of armed_of calls_of self.old self.new }
+        ensures same_calls { calls_of self.new ≡ calls_of self.old }
         ensures down { is_ready_of self.new ≡ false }
         ensures failures { failures_of self.new ≡ failures_of self.old }
         ensures same_failed { failed_call_of self.new ≡ failed_call_of self.old }
@@ -280,7 +290,6 @@ impl<D: Disk> StableCell for GateCell<D> {
         // The disk crashes: no device call. What it then holds is one of the contents that it might leave.
         ensures disk { D.may_leave (disk_in self.old) (content_of self.new) }
         ensures filled { D.settles_to (disk_in self.old) fill (content_of self.new) }
-        ensures calls { calls_of self.new ≡ calls_of self.old }
         ensures setup { SameSetup D.sector_count D.armed (disk_in self.old) (disk_in self.new) }
     {
         self.ready = false;
@@ -293,7 +302,7 @@ impl<D: Disk> StableCell for GateCell<D> {
         ensures same_value { value_of self.new ≡ value_of self.old }
         ensures any_moment { LeavesOnly moment_of left_since_of self.old self.new
             (may_leave_of self.old) }
-        ensures same_room { capacity_of self.new ≡ capacity_of self.old }
+        ensures same_setup { LeavesSetup capacity_of armed_of calls_of self.old self.new }
         ensures cause { HasDeviceCause (failures_of self.old) (failures_of self.new) result }
 
         // Three device calls, as those of `open`.
@@ -320,15 +329,12 @@ impl<D: Disk> StableCell for GateCell<D> {
         ensures any_moment { LeavesOnly moment_of left_since_of self.old self.new
             (may_leave_of self.old) }
         ensures same_room { capacity_of self.new ≡ capacity_of self.old }
+        ensures same_calls { calls_of self.new ≡ calls_of self.old }
         ensures same_readiness { is_ready_of self.new ≡ is_ready_of self.old }
         ensures failures { failures_of self.new ≡ failures_of self.old }
         ensures same_failed { failed_call_of self.new ≡ failed_call_of self.old }
-        ensures calls { calls_of self.new ≡ calls_of self.old }
-
-        // It is handed on to the disk.
-        ensures armed { OnOk result
-            (D.armed (disk_in self.new) ≡ D.armed (disk_in self.old) ++ fault ∷ []) }
-        ensures not_armed { OnErr result (D.armed (disk_in self.new) ≡ D.armed (disk_in self.old)) }
+        ensures armed { OnOk result (armed_of self.new ≡ armed_of self.old ++ fault ∷ []) }
+        ensures not_armed { OnErr result (armed_of self.new ≡ armed_of self.old) }
     {
         self.disk.arm(fault)
     }
@@ -338,12 +344,13 @@ impl<D: Disk> StableCell for GateCell<D> {
         ensures any_moment { LeavesOnly moment_of left_since_of self.old self.new
             (may_leave_of self.old) }
         ensures same_room { capacity_of self.new ≡ capacity_of self.old }
+        ensures same_faults { armed_of self.new ≡ armed_of self.old }
         ensures same_readiness { is_ready_of self.new ≡ is_ready_of self.old }
         ensures failures { failures_of self.new ≡ failures_of self.old }
+        ensures none_counted { calls_of self.new ≡ 0 }
         ensures none_failed { failed_call_of self.new ≡ 0 }
 
-        // The disk's count begins anew.
-        ensures calls { calls_of self.new ≡ 0 }
+        // The disk's size stays too.
         ensures setup { SameSetup D.sector_count D.armed (disk_in self.old) (disk_in self.new) }
     {
         self.disk.recount();

@@ -16,3 +16,6 @@ pub use gate::GateCell;
 
 /// The most bytes of a value, on any disk.
 pub const MAX_VALUE_BYTES: usize = 1 << 20;
+
+/// The sectors of a disk on which every value fits: the fewest on which one of `MAX_VALUE_BYTES` does.
+pub const SECTORS: usize = 4_101;

@@ -33,7 +33,7 @@ use Rattle.kahn_program.specs.declared.network_run.TheConstants.{MAX_TURNS}
 pub nothing_follows : (answer : Reply) (now : WorldView) → ((job : Job) → answer ≡ Granted job → ⊥) → Follows (reply_view answer) now now
 nothing_follows (Granted job) now other = absurd (other job refl)
 nothing_follows Delivered now other = refl
-nothing_follows (Dropped refusal) now other = refl
+nothing_follows Dropped now other = refl
 nothing_follows Installed now other = refl
 nothing_follows Discarded now other = refl
 nothing_follows Sent now other = refl

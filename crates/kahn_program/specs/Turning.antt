@@ -7,7 +7,7 @@ use Rattle.protocol.specs.World.Choice.{choice}
 use Rattle.protocol.specs.World.DoneView.{DoneView}
 use Rattle.protocol.specs.World.EventView.{EventView, Install}
 use Rattle.protocol.specs.World.OpeningWorld.{opening_world}
-use Rattle.protocol.specs.World.ReplyView.{ReplyView, Delivered, Dropped, Granted, Installed, Discarded, Sent, Started, Decided, Refused, Released, OutletFailed, Crashed, Recovered, InDoubt, Down, Acted, Idled, NotDue}
+use Rattle.protocol.specs.World.ReplyView.{ReplyView, Granted}
 use Rattle.protocol.specs.World.Sound.{output_channels}
 use Rattle.protocol.specs.World.StationView.{OutletView}
 use Rattle.protocol.specs.World.Steps.{WorldView, IsStep}
@@ -21,23 +21,7 @@ pub record IsStepInRoom (event : EventView) (old : WorldView) (answer : ReplyVie
 -- behind an answer: the turn on a job that was granted is taken in, and nothing else happens
 abbrev pub Follows : ReplyView → WorldView → WorldView → Type 0
 Follows (Granted job) old new = (done : DoneView) × (done.job ≡ job) × (answer : ReplyView) × IsStepInRoom (Install done) old answer new
-Follows Delivered old new = new ≡ old
-Follows (Dropped refusal) old new = new ≡ old
-Follows Installed old new = new ≡ old
-Follows Discarded old new = new ≡ old
-Follows Sent old new = new ≡ old
-Follows Started old new = new ≡ old
-Follows Decided old new = new ≡ old
-Follows (Refused refusal) old new = new ≡ old
-Follows (Released output number) old new = new ≡ old
-Follows OutletFailed old new = new ≡ old
-Follows Crashed old new = new ≡ old
-Follows Recovered old new = new ≡ old
-Follows InDoubt old new = new ≡ old
-Follows Down old new = new ≡ old
-Follows Acted old new = new ≡ old
-Follows Idled old new = new ≡ old
-Follows NotDue old new = new ≡ old
+Follows answer old new = new ≡ old
 
 -- a turn of a node: the event that is next for it, and what follows it
 pub record IsWorldTurn (node : ℕ) (old new : WorldView) : Type 0 where

@@ -4,19 +4,23 @@ use Rattle.std.specs.Prelude.{IsTrue, IsErrOf, OnOk, OnErr, IfOk, IfErr, IsSome}
 use Rattle.sector_disk.specs.Clock.{Only}
 use Rattle.gate_cell.specs.declared.cell.StableCell.{Ghosts as CellWords}
 use Rattle.record.specs.RecordView.{RecordView}
-use Rattle.ckpt_store.specs.StoreFault.{IsOfPut}
+use Rattle.ckpt_store.specs.Spelling.{fits_in, IsLengthTold}
+use Rattle.ckpt_store.specs.StoreFault.{HasFailures, IsOfPut}
 use Rattle.ckpt_store.specs.StoreView.{cell_in, known_in, record_in, Changes}
 use Rattle.ckpt_store.specs.declared.store.Store.{Store}
 use Rattle.ckpt_store.specs.declared.fault.StoreFault.{StoreFault}
 use Rattle.ckpt_store.specs.declared.fault.StoreFault.TheVariants as fault
 use Rattle.protocol.specs.Node.NodeView.{NodeView}
 use Rattle.node.specs.NodeView.{node_view, mode_view}
-use Rattle.protocol.specs.Node.Starting.{is_down, crashed, with_kept, HasFailedAt}
-use Rattle.node.specs.StoredView.{HasRecord, LeavesNext, IsCrashed, has_failed, put_outcome, IsAnswer}
+use Rattle.protocol.specs.Node.Modes.{is_down, crashed, with_kept}
+use Rattle.protocol.specs.Node.ArmedRestarts.{restart_after}
+use Rattle.protocol.specs.Node.Plans.{Prospect, putting, IsMade, IsPut}
+use Rattle.gate_cell.specs.Setup.{setup_then}
+use Rattle.node.specs.StoredView.{HasRecord, LeavesDevice, LeavesNext, IsCrashed, has_failed, put_outcome, IsAnswer}
 use Rattle.node.specs.declared.state.NodeState.{NodeState}
-use Rattle.protocol.specs.declared.putting.Putting.{Putting}
-use Rattle.protocol.specs.declared.putting.Putting.TheVariants.{Stored, Refused, Failed}
-use Rattle.node.proofs.Records.{settled_ready, one_of_both, then_crashed, change_refusals, change_moments, change_done, change_refused}
+use Rattle.protocol.specs.declared.outcome.Outcome.{Outcome}
+use Rattle.node.specs.Putting.{IsPutEvent}
+use Rattle.node.proofs.Records.{settled_ready, one_of_both, then_crashed, change_fits, change_refusals, change_moments, change_done, change_refused}
 
 -- What an event that puts this record comes to.
 pub record Ends {C : Type 0} {words : CellWords C} (next : RecordView) (restart : ℕ) (old new : Store C words) (before after : NodeState) (put : Result (Unit {0}) StoreFault) : Type 0 where
@@ -26,6 +30,9 @@ pub record Ends {C : Type 0} {words : CellWords C} (next : RecordView) (restart 
   pub stored : OnOk put ((record_in new ≡ next) × IsSome (known_in new) × (after ≡ before))
   pub refused : OnErr put (has_failed put ≡ false → (record_in new ≡ record_in old) × IsSome (known_in new) × (after ≡ before))
   pub failed : IsTrue (has_failed put) → ((record_in new ≡ record_in old) ⊎ (record_in new ≡ next)) × ((kept : RecordView) → node_view kept after ≡ crashed restart (node_view kept before))
+  pub fits : IsLengthTold (fits_in (words.capacity (cell_in old)) next) put
+  pub failures : HasFailures (words.failure_count (cell_in old)) (words.failure_count (cell_in new)) put
+  pub same_setup : LeavesDevice old new
 
 by_test : (b : Bool) {P : Type 0} → (b ≡ false → P) → (b ≡ true → P) → P
 by_test true f t = t refl
@@ -50,8 +57,16 @@ module _ {C : Type 0} (words : CellWords C)
     stored = stored put refl;
     refused = refused put refl;
     failed = λ test. (one_of_both words includes_now may_stay ready_settled (change (record_in old)) old new only moments, (crash test).1);
+    fits = change_fits words includes_now may_stay ready_settled cause change old mid put some fine changes;
+    failures = subst (λ (n : ℕ). HasFailures (words.failure_count (cell_in old)) n put) (sym (after_crash (λ (s : Store C words). words.failure_count (cell_in s)) (λ test. (crash test).0.failures))) changes.failures;
+    same_setup = by_test (has_failed put) (λ test. subst (λ (s : Store C words). LeavesDevice old s) (sym (stays test).0) changes.same_setup)
+        (λ test. setup_then words.capacity words.armed words.call_count (cell_in old) (cell_in mid) (cell_in new) changes.same_setup (crash test).0.same_setup);
   }
     where
+      -- what a crash leaves alone is as after the put
+      after_crash : {A : Type 0} (of : Store C words → A) → (IsTrue (has_failed put) → of new ≡ of mid) → of new ≡ of mid
+      after_crash of down = by_test (has_failed put) (λ test. ap of (stays test).0) down
+
       run : LeavesNext (change (record_in old)) old mid
       run = change_moments words includes_now may_stay ready_settled cause change old mid put some fine changes
 
@@ -87,11 +102,17 @@ module _ {C : Type 0} (words : CellWords C)
 
 -- ---- what came of an event
 
-pub is_answered : (result : Option Putting) {E : Type 0} (answer : Result Putting E) → IsAnswer result answer → (P : Putting → Type 0) → ((x : Putting) → result ≡ Some x → P x) → IfOk answer P
+pub is_answered : (result : Option Outcome) {E : Type 0} (answer : Result Outcome E) → IsAnswer result answer → (P : Outcome → Type 0) → ((x : Outcome) → result ≡ Some x → P x) → IfOk answer P
 is_answered None (Ok y) is P so = absurd is
 is_answered None (Err e) is P so = tt
 is_answered (Some x) (Ok y) is P so = subst P (sym is) (so x refl)
 is_answered (Some x) (Err e) is P so = absurd is
+
+is_refused : (result : Option Outcome) {E : Type 0} (answer : Result Outcome E) → IsAnswer result answer → (P : Type 0) → (result ≡ None → P) → OnErr answer P
+is_refused None (Ok y) is P so = absurd is
+is_refused None (Err e) is P so = so refl
+is_refused (Some x) (Ok y) is P so = tt
+is_refused (Some x) (Err e) is P so = absurd is
 
 -- by the kinds of a put's result: done, without memory, too large, or the device failed
 by_kind : (P : Result (Unit {0}) StoreFault → Type 0) → P (Ok tt) → P (Err fault.NoMemory) → P (Err fault.TooLarge) → P (Err fault.Device) → (put : Result (Unit {0}) StoreFault) → IfErr put IsOfPut → P put
@@ -119,28 +140,68 @@ module _ {C : Type 0} {words : CellWords C} (next : RecordView) (restart : ℕ) 
   same_view : record_in new ≡ record_in old → after ≡ before → now ≡ was
   same_view kept state = ap (λ (r : RecordView). node_view r after) kept ∙ ap (node_view (record_in old)) state
 
-  -- the relation of an event that puts a record, from its cases
-  pub ends_step : (P : Putting → NodeView → Type 0) → P Stored (with_kept next was) → P (Refused 22) was → ((w : NodeView) → HasFailedAt restart next was w → P Failed w)
-      → (x : Putting) → put_outcome put ≡ Some x → P x now
-  ends_step P done large device =
-      by_kind (λ p. OnOk p ((record_in new ≡ next) × IsSome (known_in new) × (after ≡ before)) → OnErr p (has_failed p ≡ false → (record_in new ≡ record_in old) × IsSome (known_in new) × (after ≡ before))
+  some_is : {x y : Outcome} → Some x ≡ Some y → x ≡ y
+  some_is is = cc
+
+  -- how it comes out, where the record may grow, or fits as the one before did
+  ends_step : (grows : Bool) → (grows ≡ false → fits_in (words.capacity (cell_in old)) next ≡ true) → (x : Outcome) → put_outcome put ≡ Some x → IsMade restart (putting grows (with_kept next was)) was x now
+  ends_step grows short =
+      by_kind (λ p. IsLengthTold (fits_in (words.capacity (cell_in old)) next) p → OnOk p ((record_in new ≡ next) × IsSome (known_in new) × (after ≡ before)) → OnErr p (has_failed p ≡ false → (record_in new ≡ record_in old) × IsSome (known_in new) × (after ≡ before))
       → (IsTrue (has_failed p) → ((record_in new ≡ record_in old) ⊎ (record_in new ≡ next)) × ((kept : RecordView) → node_view kept after ≡ crashed restart (node_view kept before)))
-      → (x : Putting) → put_outcome p ≡ Some x → P x now)
-      (λ stored refused failed x is.
-      subst (λ (y : Putting). P y now) (is_some_of is)
-      (subst (P Stored) (sym (ap (λ (r : RecordView). node_view r after) stored.0 ∙ ap (node_view next) stored.2)) done))
-      (λ stored refused failed x is. absurd (cc))
-      (λ stored refused failed x is.
+      → (x : Outcome) → put_outcome p ≡ Some x → IsMade restart (putting grows (with_kept next was)) was x now)
+      (λ fits stored refused failed x is.
+      subst (λ (y : Outcome). IsMade restart (putting grows (with_kept next was)) was y now) (some_is is) (ap (λ (r : RecordView). node_view r after) stored.0 ∙ ap (node_view next) stored.2))
+      (λ fits stored refused failed x is. absurd (cc))
+      (λ fits stored refused failed x is.
       let same = refused refl in
-      subst (λ (y : Putting). P y now) (is_some_of is) (subst (P (Refused 22)) (sym (same_view same.0 same.2)) large))
-      (λ stored refused failed x is.
+      subst (λ (y : Outcome). IsMade restart (putting grows (with_kept next was)) was y now) (some_is is) (it_grows fits, same_view same.0 same.2))
+      (λ fits stored refused failed x is.
       let down = failed refl in
-      subst (λ (y : Putting). P y now) (is_some_of is)
-      (device now (⊎_elim (λ kept. inl (ap (λ (r : RecordView). node_view r after) kept ∙ down.1 (record_in old))) (λ kept. inr (ap (λ (r : RecordView). node_view r after) kept ∙ down.1 next)) down.0)))
-      put ends.refusals ends.stored ends.refused ends.failed
+      subst (λ (y : Outcome). IsMade restart (putting grows (with_kept next was)) was y now) (some_is is)
+      (refl, ⊎_elim (λ kept. inl (ap (λ (r : RecordView). node_view r after) kept ∙ down.1 (record_in old))) (λ kept. inr (ap (λ (r : RecordView). node_view r after) kept ∙ down.1 next)) down.0))
+      put ends.refusals ends.fits ends.stored ends.refused ends.failed
     where
-      is_some_of : {x y : Putting} → Some x ≡ Some y → x ≡ y
-      is_some_of is = cc
+      it_grows : fits_in (words.capacity (cell_in old)) next ≡ false → grows ≡ true
+      it_grows large = by_test grows (λ no. (let some : fits_in (words.capacity (cell_in old)) next ≡ true = short no in absurd (cc))) (λ is. is)
+
+  -- what the cell has to do with it
+  ends_put : (x : Outcome) → put_outcome put ≡ Some x → IsPut (fits_in (words.capacity (cell_in old)) next) (words.failure_count (cell_in old)) (words.failure_count (cell_in new)) x
+  ends_put =
+      by_kind (λ p. IsLengthTold (fits_in (words.capacity (cell_in old)) next) p → HasFailures (words.failure_count (cell_in old)) (words.failure_count (cell_in new)) p
+      → (x : Outcome) → put_outcome p ≡ Some x → IsPut (fits_in (words.capacity (cell_in old)) next) (words.failure_count (cell_in old)) (words.failure_count (cell_in new)) x)
+      (λ fits failures x is.
+      subst (IsPut (fits_in (words.capacity (cell_in old)) next) (words.failure_count (cell_in old)) (words.failure_count (cell_in new))) (some_is is) (fits, failures.otherwise (λ e. cc)))
+      (λ fits failures x is. absurd (cc))
+      (λ fits failures x is.
+      subst (IsPut (fits_in (words.capacity (cell_in old)) next) (words.failure_count (cell_in old)) (words.failure_count (cell_in new))) (some_is is) (fits, failures.otherwise (λ e. cc)))
+      (λ fits failures x is.
+      subst (IsPut (fits_in (words.capacity (cell_in old)) next) (words.failure_count (cell_in old)) (words.failure_count (cell_in new))) (some_is is) (fits, failures.device refl))
+      put ends.refusals ends.fits ends.failures
+
+  -- want of memory changed nothing
+  ends_refused : put_outcome put ≡ None → (now ≡ was) × (words.failure_count (cell_in new) ≡ words.failure_count (cell_in old))
+  ends_refused =
+      by_kind (λ p. OnErr p (has_failed p ≡ false → (record_in new ≡ record_in old) × IsSome (known_in new) × (after ≡ before))
+      → HasFailures (words.failure_count (cell_in old)) (words.failure_count (cell_in new)) p → put_outcome p ≡ None → (now ≡ was) × (words.failure_count (cell_in new) ≡ words.failure_count (cell_in old)))
+      (λ refused failures is. absurd (cc))
+      (λ refused failures is. (let same = refused refl in (same_view same.0 same.2, failures.otherwise (λ e. cc))))
+      (λ refused failures is. absurd (cc))
+      (λ refused failures is. absurd (cc))
+      put ends.refusals ends.refused ends.failures
+
+  -- so all of it
+  pub ends_event : (grows : Bool) → (grows ≡ false → fits_in (words.capacity (cell_in old)) next ≡ true) → (prospect : Prospect) (round : ℕ) {E : Type 0} (answer : Result Outcome E) → prospect ≡ putting grows (with_kept next was) → restart ≡ restart_after before.armed.items (words.failed_call (cell_in new)) round
+      → IsAnswer (put_outcome put) answer → IsPutEvent prospect round was now old new answer
+  ends_event grows short prospect round answer planned later is =
+      subst (λ (p : Prospect). IsPutEvent p round was now old new answer) (sym planned) (record {
+        step = is_answered (put_outcome put) answer is (λ outcome. IsMade (restart_after before.armed.items (words.failed_call (cell_in new)) round) (putting grows (with_kept next was)) was outcome now)
+            (subst (λ (n : ℕ). (x : Outcome) → put_outcome put ≡ Some x → IsMade n (putting grows (with_kept next was)) was x now) later (ends_step grows short));
+        refused = is_refused (put_outcome put) answer is (now ≡ was) (λ none. (ends_refused none).0);
+        refused_failures = is_refused (put_outcome put) answer is (words.failure_count (cell_in new) ≡ words.failure_count (cell_in old)) (λ none. (ends_refused none).1);
+        put = is_answered (put_outcome put) answer is (IsPut (fits_in (words.capacity (cell_in old)) next) (words.failure_count (cell_in old)) (words.failure_count (cell_in new))) ends_put;
+        any_moment = ends.moments;
+        same_setup = ends.same_setup;
+      })
 
   -- the record, in any case
   pub ends_either : (record_in new ≡ record_in old) ⊎ (record_in new ≡ next)

@@ -1,23 +1,24 @@
 -- A store that is reopened and put into its next epoch.
-use Rattle.std.proofs.Common.{◌≡◌, ℕ, ◌<◌, ◌≤◌, Bool, true, false, List, Option, Some, None, Result, Ok, Err, refl, ◌∙◌, ap, subst}
+use Rattle.std.proofs.Common.{◌≡◌, ℕ, ◌<◌, ◌≤◌, Bool, true, false, List, Option, Some, None, Result, Ok, Err, refl, sym, inl, ◌∙◌, ap, subst, arith}
 use Rattle.std.specs.Prelude.{IsTrue, IsErrOf, OnOk, OnErr, IfOk, IfErr, IsSome, nat_lt, cond}
 use Rattle.std.proofs.lemmas.Bool.{ltb-true}
-use Rattle.sector_disk.specs.Clock.{Only}
+use Rattle.sector_disk.specs.Clock.{LeavesOnly, Only}
 use Rattle.gate_cell.specs.declared.cell.StableCell.{Ghosts as CellWords}
+use Rattle.gate_cell.specs.Setup.{setup_then}
 use Rattle.record.specs.ImageView.{ImageView}
 use Rattle.record.specs.RecordView.{RecordView}
 use Rattle.record.specs.Moves.{with_epoch}
 use Rattle.kahn_net.specs.declared.limits.TheConstants.{MAX_COUNT}
-use Rattle.ckpt_store.specs.Spelling.{fits_in}
+use Rattle.ckpt_store.specs.Spelling.{fits_in, IsLengthTold}
 use Rattle.ckpt_store.specs.Loading.{IsOfReopening}
 use Rattle.ckpt_store.specs.Refusals.{refusal_to_raise, first_refusal, ComesFirst}
-use Rattle.ckpt_store.specs.StoreFault.{HasFailures}
+use Rattle.ckpt_store.specs.StoreFault.{HasFailures, IsOfPut}
 use Rattle.ckpt_store.specs.StoreView.{cell_in, known_in, record_in, record_spelled, Changes, Reopens}
 use Rattle.ckpt_store.specs.declared.store.Store.{Store}
 use Rattle.ckpt_store.specs.declared.fault.StoreFault.{StoreFault}
 use Rattle.ckpt_store.specs.declared.fault.StoreFault.TheVariants as fault
-use Rattle.node.specs.StoredView.{LeavesNext, IsRaised, IsRaiseRefusal}
-use Rattle.node.proofs.Records.{some_known, still_settled, looked, looked_then, settled_ready, change_moments, change_fits, change_done}
+use Rattle.node.specs.StoredView.{LeavesAsBefore, LeavesNext, IsRaised, IsRaiseRefusal}
+use Rattle.node.proofs.Records.{some_known, still_settled, looked, looked_on, looked_then, settled_ready, change_refusals, change_moments, change_fits, change_done}
 
 of_reopening : (fits : Bool) (kept : RecordView) (e : StoreFault) → IsOfReopening e → IsRaiseRefusal fits kept e
 of_reopening fits kept fault.NoMemory is = tt
@@ -38,6 +39,10 @@ module _ {C : Type 0} (words : CellWords C)
     (may_stay : (cell : C) → words.may_leave cell (Some (words.value cell)))
     (ready_settled : (cell : C) → IsTrue (words.is_ready cell) → Only (Some (words.value cell)) (words.may_leave cell))
     (old : Store C words) (settled : Only (Some (words.value (cell_in old))) (words.may_leave (cell_in old))) where
+  on_err : {P Q : Type 0} (result : Result ImageView StoreFault) → OnErr result P → (P → Q) → OnErr result Q
+  on_err (Ok x) is so = tt
+  on_err (Err e) is so = so is
+
   -- it couldn't be reopened
   pub not_reopened : (mid : Store C words) (e : StoreFault) → Reopens old mid {T = Unit {0}} (Err e) → IsRaised old mid (Err e)
   not_reopened mid e load = record {
@@ -48,7 +53,9 @@ module _ {C : Type 0} (words : CellWords C)
     failures = record { device = λ is. load.failures.device (device_too e is); otherwise = λ other. load.failures.otherwise (λ is. other (device_so e is)) };
     settled = λ other. still_settled words includes_now may_stay ready_settled old mid settled load.any_moment load.same_value;
     any_moment = looked words includes_now may_stay ready_settled (with_epoch (record_in old)) old mid load.any_moment;
-    same_room = load.same_room;
+    nothing_put = λ other. load.any_moment;
+    held_up = λ more. load.any_moment;
+    same_setup = load.same_setup;
   }
     where
       device_too : (e : StoreFault) → IsErrOf {T = ImageView} (Err e) fault.Device → IsErrOf {T = Unit {0}} (Err e) fault.Device
@@ -65,14 +72,16 @@ module _ {C : Type 0} (words : CellWords C)
       record {
         image = subst (λ (r : RecordView). IfOk result (λ image. image ≡ r.permanent)) same raised.image;
         raised = subst (λ (r : RecordView). OnOk result ((record_in new ≡ with_epoch r) × IsSome (known_in new) × (r.epoch < MAX_COUNT) × IsTrue (fits_in (words.capacity (cell_in old)) (with_epoch r)))) same
-            (subst (λ (n : ℕ). OnOk result ((record_in new ≡ with_epoch (record_in mid)) × IsSome (known_in new) × ((record_in mid).epoch < MAX_COUNT) × IsTrue (fits_in n (with_epoch (record_in mid))))) load.same_room raised.raised);
+            (subst (λ (n : ℕ). OnOk result ((record_in new ≡ with_epoch (record_in mid)) × IsSome (known_in new) × ((record_in mid).epoch < MAX_COUNT) × IsTrue (fits_in n (with_epoch (record_in mid))))) load.same_setup.same_room raised.raised);
         refused = subst (λ (r : RecordView). IfErr result (IsRaiseRefusal (fits_in (words.capacity (cell_in old)) (with_epoch r)) r)) same
-            (subst (λ (n : ℕ). IfErr result (IsRaiseRefusal (fits_in n (with_epoch (record_in mid))) (record_in mid))) load.same_room raised.refused);
+            (subst (λ (n : ℕ). IfErr result (IsRaiseRefusal (fits_in n (with_epoch (record_in mid))) (record_in mid))) load.same_setup.same_room raised.refused);
         same_record = subst (λ (r : RecordView). OnErr result (¬ (IsErrOf result fault.Device) → record_in new ≡ r)) same raised.same_record;
         failures = subst (λ (n : ℕ). HasFailures n (words.failure_count (cell_in new)) result) before raised.failures;
         settled = raised.settled;
         any_moment = subst (λ (r : RecordView). LeavesNext (with_epoch r) old new) same (looked_then words includes_now may_stay ready_settled (with_epoch (record_in mid)) old mid new load.any_moment raised.any_moment);
-        same_room = raised.same_room ∙ load.same_room;
+        nothing_put = on_err result raised.nothing_put (λ quiet other. looked_on words includes_now may_stay ready_settled old mid new load.any_moment (quiet other));
+        held_up = on_err result raised.held_up (λ quiet more. looked_on words includes_now may_stay ready_settled old mid new load.any_moment (quiet (subst (λ (r : RecordView). MAX_COUNT ≤ r.epoch) (sym same) more)));
+        same_setup = setup_then words.capacity words.armed words.call_count (cell_in old) (cell_in mid) (cell_in new) load.same_setup raised.same_setup;
       }
 
 module _ {C : Type 0} (words : CellWords C)
@@ -92,7 +101,9 @@ module _ {C : Type 0} (words : CellWords C)
         failures = record { device = λ e. cc; otherwise = λ other. changes.failures.otherwise (λ e. cc) };
         settled = λ other. settled_ready words includes_now may_stay ready_settled new done.1;
         any_moment = change_moments words includes_now may_stay ready_settled refusal_to_raise with_epoch old new (Ok tt) some fine changes;
-        same_room = changes.same_room;
+        nothing_put = tt;
+        held_up = tt;
+        same_setup = changes.same_setup;
       }
 
   -- the epoch was raised
@@ -105,3 +116,74 @@ module _ {C : Type 0} (words : CellWords C)
       at : (b : Bool) → nat_lt (record_in old).epoch MAX_COUNT ≡ b → IsRaised old new (Ok image)
       at true test = raised_so new image is changes (ltb-true (record_in old).epoch MAX_COUNT test) (ap (λ (b : Bool). cond b None (Some fault.Spent)) test)
       at false test = let no : ComesFirst {T = Unit {0}} (Some fault.Spent) (Ok tt) = spent test in absurd (cc)
+
+  -- or it wasn't: nothing was put but where the device failed
+  module _ (only_now : (cell : C) (left : Option (List ℕ)) → words.left_since cell (words.moment cell) left → words.may_leave cell left) (new : Store C words) (e : StoreFault)
+      (changes : Changes refusal_to_raise with_epoch old new {T = Unit {0}} (Err e)) where
+    still : cell_in new ≡ cell_in old → LeavesAsBefore old new
+    still same = subst (λ (c : C). LeavesOnly words.moment words.left_since (cell_in old) c (words.may_leave (cell_in old))) (sym same)
+        (record { later = omega arith; each = λ left was. only_now (cell_in old) left was; before = λ t left le was. inl was; keeps = λ t left le had. had })
+
+    device_so : IsErrOf {T = Unit {0}} (Err e) fault.Device → IsErrOf {T = ImageView} (Err e) fault.Device
+    device_so is = let same : e ≡ fault.Device = cc in ap Err same
+
+    device_too : IsErrOf {T = ImageView} (Err e) fault.Device → IsErrOf {T = Unit {0}} (Err e) fault.Device
+    device_too is = let same : e ≡ fault.Device = cc in ap Err same
+
+    of_put : (fits : Bool) (f : StoreFault) → (record_in old).epoch < MAX_COUNT → IsOfPut f → IsLengthTold {T = Unit {0}} fits (Err f) → IsRaiseRefusal fits (record_in old) f
+    of_put fits fault.NoMemory less is long = tt
+    of_put fits fault.Device less is long = tt
+    of_put fits fault.TooLarge less is long = (less, long)
+    of_put fits fault.Reopen less is long = absurd is
+    of_put fits fault.Truncated less is long = absurd is
+    of_put fits fault.Version less is long = absurd is
+    of_put fits fault.Malformed less is long = absurd is
+    of_put fits fault.HoldsOther less is long = absurd is
+    of_put fits fault.PastNumber less is long = absurd is
+    of_put fits fault.NotHeld less is long = absurd is
+    of_put fits fault.Unsettled less is long = absurd is
+    of_put fits fault.Spent less is long = absurd is
+
+    -- there is no next epoch
+    spent_is : nat_lt (record_in old).epoch MAX_COUNT ≡ false → e ≡ fault.Spent
+    spent_is test =
+        let first : ComesFirst {T = Unit {0}} (Some fault.Spent) (Err e) =
+        subst (λ (o : Option StoreFault). ComesFirst {T = Unit {0}} o (Err e)) (ap (first_refusal refusal_to_raise) (some_known words old some) ∙ ap (λ (b : Bool). cond b None (Some fault.Spent)) test) changes.refusals in
+        cc
+
+    by_test : {P : Type 0} → (nat_lt (record_in old).epoch MAX_COUNT ≡ true → P) → (nat_lt (record_in old).epoch MAX_COUNT ≡ false → P) → P
+    by_test {P} t f = at (nat_lt (record_in old).epoch MAX_COUNT) t f
+      where
+        at : (b : Bool) → (b ≡ true → P) → (b ≡ false → P) → P
+        at true t f = t refl
+        at false t f = f refl
+
+    fine : nat_lt (record_in old).epoch MAX_COUNT ≡ true → refusal_to_raise (record_in old) ≡ None
+    fine test = ap (λ (b : Bool). cond b None (Some fault.Spent)) test
+
+    not_spent : MAX_COUNT ≤ (record_in old).epoch → nat_lt (record_in old).epoch MAX_COUNT ≡ true → ⊥
+    not_spent more test = (let less : (record_in old).epoch < MAX_COUNT = ltb-true (record_in old).epoch MAX_COUNT test in absurd (omega (arith, more, less)))
+
+    held : nat_lt (record_in old).epoch MAX_COUNT ≡ false → LeavesAsBefore old new
+    held test = still (changes.same_cell (λ is. (let same = spent_is test in cc)))
+
+    pub refused_so : IsRaised old new (Err e)
+    refused_so = record {
+      image = tt;
+      raised = tt;
+      refused = by_test (λ test. of_put (fits_in (words.capacity (cell_in old)) (with_epoch (record_in old))) e (ltb-true (record_in old).epoch MAX_COUNT test)
+          (change_refusals words includes_now may_stay ready_settled refusal_to_raise with_epoch old new (Err e) some (fine test) changes)
+          (change_fits words includes_now may_stay ready_settled refusal_to_raise with_epoch old new (Err e) some (fine test) changes))
+          (λ test. subst (IsRaiseRefusal (fits_in (words.capacity (cell_in old)) (with_epoch (record_in old))) (record_in old)) (sym (spent_is test)) (not_less (record_in old).epoch MAX_COUNT test));
+      same_record = λ other. ap (λ (c : C). record_spelled (words.value c)) (changes.same_cell (λ is. other (device_so is)));
+      failures = record { device = λ is. changes.failures.device (device_too is); otherwise = λ other. changes.failures.otherwise (λ is. other (device_so is)) };
+      settled = λ other. subst (λ (c : C). Only (Some (words.value c)) (words.may_leave c)) (sym (changes.same_cell (λ is. other (device_so is)))) settled;
+      any_moment = by_test (λ test. change_moments words includes_now may_stay ready_settled refusal_to_raise with_epoch old new (Err e) some (fine test) changes)
+          (λ test. looked words includes_now may_stay ready_settled (with_epoch (record_in old)) old new (held test));
+      nothing_put = λ other. still (changes.same_cell (λ is. other (device_so is)));
+      held_up = λ more. by_test (λ test. absurd (not_spent more test)) held;
+      same_setup = changes.same_setup;
+    }
+      where
+        not_less : (n m : ℕ) → nat_lt n m ≡ false → m ≤ n
+        not_less n m test = grind (arith, test)

@@ -64,6 +64,11 @@ module _ {C : Type 0} (words : CellWords C) where
     looked next old mid look =
         weakened words.moment words.left_since (cell_in old) (cell_in mid) (λ left. words.may_leave (cell_in old) left ⊎ Spells next left) (words.may_leave (cell_in old)) look (λ left was. inl was)
 
+    pub looked_on : (old mid new : Store C words) → LeavesAsBefore old mid → LeavesAsBefore mid new → LeavesAsBefore old new
+    looked_on old mid new look run =
+        joined words.moment words.left_since (cell_in old) (cell_in mid) (cell_in new) (words.may_leave (cell_in old)) (words.may_leave (cell_in mid)) look run
+        (λ left might. look.each left (includes_now (cell_in mid) (words.moment (cell_in old)) left look.later might))
+
     pub looked_then : (next : RecordView) (old mid new : Store C words) → LeavesAsBefore old mid → LeavesNext next mid new → LeavesNext next old new
     looked_then next old mid new look run =
         joined words.moment words.left_since (cell_in old) (cell_in mid) (cell_in new) (λ left. words.may_leave (cell_in old) left ⊎ Spells next left) (λ left. words.may_leave (cell_in mid) left ⊎ Spells next left)

@@ -1,7 +1,7 @@
 -- A start and a decision as puts of the next record.
-use Rattle.std.proofs.Common.{◌≡◌, inr, ℕ, ◌+◌, ◌<◌, ◌≤◌, Bool, true, false, ◌&&◌, List, [], length, Option, Some, None, Result, refl, sym, ◌∙◌, ap, subst, arith, eqb}
-use Rattle.std.specs.Prelude.{IsTrue, IfOk, is_some, cond, nat_le, nat_lt}
-use Rattle.std.proofs.lemmas.Bool.{le-ltb, eq-eqb}
+use Rattle.std.proofs.Common.{◌≡◌, ℕ, ◌+◌, ◌<◌, ◌≤◌, Bool, true, false, ◌&&◌, List, [], length, Option, Some, None, Result, refl, sym, ◌∙◌, ap, subst, arith, eqb}
+use Rattle.std.specs.Prelude.{IsTrue, is_some, cond, nat_le, nat_lt}
+use Rattle.std.proofs.lemmas.Bool.{le-ltb, lt-ltb, eq-eqb}
 use Rattle.std.proofs.lemmas.List.{length-set}
 use Rattle.sector_disk.specs.Clock.{Only}
 use Rattle.gate_cell.specs.declared.cell.StableCell.{Ghosts as CellWords}
@@ -10,8 +10,10 @@ use Rattle.record.specs.RecordView.{RecordView}
 use Rattle.record.specs.Moves.{highest_seen, with_tentative, with_decision}
 use Rattle.record.specs.declared.record.Tentative.{Tentative}
 use Rattle.kahn_net.specs.declared.limits.TheConstants.{MAX_COUNT}
+use Rattle.ckpt_store.proofs.Room.{decision_fits, record_fits}
+use Rattle.gate_cell.specs.declared.TheConstants.{MAX_VALUE_BYTES}
 use Rattle.ckpt_store.specs.Refusals.{is_held, is_other_held, refusal_to_take, refusal_to_decide}
-use Rattle.ckpt_store.specs.StoreView.{record_in, Changes}
+use Rattle.ckpt_store.specs.StoreView.{cell_in, record_in, Changes}
 use Rattle.ckpt_store.specs.declared.store.Store.{Store}
 use Rattle.ckpt_store.specs.declared.fault.StoreFault.{StoreFault}
 use Rattle.ckpt_store.specs.declared.fault.StoreFault.TheVariants as fault
@@ -19,11 +21,15 @@ use Rattle.protocol.specs.Node.ArmedRestarts.{restart_after}
 use Rattle.protocol.specs.declared.armed_restart.ArmedRestart.{ArmedRestart}
 use Rattle.protocol.specs.Node.NodeView.{NodeView, ModeView, Down, InDoubt, Runs, RunningView, running_in}
 use Rattle.node.specs.NodeView.{node_view, mode_view}
-use Rattle.protocol.specs.Node.Starting.{is_none, is_running, is_down, is_own, own_number, held_number, crashed, may_start, may_decide, own_at, with_own_now, decided, IsStart, IsDecision}
+use Rattle.protocol.specs.Node.Starting.{is_own, own_number, held_number, may_start, may_decide, own_at, with_own_now, decided, start_prospect, decide_prospect}
+use Rattle.protocol.specs.Node.Plans.{if_due, unless_spent, putting}
+use Rattle.protocol.specs.Node.Modes.{is_none, is_running, is_down, crashed, with_kept}
 use Rattle.node.specs.StoredView.{HasRecord, IsCrashed, has_failed, put_outcome, IsAnswer}
 use Rattle.node.specs.declared.state.NodeState.{NodeState}
-use Rattle.protocol.specs.declared.putting.Putting.{Putting}
-use Rattle.node.proofs.Checkpoints.{Ends, ended, ends_step, ends_kept, is_answered}
+use Rattle.protocol.specs.declared.outcome.Outcome.{Outcome}
+use Rattle.protocol.specs.declared.outcome.Outcome.TheVariants as outcome
+use Rattle.node.specs.Putting.{IsPutEvent}
+use Rattle.node.proofs.Checkpoints.{Ends, ended, ends_event, ends_kept}
 
 none_is : {A : Type 0} (o : Option A) → is_none o ≡ true → o ≡ None
 none_is None is = refl
@@ -132,14 +138,16 @@ module _ {C : Type 0} (words : CellWords C)
         node : next.node ≡ (record_in old).node
         node = ap (λ (r : RecordView). r.node) is
 
-    pub start_step : {E : Type 0} (answer : Result Putting E) → IsAnswer (put_outcome put) answer → IfOk answer (λ outcome. IsStart number round call was outcome (node_view (record_in new) after))
-    start_step answer is =
-        is_answered (put_outcome put) answer is (λ outcome. IsStart number round call was outcome (node_view (record_in new) after))
-        (ends_step (with_own_now number was) restart old new before after put start_ends (λ outcome now. IsStart number round call was outcome now)
-        (due, seen_less, refl) (due, inr (refl, seen_less), refl) (λ w failed. (due, seen_less, failed)))
+    pub start_event : {E : Type 0} (answer : Result Outcome E) → IsAnswer (put_outcome put) answer → call ≡ words.failed_call (cell_in new) → IsPutEvent (start_prospect number was) round was (node_view (record_in new) after) old new answer
+    start_event answer is failed = ends_event (with_own_now number was) restart old new before after put start_ends true (λ no. absurd (cc)) (start_prospect number was) round answer planned (ap (λ (n : ℕ). restart_after before.armed.items n round) failed) is
       where
-        seen_less : highest_seen number (record_in old) < MAX_COUNT
-        seen_less = subst (λ (n : ℕ). n < MAX_COUNT) seen less
+        seen_less : nat_lt (highest_seen number (record_in old)) MAX_COUNT ≡ true
+        seen_less = lt-ltb (highest_seen number (record_in old)) MAX_COUNT (subst (λ (n : ℕ). n < MAX_COUNT) seen less)
+
+        planned : start_prospect number was ≡ putting true (with_kept (with_own_now number was) was)
+        planned =
+            ap (λ (b : Bool). if_due b (unless_spent false (nat_lt (highest_seen number (record_in old)) MAX_COUNT) (putting true (with_kept (with_own_now number was) was)))) due
+            ∙ ap (λ (b : Bool). unless_spent false b (putting true (with_kept (with_own_now number was) was))) seen_less
 
   -- ---- a decision
 
@@ -162,11 +170,11 @@ module _ {C : Type 0} (words : CellWords C)
     pub decide_kept : HasRecord number (mode_view after.mode) new
     decide_kept = ends_kept (decided (record_in old)) restart old new before after put decide_ends number has refl refl
 
-    pub decide_step : {E : Type 0} (answer : Result Putting E) → IsAnswer (put_outcome put) answer → IfOk answer (λ outcome. IsDecision number round call was outcome (node_view (record_in new) after))
-    decide_step answer is_answer =
-        is_answered (put_outcome put) answer is_answer (λ outcome. IsDecision number round call was outcome (node_view (record_in new) after))
-        (ends_step (decided (record_in old)) restart old new before after put decide_ends (λ outcome now. IsDecision number round call was outcome now)
-        (due, refl) (due, refl, refl) (λ w failed. (due, failed)))
+    pub decide_event : (fits_room : (cell : C) (left : List ℕ) → words.may_leave cell (Some left) → length left ≤ words.capacity cell) (room_is_bounded : (cell : C) → words.capacity cell ≤ MAX_VALUE_BYTES)
+        {E : Type 0} (answer : Result Outcome E) → IsAnswer (put_outcome put) answer → call ≡ words.failed_call (cell_in new) → IsPutEvent (decide_prospect number was) round was (node_view (record_in new) after) old new answer
+    decide_event fits_room room_is_bounded answer is_answer failed =
+        ends_event (decided (record_in old)) restart old new before after put decide_ends false (λ no. decision_fits (words.capacity (cell_in old)) (record_in old) (record_fits words fits_room room_is_bounded may_stay old) (held_number (record_in old).tentative)) (decide_prospect number was) round answer (ap (λ (b : Bool). if_due b (putting false (with_kept (decided (record_in old)) was))) due)
+        (ap (λ (n : ℕ). restart_after before.armed.items n round) failed) is_answer
       where
         due : may_decide number was ≡ true
         due = ap (λ (b : Bool). b && is_own number (record_in old).tentative) runs ∙ (own_is number (record_in old).tentative held is).2

@@ -1,5 +1,6 @@
 pub mod JobView
 pub mod NodeView
 pub mod StoredView
+pub mod Putting
 pub mod NodeOf
 pub mod Searching

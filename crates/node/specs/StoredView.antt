@@ -2,20 +2,22 @@
 use Rattle.std.specs.Prelude.{◌≡◌, ◌⊎◌, ℕ, ◌<◌, ◌≤◌, Bool, true, false, length, Option, Some, None, IsSome, IsTrue, Result, Ok, Err, IfOk, IfErr, OnOk, OnErr, IsErrOf}
 use Rattle.sector_disk.specs.Clock.{Only, LeavesOnly}
 use Rattle.gate_cell.specs.declared.cell.StableCell.{Ghosts as CellWords}
+use Rattle.gate_cell.specs.Setup.{LeavesSetup}
 use Rattle.record.specs.RecordView.{RecordView}
 use Rattle.record.specs.ImageView.{ImageView}
 use Rattle.record.specs.Moves.{with_epoch}
 use Rattle.kahn_net.specs.declared.limits.TheConstants.{MAX_COUNT}
 use Rattle.ckpt_store.specs.Spelling.{Spells, fits_in}
-use Rattle.ckpt_store.specs.StoreFault.{refusal_number, HasFailures}
+use Rattle.ckpt_store.specs.StoreFault.{HasFailures}
 use Rattle.ckpt_store.specs.StoreView.{cell_in, known_in, record_in}
 use Rattle.ckpt_store.specs.declared.store.Store.{Store}
 use Rattle.ckpt_store.specs.declared.fault.StoreFault.{StoreFault}
 use Rattle.ckpt_store.specs.declared.fault.StoreFault.TheVariants as fault
 use Rattle.protocol.specs.Node.NodeView.{ModeView}
-use Rattle.protocol.specs.Node.Starting.{is_down}
-use Rattle.protocol.specs.declared.putting.Putting.{Putting}
-use Rattle.protocol.specs.declared.putting.Putting.TheVariants.{Stored, Refused, Failed}
+use Rattle.protocol.specs.Node.Modes.{is_down}
+use Rattle.protocol.specs.declared.outcome.Outcome.{Outcome}
+use Rattle.protocol.specs.declared.outcome.Outcome.TheVariants.{NotDue, Made, Refused, Failed}
+use Rattle.protocol.specs.declared.outcome.Refusal.TheVariants.{TooLarge, Spent}
 
 -- What a node's type keeps of its store: the record is the node's and has an entry for it; while the node is up the store is ready; and a
 -- crash now leaves that record and no other.
@@ -33,13 +35,17 @@ LeavesNext {words = words} next old new = LeavesOnly words.moment words.left_sin
 abbrev pub LeavesAsBefore : {C : Type 0} {words : CellWords C} → Store C words → Store C words → Type 0
 LeavesAsBefore {words = words} old new = LeavesOnly words.moment words.left_since (cell_in old) (cell_in new) (words.may_leave (cell_in old))
 
+-- as many bytes fit, the same faults are armed, and no device call that was counted is forgotten
+abbrev pub LeavesDevice : {C : Type 0} {words : CellWords C} → Store C words → Store C words → Type 0
+LeavesDevice {words = words} old new = LeavesSetup words.capacity words.armed words.call_count (cell_in old) (cell_in new)
+
 -- What a crash makes of a store that has a record: none is known until it is reopened, and what its cell holds is settled.
 pub record IsCrashed {C : Type 0} {words : CellWords C} (old new : Store C words) : Type 0 where
   pub down : known_in new ≡ None
   pub left : words.may_leave (cell_in old) (Some (words.value (cell_in new)))
   pub settled : Only (Some (words.value (cell_in new))) (words.may_leave (cell_in new))
   pub any_moment : LeavesAsBefore old new
-  pub same_room : words.capacity (cell_in new) ≡ words.capacity (cell_in old)
+  pub same_setup : LeavesDevice old new
   pub failures : words.failure_count (cell_in new) ≡ words.failure_count (cell_in old)
   pub same_failed : words.failed_call (cell_in new) ≡ words.failed_call (cell_in old)
 
@@ -49,14 +55,7 @@ IsRaiseRefusal fits kept fault.NoMemory = Unit {0}
 IsRaiseRefusal fits kept fault.Device = Unit {0}
 IsRaiseRefusal fits kept fault.TooLarge = (kept.epoch < MAX_COUNT) × (fits ≡ false)
 IsRaiseRefusal fits kept fault.Spent = MAX_COUNT ≤ kept.epoch
-IsRaiseRefusal fits kept fault.Reopen = ⊥
-IsRaiseRefusal fits kept fault.Truncated = ⊥
-IsRaiseRefusal fits kept fault.Version = ⊥
-IsRaiseRefusal fits kept fault.Malformed = ⊥
-IsRaiseRefusal fits kept fault.HoldsOther = ⊥
-IsRaiseRefusal fits kept fault.PastNumber = ⊥
-IsRaiseRefusal fits kept fault.NotHeld = ⊥
-IsRaiseRefusal fits kept fault.Unsettled = ⊥
+IsRaiseRefusal fits kept other = ⊥
 
 -- The store of a node that is down was reopened, and its record is in the next epoch: `result` is the permanent image, or why it isn't. After a
 -- failure of the device the record is the old one or the next one; after any other refusal the old one.
@@ -68,23 +67,19 @@ pub record IsRaised {C : Type 0} {words : CellWords C} (old new : Store C words)
   pub failures : HasFailures (words.failure_count (cell_in old)) (words.failure_count (cell_in new)) result
   pub settled : ¬ (IsErrOf result fault.Device) → Only (Some (words.value (cell_in new))) (words.may_leave (cell_in new))
   pub any_moment : LeavesNext (with_epoch (record_in old)) old new
-  pub same_room : words.capacity (cell_in new) ≡ words.capacity (cell_in old)
+  -- where it was refused, or there is no next epoch, nothing was put
+  pub nothing_put : OnErr result (¬ (IsErrOf result fault.Device) → LeavesAsBefore old new)
+  pub held_up : OnErr result (MAX_COUNT ≤ (record_in old).epoch → LeavesAsBefore old new)
+  pub same_setup : LeavesDevice old new
 
 -- what a put that the store did, or refused, comes to: nothing where memory was missing
-abbrev pub put_outcome : Result (Unit {0}) StoreFault → Option Putting
-put_outcome (Ok x) = Some Stored
+abbrev pub put_outcome : Result (Unit {0}) StoreFault → Option Outcome
+put_outcome (Ok x) = Some Made
 put_outcome (Err fault.NoMemory) = None
 put_outcome (Err fault.Device) = Some Failed
-put_outcome (Err fault.TooLarge) = Some (Refused 22)
-put_outcome (Err fault.Reopen) = Some (Refused (refusal_number fault.Reopen))
-put_outcome (Err fault.Truncated) = Some (Refused (refusal_number fault.Truncated))
-put_outcome (Err fault.Version) = Some (Refused (refusal_number fault.Version))
-put_outcome (Err fault.Malformed) = Some (Refused (refusal_number fault.Malformed))
-put_outcome (Err fault.HoldsOther) = Some (Refused (refusal_number fault.HoldsOther))
-put_outcome (Err fault.PastNumber) = Some (Refused (refusal_number fault.PastNumber))
-put_outcome (Err fault.NotHeld) = Some (Refused (refusal_number fault.NotHeld))
-put_outcome (Err fault.Unsettled) = Some (Refused (refusal_number fault.Unsettled))
-put_outcome (Err fault.Spent) = Some (Refused (refusal_number fault.Spent))
+put_outcome (Err fault.TooLarge) = Some (Refused TooLarge)
+put_outcome (Err fault.Spent) = Some (Refused Spent)
+put_outcome (Err other) = Some NotDue
 
 -- this is answered, or memory is missing
 abbrev pub IsAnswer : {A E : Type 0} → Option A → Result A E → Type 0
@@ -95,16 +90,5 @@ IsAnswer (Some x) (Err e) = ⊥
 
 -- the device failed
 abbrev pub has_failed : Result (Unit {0}) StoreFault → Bool
-has_failed (Ok x) = false
 has_failed (Err fault.Device) = true
-has_failed (Err fault.NoMemory) = false
-has_failed (Err fault.TooLarge) = false
-has_failed (Err fault.Reopen) = false
-has_failed (Err fault.Truncated) = false
-has_failed (Err fault.Version) = false
-has_failed (Err fault.Malformed) = false
-has_failed (Err fault.HoldsOther) = false
-has_failed (Err fault.PastNumber) = false
-has_failed (Err fault.NotHeld) = false
-has_failed (Err fault.Unsettled) = false
-has_failed (Err fault.Spent) = false
+has_failed result = false

@@ -1,10 +1,9 @@
 // A packet comes to a node.
-ghost use Rattle.std.specs.Prelude.{◌≡◌, ◌<◌, length, IfOk, IfSome, IsNone, OnErr, OnOk};
-ghost use Rattle.datagram.specs.declared.packet.Packet.{Packet as PacketValue};
+ghost use Rattle.std.specs.Prelude.{◌≡◌, ◌<◌, false, length, IfOk, IfSome, IsTrue, OnErr, OnOk};
 ghost use Rattle.kahn_net.specs.Syntax.{network_of};
 ghost use Rattle.node.specs.NodeView.{mode_view, node_view};
-ghost use Rattle.protocol.specs.Node.Delivering.{IsFor, IsDelivery, changed_at, inbox_place, outbox_place, acknowledged, taking};
-ghost use Rattle.protocol.specs.Node.Starting.{is_down};
+ghost use Rattle.protocol.specs.Node.Delivering.{acknowledged, changed_at, delivery_of, inbox_place, outbox_place, packet_for, taking, told_by};
+ghost use Rattle.protocol.specs.Node.Modes.{is_down};
 ghost use Rattle.record.specs.RecordView.{RecordView};
 
 use crate::addresses::names_right;
@@ -17,18 +16,10 @@ use retained::LogFault;
 use std::alloc::{AllocError, Global};
 use window_link::Arrival;
 
-/// The packet for this node that these bytes spell, if they spell one.
-pub(crate) fn read_for(
-    alloc: Global,
-    net: &Net,
-    home: u8,
-    bytes: &[u8],
-) -> Result<Option<Packet>, AllocError>
-    ensures found { IfOk result
-        (λ found. IfSome found (λ packet. IsFor (network_of net.now.program) home packet bytes.now)) }
-    ensures none { IfOk result
-        (λ found. IsNone found → (packet : PacketValue)
-        → ¬ (IsFor (network_of net.now.program) home packet bytes.now)) }
+// The packet for this node that these bytes spell, if they spell one.
+fn read_for(alloc: Global, net: &Net, home: u8, bytes: &[u8]) -> Result<Option<Packet>, AllocError>
+    ensures { IfOk result
+        (λ found. found ≡ packet_for (network_of net.now.program) home bytes.now) }
 {
     match read_packet(alloc, bytes) {
         Ok(packet) if packet.to == home && names_right(net, &packet) => Ok(Some(packet)),
@@ -113,9 +104,12 @@ pub(crate) fn deliver(
     net: &Net,
     bytes: &[u8],
 ) -> Result<Delivery, AllocError>
-    ensures step { (kept : RecordView) → IfOk result
-        (λ outcome. IsDelivery (network_of net.now.program) number bytes.now
-        (node_view kept state.old) outcome (node_view kept state.new)) }
+    ensures answer { IfOk result (λ outcome. outcome ≡ delivery_of (is_down (mode_view state.old.mode))
+        (packet_for (network_of net.now.program) number bytes.now)) }
+    ensures step { (kept : RecordView) → IfOk result (λ outcome. is_down (mode_view state.old.mode) ≡ false
+        → node_view kept state.new
+        ≡ told_by (packet_for (network_of net.now.program) number bytes.now) (node_view kept state.old)) }
+    ensures down { IsTrue (is_down (mode_view state.old.mode)) → state.new ≡ state.old }
     ensures refused { OnErr result (mode_view state.new.mode ≡ mode_view state.old.mode) }
     ensures same_mode { is_down (mode_view state.new.mode) ≡ is_down (mode_view state.old.mode) }
     ensures same { (state.new.version ≡ state.old.version)

@@ -26,7 +26,7 @@ pub use mode::Mode;
 pub use node::Node;
 pub use nodes::{is_here, node_count};
 pub use opening::opening_record;
-pub use protocol::{ArmedRestart, Delivery, MAX_JOB_ITEMS, Putting, Recovery};
+pub use protocol::{ArmedRestart, Delivery, MAX_JOB_ITEMS, Outcome, Refusal};
 pub use restart::round_later;
 pub use running::Running;
 pub use sharing::share_law;

@@ -1,31 +1,32 @@
 //! A node, and its events.
-ghost use Rattle.std.specs.Prelude.{◌≡◌, ◌⊎◌, ◌+◌, ◌<◌, ℤ, List, false, length, IfOk, IsErrOf, IsSome, IsTrue, None, OnErr, OnOk, Some, is_some, option_map};
+ghost use Rattle.std.specs.Prelude.{◌≡◌, ◌⊎◌, ◌+◌, ◌<◌, ◌++◌, [], ◌∷◌, ℤ, List, false, not, length, IfOk, IsErrOf, IsSome, IsTrue, None, OnErr, OnOk, Some, is_some, option_map};
 ghost use Rattle.kahn_net.specs.Streams.{IsPrefix};
 ghost use Rattle.kahn_net.specs.States.{standing_of};
 ghost use Rattle.kahn_net.specs.Syntax.{network_of};
 ghost use Rattle.retained.specs.LogState.{LogState, IsLogOf};
 ghost use Rattle.outlet.specs.Faults.{failures_after};
-ghost use Rattle.record.specs.Moves.{with_epoch};
-ghost use Rattle.ckpt_store.specs.Spelling.{fits_in};
 ghost use Rattle.ckpt_store.specs.StoreView.{cell_in, known_in, record_in};
 ghost use Rattle.protocol.specs.Node.ArmedRestarts.{with_armed};
 ghost use Rattle.protocol.specs.Node.Choosing.{node_job, with_grant};
-ghost use Rattle.protocol.specs.Node.Delivering.{IsDelivery};
+ghost use Rattle.protocol.specs.Node.Delivering.{delivery_of, packet_for, told_by};
 ghost use Rattle.protocol.specs.Node.Sending.{packets_of};
 ghost use Rattle.protocol.specs.Node.Installing.{IsInstall, IsOut, TakesTurn};
 ghost use Rattle.node.specs.JobView.{job_view};
 ghost use Rattle.node.specs.NodeView.{mode_view};
 ghost use Rattle.protocol.specs.Node.Opening.{running_from};
-ghost use Rattle.protocol.specs.Node.Recovering.{IsCrash, IsRecovery, IsRecoveryPut};
-ghost use Rattle.protocol.specs.Node.Starting.{decided, with_own_now, IsDecision, IsLikeNow, IsPut, IsStart, LeavesCell};
-ghost use Rattle.node.specs.StoredView.{HasRecord, LeavesAsBefore, LeavesNext};
+ghost use Rattle.protocol.specs.Node.Modes.{crashed, is_down};
+ghost use Rattle.protocol.specs.Node.Plans.{LeavesCell};
+ghost use Rattle.protocol.specs.Node.Recovering.{recover_prospect};
+ghost use Rattle.protocol.specs.Node.Starting.{decide_prospect, start_prospect, IsLikeNow};
+ghost use Rattle.node.specs.Putting.{IsPutEvent};
+ghost use Rattle.node.specs.StoredView.{HasRecord, LeavesAsBefore, LeavesDevice};
 ghost use Rattle.protocol.specs.Node.Trimming.{HasNext, TookNext, current_log, trimmed_node};
 
 use crate::checkpoint::{decide, start};
 use crate::delivering::deliver;
 use crate::mode::Mode;
 use crate::opening::{open_inboxes, open_outboxes};
-use crate::preparing::arm;
+use crate::preparing::{arm, recount};
 use crate::recover::{crash, recover};
 use crate::running::Running;
 use crate::state::NodeState;
@@ -36,7 +37,7 @@ use kahn_net::Channel;
 use net_check::{Inputs, Net};
 use outlet::{Outlet, OutletFault};
 use proc_step::{Done, Job};
-use protocol::{Delivery, Putting, Recovery};
+use protocol::{Delivery, Outcome};
 use retained::LogFault;
 use sector_disk::ArmedFault;
 use std::alloc::{AllocError, Global};
@@ -155,9 +156,13 @@ impl<C: StableCell> Node<C> {
         net: &Net,
         bytes: &[u8],
     ) -> Result<Delivery, AllocError>
-        ensures step { IfOk result
-            (λ outcome. IsDelivery (network_of net.now.program) self.old.number bytes.now
-            (view_of self.old) outcome (view_of self.new)) }
+        ensures answer { IfOk result
+            (λ outcome. outcome ≡ delivery_of (is_down (view_of self.old).mode)
+            (packet_for (network_of net.now.program) self.old.number bytes.now)) }
+        ensures step { IfOk result (λ outcome. is_down (view_of self.old).mode ≡ false
+            → view_of self.new ≡ told_by (packet_for (network_of net.now.program) self.old.number bytes.now)
+            (view_of self.old)) }
+        ensures down { IsTrue (is_down (view_of self.old).mode) → view_of self.new ≡ view_of self.old }
         ensures refused { OnErr result (view_of self.new ≡ view_of self.old) }
         ensures same { (self.new.store ≡ self.old.store) × (self.new.number ≡ self.old.number) }
     {
@@ -179,23 +184,11 @@ impl<C: StableCell> Node<C> {
     /// Takes a tentative image of where the node stands now, under its next number: the first half of a checkpoint.
     /// Where the device fails the node goes down, and may be recovered after the rounds that were armed with that call, or
     /// from the next round on. Refuses for want of memory alone, and then nothing is changed.
-    pub fn start(&mut self, alloc: Global, round: u64) -> Result<Putting, AllocError>
+    pub fn start(&mut self, alloc: Global, round: u64) -> Result<Outcome, AllocError>
         requires { IsLikeNow (view_of self.old) }
-        ensures step { IfOk result (λ outcome. IsStart self.old.number round
-            (C.failed_call (cell_in self.new.store)) (view_of self.old) outcome
-            (view_of self.new)) }
-        ensures refused { OnErr result (view_of self.new ≡ view_of self.old) }
-        ensures put { IfOk result (IsPut
-            (fits_in (C.capacity (cell_in self.old.store))
-            (with_own_now self.old.number (view_of self.old)))
-            (C.failure_count (cell_in self.old.store))
-            (C.failure_count (cell_in self.new.store))) }
-        ensures unchanged { LeavesCell result
-            → cell_in self.new.store ≡ cell_in self.old.store }
-        ensures any_moment { LeavesNext (with_own_now self.old.number (view_of self.old))
-            self.old.store self.new.store }
-        ensures same_room { C.capacity (cell_in self.new.store)
-            ≡ C.capacity (cell_in self.old.store) }
+        ensures event { IsPutEvent (start_prospect self.old.number (view_of self.old)) round
+            (view_of self.old) (view_of self.new) self.old.store self.new.store result }
+        ensures unchanged { LeavesCell result → cell_in self.new.store ≡ cell_in self.old.store }
         ensures same_number { self.new.number ≡ self.old.number }
     {
         start(alloc, self.number, &mut self.state, &mut self.store, round)
@@ -203,21 +196,10 @@ impl<C: StableCell> Node<C> {
 
     /// Makes the node's own tentative image permanent: the second half of a checkpoint. Where the device fails the node
     /// goes down, as of a start. Refuses for want of memory alone, and then nothing is changed.
-    pub fn decide(&mut self, alloc: Global, round: u64) -> Result<Putting, AllocError>
-        ensures step { IfOk result (λ outcome. IsDecision self.old.number round
-            (C.failed_call (cell_in self.new.store)) (view_of self.old) outcome
-            (view_of self.new)) }
-        ensures refused { OnErr result (view_of self.new ≡ view_of self.old) }
-        ensures put { IfOk result (IsPut
-            (fits_in (C.capacity (cell_in self.old.store)) (decided (view_of self.old).kept))
-            (C.failure_count (cell_in self.old.store))
-            (C.failure_count (cell_in self.new.store))) }
-        ensures unchanged { LeavesCell result
-            → cell_in self.new.store ≡ cell_in self.old.store }
-        ensures any_moment { LeavesNext (decided (view_of self.old).kept)
-            self.old.store self.new.store }
-        ensures same_room { C.capacity (cell_in self.new.store)
-            ≡ C.capacity (cell_in self.old.store) }
+    pub fn decide(&mut self, alloc: Global, round: u64) -> Result<Outcome, AllocError>
+        ensures event { IsPutEvent (decide_prospect self.old.number (view_of self.old)) round
+            (view_of self.old) (view_of self.new) self.old.store self.new.store result }
+        ensures unchanged { LeavesCell result → cell_in self.new.store ≡ cell_in self.old.store }
         ensures same_number { self.new.number ≡ self.old.number }
     {
         decide(alloc, self.number, &mut self.state, &mut self.store, round)
@@ -226,14 +208,15 @@ impl<C: StableCell> Node<C> {
     /// Crashes, if it is up; says whether it was. What it had in memory is gone, what its cell holds is settled, by this
     /// byte where one is given, and it may be recovered from the round `restart` on.
     pub fn crash(&mut self, fill: Option<u8>, restart: u64) -> bool
-        ensures step { IsCrash restart (view_of self.old) result (view_of self.new) }
+        ensures up { result ≡ not (is_down (view_of self.old).mode) }
+        ensures step { IsTrue result → view_of self.new ≡ crashed restart (view_of self.old) }
         ensures any_moment { LeavesAsBefore self.old.store self.new.store }
-        ensures same_room { C.capacity (cell_in self.new.store)
-            ≡ C.capacity (cell_in self.old.store) }
+        ensures same_setup { LeavesDevice self.old.store self.new.store }
         ensures failures { C.failure_count (cell_in self.new.store)
             ≡ C.failure_count (cell_in self.old.store) }
         ensures unknown { IsTrue result → known_in self.new.store ≡ None }
-        ensures unchanged { result ≡ false → self.new.store ≡ self.old.store }
+        ensures unchanged { result ≡ false
+            → (self.new.store ≡ self.old.store) × (view_of self.new ≡ view_of self.old) }
         ensures same_number { self.new.number ≡ self.old.number }
     {
         crash(self.number, &mut self.state, &mut self.store, fill, restart)
@@ -243,23 +226,11 @@ impl<C: StableCell> Node<C> {
     /// from its permanent image, or is in doubt where it holds another's tentative one. Where the device fails it stays
     /// down, for as many rounds as of a start. Refuses for want of memory alone; device calls may have been made then, and
     /// nothing else is changed.
-    pub fn recover(&mut self, alloc: Global, round: u64) -> Result<Recovery, AllocError>
-        ensures step { IfOk result (λ outcome. IsRecovery round
-            (C.failed_call (cell_in self.new.store)) (view_of self.old) outcome
-            (view_of self.new)) }
-        ensures refused { OnErr result (view_of self.new ≡ view_of self.old) }
-        ensures put { IfOk result (IsRecoveryPut
-            (fits_in (C.capacity (cell_in self.old.store)) (with_epoch (view_of self.old).kept))
-            (C.failure_count (cell_in self.old.store))
-            (C.failure_count (cell_in self.new.store))) }
-        ensures refused_failures { OnErr result (C.failure_count (cell_in self.new.store)
-            ≡ C.failure_count (cell_in self.old.store)) }
-        ensures unchanged { IfOk result (λ outcome. outcome ≡ Recovery.NotDue
-            → self.new.store ≡ self.old.store) }
-        ensures any_moment { LeavesNext (with_epoch (view_of self.old).kept)
-            self.old.store self.new.store }
-        ensures same_room { C.capacity (cell_in self.new.store)
-            ≡ C.capacity (cell_in self.old.store) }
+    pub fn recover(&mut self, alloc: Global, round: u64) -> Result<Outcome, AllocError>
+        ensures event { IsPutEvent (recover_prospect (view_of self.old)) round
+            (view_of self.old) (view_of self.new) self.old.store self.new.store result }
+        ensures unchanged { IfOk result
+            (λ outcome. outcome ≡ Outcome.NotDue → self.new.store ≡ self.old.store) }
         ensures same_number { self.new.number ≡ self.old.number }
     {
         recover(alloc, self.number, &mut self.state, &mut self.store, round)
@@ -274,11 +245,33 @@ impl<C: StableCell> Node<C> {
         ensures any_moment { LeavesAsBefore self.old.store self.new.store }
         ensures same_room { C.capacity (cell_in self.new.store)
             ≡ C.capacity (cell_in self.old.store) }
+        ensures on_device { OnOk result (C.armed (cell_in self.new.store)
+            ≡ C.armed (cell_in self.old.store) ++ fault ∷ []) }
+        ensures not_armed { OnErr result
+            (C.armed (cell_in self.new.store) ≡ C.armed (cell_in self.old.store)) }
+        ensures same_calls { C.call_count (cell_in self.new.store)
+            ≡ C.call_count (cell_in self.old.store) }
         ensures failures { C.failure_count (cell_in self.new.store)
             ≡ C.failure_count (cell_in self.old.store) }
         ensures same_number { self.new.number ≡ self.old.number }
     {
         arm(self.number, &mut self.state, &mut self.store, fault, rounds)
+    }
+
+    /// Begins the count of its device's calls anew, where there is a device. What is armed stays armed.
+    pub fn recount(&mut self)
+        ensures view { view_of self.new ≡ view_of self.old }
+        ensures any_moment { LeavesAsBefore self.old.store self.new.store }
+        ensures same_room { C.capacity (cell_in self.new.store)
+            ≡ C.capacity (cell_in self.old.store) }
+        ensures same_faults { C.armed (cell_in self.new.store) ≡ C.armed (cell_in self.old.store) }
+        ensures none_counted { C.call_count (cell_in self.new.store) ≡ 0 }
+        ensures none_failed { C.failed_call (cell_in self.new.store) ≡ 0 }
+        ensures failures { C.failure_count (cell_in self.new.store)
+            ≡ C.failure_count (cell_in self.old.store) }
+        ensures same_number { self.new.number ≡ self.old.number }
+    {
+        recount(self.number, &self.state, &mut self.store);
     }
 
     /// Hands an outlet the item of this channel that comes next for it, and lets the log go of what the outlet has.

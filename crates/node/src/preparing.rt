@@ -1,5 +1,5 @@
 // A fault is armed on a node's disk.
-ghost use Rattle.std.specs.Prelude.{◌≡◌, OnErr, OnOk};
+ghost use Rattle.std.specs.Prelude.{◌≡◌, ◌++◌, [], ◌∷◌, OnErr, OnOk};
 ghost use Rattle.ckpt_store.specs.StoreView.{cell_in, record_in};
 ghost use Rattle.protocol.specs.Node.ArmedRestarts.{with_armed};
 ghost use Rattle.node.specs.NodeView.{mode_view, node_view};
@@ -29,6 +29,10 @@ pub(crate) fn arm<C: StableCell>(
         ≡ node_view (record_in store.old) state.old) }
     ensures any_moment { LeavesAsBefore store.old store.new }
     ensures same_room { C.capacity (cell_in store.new) ≡ C.capacity (cell_in store.old) }
+    ensures on_device { OnOk result
+        (C.armed (cell_in store.new) ≡ C.armed (cell_in store.old) ++ fault ∷ []) }
+    ensures not_armed { OnErr result (C.armed (cell_in store.new) ≡ C.armed (cell_in store.old)) }
+    ensures same_calls { C.call_count (cell_in store.new) ≡ C.call_count (cell_in store.old) }
     ensures failures { C.failure_count (cell_in store.new) ≡ C.failure_count (cell_in store.old) }
 {
     state.armed.reserve(1)?;
@@ -38,4 +42,19 @@ pub(crate) fn arm<C: StableCell>(
         rounds,
     });
     Ok(())
+}
+
+// Begins the count of the device's calls anew.
+pub(crate) fn recount<C: StableCell>(number: u8, state: &NodeState, store: &mut Store<C>)
+    requires { HasRecord number (mode_view state.now.mode) store.old }
+    ensures kept { HasRecord number (mode_view state.now.mode) store.new }
+    ensures record { record_in store.new ≡ record_in store.old }
+    ensures any_moment { LeavesAsBefore store.old store.new }
+    ensures same_room { C.capacity (cell_in store.new) ≡ C.capacity (cell_in store.old) }
+    ensures same_faults { C.armed (cell_in store.new) ≡ C.armed (cell_in store.old) }
+    ensures none_counted { C.call_count (cell_in store.new) ≡ 0 }
+    ensures none_failed { C.failed_call (cell_in store.new) ≡ 0 }
+    ensures failures { C.failure_count (cell_in store.new) ≡ C.failure_count (cell_in store.old) }
+{
+    store.recount();
 }

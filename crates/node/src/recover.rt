@@ -1,22 +1,20 @@
 // A node crashes, and comes back.
-ghost use Rattle.std.specs.Prelude.{◌≡◌, false, IfOk, IsSome, IsTrue, None, OnErr, Some, is_some};
+ghost use Rattle.std.specs.Prelude.{◌≡◌, false, not, IfOk, IsSome, IsTrue, None, Some, is_some};
 ghost use Rattle.sector_disk.specs.Clock.{Only};
-ghost use Rattle.ckpt_store.specs.Spelling.{fits_in};
 ghost use Rattle.ckpt_store.specs.StoreView.{cell_in, known_in, record_in};
-ghost use Rattle.record.specs.Moves.{with_epoch};
-ghost use Rattle.record.specs.RecordView.{RecordView};
-ghost use Rattle.protocol.specs.Node.NodeView.{with_mode};
+ghost use Rattle.protocol.specs.Node.Modes.{crashed, is_down};
+ghost use Rattle.protocol.specs.Node.Recovering.{recover_prospect, restored_from};
 ghost use Rattle.node.specs.NodeView.{mode_view, node_view};
-ghost use Rattle.protocol.specs.Node.Recovering.{IsCrash, IsRecovery, IsRecoveryPut, back_answer, restored_from, restored_mode};
-ghost use Rattle.node.specs.StoredView.{HasRecord, IsRaised, LeavesAsBefore, LeavesNext};
+ghost use Rattle.node.specs.Putting.{IsPutEvent};
+ghost use Rattle.node.specs.StoredView.{HasRecord, IsRaised, LeavesAsBefore, LeavesDevice};
 
-use crate::checkpoint::has_failed;
+use crate::checkpoint::end_put;
 use crate::mode::Mode;
 use crate::running::Running;
 use crate::state::NodeState;
 use ckpt_store::{Store, StoreFault};
 use gate_cell::StableCell;
-use protocol::Recovery;
+use protocol::Outcome;
 use record::Image;
 use std::alloc::{AllocError, Global};
 
@@ -30,13 +28,14 @@ pub(crate) fn crash<C: StableCell>(
 ) -> bool
     requires { HasRecord number (mode_view state.old.mode) store.old }
     ensures kept { HasRecord number (mode_view state.new.mode) store.new }
-    ensures step { IsCrash restart (node_view (record_in store.old) state.old) result
-        (node_view (record_in store.new) state.new) }
+    ensures up { result ≡ not (is_down (mode_view state.old.mode)) }
+    ensures step { IsTrue result → node_view (record_in store.new) state.new
+        ≡ crashed restart (node_view (record_in store.old) state.old) }
     ensures any_moment { LeavesAsBefore store.old store.new }
-    ensures same_room { C.capacity (cell_in store.new) ≡ C.capacity (cell_in store.old) }
+    ensures same_setup { LeavesDevice store.old store.new }
     ensures failures { C.failure_count (cell_in store.new) ≡ C.failure_count (cell_in store.old) }
     ensures unknown { IsTrue result → known_in store.new ≡ None }
-    ensures unchanged { result ≡ false → store.new ≡ store.old }
+    ensures unchanged { result ≡ false → (store.new ≡ store.old) × (state.new ≡ state.old) }
 {
     if state.is_down() {
         return false;
@@ -102,63 +101,30 @@ fn holds<C: StableCell>(store: &Store<C>) -> bool
     }
 }
 
-// A node comes back, with its record's permanent image.
-fn come_back<C: StableCell>(
-    alloc: Global,
-    image: Image,
-    state: &mut NodeState,
-    store: &Store<C>,
-) -> Recovery
-    requires known { IsSome (known_in store.now) }
-    requires image { image ≡ (record_in store.now).permanent }
-    ensures state { (kept : RecordView) → node_view kept state.new
-        ≡ with_mode (restored_mode (record_in store.now)) (node_view kept state.old) }
-    ensures answer { result ≡ back_answer (restored_mode (record_in store.now)) }
-{
-    let holds = holds(store);
-    state.mode = mode_from(alloc, image, holds);
-    if holds {
-        Recovery::Waiting
-    } else {
-        Recovery::Recovered
-    }
-}
-
-// A node that is down comes back in its next epoch, without a tentative image of its own.
+// A node that is down comes back in its next epoch, without a tentative image of its own, and runs from its permanent image unless it holds
+// another's.
 pub(crate) fn recover<C: StableCell>(
     alloc: Global,
     number: u8,
     state: &mut NodeState,
     store: &mut Store<C>,
     round: u64,
-) -> Result<Recovery, AllocError>
+) -> Result<Outcome, AllocError>
     requires { HasRecord number (mode_view state.old.mode) store.old }
     ensures kept { HasRecord number (mode_view state.new.mode) store.new }
-    ensures step { IfOk result (λ outcome. IsRecovery round
-        (C.failed_call (cell_in store.new)) (node_view (record_in store.old) state.old) outcome
-        (node_view (record_in store.new) state.new)) }
-    ensures refused { OnErr result (node_view (record_in store.new) state.new
-        ≡ node_view (record_in store.old) state.old) }
-    ensures put { IfOk result (IsRecoveryPut
-        (fits_in (C.capacity (cell_in store.old)) (with_epoch (record_in store.old)))
-        (C.failure_count (cell_in store.old)) (C.failure_count (cell_in store.new))) }
-    ensures refused_failures { OnErr result
-        (C.failure_count (cell_in store.new) ≡ C.failure_count (cell_in store.old)) }
-    ensures unchanged { IfOk result (λ outcome. outcome ≡ Recovery.NotDue → store.new ≡ store.old) }
-    ensures any_moment { LeavesNext (with_epoch (record_in store.old)) store.old store.new }
-    ensures same_room { C.capacity (cell_in store.new) ≡ C.capacity (cell_in store.old) }
+    ensures event { IsPutEvent (recover_prospect (node_view (record_in store.old) state.old))
+        round (node_view (record_in store.old) state.old) (node_view (record_in store.new) state.new)
+        store.old store.new result }
+    ensures unchanged { IfOk result (λ outcome. outcome ≡ Outcome.NotDue → store.new ≡ store.old) }
 {
     if !state.is_down() {
-        return Ok(Recovery::NotDue);
+        return Ok(Outcome::NotDue);
     }
     match raise(alloc, store) {
-        Ok(image) => Ok(come_back(alloc, image, state, store)),
-        Err(StoreFault::NoMemory) => Err(AllocError),
-        Err(StoreFault::Device) => {
-            store.crash(None);
-            state.restart = state.restart_after(store.failed_call(), round);
-            Ok(Recovery::Failed)
+        Ok(image) => {
+            state.mode = mode_from(alloc, image, holds(store));
+            Ok(Outcome::Made)
         }
-        Err(fault) => Ok(Recovery::Refused(fault.number())),
+        Err(fault) => end_put(Err(fault), state, store, round),
     }
 }

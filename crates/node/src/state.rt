@@ -12,7 +12,8 @@ ghost use Rattle.protocol.specs.Node.Delivering.{hearing};
 ghost use Rattle.protocol.specs.Node.Sending.{packets_of};
 ghost use Rattle.protocol.specs.Node.Installing.{IsOut, IsTakenIn, TakesTurn};
 ghost use Rattle.node.specs.JobView.{job_view};
-ghost use Rattle.protocol.specs.Node.Starting.{crashed, is_down, is_running, may_start, next_number};
+ghost use Rattle.protocol.specs.Node.Starting.{may_start};
+ghost use Rattle.protocol.specs.Node.Modes.{crashed, is_down, is_running, next_number};
 ghost use Rattle.protocol.specs.Node.Trimming.{HasNext, TookNext, current_log, cut_at};
 
 use crate::mode::Mode;
@@ -177,13 +178,15 @@ impl NodeState {
         round_later(round, rounds_at(&self.armed, call))
     }
 
-    // Down, to be recovered from this round on.
+    // Down, or still so, to be recovered from this round on.
     pub(crate) fn stop(&mut self, restart: u64)
         ensures { (kept : RecordView) → node_view kept self.new
             ≡ crashed restart (node_view kept self.old) }
     {
+        if !self.is_down() {
+            self.version = next_after(self.version);
+        }
         self.mode = Mode::Down;
-        self.version = next_after(self.version);
         self.restart = restart;
     }
 

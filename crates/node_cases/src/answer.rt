@@ -1,6 +1,6 @@
 //! What an event answers, in words.
 
-use node::{Delivery, Putting, Recovery};
+use node::{Delivery, Mode, Outcome};
 use std::alloc::{AllocError, Global};
 
 pub fn delivery_word(delivery: Delivery) -> &'static str {
@@ -11,21 +11,24 @@ pub fn delivery_word(delivery: Delivery) -> &'static str {
     }
 }
 
-pub fn putting_text(alloc: Global, putting: Putting) -> Result<String, AllocError> {
-    match putting {
-        Putting::NotDue => String::from_str(alloc, "not due"),
-        Putting::Stored => String::from_str(alloc, "stored"),
-        Putting::Refused(number) => format!(in alloc; "refused {number}"),
-        Putting::Failed => String::from_str(alloc, "failed"),
+/// What came of an event that puts a record; `made` is the word where it was made.
+pub fn outcome_text(
+    alloc: Global,
+    outcome: Outcome,
+    made: &'static str,
+) -> Result<String, AllocError> {
+    match outcome {
+        Outcome::NotDue => String::from_str(alloc, "not due"),
+        Outcome::Made => String::from_str(alloc, made),
+        Outcome::Refused(refusal) => format!(in alloc; "refused {}", refusal.number()),
+        Outcome::Failed => String::from_str(alloc, "failed"),
     }
 }
 
-pub fn recovery_text(alloc: Global, recovery: Recovery) -> Result<String, AllocError> {
-    match recovery {
-        Recovery::NotDue => String::from_str(alloc, "not due"),
-        Recovery::Recovered => String::from_str(alloc, "recovered"),
-        Recovery::Waiting => String::from_str(alloc, "in doubt"),
-        Recovery::Refused(number) => format!(in alloc; "refused {number}"),
-        Recovery::Failed => String::from_str(alloc, "failed"),
+/// The word for a node that came back.
+pub fn back_word(mode: &Mode) -> &'static str {
+    match mode {
+        Mode::InDoubt => "in doubt",
+        Mode::Running(_) | Mode::Down => "recovered",
     }
 }

@@ -1,5 +1,6 @@
 //! Runs nodes by the table `cases`: a case says of what its node is made, what happens to it, and what has to be answered. Prints
-//! each case that comes out otherwise, and how many came out as written. The status is 1 where one didn't, and where the table has a
+//! each case that comes out otherwise, and how many came out as written. The cases of `wrong_cases` are wrong on purpose: each has to come
+//! out otherwise. The status is 1 where a case of `cases` comes out otherwise, where one of `wrong_cases` doesn't, and where a table has a
 //! line that isn't understood.
 //!
 //! A line `== TITLE` begins a case. Empty lines, and those that begin with `#`, say nothing. Numbers are decimal; channels and places
@@ -49,7 +50,6 @@
 #![tactic(auto)]
 
 mod answer;
-mod bytes;
 mod judging;
 mod opening;
 mod plan;
@@ -60,11 +60,14 @@ mod starting;
 mod step;
 mod taking;
 
-use crate::bytes::{NamedBytes, named_in};
 use crate::judging::judged;
 use crate::plan::plan_of;
 use anyhow::Context;
-use case_table::{Case, Difference, Trial, read, run_cases, table_of};
+use case_table::{
+    Case, Difference, NamedBytes, Table, Trial, named_in, read, run_cases, run_wrong_cases,
+    table_of,
+};
+use std::alloc::Global;
 
 /// Each case is of a node, and may use these bytes by their names.
 #[derive(Drop)]
@@ -85,11 +88,19 @@ impl<'a> Trial for Nodes<'a> {
     }
 }
 
+/// The nodes of a table.
+fn nodes_of<'a>(alloc: Global, table: &Table<'a>) -> anyhow::Result<Nodes<'a>> {
+    Ok(Nodes {
+        named: named_in(alloc, &table.head)?,
+    })
+}
+
 fn main(rt: HostRuntime) -> anyhow::Result<()> {
+    let alloc = rt.alloc();
     let text = read(&rt, "cases")?;
-    let table = table_of(rt.alloc(), &text)?;
-    let nodes = Nodes {
-        named: named_in(rt.alloc(), &table.head)?,
-    };
-    run_cases(&rt, &table.cases, &nodes)
+    let wrong = read(&rt, "wrong_cases")?;
+    let table = table_of(alloc, &text)?;
+    run_cases(&rt, &table.cases, &nodes_of(alloc, &table)?)?;
+    let table = table_of(alloc, &wrong)?;
+    run_wrong_cases(&rt, &table.cases, &nodes_of(alloc, &table)?)
 }

@@ -1,10 +1,9 @@
 //! A case for one choice of its names' numbers: of what its node is made, and what happens to it.
 
-use crate::bytes::{NamedBytes, spelled};
 use crate::settings::Settings;
 use crate::step::{Question, Step, step_of};
 use anyhow::Context;
-use case_table::{Case, Line, Name, filled, parts_of};
+use case_table::{Case, Line, Name, NamedBytes, filled, parts_of, spelled};
 use std::alloc::Global;
 
 /// A step, with its line and with what it has to answer.

@@ -1,6 +1,6 @@
 //! A case's node, step by step.
 
-use crate::answer::{delivery_word, putting_text, recovery_text};
+use crate::answer::{back_word, delivery_word, outcome_text};
 use crate::opening::{CaseNode, inputs_of, net_of, node_of};
 use crate::settings::Settings;
 use crate::showing::{
@@ -12,7 +12,7 @@ use crate::step::{Brought, Event, Question, Row, Step};
 use crate::taking::take_in;
 use case_table::yes_or_no;
 use net_check::{Inputs, Net};
-use node::{Delivery, Recovery};
+use node::{Delivery, Outcome};
 use proc_step::{Done, Job};
 use std::alloc::Global;
 use std::sync::Arc;
@@ -42,7 +42,7 @@ fn raise(alloc: Global, node: &mut CaseNode, times: u64) -> anyhow::Result<()> {
     for _time in 0..times {
         node.crash(None, 0);
         anyhow::ensure!(
-            node.recover(alloc, 0)? == Recovery::Recovered,
+            node.recover(alloc, 0)? == Outcome::Made,
             "the other node doesn't come back"
         );
     }
@@ -99,12 +99,15 @@ impl Run {
         let node = &mut self.node;
         let text = match event {
             Event::Grant => return self.grant(alloc),
-            Event::Start(round) => putting_text(alloc, start(alloc, node, round)?)?,
-            Event::Decide(round) => putting_text(alloc, node.decide(alloc, round)?)?,
+            Event::Start(round) => outcome_text(alloc, start(alloc, node, round)?, "stored")?,
+            Event::Decide(round) => outcome_text(alloc, node.decide(alloc, round)?, "stored")?,
             Event::Crash { fill, restart } => {
                 String::from_str(alloc, yes_or_no(node.crash(fill, restart)))?
             }
-            Event::Recover(round) => recovery_text(alloc, node.recover(alloc, round)?)?,
+            Event::Recover(round) => {
+                let outcome = node.recover(alloc, round)?;
+                outcome_text(alloc, outcome, back_word(&node.state.mode))?
+            }
             Event::Arm { fault, rounds } => {
                 node.arm(fault, rounds)?;
                 String::from_str(alloc, "done")?

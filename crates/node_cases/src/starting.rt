@@ -6,7 +6,7 @@ ghost use Rattle.node.specs.NodeOf.{view_of};
 ghost use Rattle.protocol.specs.Node.Starting.{IsLikeNow};
 
 use crate::opening::CaseNode;
-use node::{Mode, Putting};
+use node::{Mode, Outcome};
 use record::Image;
 use std::alloc::Global;
 
@@ -32,7 +32,7 @@ fn has_nothing(node: &CaseNode) -> bool
 }
 
 /// Takes a tentative image, of a node that has nothing or is down.
-pub fn start(alloc: Global, node: &mut CaseNode, round: u64) -> anyhow::Result<Putting> {
+pub fn start(alloc: Global, node: &mut CaseNode, round: u64) -> anyhow::Result<Outcome> {
     anyhow::ensure!(has_nothing(node), "it has something");
     Ok(node.start(alloc, round)?)
 }

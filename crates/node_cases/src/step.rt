@@ -1,7 +1,6 @@
 //! What a line of a case asks for.
 
-use crate::bytes::{NamedBytes, spelled};
-use case_table::{byte, number, size};
+use case_table::{NamedBytes, byte, number, size, spelled};
 use sector_disk::ArmedFault;
 use std::alloc::Global;
 

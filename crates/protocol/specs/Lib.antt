@@ -1,4 +1,3 @@
-pub mod Machine
 pub mod Node
 pub mod NodeLaws
 pub mod World

@@ -1,6 +1,8 @@
 -- A node as data, what its events do, and what is true of it.
 pub mod JobView
 pub mod NodeView
+pub mod Modes
+pub mod Plans
 pub mod ArmedRestarts
 pub mod Sharing
 pub mod Granting

@@ -10,7 +10,6 @@ pub mod Replies
 pub mod Growing
 pub mod Invariant
 pub mod Roomy
-pub mod Failing
 pub mod Headline
 pub mod Pairs
 pub mod StationView

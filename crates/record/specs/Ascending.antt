@@ -1,5 +1,5 @@
 -- The order of an image's ends.
-use Rattle.std.specs.Prelude.{◌≡◌, ◌<◌, ℕ, List, length}
+use Rattle.std.specs.Prelude.{◌≡◌, ◌<◌, ◌+◌, ℕ, nat_le, ◌&&◌, Bool, true, List, [], ◌∷◌, length}
 use Rattle.std.specs.List.{AllPairs, slice_index_or}
 use Rattle.record.specs.declared.image.SavedEnd.{SavedEnd}
 
@@ -14,3 +14,8 @@ IsPlaceOf ends channel place = (place < length ends) × ((d : SavedEnd) → (sli
 -- no end is of this channel
 abbrev pub HasNoneOf : List SavedEnd → ℕ → Type 0
 HasNoneOf ends channel = (k : ℕ) (d : SavedEnd) → k < length ends → ¬ ((slice_index_or ends k d).channel ≡ channel)
+
+-- whether they do so, from the least channel that is left on
+abbrev pub ascend_from : ℕ → List SavedEnd → Bool
+ascend_from least [] = true
+ascend_from least (e ∷ ends) = nat_le least e.channel && ascend_from (e.channel + 1) ends

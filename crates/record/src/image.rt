@@ -1,6 +1,6 @@
 //! Images: where a node's processes stand, and what it has of its channels.
-ghost use Rattle.std.specs.Prelude.{◌≡◌, ◌+◌, ◌≤◌, IfOk, IsErrOf, OnErr, OnOk, None, Some, length, IfSome, option_copied};
-ghost use Rattle.record.specs.Ascending.{AreAscending, HasNoneOf, IsPlaceOf};
+ghost use Rattle.std.specs.Prelude.{◌≡◌, ◌↔◌, ◌+◌, ◌≤◌, IsTrue, IsSome, IfOk, IsErrOf, OnErr, OnOk, None, Some, length, IfSome, option_copied};
+ghost use Rattle.record.specs.Ascending.{AreAscending, HasNoneOf, IsPlaceOf, ascend_from};
 ghost use Rattle.record.specs.Changes.{LogTakes, counted, pushed, trimmed_end, trimmed_image};
 ghost use Rattle.record.specs.Ends.{base_of, end_of, log_at, log_of, received_at, received_of, sent_of};
 
@@ -172,7 +172,39 @@ fn copy_ends(alloc: Global, saved: &[SavedEnd]) -> Result<Vec<SavedEnd>, AllocEr
     Ok(copies)
 }
 
+// Whether each channel is above the one before it.
+fn ascends(ends: &[SavedEnd]) -> bool
+    ensures { result ≡ ascend_from 0 ends.now }
+{
+    let mut least: u16 = 0;
+    for saved in ends {
+        if (saved.channel as u16) < least {
+            return false;
+        }
+        least = saved.channel as u16 + 1;
+    }
+    true
+}
+
+fn are_in_order(ends: &[SavedEnd]) -> bool
+    ensures { IsTrue result ↔ AreAscending ends.now }
+{
+    ascends(ends)
+}
+
 impl Image {
+    /// An image of these processes and ends of channels. None where the ends don't stand in order of their channels.
+    pub fn new(processes: Vec<SavedProcess>, ends: Vec<SavedEnd>) -> Option<Image>
+        ensures made { IfSome result
+            (λ image. image ≡ record { processes = processes.items; ends = ends.items }) }
+        ensures ordered { IsSome result ↔ AreAscending ends.items }
+    {
+        if !are_in_order(ends.as_slice()) {
+            return None;
+        }
+        Some(Image { processes, ends })
+    }
+
     // The place of the end of a channel.
     fn place(&self, channel: u8) -> Option<usize>
         ensures there { IfSome result (λ place. IsPlaceOf self.now.ends channel place) }

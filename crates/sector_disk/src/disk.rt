@@ -1,6 +1,6 @@
 //! A disk, by what reads give and what a crash may leave, with a clock.
 ghost use Rattle.std.specs.Prelude.{◌≡◌, ◌*◌, ◌^◌, ◌<◌, ◌≤◌, ◌↔◌, List, [], ◌∷◌, ◌++◌, ℕ, length, take, drop, Option, OnOk, OnErr, IsErrOf};
-ghost use Rattle.sector_disk.specs.declared.TheConstants.{SECTOR_BYTES};
+ghost use Rattle.sector_disk.specs.declared.TheConstants.{SECTOR_BYTES, GREATEST_COUNT};
 ghost use Rattle.sector_disk.specs.declared.disk.ArmedFault.{ArmedFault};
 ghost use Rattle.sector_disk.specs.Clock.{Only, TimePasses};
 ghost use Rattle.sector_disk.specs.Disk.{IsInRange, SameOutside, IsOverwritten, OneStepFrom, IsQuiet, IsCounted, SameCounts, SameSetup};
@@ -152,6 +152,9 @@ pub trait Disk: Drop {
 
     /// Reads give whole sectors.
     ghost is_whole: { (disk : Self) → length (content disk) ≡ SECTOR_BYTES * sector_count disk };
+
+    /// The count of device calls stops there.
+    ghost is_countable: { (disk : Self) → call_count disk ≤ GREATEST_COUNT };
 
     /// Each byte has an offset of 64 bits.
     ghost is_addressable: { (disk : Self) → SECTOR_BYTES * sector_count disk < 2 ^ 64 };

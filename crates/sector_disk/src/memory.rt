@@ -81,6 +81,8 @@ impl Disk for MemDisk {
 
     ghost is_whole = { λ disk. disk.sectors.whole };
 
+    ghost is_countable = { λ disk. disk.schedule.calls_countable };
+
     ghost is_addressable = { λ disk. disk.sectors.addressable };
 
     fn sectors(&self) -> usize {

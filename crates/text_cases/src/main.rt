@@ -1,161 +1,74 @@
-//! Runs the program on each case of the table `cases`: a network's text and an inputs text, and what has to come of them
-//! on standard output, on standard error and as the exit status. Prints each case that comes out otherwise, and how many
-//! came out as written.
+//! Runs the program on each case of the table `cases`: texts, and what has to come of them on standard output, on standard error and
+//! as the exit status. Prints each case that comes out otherwise, and how many came out as written. The cases of `wrong_cases` are
+//! wrong on purpose, one in each way in which a case can be: each has to come out otherwise. The status is 1 where a case of `cases`
+//! comes out otherwise, where one of `wrong_cases` doesn't, and where a line isn't understood.
 //!
-//! A line `== TITLE` begins a case, `-- net`, `-- inputs`, `-- out` and `-- err` begin its texts, which are the lines that
-//! follow, `-- status N` gives the status, and `-- approx N` and `-- items N` the options. A text that isn't there is empty.
+//! A line `== TITLE` begins a case. The lines of a text stand as they are, with an end of line behind each; a text that isn't there is
+//! empty. A line that begins with `-- ` says something else:
+//!
+//! | Line | Meaning |
+//! |---|---|
+//! | `-- net`, `-- inputs`, `-- out`, `-- err` | the text that follows: the network, the inputs, what has to come on standard output and on standard error |
+//! | `-- part TEXT` | a text without an end of line |
+//! | `-- bytes ff0a` | bytes, in hexadecimal |
+//! | `-- times 1025 TEXT` | a text so many times |
+//! | `-- lines 0 255 chan c@;` | a line for each of these numbers, which stands in the place of `@` |
+//! | `-- from running_sum.net` | what stands in a file |
+//! | `-- status 3` | the exit status; 0 where it isn't said |
+//! | `-- approx 2`, `-- items 4`, `-- rounds 1` | an option of the run |
+//! | `-- words kahnrun --items 4 NET INPUTS` | the whole command line, whose options the run has; its files are the texts |
+//! | `-- net absent`, `-- inputs absent` | a file that can't be opened |
+//! | `-- net slow` | a reader that gives a byte at a time, and is interrupted before each |
+//! | `-- net fails other` | a reader that fails behind its bytes: `other`, `invalid data`, `unexpected end`, `out of memory` |
+//! | `-- out fails behind 3`, `-- err fails at the flush` | a writer that fails behind so many bytes, or at its flush |
+//! | `-- options kahnrun a.net b` | nothing runs: on standard output comes what this command line asks for, or `refused KIND` |
+//! | `-- tokens` | nothing runs: on standard output comes a line for each token of the network's text, or `refused NUMBER LINE` |
 #![tactic(auto)]
 
-use kahn_program::{Options, run};
-use std::alloc::{AllocError, Global};
-use std::fs::File;
-use std::io::Read;
-use std::{fs, io};
+mod asking;
+mod devices;
+mod judging;
+mod plan;
+mod texts;
 
-/// The text of a case to which the next lines belong.
-#[derive(Clone, Copy, Debug, PartialEq, Eq)]
-enum Part {
-    Net,
-    Inputs,
-    Out,
-    Err,
-}
+use crate::asking::outcomes;
+use crate::judging::differing;
+use crate::plan::plan_of;
+use case_table::{
+    Case, Difference, Table, Trial, read, run_cases, run_wrong_cases, table_of_texts,
+};
+use std::alloc::Global;
 
-/// A case, as far as it was read.
-#[derive(Drop)]
-struct Case {
-    title: String,
-    net: String,
-    inputs: String,
-    out: String,
-    err: String,
-    status: u8,
-    approx: Option<u64>,
-    items: Option<u64>,
-    part: Part,
-}
+/// Each case is of texts.
+#[derive(Clone, Copy, Debug)]
+struct TextCases;
 
-impl Case {
-    fn new(alloc: Global, title: &str) -> Result<Case, AllocError> {
-        Ok(Case {
-            title: String::from_str(alloc, title)?,
-            net: String::new(alloc),
-            inputs: String::new(alloc),
-            out: String::new(alloc),
-            err: String::new(alloc),
-            status: 0,
-            approx: None,
-            items: None,
-            part: Part::Net,
-        })
-    }
-
-    /// A further line of the text that is read.
-    fn add_text(&mut self, line: &str) -> Result<(), AllocError> {
-        let text = match self.part {
-            Part::Net => &mut self.net,
-            Part::Inputs => &mut self.inputs,
-            Part::Out => &mut self.out,
-            Part::Err => &mut self.err,
-        };
-        text.push_str(line)?;
-        text.push_str("\n")?;
-        Ok(())
-    }
-
-    /// A further line of the case.
-    fn add(&mut self, line: &str) -> Result<(), AllocError> {
-        if let Some(number) = line.strip_prefix("-- approx ") {
-            self.approx = number.parse::<u64>().ok();
-            return Ok(());
-        }
-        if let Some(number) = line.strip_prefix("-- items ") {
-            self.items = number.parse::<u64>().ok();
-            return Ok(());
-        }
-        match line {
-            "-- net" => self.part = Part::Net,
-            "-- inputs" => self.part = Part::Inputs,
-            "-- out" => self.part = Part::Out,
-            "-- err" => self.part = Part::Err,
-            "-- status 1" => self.status = 1,
-            "-- status 2" => self.status = 2,
-            "-- status 3" => self.status = 3,
-            _ => self.add_text(line)?,
-        }
-        Ok(())
-    }
-
-    /// Whether the program does as the case says.
-    fn holds(&self, alloc: Global) -> bool {
-        let mut out = Vec::new(alloc);
-        let mut err = Vec::new(alloc);
-        let net = Some(self.net.as_bytes());
-        let inputs = Some(self.inputs.as_bytes());
-        let mut options = Options::new(String::new(alloc), String::new(alloc));
-        options.approx = self.approx;
-        options.items = self.items;
-        let status = run(alloc, &options, net, inputs, &mut out, &mut err);
-        status == self.status
-            && out.as_slice() == self.out.as_bytes()
-            && err.as_slice() == self.err.as_bytes()
+impl Trial for TextCases {
+    fn found(
+        &self,
+        rt: &HostRuntime,
+        case: &Case,
+        _choice: &[u64],
+    ) -> anyhow::Result<Option<Difference>> {
+        let alloc = rt.alloc();
+        let (wanted, came) = outcomes(alloc, plan_of(rt, case)?)?;
+        Ok(differing(alloc, case.line, &wanted, &came)?)
     }
 }
 
-/// How many cases came out as written, and the titles of the others.
-#[derive(Drop)]
-struct Tally {
-    as_written: u64,
-    others: Vec<String>,
-}
-
-impl Tally {
-    fn note(&mut self, alloc: Global, case: Option<Case>) -> Result<(), AllocError> {
-        let Some(case) = case else {
-            return Ok(());
-        };
-        if case.holds(alloc) {
-            self.as_written = self.as_written.saturating_add(1);
-        } else {
-            self.others.push(case.title)?;
-        }
-        Ok(())
+/// The cases of a text.
+fn cases_of<'a>(alloc: Global, text: &'a str) -> anyhow::Result<Table<'a>> {
+    let table = table_of_texts(alloc, text)?;
+    if let Some(line) = table.head.first() {
+        anyhow::bail!("line {}: it stands before the first case", line.number);
     }
+    Ok(table)
 }
 
-/// Goes through the cases of a table.
-fn tally_of(alloc: Global, table: &str) -> Result<Tally, AllocError> {
-    let mut tally = Tally {
-        as_written: 0,
-        others: Vec::new(alloc),
-    };
-    let mut case: Option<Case> = None;
-    for line in table.lines() {
-        if let Some(title) = line.strip_prefix("== ") {
-            tally.note(alloc, case)?;
-            case = Some(Case::new(alloc, title)?);
-        } else if let Some(open) = &mut case {
-            open.add(line)?;
-        }
-    }
-    tally.note(alloc, case)?;
-    Ok(tally)
-}
-
-/// The text of a file.
-fn read(rt: &HostRuntime, name: &str) -> io::Result<String> {
-    let mut file: File = fs::open(rt, name)?;
-    let mut text = String::new(rt.alloc());
-    file.read_to_string(&mut text)?;
-    Ok(text)
-}
-
-fn main(rt: HostRuntime) -> io::Result<()> {
-    let table = read(&rt, "cases")?;
-    let found = tally_of(rt.alloc(), &table)?;
-    for title in &found.others {
-        println!(rt; "otherwise: {title}")?;
-    }
-    println!(rt; "{} cases as written", found.as_written)?;
-    Ok(())
+fn main(rt: HostRuntime) -> anyhow::Result<()> {
+    let alloc = rt.alloc();
+    let text = read(&rt, "cases")?;
+    let wrong = read(&rt, "wrong_cases")?;
+    run_cases(&rt, &cases_of(alloc, &text)?.cases, &TextCases)?;
+    run_wrong_cases(&rt, &cases_of(alloc, &wrong)?.cases, &TextCases)
 }

@@ -5,9 +5,9 @@
 #[cfg(test)]
 mod asserting;
 #[cfg(test)]
-mod net_check_tests;
+mod failure_tests;
 #[cfg(test)]
-mod net_text_tests;
+mod net_check_tests;
 #[cfg(test)]
 mod proc_step_tests;
 #[cfg(test)]

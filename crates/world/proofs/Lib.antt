@@ -5,6 +5,7 @@ mod OpenedStations
 mod OpeningStores
 mod Views
 mod Stations
+mod Planned
 mod Showing
 mod Rests
 mod Places

@@ -43,7 +43,7 @@ module _ {C : Type 0} (words : CellWords C) (kept : RecordView) (bytes : List �
 
   -- its cell has the room that it had
   pub opened_room : words.capacity (cell_in recounted) ≡ words.capacity cell
-  opened_room = same.same_room ∙ load.same_room
+  opened_room = same.same_room ∙ load.same_setup.same_room
 
   -- its device hasn't failed again
   pub opened_failures : IsSome (known_in opened) → words.failure_count (cell_in recounted) ≡ words.failure_count cell

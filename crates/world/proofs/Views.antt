@@ -8,13 +8,16 @@ use Rattle.kahn_net.specs.Syntax.{Network}
 use Rattle.wire.specs.Traffic.{Traffic}
 use Rattle.protocol.specs.Node.NodeView.{NodeView}
 use Rattle.protocol.specs.Node.Trimming.{current_log, trimmed_node}
-use Rattle.protocol.specs.World.Invariant.{outputs_of}
+use Rattle.kahn_net.specs.Nodes.{node_count}
+use Rattle.protocol.specs.World.Invariant.{outputs_of, AreSound, IsNumbered}
+use Rattle.protocol.specs.WorldLaws.PlanLaws.{IsSoundStation}
+use Rattle.protocol.specs.WorldLaws.StepKeeps.{all_here}
 use Rattle.protocol.specs.WorldLaws.OutputLaws.{map_at, set_same}
 use Rattle.protocol.specs.World.OutputView.{OutputView}
 use Rattle.world.specs.OutputView.{output_view, outputs_view}
 use Rattle.protocol.specs.World.StationView.{OutletView, StationView}
 use Rattle.world.specs.StationView.{outlet_view, outlet_views}
-use Rattle.protocol.specs.World.Steps.{may_restart, next_release, IsHanded, IsRelease, IsStationStep, IsActOf, IsAct}
+use Rattle.protocol.specs.World.Steps.{may_restart, next_release, setting_in, setting_of, IsHanded, IsRelease, IsStationStep, IsActOf, IsAct, Setting}
 use Rattle.world.specs.WorldView.{IsCellUnchanged}
 use Rattle.protocol.specs.World.EventView.{EventView}
 use Rattle.world.specs.ReplyView.{reply_view}
@@ -74,22 +77,40 @@ module _ (round place : ℕ) (old : StationView) (outlet later : OutletView) (no
 -- Stations of a world
 
 -- an event at the station of this place is one of the list of stations
-pub acted : {S : Type 0} (net : Network) (inputs : List (List ℤ)) (traffic : Traffic) (view : S → StationView) (room : S → RecordView → Bool) (restarts : Bool) (round : ℕ) (event : EventView) (xs : List S) (place : ℕ) (x y : S) (result : Result Reply AllocError) (count : ℕ) → restarts ≡ may_restart count → count ≡ length xs
-    → place < length xs → x ≡ get_or xs place x
-    → IfOk result (λ reply. IsStationStep net inputs traffic (room x) restarts round event (view x) (reply_view reply) (view y))
-    → IfOk result (λ reply. IsAct net inputs traffic place (map room xs) round event (map view xs) (reply_view reply) (map view (slice_set xs place y)))
-acted net inputs traffic view room restarts round event xs place x y (Err e) count may many within is step = tt
-acted {S} net inputs traffic view room restarts round event xs place x y (Ok reply) count may many within is step =
+pub acted : {S : Type 0} (setting : Setting) (view : S → StationView) (room : S → RecordView → Bool) (event : EventView) (xs : List S) (place : ℕ) (x y : S) (result : Result Reply AllocError) → place < length xs → x ≡ get_or xs place x
+    → IfOk result (λ reply. IsStationStep setting (room x) event (view x) (reply_view reply) (view y))
+    → IfOk result (λ reply. IsAct setting place (map room xs) event (map view xs) (reply_view reply) (map view (slice_set xs place y)))
+acted setting view room event xs place x y (Err e) within is step = tt
+acted {S} setting view room event xs place x y (Ok reply) within is step =
     let there : slice_get xs place ≡ Some x = slice_get_read xs (length xs) place x refl within is in
     let fits : slice_get (map room xs) place ≡ Some (room x) = map_at room xs place x there in
     let seen : slice_get (map view xs) place ≡ Some (view x) = map_at view xs place x there in
-    subst (λ (f : Option (RecordView → Bool)). IsActOf net inputs traffic place f (slice_get (map view xs) place) round event (map view xs) (reply_view reply) (map view (slice_set xs place y))) (sym fits)
-    (subst (λ (s : Option StationView). IsActOf net inputs traffic place (Some (room x)) s round event (map view xs) (reply_view reply) (map view (slice_set xs place y))) (sym seen)
-    (record {
-      later = view y;
-      step = subst (λ (b : Bool). IsStationStep net inputs traffic (room x) b round event (view x) (reply_view reply) (view y)) (may ∙ ap may_restart (many ∙ sym (length-map xs view))) step;
-      stations = map-set view xs place y;
-    }))
+    subst (λ (f : Option (RecordView → Bool)). IsActOf setting place f (slice_get (map view xs) place) event (map view xs) (reply_view reply) (map view (slice_set xs place y))) (sym fits)
+    (subst (λ (s : Option StationView). IsActOf setting place (Some (room x)) s event (map view xs) (reply_view reply) (map view (slice_set xs place y))) (sym seen)
+    (record { later = view y; step = step; stations = map-set view xs place y }))
+
+-- the setting of a world by its stations, as they are and as they are seen
+pub setting_is : {S : Type 0} (view : S → StationView) (net : Network) (given inputs : List (List ℤ)) (traffic : Traffic) (xs : List S) (round : ℕ) → given ≡ inputs
+    → setting_in net given traffic (may_restart (length xs)) round ≡ setting_of (record { net = net; inputs = inputs; stations = map view xs; traffic = traffic; round = round })
+setting_is view net given inputs traffic xs round same =
+    ap (λ (lists : List (List ℤ)). setting_in net lists traffic (may_restart (length xs)) round) same
+    ∙ ap (λ (n : ℕ). setting_in net inputs traffic (may_restart n) round) (sym (length-map xs view))
+
+-- whether nodes may restart, by the number of stations
+pub restarts_are : {S : Type 0} (net : Network) (inputs : List (List ℤ)) (traffic : Traffic) (xs : List S) (restarts : Bool) (count round : ℕ) → restarts ≡ may_restart count → count ≡ length xs
+    → setting_in net inputs traffic restarts round ≡ setting_in net inputs traffic (may_restart (length xs)) round
+restarts_are net inputs traffic xs restarts count round may many = ap (λ (b : Bool). setting_in net inputs traffic b round) (may ∙ ap may_restart many)
+
+-- the station of this place is a sound one
+pub sound_at : {S : Type 0} (view : S → StationView) (net : Network) (inputs : List (List ℤ)) (traffic : Traffic) (xs : List S) (place : ℕ) (x : S) (restarts : Bool) (count round : ℕ) → restarts ≡ may_restart count → count ≡ length xs
+    → length (map view xs) ≡ node_count net → IsNumbered (map view xs) → AreSound net inputs (map view xs) → place < length xs → x ≡ get_or xs place x → IsSoundStation (setting_in net inputs traffic restarts round) (view x)
+sound_at view net inputs traffic xs place x restarts count round may many all numbered sound within is =
+    let there : slice_get (map view xs) place ≡ Some (view x) = map_at view xs place x (slice_get_read xs (length xs) place x refl within is) in
+    record {
+      inv = sound place (view x) there;
+      named = (let named = numbered place (view x) there in named.1 ∙ sym named.0);
+      here = λ alone. all_here net (map view xs) all numbered place (view x) there (ap may_restart (length-map xs view ∙ sym many) ∙ (sym may ∙ alone));
+    }
 
 -- what is true of the station of this place
 pub seen_at : {S : Type 0} (view : S → StationView) (xs : List S) (place : ℕ) (x : S) → place < length xs → x ≡ get_or xs place x → slice_get (map view xs) place ≡ Some (view x)

@@ -6,7 +6,7 @@ use Rattle.gate_cell.specs.declared.cell.StableCell.{Ghosts as CellWords}
 use Rattle.record.specs.RecordView.{RecordView}
 use Rattle.ckpt_store.specs.Spelling.{Spells}
 use Rattle.ckpt_store.specs.StoreView.{cell_in}
-use Rattle.protocol.specs.Machine.Line.{NotBehind}
+use Rattle.recovery_line.specs.Line.{NotBehind}
 use Rattle.protocol.specs.Node.Starting.{IsBehind}
 use Rattle.protocol.specs.World.RecoveryLine.{records_seen, records_of, AreInLine, LeavesInLine}
 use Rattle.world.specs.WorldView.{station_view}

@@ -7,7 +7,7 @@ use Rattle.world.specs.declared.event.Reply.TheVariants as reply
 
 abbrev pub reply_view : Reply → ReplyView
 reply_view reply.Delivered = Delivered
-reply_view (reply.Dropped refusal) = Dropped refusal
+reply_view reply.Dropped = Dropped
 reply_view (reply.Granted job) = Granted (job_view job)
 reply_view reply.Installed = Installed
 reply_view reply.Discarded = Discarded

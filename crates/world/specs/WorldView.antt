@@ -1,7 +1,8 @@
 -- A world without pointers.
-use Rattle.std.specs.Prelude.{ℕ, ℤ, ◌≡◌, List, map, Bool, Some, slice_get}
+use Rattle.std.specs.Prelude.{ℕ, ℤ, ◌≡◌, ◌≤◌, ◌++◌, List, [], ◌∷◌, map, Bool, Option, Some, slice_get}
 use Rattle.kahn_net.specs.Syntax.{network_of}
 use Rattle.record.specs.RecordView.{RecordView}
+use Rattle.sector_disk.specs.declared.disk.ArmedFault.{ArmedFault}
 use Rattle.gate_cell.specs.declared.cell.StableCell.{Ghosts as CellWords}
 use Rattle.ckpt_store.specs.Spelling.{fits_in}
 use Rattle.ckpt_store.specs.StoreView.{cell_in}
@@ -12,7 +13,10 @@ use Rattle.std.specs.declared.alloc.Global.{Global}
 use Rattle.net_check.specs.declared.net.Net.{Net}
 use Rattle.net_check.specs.declared.inputs.Inputs.{Inputs}
 use Rattle.world.specs.OutputView.{outputs_view}
+use Rattle.protocol.specs.World.EventView.{EventView, ByNode}
+use Rattle.protocol.specs.World.EventView as event
 use Rattle.protocol.specs.World.Pairs.{HasGrown}
+use Rattle.protocol.specs.World.ReplyView.{ReplyView}
 use Rattle.protocol.specs.World.StationView.{StationView}
 use Rattle.world.specs.StationView.{outlet_views}
 use Rattle.protocol.specs.World.Steps.{WorldView}
@@ -62,3 +66,19 @@ RestartsAsArmed {cell = cell} round old new = (view_of new.node).restart ≡ res
 -- the same of the station of this place
 abbrev pub RestartsAsArmedAt : {C O : Type 0} {cell : CellWords C} → ℕ → ℕ → List (Station C O cell) → List (Station C O cell) → Type 0
 RestartsAsArmedAt {C} {O} {cell} round place olds news = (old new : Station C O cell) → slice_get olds place ≡ Some old → slice_get news place ≡ Some new → RestartsAsArmed round old new
+
+-- the faults that are armed behind an event and its answer: an `Arm` that isn't refused puts its own behind them
+abbrev pub armed_then : EventView → Option ReplyView → List ArmedFault → List ArmedFault
+armed_then (ByNode k (event.Arm fault rounds)) (Some answer) faults = faults ++ (fault ∷ [])
+armed_then event answer faults = faults
+
+-- What an event leaves of a station's device besides what it holds: no other fault is armed, nor one disarmed, and no device call that was counted
+-- is forgotten.
+abbrev pub LeavesDeviceBy : {C O : Type 0} {cell : CellWords C} → EventView → Option ReplyView → Station C O cell → Station C O cell → Type 0
+LeavesDeviceBy {cell = cell} event answer old new =
+    (cell.armed (cell_in new.node.store) ≡ armed_then event answer (cell.armed (cell_in old.node.store)))
+    × (cell.call_count (cell_in old.node.store) ≤ cell.call_count (cell_in new.node.store))
+
+-- the same of the station of this place
+abbrev pub LeavesDeviceAt : {C O : Type 0} {cell : CellWords C} → EventView → Option ReplyView → ℕ → List (Station C O cell) → List (Station C O cell) → Type 0
+LeavesDeviceAt {C} {O} {cell} event answer place olds news = (old new : Station C O cell) → slice_get olds place ≡ Some old → slice_get news place ≡ Some new → LeavesDeviceBy event answer old new

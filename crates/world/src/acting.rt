@@ -1,25 +1,24 @@
 // An event at its station.
-ghost use Rattle.std.specs.Prelude.{◌≡◌, ◌<◌, All, IfOk, OnErr, Some, if◌then◌else◌, not, slice_get};
+ghost use Rattle.std.specs.Prelude.{◌≡◌, ◌<◌, All, IfOk, OnErr, Some, if◌then◌else◌, slice_get};
 ghost use Rattle.kahn_net.specs.Fits.{Fits};
 ghost use Rattle.kahn_net.specs.Syntax.{network_of};
 ghost use Rattle.ckpt_store.specs.Spelling.{fits_in};
 ghost use Rattle.ckpt_store.specs.StoreView.{cell_in};
 ghost use Rattle.node.specs.NodeOf.{view_of};
 ghost use Rattle.protocol.specs.Node.Sending.{packets_of, IsWritable};
-ghost use Rattle.protocol.specs.Node.Starting.{is_down};
 ghost use Rattle.protocol.specs.World.EventView.{event_node};
 ghost use Rattle.wire.specs.Traffic.{all_sent, flights_to, traffic_of, traffic_without};
 ghost use Rattle.wire.specs.declared.queue.TheConstants.{NODES};
 ghost use Rattle.world.specs.EventView.{event_view};
 ghost use Rattle.protocol.specs.World.Invariant.{StationInvariant};
-ghost use Rattle.protocol.specs.World.Failing.{WhereItFailed};
 ghost use Rattle.protocol.specs.World.Pairs.{HasMoved};
 ghost use Rattle.protocol.specs.World.RecoveryLine.{next_kept};
-ghost use Rattle.protocol.specs.World.Replies.{LeavesCells, TakesMemory};
+ghost use Rattle.protocol.specs.World.Replies.{has_happened, LeavesCells, TakesMemory};
+ghost use Rattle.protocol.specs.World.ReplyView.{Down};
 ghost use Rattle.world.specs.ReplyView.{answer_view, reply_view};
 ghost use Rattle.world.specs.StationView.{outlet_views};
-ghost use Rattle.protocol.specs.World.Steps.{has_happened, sendings_of, traffic_after, IsDeliverOf, IsSendOf, IsIdle, IsStationStep};
-ghost use Rattle.world.specs.WorldView.{station_view, IsCellUnchanged, RestartsAsArmed};
+ghost use Rattle.protocol.specs.World.Steps.{deliver_plan, due_bytes, idle_plan, plan_sendings, send_plan, setting_in, traffic_after, IsPlanned, IsStationStep};
+ghost use Rattle.world.specs.WorldView.{station_view, IsCellUnchanged, LeavesDeviceBy, RestartsAsArmed};
 
 use crate::event::{Event, Reply};
 use crate::network::{delay, due_packet, lose, note_delivery, repeat, spell_all};
@@ -48,8 +47,11 @@ impl<C: StableCell, O: Outlet> Station<C, O> {
         ensures cell { self.new.node.store ≡ self.old.node.store }
         ensures refused { OnErr result
             (station_view O.taken O.failures self.new ≡ station_view O.taken O.failures self.old) }
-        ensures step { IfOk result (λ reply. IsDeliverOf (network_of net.now.program) round
-            (slice_get (flights_to (traffic_of wire.old) to) place)
+        ensures step { IfOk result
+            (λ reply. IsPlanned (fits_in (C.capacity (cell_in self.old.node.store))) round
+            (deliver_plan (network_of net.now.program) place
+            (due_bytes round (slice_get (flights_to (traffic_of wire.old) to) place))
+            (station_view O.taken O.failures self.old))
             (station_view O.taken O.failures self.old) (reply_view reply)
             (station_view O.taken O.failures self.new)) }
         ensures traffic { IfOk result (λ reply. traffic_of wire.new
@@ -80,14 +82,15 @@ impl<C: StableCell, O: Outlet> Station<C, O> {
         ensures refused { OnErr result
             (station_view O.taken O.failures self.new ≡ station_view O.taken O.failures self.old) }
         ensures step { IfOk result
-            (λ reply. IsSendOf (not (is_down (view_of self.old.node).mode))
-            (network_of net.now.program) round
+            (λ reply. IsPlanned (fits_in (C.capacity (cell_in self.old.node.store))) round
+            (send_plan (network_of net.now.program) round (station_view O.taken O.failures self.old))
             (station_view O.taken O.failures self.old) (reply_view reply)
             (station_view O.taken O.failures self.new)) }
         ensures traffic { IfOk result (λ reply. traffic_of wire.new
             ≡ (if has_happened (reply_view reply)
-            then all_sent round (sendings_of (network_of net.now.program)
-            (Some (station_view O.taken O.failures self.old))) (traffic_of wire.old)
+            then all_sent round (plan_sendings
+            (send_plan (network_of net.now.program) round (station_view O.taken O.failures self.old))
+            (reply_view reply)) (traffic_of wire.old)
             else traffic_of wire.old)) }
         ensures same_traffic { OnErr result (traffic_of wire.new ≡ traffic_of wire.old) }
     {
@@ -111,8 +114,10 @@ impl<C: StableCell, O: Outlet> Station<C, O> {
         ensures outputs { outlet_views O.taken O.failures self.new.outputs.items
             ≡ outlet_views O.taken O.failures self.old.outputs.items }
         ensures same { self.new.node ≡ self.old.node }
-        ensures step { IsIdle round (station_view O.taken O.failures self.old)
-            (reply_view result) (station_view O.taken O.failures self.new) }
+        ensures step { IsPlanned (fits_in (C.capacity (cell_in self.old.node.store))) round
+            (idle_plan round (station_view O.taken O.failures self.old))
+            (station_view O.taken O.failures self.old) (reply_view result)
+            (station_view O.taken O.failures self.new) }
     {
         self.turns = self.turns.of(round).with_idle();
         Reply::Idled
@@ -137,29 +142,34 @@ impl<C: StableCell, O: Outlet> Station<C, O> {
         requires node { event_node (event_view event.now) < NODES }
         ensures moved { HasMoved C.moment C.left_since (cell_in self.old.node.store)
             (cell_in self.new.node.store) (view_of self.old.node).kept
-            (next_kept (event_view event.now) (station_view O.taken O.failures self.old))
+            (next_kept (setting_in (network_of net.now.value.program) inputs.now
+            (traffic_of wire.old) restarts round) (event_view event.now)
+            (station_view O.taken O.failures self.old))
             (outlet_views O.taken O.failures self.old.outputs.items)
             (outlet_views O.taken O.failures self.new.outputs.items) }
         ensures refused { OnErr result
             ((station_view O.taken O.failures self.new ≡ station_view O.taken O.failures self.old)
             × TakesMemory (event_view event.now)) }
         ensures step { IfOk result
-            (λ reply. IsStationStep (network_of net.now.value.program) inputs.now
-            (traffic_of wire.old)
-            (fits_in (C.capacity (cell_in self.old.node.store))) restarts round (event_view event.now)
+            (λ reply. IsStationStep (setting_in (network_of net.now.value.program) inputs.now
+            (traffic_of wire.old) restarts round)
+            (fits_in (C.capacity (cell_in self.old.node.store))) (event_view event.now)
             (station_view O.taken O.failures self.old) (reply_view reply)
             (station_view O.taken O.failures self.new)) }
         ensures traffic { IfOk result
-            (λ reply. traffic_of wire.new ≡ traffic_after (network_of net.now.value.program)
-            round (event_view event.now) (reply_view reply)
-            (Some (station_view O.taken O.failures self.old)) (traffic_of wire.old)) }
+            (λ reply. traffic_of wire.new ≡ traffic_after
+            (setting_in (network_of net.now.value.program) inputs.now
+            (traffic_of wire.old) restarts round) (event_view event.now) (reply_view reply)
+            (Some (station_view O.taken O.failures self.old))) }
         ensures same_traffic { OnErr result (traffic_of wire.new ≡ traffic_of wire.old) }
         ensures same_room { C.capacity (cell_in self.new.node.store)
             ≡ C.capacity (cell_in self.old.node.store) }
+        ensures device { LeavesDeviceBy (event_view event.now) (answer_view result)
+            self.old self.new }
         ensures unchanged { LeavesCells (event_view event.now) (answer_view result)
             → IsCellUnchanged self.old self.new }
-        ensures armed { IfOk result (λ reply. WhereItFailed (event_view event.now)
-            (reply_view reply) (RestartsAsArmed round self.old self.new)) }
+        ensures armed { IfOk result (λ reply. reply_view reply ≡ Down
+            → RestartsAsArmed round self.old self.new) }
     {
         match event {
             Event::Deliver { node, place } => self.deliver(alloc, net, wire, *node, *place, round),
@@ -181,7 +191,7 @@ impl<C: StableCell, O: Outlet> Station<C, O> {
                 }
                 self.recover(alloc, round)
             }
-            Event::Arm { fault, rounds, .. } => self.arm(*fault, *rounds),
+            Event::Arm { fault, rounds, .. } => self.arm(*fault, *rounds, round),
             Event::Idle(_) => Ok(self.idle(round)),
             Event::Lose { node, place } => Ok(lose(wire, *node, *place)),
             Event::Repeat { node, place } => repeat(alloc, wire, *node, *place),

@@ -1,6 +1,8 @@
 //! Events, and what comes of them.
+ghost use Rattle.std.specs.Prelude.{◌≡◌};
 
 use proc_step::{Done, Job};
+use protocol::Refusal;
 use sector_disk::ArmedFault;
 
 /// What can happen. Each names its node, and `Install` that of its job's process.
@@ -59,6 +61,33 @@ pub enum Event {
     },
 }
 
+impl Event {
+    ghost use Rattle.protocol.specs.World.EventView.{event_node};
+    ghost use Rattle.world.specs.EventView.{event_view};
+
+    /// Its node.
+    pub fn node(&self) -> u8
+        ensures { result ≡ event_node (event_view self.now) }
+    {
+        match self {
+            Event::Install(done) => done.job.node(),
+            Event::Deliver { node, .. } => *node,
+            Event::Grant(node) => *node,
+            Event::Send(node) => *node,
+            Event::Start(node) => *node,
+            Event::Decide(node) => *node,
+            Event::Release(node) => *node,
+            Event::Crash { node, .. } => *node,
+            Event::Recover(node) => *node,
+            Event::Arm { node, .. } => *node,
+            Event::Idle(node) => *node,
+            Event::Lose { node, .. } => *node,
+            Event::Repeat { node, .. } => *node,
+            Event::Delay { node, .. } => *node,
+        }
+    }
+}
+
 /// How far an output's items have left the system: so many of this channel.
 #[derive(Clone, Copy, Debug, PartialEq, Eq)]
 pub struct Freed {
@@ -73,7 +102,7 @@ pub enum Reply {
     Delivered,
     /// It spells no packet, or one that isn't for this node or names what isn't there: it is gone (33). In a world this can't
     /// happen, since all that is in flight was sent by its nodes.
-    Dropped(u8),
+    Dropped,
     /// The job that was granted.
     Granted(Job),
     /// The turn was taken in.
@@ -85,7 +114,7 @@ pub enum Reply {
     Decided,
     /// A start, a decision or a recovery was refused: its record would be too large (22), or the number of a start or the
     /// epoch of a recovery would pass 2^63 - 1 (44).
-    Refused(u8),
+    Refused(Refusal),
     Released(Freed),
     /// The outlet failed. It took the item or didn't.
     OutletFailed,

@@ -4,8 +4,8 @@ ghost use Rattle.std.specs.Int.{w64};
 ghost use Rattle.std.specs.List.{position_from};
 ghost use Rattle.datagram.specs.PacketText.{IsPacket};
 ghost use Rattle.protocol.specs.Node.Sending.{FitsItem, IsWritable};
-ghost use Rattle.protocol.specs.World.Replies.{act_reply, delivery_reply};
-ghost use Rattle.protocol.specs.World.Steps.{due_bytes, has_happened, sending_of};
+ghost use Rattle.protocol.specs.World.Replies.{act_reply, delivery_reply, has_happened};
+ghost use Rattle.protocol.specs.World.Steps.{due_bytes, sending_of};
 ghost use Rattle.world.specs.ReplyView.{reply_view};
 ghost use Rattle.wire.specs.Queue.{is_due};
 ghost use Rattle.wire.specs.Traffic.{flights_to, traffic_of, traffic_delayed, traffic_repeated, traffic_without};
@@ -13,7 +13,7 @@ ghost use Rattle.wire.specs.Wire.{in_flight};
 ghost use Rattle.wire.specs.declared.queue.TheConstants.{NODES};
 
 use crate::event::Reply;
-use datagram::{Body, Packet, PacketFault, write_packet};
+use datagram::{Body, Packet, write_packet};
 use node::Delivery;
 use std::alloc::{AllocError, Global};
 use wire::{Bytes, Sending, Wire};
@@ -75,7 +75,7 @@ pub(crate) fn note_delivery(wire: &mut Wire, to: u8, place: usize, outcome: Deli
         }
         Delivery::Dropped => {
             wire.lose(to, place);
-            Reply::Dropped(PacketFault::BadPacket.number())
+            Reply::Dropped
         }
     }
 }

@@ -1,28 +1,35 @@
 // A station's node crashes, and comes back.
-ghost use Rattle.std.specs.Prelude.{◌≡◌, ◌≤◌, IfOk, OnErr};
+ghost use Rattle.std.specs.Prelude.{◌≡◌, ◌≤◌, if◌then◌else◌, true, IfOk, OnErr};
 ghost use Rattle.ckpt_store.specs.Spelling.{fits_in};
 ghost use Rattle.ckpt_store.specs.StoreView.{cell_in};
-ghost use Rattle.record.specs.Moves.{with_epoch};
 ghost use Rattle.node.specs.NodeOf.{view_of};
+ghost use Rattle.node.specs.NodeView.{mode_view};
+ghost use Rattle.node.specs.StoredView.{LeavesDevice};
+ghost use Rattle.protocol.specs.Node.ArmedRestarts.{round_later};
+ghost use Rattle.protocol.specs.Node.Plans.{next_record};
+ghost use Rattle.protocol.specs.Node.Recovering.{recover_prospect};
+ghost use Rattle.protocol.specs.World.EventView.{ByNode};
+ghost use Rattle.protocol.specs.World.EventView as event;
 ghost use Rattle.protocol.specs.World.Pairs.{LeaveEitherSince};
-ghost use Rattle.protocol.specs.World.Replies.{crash_reply, recovery_reply};
-ghost use Rattle.protocol.specs.World.ReplyView.{Down, NotDue};
-ghost use Rattle.world.specs.ReplyView.{reply_view};
+ghost use Rattle.protocol.specs.World.Replies.{back_reply};
+ghost use Rattle.protocol.specs.World.ReplyView.{Crashed, Down, NotDue};
+ghost use Rattle.protocol.specs.World.Steps.{IsPlanned, arm_plan, crash_plan, recover_plan};
+ghost use Rattle.world.specs.ReplyView.{answer_view, reply_view};
 ghost use Rattle.world.specs.StationView.{outlet_views};
-ghost use Rattle.protocol.specs.World.Steps.{IsArmed, IsBack, IsFallen};
-ghost use Rattle.world.specs.WorldView.{station_view, IsCellUnchanged, RestartsAsArmed};
+ghost use Rattle.world.specs.WorldView.{armed_then, station_view, IsCellUnchanged, RestartsAsArmed};
 
+use crate::checkpoints::answer_by;
 use crate::event::Reply;
 use crate::station::Station;
 use gate_cell::StableCell;
-use node::{Recovery, round_later};
+use node::{Mode, round_later};
 use outlet::Outlet;
 use sector_disk::ArmedFault;
 use std::alloc::{AllocError, Global};
 
 // What is answered to a crash of a node that was up, or wasn't.
 fn crash_reply(was_up: bool) -> Reply
-    ensures { reply_view result ≡ crash_reply was_up }
+    ensures { reply_view result ≡ (if was_up then Crashed else NotDue) }
 {
     if was_up {
         Reply::Crashed
@@ -31,16 +38,13 @@ fn crash_reply(was_up: bool) -> Reply
     }
 }
 
-// What is answered to a recovery.
-fn recovery_reply(recovery: Recovery) -> Reply
-    ensures { reply_view result ≡ recovery_reply recovery }
+// What is answered where a node came back in this mode.
+fn back_reply(mode: &Mode) -> Reply
+    ensures { reply_view result ≡ back_reply (mode_view mode.now) }
 {
-    match recovery {
-        Recovery::NotDue => Reply::NotDue,
-        Recovery::Recovered => Reply::Recovered,
-        Recovery::Waiting => Reply::InDoubt,
-        Recovery::Refused(number) => Reply::Refused(number),
-        Recovery::Failed => Reply::Down,
+    match mode {
+        Mode::InDoubt => Reply::InDoubt,
+        Mode::Down | Mode::Running(_) => Reply::Recovered,
     }
 }
 
@@ -54,10 +58,11 @@ impl<C: StableCell, O: Outlet> Station<C, O> {
             (view_of self.old.node).kept }
         ensures later { C.moment (cell_in self.old.node.store)
             ≤ C.moment (cell_in self.new.node.store) }
-        ensures same_room { C.capacity (cell_in self.new.node.store)
-            ≡ C.capacity (cell_in self.old.node.store) }
-        ensures step { IsFallen rounds round (station_view O.taken O.failures self.old)
-            (reply_view result) (station_view O.taken O.failures self.new) }
+        ensures same_setup { LeavesDevice self.old.node.store self.new.node.store }
+        ensures step { IsPlanned (fits_in (C.capacity (cell_in self.old.node.store))) round
+            (crash_plan true (round_later round rounds) (station_view O.taken O.failures self.old))
+            (station_view O.taken O.failures self.old) (reply_view result)
+            (station_view O.taken O.failures self.new) }
         ensures unchanged { reply_view result ≡ NotDue → IsCellUnchanged self.old self.new }
     {
         let was_up = self.node.crash(Some(fill), round_later(round, rounds));
@@ -70,15 +75,15 @@ impl<C: StableCell, O: Outlet> Station<C, O> {
             ≡ outlet_views O.taken O.failures self.old.outputs.items }
         ensures leaves { LeaveEitherSince C.moment C.left_since (cell_in self.old.node.store)
             (cell_in self.new.node.store) (view_of self.old.node).kept
-            (with_epoch (view_of self.old.node).kept) }
+            (next_record (recover_prospect (view_of self.old.node)) (view_of self.old.node).kept) }
         ensures later { C.moment (cell_in self.old.node.store)
             ≤ C.moment (cell_in self.new.node.store) }
-        ensures same_room { C.capacity (cell_in self.new.node.store)
-            ≡ C.capacity (cell_in self.old.node.store) }
+        ensures same_setup { LeavesDevice self.old.node.store self.new.node.store }
         ensures refused { OnErr result
             (station_view O.taken O.failures self.new ≡ station_view O.taken O.failures self.old) }
         ensures step { IfOk result
-            (λ reply. IsBack (fits_in (C.capacity (cell_in self.old.node.store))) round
+            (λ reply. IsPlanned (fits_in (C.capacity (cell_in self.old.node.store))) round
+            (recover_plan true (station_view O.taken O.failures self.old))
             (station_view O.taken O.failures self.old) (reply_view reply)
             (station_view O.taken O.failures self.new)) }
         ensures armed { IfOk result
@@ -87,13 +92,21 @@ impl<C: StableCell, O: Outlet> Station<C, O> {
             (λ reply. reply_view reply ≡ NotDue → IsCellUnchanged self.old self.new) }
     {
         match self.node.recover(alloc, round) {
-            Ok(recovery) => Ok(recovery_reply(recovery)),
+            Ok(outcome) => {
+                let state = &self.node.state;
+                Ok(answer_by(back_reply(&state.mode), outcome))
+            }
             Err(_) => Err(AllocError),
         }
     }
 
     /// A failure of its node's disk is prepared, and for how many rounds it is to keep the node down.
-    pub(crate) fn arm(&mut self, fault: ArmedFault, rounds: u64) -> Result<Reply, AllocError>
+    pub(crate) fn arm(
+        &mut self,
+        fault: ArmedFault,
+        rounds: u64,
+        round: u64,
+    ) -> Result<Reply, AllocError>
         ensures outputs { outlet_views O.taken O.failures self.new.outputs.items
             ≡ outlet_views O.taken O.failures self.old.outputs.items }
         ensures leaves { LeaveEitherSince C.moment C.left_since (cell_in self.old.node.store)
@@ -103,11 +116,18 @@ impl<C: StableCell, O: Outlet> Station<C, O> {
             ≤ C.moment (cell_in self.new.node.store) }
         ensures same_room { C.capacity (cell_in self.new.node.store)
             ≡ C.capacity (cell_in self.old.node.store) }
+        ensures armed { C.armed (cell_in self.new.node.store)
+            ≡ armed_then (ByNode 0 (event.Arm fault rounds)) (answer_view result)
+            (C.armed (cell_in self.old.node.store)) }
+        ensures same_calls { C.call_count (cell_in self.new.node.store)
+            ≡ C.call_count (cell_in self.old.node.store) }
         ensures refused { OnErr result
             (station_view O.taken O.failures self.new ≡ station_view O.taken O.failures self.old) }
         ensures step { IfOk result
-            (λ reply. IsArmed fault.call rounds (station_view O.taken O.failures self.old)
-            (reply_view reply) (station_view O.taken O.failures self.new)) }
+            (λ reply. IsPlanned (fits_in (C.capacity (cell_in self.old.node.store))) round
+            (arm_plan fault.call rounds (station_view O.taken O.failures self.old))
+            (station_view O.taken O.failures self.old) (reply_view reply)
+            (station_view O.taken O.failures self.new)) }
     {
         match self.node.arm(fault, rounds) {
             Ok(()) => Ok(Reply::Acted),

@@ -1,6 +1,8 @@
 // A station's jobs: they are granted, and what came of them comes back.
-ghost use Rattle.std.specs.Prelude.{◌≡◌, true, IfOk, OnErr, Some, option_map};
+ghost use Rattle.std.specs.Prelude.{◌≡◌, true, if◌then◌else◌, is_some, IfOk, OnErr, Some, option_map};
 ghost use Rattle.kahn_net.specs.Syntax.{network_of};
+ghost use Rattle.ckpt_store.specs.Spelling.{fits_in};
+ghost use Rattle.ckpt_store.specs.StoreView.{cell_in};
 ghost use Rattle.node.specs.NodeOf.{view_of};
 ghost use Rattle.node.specs.JobView.{job_view};
 ghost use Rattle.protocol.specs.Node.Choosing.{node_job};
@@ -9,8 +11,8 @@ ghost use Rattle.world.specs.DoneView.{done_view};
 ghost use Rattle.protocol.specs.World.Replies.{grant_reply};
 ghost use Rattle.world.specs.ReplyView.{reply_view};
 ghost use Rattle.world.specs.StationView.{outlet_views};
-ghost use Rattle.protocol.specs.World.Turns.{turns_granted};
-ghost use Rattle.protocol.specs.World.Steps.{IsGrant, IsInstalled};
+ghost use Rattle.protocol.specs.World.Turns.{count_grant, turns_of};
+ghost use Rattle.protocol.specs.World.Steps.{IsInstalled, IsPlanned, grant_plan};
 ghost use Rattle.world.specs.WorldView.{station_view};
 
 use crate::event::Reply;
@@ -23,10 +25,10 @@ use protocol::RoundTurns;
 use std::alloc::{AllocError, Global};
 use std::sync::Arc;
 
-// What is answered where a job was granted, or none.
+// What is answered where a job was granted, or none, which is noted.
 fn note_grant(turns: &mut RoundTurns, granted: Option<Job>, round: u64) -> Reply
     ensures reply { reply_view result ≡ grant_reply (option_map job_view granted) }
-    ensures turns { turns.new ≡ turns_granted (option_map job_view granted) round turns.old }
+    ensures turns { turns.new ≡ (if is_some granted then count_grant (turns_of round turns.old) else turns.old) }
 {
     match granted {
         Some(job) => {
@@ -52,9 +54,11 @@ impl<C: StableCell, O: Outlet> Station<C, O> {
         ensures refused { OnErr result
             (station_view O.taken O.failures self.new ≡ station_view O.taken O.failures self.old) }
         ensures step { IfOk result
-            (λ reply. IsGrant round (node_job (network_of net.now.value.program) inputs.now
-            (view_of self.old.node)) (station_view O.taken O.failures self.old)
-            (reply_view reply) (station_view O.taken O.failures self.new)) }
+            (λ reply. IsPlanned (fits_in (C.capacity (cell_in self.old.node.store))) round
+            (grant_plan (node_job (network_of net.now.value.program) inputs.now
+            (view_of self.old.node)) round (station_view O.taken O.failures self.old))
+            (station_view O.taken O.failures self.old) (reply_view reply)
+            (station_view O.taken O.failures self.new)) }
     {
         let granted = self.node.grant(alloc, net, inputs)?;
         Ok(note_grant(&mut self.turns, granted, round))

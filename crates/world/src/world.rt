@@ -16,8 +16,8 @@ ghost use Rattle.protocol.specs.World.Replies.{IsDropped, IsTooLarge, LeavesCell
 ghost use Rattle.world.specs.ReplyView.{answer_view, reply_view};
 ghost use Rattle.protocol.specs.World.ReplyView.{Down};
 ghost use Rattle.protocol.specs.World.Roomy.{HasFullRoom};
-ghost use Rattle.protocol.specs.World.Steps.{traffic_after, is_done_with, are_done_with, round_after, IsAct, IsStep};
-ghost use Rattle.world.specs.WorldView.{capacities, rooms, station_view, world_view, IsCellUnchanged, IsGrown, RestartsAsArmedAt};
+ghost use Rattle.protocol.specs.World.Steps.{are_done_with, is_done_with, may_restart, round_after, setting_in, traffic_after, IsAct, IsStep};
+ghost use Rattle.world.specs.WorldView.{capacities, rooms, station_view, world_view, IsCellUnchanged, IsGrown, LeavesDeviceAt, RestartsAsArmedAt};
 
 use crate::event::{Event, Refused, Reply};
 use crate::nodes::may_restart;
@@ -44,28 +44,6 @@ pub struct World<C: StableCell, O: Outlet> {
     pub round: u64,
     pub ghost sound: { WorldInvariant
         (world_view O.taken O.failures net inputs stations.items (traffic_of wire) round) },
-}
-
-// The node of an event.
-fn node_of(event: &Event) -> u8
-    ensures { result ≡ event_node (event_view event.now) }
-{
-    match event {
-        Event::Install(done) => done.job.node(),
-        Event::Deliver { node, .. } => *node,
-        Event::Grant(node) => *node,
-        Event::Send(node) => *node,
-        Event::Start(node) => *node,
-        Event::Decide(node) => *node,
-        Event::Release(node) => *node,
-        Event::Crash { node, .. } => *node,
-        Event::Recover(node) => *node,
-        Event::Arm { node, .. } => *node,
-        Event::Idle(node) => *node,
-        Event::Lose { node, .. } => *node,
-        Event::Repeat { node, .. } => *node,
-        Event::Delay { node, .. } => *node,
-    }
 }
 
 // An event at the station of this number, where there is one.
@@ -95,17 +73,20 @@ fn act_at<C: StableCell, O: Outlet>(
         ≡ map (station_view O.taken O.failures) stations.old.items)
         × TakesMemory (event_view event.now)) }
     ensures step { IfOk result
-        (λ reply. IsAct (network_of net.now.value.program) inputs.now (traffic_of wire.old) number
-        (rooms stations.old.items) round (event_view event.now)
+        (λ reply. IsAct (setting_in (network_of net.now.value.program) inputs.now
+        (traffic_of wire.old) (may_restart (length stations.old.items)) round) number
+        (rooms stations.old.items) (event_view event.now)
         (map (station_view O.taken O.failures) stations.old.items) (reply_view reply)
         (map (station_view O.taken O.failures) stations.new.items)) }
     ensures traffic { IfOk result
-        (λ reply. traffic_of wire.new ≡ traffic_after (network_of net.now.value.program) round
-        (event_view event.now) (reply_view reply)
-        (slice_get (map (station_view O.taken O.failures) stations.old.items) number)
-        (traffic_of wire.old)) }
+        (λ reply. traffic_of wire.new ≡ traffic_after
+        (setting_in (network_of net.now.value.program) inputs.now (traffic_of wire.old)
+        (may_restart (length stations.old.items)) round) (event_view event.now) (reply_view reply)
+        (slice_get (map (station_view O.taken O.failures) stations.old.items) number)) }
     ensures same_traffic { OnErr result (traffic_of wire.new ≡ traffic_of wire.old) }
-    ensures same_rooms { capacities stations.new.items ≡ capacities stations.old.items }
+    ensures same_capacities { capacities stations.new.items ≡ capacities stations.old.items }
+    ensures device { LeavesDeviceAt (event_view event.now) (answer_view result)
+        (event_node (event_view event.now)) stations.old.items stations.new.items }
     ensures unchanged { LeavesCells (event_view event.now) (answer_view result)
         → AllZip IsCellUnchanged stations.old.items stations.new.items }
     ensures others { AreSameElsewhere (event_node (event_view event.now)) stations.old.items
@@ -216,6 +197,10 @@ impl<C: StableCell, O: Outlet> World<C, O> {
         ensures armed { IfOk result (λ reply. reply_view reply ≡ Down
             → RestartsAsArmedAt self.old.round (event_node (event_view event))
             self.old.stations.items self.new.stations.items) }
+        // No fault is armed on the device of its node but that of an `Arm` which isn't refused, behind those armed before, none
+        // is disarmed, and no device call that was counted is forgotten.
+        ensures device { LeavesDeviceAt (event_view event) (answer_view result)
+            (event_node (event_view event)) self.old.stations.items self.new.stations.items }
         // Every station but that of the event's node is the very same, with all that its cell and its outlets hold and
         // count, whether the event was made or refused.
         ensures others { AreSameElsewhere (event_node (event_view event))
@@ -225,7 +210,7 @@ impl<C: StableCell, O: Outlet> World<C, O> {
         ensures memory { OnErr result (TakesMemory (event_view event)) }
         ensures handed_back { IfErr result (λ refused. refused.event ≡ event) }
     {
-        let number = usize::from(node_of(&event));
+        let number = usize::from(event.node());
         match act_at(
             alloc,
             &self.net,

@@ -7,7 +7,7 @@ use world::{Event, Reply};
 fn reply_word(reply: &Reply) -> &'static str {
     match reply {
         Reply::Delivered => "delivered",
-        Reply::Dropped(_) => "dropped",
+        Reply::Dropped => "dropped",
         Reply::Granted(_) => "job",
         Reply::Installed => "done",
         Reply::Discarded => "discarded",
@@ -31,7 +31,7 @@ fn reply_word(reply: &Reply) -> &'static str {
 pub fn reply_text(alloc: Global, reply: &Reply) -> Result<String, AllocError> {
     let word = reply_word(reply);
     match reply {
-        Reply::Dropped(number) | Reply::Refused(number) => format!(in alloc; "{word} {number}"),
+        Reply::Refused(refusal) => format!(in alloc; "{word} {}", refusal.number()),
         Reply::Released(freed) => format!(in alloc; "{word} {} {}", freed.output, freed.number),
         _ => String::from_str(alloc, word),
     }

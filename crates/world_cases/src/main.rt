@@ -1,6 +1,7 @@
 //! Runs worlds by the table `cases`: a case says of what its world is made, what happens there, and what has to be answered.
-//! Prints each case that comes out otherwise, and how many came out as written. The status is 1 where one didn't, and where
-//! the table has a line that isn't understood.
+//! Prints each case that comes out otherwise, and how many came out as written. The cases of `wrong_cases` are wrong on purpose: each
+//! has to come out otherwise. The status is 1 where a case of `cases` comes out otherwise, where one of `wrong_cases` doesn't, and
+//! where a table has a line that isn't understood.
 //!
 //! A line `== TITLE` begins a case. Empty lines, and those that begin with `#`, say nothing. Numbers are decimal; nodes, channels
 //! and places are counted from 0.
@@ -11,6 +12,7 @@
 //! |---|---|
 //! | `net sum.net` | the file of the network |
 //! | `inputs i: 1 2 3` | a line of the inputs text |
+//! | `items i 57400 1` | a line of the inputs with so many of one item |
 //! | `sectors 5`, `sectors 5 3` | the sectors of each disk, or of each node's; 5 where it isn't said |
 //! | `fault 0 call 7 fill 0` | a failure that is prepared on the node's disk before the world is made |
 //! | `for CALL 1..12 FILL 0 255` | the case is run for each choice of these numbers, the ends of a range included. The names, in capital letters, stand for them in all its lines, alone or in a sum as `CALL+1` |
@@ -26,6 +28,7 @@
 //! | `install`, `install 1`, `install of i: 1 2 4` | what came of the job that was granted last comes back, or of the first, the second and so on; or of the first job of another world of the network, on these inputs |
 //! | `run 40` | each node in turn does what `pick` says, with what comes of a job brought back at once, until the world is complete, for so many rounds at most |
 //! | `turns 1 10` | one node does so alone, so many times |
+//! | `jobs 0 896` | so many jobs are granted to the node, and what comes of each is brought back at once |
 //! | `chance 1 1500` | so many events, each of a node that this number chooses, as `pick` says or of a packet to it |
 //! | `pick 0 -> grant` | the event that is next for the node |
 //! | `released 1 -> 1 3 6` | what has left by the output; `nothing`, or the first items and `..` |
@@ -36,7 +39,15 @@
 //! | `kept 0 1 -> got 0 put 3` | how many items of the channel the permanent image has got and put |
 //! | `now 0 2 -> got 3 put 3 let go of 3` | the same of where the node stands, and how many of those that it put its log let go of |
 //!
-//! `run`, `turns` and `chance` answer nothing. An event answers `delivered`, `dropped 33`, `job`, `done` (of an install),
+//! At the end the world may be closed, and what it stood on is asked:
+//!
+//! | Line | Meaning |
+//! |---|---|
+//! | `closed disk 0 calls -> 8` | the device calls of the node's disk since it was formatted |
+//! | `closed disk 0 gate -> 0`, `closed disk 0 area -> 0000000000000062 01 ..` | the first byte of its gate; the first sector of its first area, in hexadecimal, without the zeros at its end |
+//! | `closed outputs -> 2 3`, `closed output 2 -> 4 9` | the channels of the outputs, as they come; what has left by one |
+//!
+//! `run`, `turns`, `jobs` and `chance` answer nothing. An event answers `delivered`, `dropped 33`, `job`, `done` (of an install),
 //! `discarded`, `sent`, `started`, `decided`, `refused 22`, `released 1 3` (so many items have left by the output), `outlet failed`,
 //! `crashed`, `recovered`, `in doubt`, `down`, `acted`, `idled` or `not due`. Behind items that end in `..` more may have left.
 //!
@@ -45,6 +56,7 @@
 #![tactic(auto)]
 
 mod answer;
+mod closing;
 mod judging;
 mod opening;
 mod plan;
@@ -56,7 +68,8 @@ mod stream;
 use crate::judging::judged;
 use crate::plan::plan_of;
 use anyhow::Context;
-use case_table::{Case, Difference, Trial, read, run_cases, table_of};
+use case_table::{Case, Difference, Table, Trial, read, run_cases, run_wrong_cases, table_of};
+use std::alloc::Global;
 
 /// Each case is of a world.
 #[derive(Clone, Copy, Debug)]
@@ -75,11 +88,19 @@ impl Trial for Worlds {
     }
 }
 
-fn main(rt: HostRuntime) -> anyhow::Result<()> {
-    let text = read(&rt, "cases")?;
-    let table = table_of(rt.alloc(), &text)?;
+/// The cases of a text.
+fn cases_of<'a>(alloc: Global, text: &'a str) -> anyhow::Result<Table<'a>> {
+    let table = table_of(alloc, text)?;
     if let Some(line) = table.head.first() {
         anyhow::bail!("line {}: it stands before the first case", line.number);
     }
-    run_cases(&rt, &table.cases, &Worlds)
+    Ok(table)
+}
+
+fn main(rt: HostRuntime) -> anyhow::Result<()> {
+    let alloc = rt.alloc();
+    let text = read(&rt, "cases")?;
+    let wrong = read(&rt, "wrong_cases")?;
+    run_cases(&rt, &cases_of(alloc, &text)?.cases, &Worlds)?;
+    run_wrong_cases(&rt, &cases_of(alloc, &wrong)?.cases, &Worlds)
 }

@@ -1,11 +1,15 @@
 //! A case for one choice of its names' numbers: what its world is made of, and what happens there.
 
+use crate::closing::{ClosedQuestion, closed_question};
 use crate::step::{Question, Step, step_of};
 use crate::stream::Stream;
 use anyhow::Context;
 use case_table::{Case, Line, Name, byte, filled, number, parts_of, size};
 use sector_disk::ArmedFault;
 use std::alloc::{AllocError, Global};
+
+/// The most items of an `items` line.
+const MAX_ITEMS: usize = 100_000;
 
 /// A failure that is prepared on a node's disk before the world is made.
 #[derive(Clone, Copy, Debug)]
@@ -42,6 +46,24 @@ impl Settings {
         Ok(())
     }
 
+    /// A line of the inputs with so many of one item, as `i 3 7`.
+    fn add_items(&mut self, alloc: Global, text: &str) -> anyhow::Result<()> {
+        let words: Vec<&str> = text.split_whitespace().collect(alloc)?;
+        let [name, count, item] = words.as_slice() else {
+            anyhow::bail!("items {text} isn't whole");
+        };
+        let count = size(count)?;
+        anyhow::ensure!(count <= MAX_ITEMS, "too many items");
+        self.inputs.push_str(name)?;
+        self.inputs.push_str(":")?;
+        for _item in 0..count {
+            self.inputs.push_str(" ")?;
+            self.inputs.push_str(item)?;
+        }
+        self.inputs.push_str("\n")?;
+        Ok(())
+    }
+
     fn add_sectors(&mut self, text: &str) -> anyhow::Result<()> {
         for word in text.split_whitespace() {
             self.sectors.push(size(word)?)?;
@@ -73,6 +95,8 @@ impl Settings {
             self.net = String::from_str(alloc, name)?;
         } else if let Some(line) = text.strip_prefix("inputs ") {
             self.add_inputs(line)?;
+        } else if let Some(items) = text.strip_prefix("items ") {
+            self.add_items(alloc, items)?;
         } else if let Some(numbers) = text.strip_prefix("sectors ") {
             self.add_sectors(numbers)?;
         } else if let Some(fault) = text.strip_prefix("fault ") {
@@ -93,19 +117,47 @@ pub struct Planned {
     pub wanted: String,
 }
 
+/// What is asked of a world that is closed, and has to be answered.
+#[derive(Drop)]
+pub struct PlannedClosing {
+    pub line: usize,
+    pub text: String,
+    pub question: ClosedQuestion,
+    pub wanted: String,
+}
+
 /// A case for one choice.
 #[derive(Drop)]
 pub struct Plan {
     pub settings: Settings,
     pub steps: Vec<Planned>,
+    /// What is asked once the world is closed.
+    pub closing: Vec<PlannedClosing>,
     pub streams: Vec<Stream>,
 }
 
 /// What a step has to answer. The bytes of a packet may stand in groups.
 fn wanted_by(alloc: Global, step: &Step, wanted: &str) -> Result<String, AllocError> {
-    let Step::Ask(Question::Packet { .. }) = step else {
-        return String::from_str(alloc, wanted);
-    };
+    match step {
+        Step::Ask(Question::Packet { .. }) => joined(alloc, wanted),
+        _ => String::from_str(alloc, wanted),
+    }
+}
+
+/// The same of a question behind the closing. The bytes of an area may stand in groups.
+fn wanted_closed(
+    alloc: Global,
+    question: ClosedQuestion,
+    wanted: &str,
+) -> Result<String, AllocError> {
+    match question {
+        ClosedQuestion::FirstArea(_) => joined(alloc, wanted),
+        _ => String::from_str(alloc, wanted),
+    }
+}
+
+/// Groups of digits without the spaces between them.
+fn joined(alloc: Global, wanted: &str) -> Result<String, AllocError> {
     let mut bytes = String::new(alloc);
     for group in wanted.split_whitespace() {
         bytes.push_str(group)?;
@@ -137,7 +189,24 @@ impl Plan {
         Ok(())
     }
 
+    fn add_closing(&mut self, alloc: Global, line: usize, text: &str) -> anyhow::Result<()> {
+        let (asked, wanted) = parts_of(text);
+        let words: Vec<&str> = asked.split_whitespace().collect(alloc)?;
+        let question = closed_question(&words)?;
+        self.closing.push(PlannedClosing {
+            line,
+            text: String::from_str(alloc, asked)?,
+            question,
+            wanted: wanted_closed(alloc, question, wanted)?,
+        })?;
+        Ok(())
+    }
+
     fn add(&mut self, alloc: Global, line: usize, text: &str) -> anyhow::Result<()> {
+        if let Some(closed) = text.strip_prefix("closed ") {
+            return self.add_closing(alloc, line, closed);
+        }
+        anyhow::ensure!(self.closing.is_empty(), "the world is closed before");
         if self.settings.take(alloc, text)? {
             anyhow::ensure!(self.steps.is_empty(), "it stands behind a step");
             return Ok(());
@@ -147,9 +216,12 @@ impl Plan {
 
     /// Whether something is left to compare behind each step that answers nothing.
     fn is_whole(&self) -> bool {
+        if self.settings.net.is_empty() {
+            return false;
+        }
         match self.steps.last() {
-            Some(last) => last.step.has_answer() && !self.settings.net.is_empty(),
-            None => false,
+            Some(last) => last.step.has_answer() || !self.closing.is_empty(),
+            None => !self.closing.is_empty(),
         }
     }
 }
@@ -171,6 +243,7 @@ pub fn plan_of(alloc: Global, case: &Case, choice: &[u64]) -> anyhow::Result<Pla
     let mut plan = Plan {
         settings: Settings::new(alloc),
         steps: Vec::new(alloc),
+        closing: Vec::new(alloc),
         streams: Vec::new(alloc),
     };
     for line in &case.lines {

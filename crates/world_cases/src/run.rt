@@ -1,6 +1,7 @@
 //! A case's world, step by step.
 
 use crate::answer::reply_text;
+use crate::closing::Closed;
 use crate::opening::{CaseWorld, open_world};
 use crate::plan::Settings;
 use crate::showing::shown;
@@ -55,6 +56,18 @@ fn take_turn(alloc: Global, world: &mut CaseWorld, node: u8) -> anyhow::Result<(
         apply(alloc, world, Event::Install(done))?;
     }
     Ok(())
+}
+
+/// A job is granted, and what comes of it is brought back.
+fn take_job(alloc: Global, world: &mut CaseWorld, node: u8) -> anyhow::Result<()> {
+    let Reply::Granted(job) = apply(alloc, world, Event::Grant(node))? else {
+        anyhow::bail!("no job is granted");
+    };
+    let done = done_of(alloc, job)?;
+    match apply(alloc, world, Event::Install(done))? {
+        Reply::Installed => Ok(()),
+        _ => anyhow::bail!("what came of a job isn't installed"),
+    }
 }
 
 /// What comes of the first job of another world of this network, on these inputs.
@@ -163,6 +176,13 @@ impl Run {
         Ok(None)
     }
 
+    /// What it stands on, once it is closed.
+    pub fn close(self, alloc: Global) -> Result<Closed, AllocError> {
+        let Run { world, outcomes: _ } = self;
+        let (disks, outputs) = world.close(alloc)?;
+        Ok(Closed { disks, outputs })
+    }
+
     /// How many nodes there are.
     fn nodes(&self) -> u8 {
         u8::try_from(self.world.stations.len()).unwrap_or(u8::MAX)
@@ -205,6 +225,23 @@ impl Run {
     ) -> anyhow::Result<Came> {
         for _turn in 0..count {
             take_turn(alloc, &mut self.world, node)?;
+            if let Some(stray) = self.stray(alloc, streams, line)? {
+                return Ok(stray);
+            }
+        }
+        Ok(Came::Nothing)
+    }
+
+    fn jobs(
+        &mut self,
+        alloc: Global,
+        node: u8,
+        count: u64,
+        streams: &[Stream],
+        line: usize,
+    ) -> anyhow::Result<Came> {
+        for _job in 0..count {
+            take_job(alloc, &mut self.world, node)?;
             if let Some(stray) = self.stray(alloc, streams, line)? {
                 return Ok(stray);
             }
@@ -281,6 +318,7 @@ impl Run {
             Step::Ask(question) => Ok(Came::Answer(shown(alloc, &self.world, question)?)),
             Step::Run(rounds) => self.run(alloc, rounds, streams, line),
             Step::Turns { node, count } => self.turns(alloc, node, count, streams, line),
+            Step::Jobs { node, count } => self.jobs(alloc, node, count, streams, line),
             Step::Chance { seed, events } => self.chance(alloc, seed, events, streams, line),
         }
     }

@@ -43,6 +43,8 @@ pub enum Step {
     Run(u64),
     /// A node goes on through `pick` for so many events.
     Turns { node: u8, count: u64 },
+    /// A node is granted so many jobs, and what comes of each is brought back at once.
+    Jobs { node: u8, count: u64 },
     /// So many events that this number chooses, as if by chance.
     Chance { seed: u64, events: u64 },
 }
@@ -52,7 +54,7 @@ impl Step {
     pub fn has_answer(&self) -> bool {
         match self {
             Step::Open | Step::Event(_) | Step::Install(_) | Step::Ask(_) => true,
-            Step::Run(_) | Step::Turns { .. } | Step::Chance { .. } => false,
+            Step::Run(_) | Step::Turns { .. } | Step::Jobs { .. } | Step::Chance { .. } => false,
         }
     }
 }
@@ -145,6 +147,10 @@ fn other_step(words: &[&str]) -> anyhow::Result<Option<Step>> {
         ["install", job] => Step::Install(Brought::Earlier(size(job)?)),
         ["run", rounds] => Step::Run(number(rounds)?),
         ["turns", node, count] => Step::Turns {
+            node: byte(node)?,
+            count: number(count)?,
+        },
+        ["jobs", node, count] => Step::Jobs {
             node: byte(node)?,
             count: number(count)?,
         },

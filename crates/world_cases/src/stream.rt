@@ -1,5 +1,8 @@
 //! What has to leave by an output.
 
+ghost use Rattle.std.specs.Prelude.{◌↔◌, ◌⊎◌, IsTrue};
+ghost use Rattle.kahn_net.specs.Streams.{IsPrefix};
+
 use case_table::item;
 use std::alloc::Global;
 
@@ -38,7 +41,10 @@ impl Stream {
     }
 
     /// Whether what has left may become all of it.
-    pub fn may_follow(&self, left: &[i64]) -> bool {
+    pub fn may_follow(&self, left: &[i64]) -> bool
+        ensures { IsTrue result ↔ (IsPrefix left.now self.now.items.items
+            ⊎ (IsTrue self.now.goes_on × IsPrefix self.now.items.items left.now)) }
+    {
         self.items.starts_with(left) || (self.goes_on && left.starts_with(&self.items))
     }
 }

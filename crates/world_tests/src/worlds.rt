@@ -11,7 +11,7 @@ use crate::weak_outlet::WeakOutlet;
 use gate_cell::GateCell;
 use net_check::{Inputs, Net, bind, check};
 use net_text::{parse, parse_inputs};
-use outlet::{ListOutlet, Outlet};
+use outlet::Outlet;
 use sector_disk::MemDisk;
 use std::alloc::Global;
 use std::sync::Arc;
@@ -19,12 +19,12 @@ use std::test::Fail;
 use world::{Event, Output, Reply, World, list_outputs, node_count};
 
 // The running sum: input 0, output 1.
-pub(crate) const SUM: &str =
+const SUM: &str =
     "kahn 1; input i; output o; process sum on 0 { var a; var v; loop { v = get i; a = a + v; put a to o; } }";
 
 pub(crate) const OUTPUT: u8 = 1;
 
-pub(crate) const ITEMS: &str = "i: 1 2 3";
+const ITEMS: &str = "i: 1 2 3";
 
 pub(crate) type TestCell = GateCell<MemDisk>;
 
@@ -41,24 +41,6 @@ fn disks_of(alloc: Global, count: usize) -> Result<Vec<MemDisk>, Fail> {
         disks.push(MemDisk::new(alloc, 5)?)?;
     }
     Ok(disks)
-}
-
-/// The world of a network on these inputs.
-pub(crate) fn world_of(
-    alloc: Global,
-    net: &str,
-    items: &str,
-) -> Result<World<TestCell, ListOutlet>, Fail> {
-    let net = check(alloc, parse(alloc, net)?)?;
-    let inputs = items_in(alloc, &net, items)?;
-    let outputs = list_outputs(alloc, &net)?;
-    let disks = disks_of(alloc, node_count(&net))?;
-    if disks.len() != node_count(&net) {
-        return Err("not one disk a node".into());
-    }
-    let net = Arc::new(alloc, net)?;
-    let inputs = Arc::new(alloc, inputs)?;
-    Ok(World::new(alloc, net, inputs, disks, outputs)?)
 }
 
 // The one output of the running sum, with an outlet that fails.
@@ -119,9 +101,9 @@ pub(crate) fn apply<O: Outlet>(
     }
 }
 
-// The event that is next for a node. What comes of a job is brought back at once.
-fn step<O: Outlet>(alloc: Global, world: &mut World<TestCell, O>, node: u8) -> Result<(), Fail> {
-    let event = world.pick(node);
+// The event that is next for node 0. What comes of a job is brought back at once.
+fn step<O: Outlet>(alloc: Global, world: &mut World<TestCell, O>) -> Result<(), Fail> {
+    let event = world.pick(0);
     if let Reply::Granted(job) = apply(alloc, world, event)? {
         let Ok(done) = job.run(alloc) else {
             return Err("no memory".into());
@@ -138,20 +120,7 @@ pub(crate) fn steps<O: Outlet>(
     count: usize,
 ) -> Result<(), Fail> {
     for _turn in 0..count {
-        step(alloc, world, 0)?;
-    }
-    Ok(())
-}
-
-/// So many events that are next for node 0, and as many for node 1.
-pub(crate) fn steps_of_two<O: Outlet>(
-    alloc: Global,
-    world: &mut World<TestCell, O>,
-    count: usize,
-) -> Result<(), Fail> {
-    for _turn in 0..count {
-        step(alloc, world, 0)?;
-        step(alloc, world, 1)?;
+        step(alloc, world)?;
     }
     Ok(())
 }

@@ -2,40 +2,29 @@
 use Rattle.std.specs.Prelude.{◌==◌, ℕ, nat_lt, Bool, false, ◌&&◌, not, Option, Some, None, slice_get}
 use Rattle.std.specs.List.{list_all}
 use Rattle.kahn_net.specs.Nodes.{node_count}
-use Rattle.kahn_net.specs.Syntax.{Code, Network}
+use Rattle.kahn_net.specs.Syntax.{Network}
 use Rattle.kahn_net.specs.declared.program.Channel.{Channel}
 use Rattle.kahn_net.specs.declared.program.Port.{Port}
-use Rattle.kahn_net.specs.declared.program.Port.TheVariants.{Outside, Process}
 use Rattle.datagram.specs.declared.packet.Need.{Need}
 use Rattle.datagram.specs.declared.packet.Packet.{Packet}
 use Rattle.datagram.specs.declared.packet.Body.{Body}
 use Rattle.datagram.specs.declared.packet.Body.TheVariants.{Data, Ack, Kept, Ask, Took, Covered, Refused, Query, Commit, Ended, Settled, Undone}
-use Rattle.protocol.specs.Node.Layout.{is_incoming, is_outgoing, port_on}
+use Rattle.protocol.specs.Node.Layout.{consumer_of, is_incoming, is_outgoing, node_at, port_on, producer_of}
 
--- the node of a process, 0 where there is no such process
-abbrev pub code_node : Option Code → ℕ
-code_node None = 0
-code_node (Some code) = code.node
+-- the number under which a node is addressed: 0 where there is none, to which no packet goes
+abbrev pub address : Option ℕ → ℕ
+address None = 0
+address (Some node) = node
 
--- the node of the process at an end of a channel, 0 where there is none
 abbrev pub port_node : Network → Port → ℕ
-port_node net Outside = 0
-port_node net (Process p) = code_node (slice_get net.codes p)
-
-abbrev pub producer_at : Network → Option Channel → ℕ
-producer_at net None = 0
-producer_at net (Some ends) = port_node net ends.producer
-
-abbrev pub consumer_at : Network → Option Channel → ℕ
-consumer_at net None = 0
-consumer_at net (Some ends) = port_node net ends.consumer
+port_node net port = address (node_at net port)
 
 -- the nodes from which the items of a channel come, and to which they go
 abbrev pub producer_node : Network → ℕ → ℕ
-producer_node net c = producer_at net (slice_get net.channels c)
+producer_node net c = address (producer_of net (slice_get net.channels c))
 
 abbrev pub consumer_node : Network → ℕ → ℕ
-consumer_node net c = consumer_at net (slice_get net.channels c)
+consumer_node net c = address (consumer_of net (slice_get net.channels c))
 
 abbrev pub ends_run : Network → ℕ → ℕ → Option Channel → Bool
 ends_run net from to None = false

@@ -15,7 +15,8 @@ use Rattle.turns.specs.Turns.{next_in_turn}
 use Rattle.protocol.specs.Node.JobView.{JobView}
 use Rattle.protocol.specs.Node.NodeView.{NodeView, RunningView, RunningNode, running_of, on_running}
 use Rattle.protocol.specs.Node.Granting.{source_of, room_of, job_for}
-use Rattle.protocol.specs.Node.Starting.{is_none}
+use Rattle.protocol.specs.Node.Modes.{is_none}
+use Rattle.protocol.specs.Node.Plans.{Prospect, Undue, becoming}
 use Rattle.protocol.specs.declared.links.Inbox.{Inbox}
 use Rattle.kahn_net.specs.declared.limits.TheConstants.{MAX_COUNT}
 
@@ -96,3 +97,8 @@ granted (Some job) running = record running { out = Some job; last = Some job.pr
 
 abbrev pub with_grant : Option JobView → NodeView → NodeView
 with_grant job node = on_running (granted job) node
+
+-- a job is granted where there is one to grant
+abbrev pub grant_prospect : Option JobView → NodeView → Prospect
+grant_prospect None node = Undue
+grant_prospect (Some job) node = becoming (with_grant (Some job) node)

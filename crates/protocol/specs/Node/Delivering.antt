@@ -1,5 +1,5 @@
 -- What a packet does to the node that it is for.
-use Rattle.std.specs.Prelude.{◌≡◌, ℕ, ◌==◌, ◌&&◌, nat_lt, Bool, false, IsTrue, if◌then◌else◌, List, [], ◌∷◌, ℤ, length, Option, Some, None, option_map, slice_get, slice_set}
+use Rattle.std.specs.Prelude.{ℕ, ◌==◌, ◌&&◌, nat_lt, Bool, true, false, not, if◌then◌else◌, List, [], ◌∷◌, ℤ, length, Option, Some, None, option_map, slice_get, slice_set}
 use Rattle.std.specs.List.{position_from}
 use Rattle.kahn_net.specs.Syntax.{Network}
 use Rattle.kahn_net.specs.declared.limits.TheConstants.{MAX_COUNT}
@@ -8,13 +8,14 @@ use Rattle.record.specs.Changes.{log_with}
 use Rattle.window_link.specs.Windows.{Receiver, Received, received, sender_after}
 use Rattle.window_link.specs.declared.receiving.Arrival.{Arrival}
 use Rattle.window_link.specs.declared.receiving.Arrival.TheVariants as arrival
-use Rattle.datagram.specs.PacketText.{IsPacketText}
+use Rattle.datagram.specs.Reading.{whole_at}
 use Rattle.datagram.specs.declared.packet.Packet.{Packet}
 use Rattle.datagram.specs.declared.packet.Body.{Body}
 use Rattle.datagram.specs.declared.packet.Body.TheVariants.{Data, Ack, Kept, Ask, Took, Covered, Refused, Query, Commit, Ended, Settled, Undone}
 use Rattle.protocol.specs.Node.Addresses.{names_right}
 use Rattle.protocol.specs.Node.NodeView.{NodeView, RunningView, on_running}
-use Rattle.protocol.specs.Node.Starting.{is_down}
+use Rattle.protocol.specs.Node.Modes.{is_down}
+use Rattle.protocol.specs.Node.Plans.{Prospect, becoming, if_due}
 use Rattle.protocol.specs.declared.delivery.Delivery.{Delivery}
 use Rattle.protocol.specs.declared.delivery.Delivery.TheVariants.{NotDue, Delivered, Dropped}
 use Rattle.protocol.specs.declared.links.Inbox.{Inbox}
@@ -76,19 +77,26 @@ hearing (Undone channel epoch sent) running = running
 abbrev pub heard : Body → NodeView → NodeView
 heard body node = on_running (hearing body) node
 
--- bytes that spell a packet of this network for this node
-abbrev pub IsFor : Network → ℕ → Packet → List ℕ → Type 0
-IsFor net home packet bytes = IsPacketText packet bytes × (packet.to ≡ home) × IsTrue (names_right net packet)
+-- a packet that is for this node, and names nodes and channels of this network as they run
+abbrev pub if_right : Network → ℕ → Option Packet → Option Packet
+if_right net home None = None
+if_right net home (Some packet) = if (packet.to == home) && names_right net packet then Some packet else None
 
--- The bytes spell a packet for the node, which is up, and it heard that.
-pub record HasHeard (net : Network) (home : ℕ) (bytes : List ℕ) (old new : NodeView) : Type 0 where
-  pub packet : Packet
-  pub up : is_down old.mode ≡ false
-  pub is_for : IsFor net home packet bytes
-  pub same : new ≡ heard packet.body old
+-- such a packet that these bytes spell, if they spell one
+abbrev pub packet_for : Network → ℕ → List ℕ → Option Packet
+packet_for net home bytes = if_right net home (whole_at bytes)
 
--- how bytes that come are taken: not at all by a node that is down; they are dropped where they spell no packet, or one that isn't for the node
-abbrev pub IsDelivery : Network → ℕ → List ℕ → NodeView → Delivery → NodeView → Type 0
-IsDelivery net home bytes old NotDue new = IsTrue (is_down old.mode) × (new ≡ old)
-IsDelivery net home bytes old Dropped new = (is_down old.mode ≡ false) × ((packet : Packet) → ¬ (IsFor net home packet bytes)) × (new ≡ old)
-IsDelivery net home bytes old Delivered new = HasHeard net home bytes old new
+-- the node after bytes came that spell this packet for it, or none
+abbrev pub told_by : Option Packet → NodeView → NodeView
+told_by None node = node
+told_by (Some packet) node = heard packet.body node
+
+-- bytes come to a node that is up
+abbrev pub deliver_prospect : Option Packet → NodeView → Prospect
+deliver_prospect packet node = if_due (not (is_down node.mode)) (becoming (told_by packet node))
+
+-- how they are taken: not at all by a node that is down; they are dropped where they spell no packet for it
+abbrev pub delivery_of : Bool → Option Packet → Delivery
+delivery_of true packet = NotDue
+delivery_of false None = Dropped
+delivery_of false (Some packet) = Delivered

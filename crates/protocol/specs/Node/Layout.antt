@@ -1,5 +1,6 @@
 -- What of a network lies on a node: its processes, and its ends of channels.
-use Rattle.std.specs.Prelude.{◌≡◌, ℕ, zero, suc, Bool, true, false, ◌==◌, ◌||◌, ◌&&◌, not, if◌then◌else◌, List, [], ◌∷◌, length, Option, Some, None, slice_get, IsTrue}
+use Rattle.std.specs.Prelude.{◌≡◌, ℕ, zero, suc, Bool, true, false, ◌==◌, ◌||◌, ◌&&◌, not, if◌then◌else◌}
+use Rattle.std.specs.Prelude.{List, [], ◌∷◌, length, Option, Some, None, option_map, slice_get, IsTrue}
 use Rattle.kahn_net.specs.Syntax.{Code, Network}
 use Rattle.kahn_net.specs.declared.program.Channel.{Channel}
 use Rattle.kahn_net.specs.declared.program.Port.{Port}
@@ -10,18 +11,35 @@ abbrev pub numbers_where : (ℕ → Bool) → ℕ → ℕ → List ℕ
 numbers_where test first zero = []
 numbers_where test first (suc count) = if test first then first ∷ numbers_where test (suc first) count else numbers_where test (suc first) count
 
+-- the node of the process at this end of a channel; none where the items come from outside or go there
+abbrev pub node_at : Network → Port → Option ℕ
+node_at net Outside = None
+node_at net (Process p) = option_map (λ (code : Code). code.node) (slice_get net.codes p)
+
+-- the nodes at a channel's two ends
+abbrev pub producer_of : Network → Option Channel → Option ℕ
+producer_of net None = None
+producer_of net (Some channel) = node_at net channel.producer
+
+abbrev pub consumer_of : Network → Option Channel → Option ℕ
+consumer_of net None = None
+consumer_of net (Some channel) = node_at net channel.consumer
+
+-- there is such a node, and it is this one
+abbrev pub is_node : ℕ → Option ℕ → Bool
+is_node node None = false
+is_node node (Some other) = other == node
+
 -- a process of this code is on the node
 abbrev pub is_on : ℕ → Option Code → Bool
-is_on node None = false
-is_on node (Some code) = code.node == node
+is_on node code = is_node node (option_map (λ (c : Code). c.node) code)
 
 abbrev pub has_process : Network → ℕ → ℕ → Bool
 has_process net node p = is_on node (slice_get net.codes p)
 
 -- at this end of a channel there is a process of the node
 abbrev pub port_on : Network → ℕ → Port → Bool
-port_on net node Outside = false
-port_on net node (Process p) = has_process net node p
+port_on net node port = is_node node (node_at net port)
 
 abbrev pub channel_on : Network → ℕ → Option Channel → Bool
 channel_on net node None = false

@@ -1,5 +1,5 @@
 -- What a node sends to the others.
-use Rattle.std.specs.Prelude.{ℕ, suc, max, if◌then◌else◌, List, [], ◌∷◌, ◌++◌, ℤ, take, Option, Some, None, FitsSigned}
+use Rattle.std.specs.Prelude.{ℕ, suc, max, not, if◌then◌else◌, List, [], ◌∷◌, ◌++◌, ℤ, take, Option, Some, None, FitsSigned}
 use Rattle.std.specs.List.{flat_map}
 use Rattle.kahn_net.specs.Syntax.{Network}
 use Rattle.retained.specs.LogState.{LogState, items_since}
@@ -12,7 +12,8 @@ use Rattle.datagram.specs.declared.packet.Body.{Body}
 use Rattle.datagram.specs.declared.packet.Body.TheVariants.{Data, Ack, Kept, Ask, Took, Covered, Refused, Query, Commit, Ended, Settled, Undone}
 use Rattle.protocol.specs.Node.Addresses.{producer_node, consumer_node}
 use Rattle.protocol.specs.Node.NodeView.{NodeView, RunningNode, running_of}
-use Rattle.protocol.specs.Node.Starting.{is_none}
+use Rattle.protocol.specs.Node.Modes.{is_none, is_down}
+use Rattle.protocol.specs.Node.Plans.{Prospect, if_due, telling}
 use Rattle.protocol.specs.declared.links.Inbox.{Inbox}
 use Rattle.protocol.specs.declared.links.Outbox.{Outbox}
 
@@ -54,6 +55,10 @@ packets_from net home (Some node) =
 -- what a node sends
 abbrev pub packets_of : Network → ℕ → NodeView → List Packet
 packets_of net home node = packets_from net home (running_of node)
+
+-- a node that is up sends that
+abbrev pub send_prospect : Network → ℕ → NodeView → Prospect
+send_prospect net home node = if_due (not (is_down node.mode)) (telling (packets_of net home node) node)
 
 -- an item of a packet is one of 64 bits
 abbrev pub FitsItem : Body → Type 0

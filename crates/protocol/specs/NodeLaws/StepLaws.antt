@@ -7,7 +7,8 @@ use Rattle.protocol.specs.Node.JobView.{JobView}
 use Rattle.protocol.specs.Node.NodeView.{RunningNode}
 use Rattle.protocol.specs.Node.Choosing.{after_grant}
 use Rattle.record.specs.Moves.{last_image}
-use Rattle.protocol.specs.Node.Starting.{with_own, decided, keeping}
+use Rattle.protocol.specs.Node.Starting.{with_own, decided}
+use Rattle.protocol.specs.Node.Modes.{keeping}
 use Rattle.protocol.specs.Node.Reached.{ImageStands, IsAsFar, HasReached, HasComeOn}
 use Rattle.record.specs.declared.record.Tentative.{Tentative}
 

@@ -5,7 +5,8 @@ use Rattle.record.specs.ImageView.{ImageView}
 use Rattle.record.specs.Ends.{received_of, sent_of}
 use Rattle.protocol.specs.Node.Choosing.{node_job}
 use Rattle.protocol.specs.Node.NodeView.{RunningNode, running_of}
-use Rattle.protocol.specs.Node.Starting.{is_none, is_down, may_start, may_decide}
+use Rattle.protocol.specs.Node.Starting.{may_start, may_decide}
+use Rattle.protocol.specs.Node.Modes.{is_none, is_down}
 use Rattle.record.specs.declared.image.SavedEnd.{SavedEnd}
 use Rattle.std.specs.List.{position_from}
 use Rattle.wire.specs.declared.queue.Flight.{Flight}
@@ -14,7 +15,8 @@ use Rattle.wire.specs.Traffic.{Traffic, flights_to}
 use Rattle.protocol.specs.World.Turns.{turns_of}
 use Rattle.protocol.specs.World.StationView.{StationView}
 use Rattle.protocol.specs.World.Steps.{WorldView, may_restart, next_release}
-use Rattle.protocol.specs.World.EventView.{EventView, Deliver, Grant, Send, Start, Decide, Release, Recover, Idle}
+use Rattle.protocol.specs.World.EventView.{EventView, ByNode, Release}
+use Rattle.protocol.specs.World.EventView as event
 use Rattle.protocol.specs.declared.limits.TheConstants.{MAX_GRANTS}
 
 -- a count of one of these channels is above what it is in an earlier image
@@ -51,27 +53,27 @@ due_place traffic round station = if is_down station.node.mode then None else po
 
 abbrev pub deliver_or : ℕ → Option ℕ → EventView → EventView
 deliver_or number None other = other
-deliver_or number (Some place) other = Deliver number place
+deliver_or number (Some place) other = ByNode number (event.Deliver place)
 
 -- the first that is due where no packet is: an item leaves, a job is granted (64 at most a round), a checkpoint is decided or begun, the node
 -- sends, or its turn passes
 abbrev pub own_choice : Network → List (List ℤ) → ℕ → ℕ → StationView → EventView
 own_choice net inputs nodes round station =
     if is_some (next_release round station) then Release station.number
-    else (if nat_lt (turns_of round station.turns).granted MAX_GRANTS && is_some (node_job net inputs station.node) then Grant station.number
-    else (if may_decide station.number station.node then Decide station.number
-    else (if wants_checkpoint nodes round station then Start station.number
-    else (if not (is_down station.node.mode) && not (has_sent round station) then Send station.number
-    else Idle station.number))))
+    else (if nat_lt (turns_of round station.turns).granted MAX_GRANTS && is_some (node_job net inputs station.node) then ByNode station.number event.Grant
+    else (if may_decide station.number station.node then ByNode station.number event.Decide
+    else (if wants_checkpoint nodes round station then ByNode station.number event.Start
+    else (if not (is_down station.node.mode) && not (has_sent round station) then ByNode station.number event.Send
+    else ByNode station.number event.Idle))))
 
 -- the first that is due: the node is recovered, a packet comes to it, or one of those
 abbrev pub station_choice : Network → List (List ℤ) → Traffic → ℕ → ℕ → StationView → EventView
 station_choice net inputs traffic nodes round station =
-    if may_recover (may_restart nodes) round station then Recover station.number
+    if may_recover (may_restart nodes) round station then ByNode station.number event.Recover
     else deliver_or station.number (due_place traffic round station) (own_choice net inputs nodes round station)
 
 abbrev pub choice_of : WorldView → ℕ → Option StationView → EventView
-choice_of world node None = Idle node
+choice_of world node None = ByNode node event.Idle
 choice_of world node (Some station) = station_choice world.net world.inputs world.traffic (length world.stations) world.round station
 
 -- the event that is next for this node

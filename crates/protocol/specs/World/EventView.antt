@@ -4,21 +4,31 @@ use Rattle.kahn_net.specs.Syntax.{Code}
 use Rattle.sector_disk.specs.declared.disk.ArmedFault.{ArmedFault}
 use Rattle.protocol.specs.World.DoneView.{DoneView}
 
+-- what a node does, or what is done to it, in one way: each deed has a plan
+pub data Deed : Type 0 where
+  Deliver : (place : ℕ) → Deed
+  Grant : Deed
+  Send : Deed
+  Start : Deed
+  Decide : Deed
+  Crash : (fill : ℕ) → (rounds : ℕ) → Deed
+  Recover : Deed
+  Arm : (fault : ArmedFault) → (rounds : ℕ) → Deed
+  Idle : Deed
+
+-- what the network does to a packet in flight
+pub data NetworkAct : Type 0 where
+  Lose : NetworkAct
+  Repeat : NetworkAct
+  Delay : (rounds : ℕ) → NetworkAct
+
+-- An event: a deed of a node; a turn that comes back; an item that leaves a node, if its outlet takes it; or an act of the network on the packet at
+-- a place of those in flight to a node.
 pub data EventView : Type 0 where
-  Deliver : (node : ℕ) → (place : ℕ) → EventView
-  Grant : (node : ℕ) → EventView
+  ByNode : (node : ℕ) → (deed : Deed) → EventView
   Install : (done : DoneView) → EventView
-  Send : (node : ℕ) → EventView
-  Start : (node : ℕ) → EventView
-  Decide : (node : ℕ) → EventView
   Release : (node : ℕ) → EventView
-  Crash : (node : ℕ) → (fill : ℕ) → (rounds : ℕ) → EventView
-  Recover : (node : ℕ) → EventView
-  Arm : (node : ℕ) → (fault : ArmedFault) → (rounds : ℕ) → EventView
-  Idle : (node : ℕ) → EventView
-  Lose : (node : ℕ) → (place : ℕ) → EventView
-  Repeat : (node : ℕ) → (place : ℕ) → EventView
-  Delay : (node : ℕ) → (place : ℕ) → (rounds : ℕ) → EventView
+  ByNetwork : (node : ℕ) → (place : ℕ) → (act : NetworkAct) → EventView
 
 -- the node of a process
 abbrev pub node_in : Option Code → ℕ
@@ -27,17 +37,7 @@ node_in (Some code) = code.node
 
 -- the node of an event
 abbrev pub event_node : EventView → ℕ
-event_node (Deliver k place) = k
-event_node (Grant k) = k
+event_node (ByNode k deed) = k
 event_node (Install done) = node_in done.job.code
-event_node (Send k) = k
-event_node (Start k) = k
-event_node (Decide k) = k
 event_node (Release k) = k
-event_node (Crash k fill rounds) = k
-event_node (Recover k) = k
-event_node (Arm k fault rounds) = k
-event_node (Idle k) = k
-event_node (Lose k place) = k
-event_node (Repeat k place) = k
-event_node (Delay k place rounds) = k
+event_node (ByNetwork k place act) = k

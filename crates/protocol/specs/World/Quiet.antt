@@ -12,7 +12,7 @@ use Rattle.record.specs.ImageView.{ImageView}
 use Rattle.protocol.specs.Node.NodeView.{RunningNode, running_of}
 use Rattle.record.specs.Ends.{received_of, sent_of}
 use Rattle.protocol.specs.Node.Choosing.{next_at}
-use Rattle.protocol.specs.Node.Starting.{is_none}
+use Rattle.protocol.specs.Node.Modes.{is_none}
 use Rattle.std.specs.List.{list_all}
 use Rattle.record.specs.declared.image.SavedEnd.{SavedEnd}
 use Rattle.protocol.specs.World.Invariant.{outputs_of}

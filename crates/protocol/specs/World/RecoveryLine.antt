@@ -1,63 +1,36 @@
 -- The recovery line of a world: what all nodes restart from, if they crash together. The words of the line are those of the abstract machine
--- (specs/Machine); here stands how a world is seen there, and what it is for a line to be in order.
-use Rattle.std.specs.Prelude.{◌≡◌, ℕ, ◌≤◌, List, map, length, Option, Some, None, option_map, slice_get}
+-- (the crate `recovery_line`); here stands how a world is seen there, and what it is for a line to be in order.
+use Rattle.std.specs.Prelude.{◌≡◌, ℕ, ◌≤◌, List, map, length, Option, Some, None, slice_get}
 use Rattle.kahn_net.specs.Nodes.{IsOnOneNode}
-use Rattle.kahn_net.specs.Syntax.{Code, Network}
-use Rattle.kahn_net.specs.declared.program.Channel.{Channel}
-use Rattle.kahn_net.specs.declared.program.Port.{Port}
-use Rattle.kahn_net.specs.declared.program.Port.TheVariants.{Outside, Process}
+use Rattle.kahn_net.specs.Syntax.{Network}
 use Rattle.record.specs.Ends.{base_of, received_of, sent_of}
-use Rattle.record.specs.Moves.{with_epoch}
 use Rattle.record.specs.RecordView.{RecordView}
 use Rattle.ckpt_store.specs.Spelling.{Spells, SpellsSome}
-use Rattle.protocol.specs.Node.Starting.{IsBehind, with_own_now, decided}
-use Rattle.protocol.specs.Machine.Images.{Net, IsOutput}
-use Rattle.protocol.specs.Machine.Line.{Sound, Covers, NotBehind}
-use Rattle.protocol.specs.Machine.Observers.{record_seen}
-use Rattle.protocol.specs.Machine.Records.{Record, new_record, effective}
-use Rattle.protocol.specs.World.EventView.{EventView}
-use Rattle.protocol.specs.World.EventView as event
+use Rattle.recovery_line.specs.Images.{Net, IsOutput}
+use Rattle.recovery_line.specs.Line.{Sound, Covers, NotBehind}
+use Rattle.recovery_line.specs.Observers.{record_seen}
+use Rattle.recovery_line.specs.Records.{Record, new_record, effective}
+use Rattle.protocol.specs.Node.Layout.{producer_of, consumer_of}
+use Rattle.protocol.specs.Node.Plans.{next_record}
+use Rattle.protocol.specs.Node.Starting.{IsBehind}
+use Rattle.protocol.specs.World.EventView.{EventView, ByNode, ByNetwork, Install, Release}
 use Rattle.protocol.specs.World.Invariant.{outputs_of}
 use Rattle.protocol.specs.World.OutputView.{OutputView}
 use Rattle.protocol.specs.World.RecordSound.{CoversAll}
 use Rattle.protocol.specs.World.Released.{released_of}
 use Rattle.protocol.specs.World.StationView.{StationView}
+use Rattle.protocol.specs.World.Steps.{Setting, plan_of}
 
 -- ---- the record that an event puts
 
--- The record that an event puts at a station, where it puts one: a start adds a tentative image, a decision makes it permanent, and a recovery
--- begins an epoch. No other event puts a record; with those it is the one that is kept. It is said of every station, also of one where the event
--- isn't due or is refused, so that it is all that such an event may leave, and no more than that.
-abbrev pub next_kept : EventView → StationView → RecordView
-next_kept (event.Deliver k place) station = station.node.kept
-next_kept (event.Grant k) station = station.node.kept
-next_kept (event.Install done) station = station.node.kept
-next_kept (event.Send k) station = station.node.kept
-next_kept (event.Start k) station = with_own_now station.number station.node
-next_kept (event.Decide k) station = decided station.node.kept
-next_kept (event.Release k) station = station.node.kept
-next_kept (event.Crash k fill rounds) station = station.node.kept
-next_kept (event.Recover k) station = with_epoch station.node.kept
-next_kept (event.Arm k fault rounds) station = station.node.kept
-next_kept (event.Idle k) station = station.node.kept
-next_kept (event.Lose k place) station = station.node.kept
-next_kept (event.Repeat k place) station = station.node.kept
-next_kept (event.Delay k place rounds) station = station.node.kept
+-- The record that an event puts at a station, where it puts one, and else the one that is kept: that of the plan of a deed that can happen.
+abbrev pub next_kept : Setting → EventView → StationView → RecordView
+next_kept setting (ByNode k deed) station = next_record (plan_of setting k deed station).prospect station.node.kept
+next_kept setting (Install done) station = station.node.kept
+next_kept setting (Release k) station = station.node.kept
+next_kept setting (ByNetwork k place act) station = station.node.kept
 
 -- ---- a world as the abstract machine sees it
-
--- the node of the process at this end of a channel; none where the items come from outside or go there
-abbrev pub node_at : Network → Port → Option ℕ
-node_at net Outside = None
-node_at net (Process p) = option_map (λ (code : Code). code.node) (slice_get net.codes p)
-
-abbrev pub producer_of : Network → Option Channel → Option ℕ
-producer_of net None = None
-producer_of net (Some channel) = node_at net channel.producer
-
-abbrev pub consumer_of : Network → Option Channel → Option ℕ
-consumer_of net None = None
-consumer_of net (Some channel) = node_at net channel.consumer
 
 -- the nodes at the two ends of each channel
 abbrev pub net_seen : Network → Net

@@ -1,81 +1,79 @@
 -- An event of a world, as a relation of what was before, what is answered, and what is after.
 --
--- A relation goes by cases of the event; a reply that an event never has is nowhere in its case. An event that can't happen is answered by
--- `NotDue` and changes nothing, and only such an event is. Free in it are the failures
--- of devices and outlets alone: of a device's, which of its calls failed and whether the record was put all the same, and of an outlet's,
--- whether it took the item.
+-- A deed of a node has a plan (`plan_of`): the one place in which it is said what a deed makes of its station, what is answered, and what is in
+-- flight afterwards. A turn that comes back and an item that leaves are relations of their own, since a job's turn and an outlet are free to come
+-- out as they do. An event that can't happen is answered by `NotDue` and changes nothing, and only such an event is. Free besides are the
+-- failures of devices alone: which call failed, and whether the record was put all the same.
 use Rattle.std.specs.Prelude.{◌≡◌, ◌⊎◌, ◌==◌, ℕ, ◌+◌, nat_lt, Bool, true, false, ◌&&◌, ◌||◌, not, if◌then◌else◌, ℤ, List, [], ◌∷◌, length, Option, Some, None, slice_get, slice_set, All, map, is_some}
 use Rattle.kahn_net.specs.Syntax.{Network}
 use Rattle.kahn_net.specs.declared.program.Channel.{Channel}
 use Rattle.retained.specs.LogState.{LogState}
 use Rattle.record.specs.Ends.{sent_of}
 use Rattle.record.specs.Moves.{with_epoch}
-use Rattle.protocol.specs.Node.JobView.{JobView}
 use Rattle.record.specs.RecordView.{RecordView}
-use Rattle.protocol.specs.Node.ArmedRestarts.{round_later, with_armed}
-use Rattle.protocol.specs.Node.NodeView.{NodeView}
-use Rattle.protocol.specs.Node.Choosing.{node_job, with_grant}
-use Rattle.protocol.specs.Node.Installing.{IsInstall}
-use Rattle.protocol.specs.Node.Recovering.{IsCrash, IsRecovery, IsRecoveryPut}
-use Rattle.protocol.specs.Node.Starting.{is_none, is_running, is_down, next_number, with_own_now, decided, IsStart, IsDecision, IsPut}
-use Rattle.protocol.specs.Node.Trimming.{current_log, trimmed_node, TookNext}
-use Rattle.protocol.specs.declared.putting.Putting.{Putting}
-use Rattle.protocol.specs.declared.putting.Recovery.{Recovery}
-use Rattle.protocol.specs.World.DoneView.{DoneView, IsTurnOfJob}
-use Rattle.protocol.specs.World.EventView.{EventView, event_node}
-use Rattle.protocol.specs.World.EventView as event
 use Rattle.datagram.specs.PacketText.{IsPacket, packet_text}
 use Rattle.datagram.specs.declared.packet.Packet.{Packet}
 use Rattle.wire.specs.Queue.{is_due}
 use Rattle.wire.specs.Traffic.{Traffic, all_sent, flights_to, traffic_delayed, traffic_repeated, traffic_without}
 use Rattle.wire.specs.declared.queue.Flight.{Flight}
 use Rattle.wire.specs.declared.sending.Sending.{Sending}
-use Rattle.protocol.specs.Node.Delivering.{IsDelivery}
-use Rattle.protocol.specs.Node.Sending.{packets_of}
-use Rattle.protocol.specs.declared.delivery.Delivery.{Delivery}
+use Rattle.protocol.specs.Node.ArmedRestarts.{restart_after, round_later, with_armed}
+use Rattle.protocol.specs.Node.Choosing.{node_job, grant_prospect}
+use Rattle.protocol.specs.Node.Delivering.{packet_for, deliver_prospect, delivery_of}
+use Rattle.protocol.specs.Node.Installing.{IsInstall}
+use Rattle.protocol.specs.Node.JobView.{JobView}
+use Rattle.protocol.specs.Node.Modes.{is_none, is_running, is_down, next_number}
+use Rattle.protocol.specs.Node.NodeView.{NodeView}
+use Rattle.protocol.specs.Node.Plans.{Prospect, Undue, becoming, if_due, IsMade, IsPut, room_for, packets_by}
+use Rattle.protocol.specs.Node.Recovering.{crash_prospect, recover_prospect, restored_mode}
+use Rattle.protocol.specs.Node.Sending.{send_prospect}
+use Rattle.protocol.specs.Node.Starting.{start_prospect, decide_prospect}
+use Rattle.protocol.specs.Node.Trimming.{current_log, trimmed_node, TookNext}
+use Rattle.protocol.specs.declared.outcome.Outcome.{Outcome}
+use Rattle.protocol.specs.declared.outcome.Outcome.TheVariants as outcome
+use Rattle.protocol.specs.declared.round_turns.RoundTurns.{RoundTurns}
+use Rattle.protocol.specs.World.DoneView.{DoneView, IsTurnOfJob}
+use Rattle.protocol.specs.World.EventView.{Deed, NetworkAct, EventView, ByNode, ByNetwork, Install, Release, event_node}
+use Rattle.protocol.specs.World.EventView as event
+use Rattle.protocol.specs.World.Replies.{act_reply, answer_by, back_reply, delivery_reply, grant_reply, has_happened, install_reply, outcome_of}
 use Rattle.protocol.specs.World.ReplyView.{ReplyView}
 use Rattle.protocol.specs.World.ReplyView as reply
-use Rattle.protocol.specs.World.Replies.{act_reply, delivery_reply, grant_reply, install_reply, start_reply, decision_reply, crash_reply, recovery_reply}
-use Rattle.protocol.specs.World.Turns.{turns_of, turns_granted, turns_started, count_send, count_idle}
 use Rattle.protocol.specs.World.StationView.{OutletView, StationView}
-use Rattle.protocol.specs.declared.round_turns.RoundTurns.{RoundTurns}
+use Rattle.protocol.specs.World.Turns.{turns_of, count_grant, count_start, count_send, count_idle}
 
--- One station
+-- ---- what an event finds
 
--- the same station with its node so, its device having failed so often, and what is remembered of its round
-abbrev pub moved_to : NodeView → ℕ → RoundTurns → StationView → StationView
-moved_to node failures turns station = record { number = station.number; node = node; failures = failures; outlets = station.outlets; turns = turns }
+-- a network that runs on these inputs: its stations by node number, what is in flight between them, and the round
+pub record WorldView : Type 0 where
+  pub net : Network
+  pub inputs : List (List ℤ)
+  pub stations : List StationView
+  pub traffic : Traffic
+  pub round : ℕ
 
--- the job that can be granted is, and is in the answer
-abbrev pub IsGrant : ℕ → Option JobView → StationView → ReplyView → StationView → Type 0
-IsGrant round job old answer new = (answer ≡ grant_reply job) × (new ≡ moved_to (with_grant job old.node) old.failures (turns_granted job round old.turns) old)
+-- what a station's event finds around it: the network and its inputs, what is in flight, whether nodes may restart, and the round
+pub record Setting : Type 0 where
+  pub net : Network
+  pub inputs : List (List ℤ)
+  pub traffic : Traffic
+  pub restarts : Bool
+  pub round : ℕ
 
--- what came back is a turn of its job's own code, and is taken in where it is of the job that is out
-pub record IsInstalled (channels : List Channel) (done : DoneView) (old : StationView) (answer : ReplyView) (new : StationView) : Type 0 where
-  pub turn : ∥ IsTurnOfJob done.job done.after done.taken done.sent ∥₁
-  pub applied : Bool
-  pub step : IsInstall channels done.job done.after done.taken done.sent old.node applied new.node
-  pub answers : answer ≡ install_reply applied
-  pub same : new ≡ moved_to new.node old.failures old.turns old
+-- Nodes may crash and come back in a world of so many nodes: of one alone, since the checkpoints of several aren't coordinated yet.
+abbrev pub may_restart : ℕ → Bool
+may_restart nodes = nodes == 1
 
--- a packet came to the node
-pub record IsBrought (net : Network) (bytes : List ℕ) (old : StationView) (answer : ReplyView) (new : StationView) : Type 0 where
-  pub outcome : Delivery
-  pub step : IsDelivery net old.number bytes old.node outcome new.node
-  pub answers : answer ≡ delivery_reply outcome
-  pub same : new ≡ moved_to new.node old.failures old.turns old
+abbrev pub setting_in : Network → List (List ℤ) → Traffic → Bool → ℕ → Setting
+setting_in net inputs traffic restarts round = record { net = net; inputs = inputs; traffic = traffic; restarts = restarts; round = round }
 
--- where it is due
-abbrev pub IsBroughtWhen : Bool → Network → List ℕ → StationView → ReplyView → StationView → Type 0
-IsBroughtWhen false net bytes old answer new = (answer ≡ reply.NotDue) × (new ≡ old)
-IsBroughtWhen true net bytes old answer new = IsBrought net bytes old answer new
+abbrev pub setting_of : WorldView → Setting
+setting_of world = setting_in world.net world.inputs world.traffic (may_restart (length world.stations)) world.round
 
--- and where there is one at the place
-abbrev pub IsDeliverOf : Network → ℕ → Option Flight → StationView → ReplyView → StationView → Type 0
-IsDeliverOf net round None old answer new = (answer ≡ reply.NotDue) × (new ≡ old)
-IsDeliverOf net round (Some flight) old answer new = IsBroughtWhen (is_due round flight) net flight.packet old answer new
+-- the packet at a place of those in flight to a node
+abbrev pub flight_at : Setting → ℕ → ℕ → Option Flight
+flight_at setting k place = slice_get (flights_to setting.traffic k) place
 
--- the bytes of a packet, if there is one and it is due
+-- its bytes, if there is one and it is due
 abbrev pub bytes_when : Bool → List ℕ → Option (List ℕ)
 bytes_when false bytes = None
 bytes_when true bytes = Some bytes
@@ -84,61 +82,104 @@ abbrev pub due_bytes : ℕ → Option Flight → Option (List ℕ)
 due_bytes round None = None
 due_bytes round (Some flight) = bytes_when (is_due round flight) flight.packet
 
--- an act of the network on the packet at a place leaves the stations alone
-abbrev pub IsNetworkAct : Option Flight → StationView → ReplyView → StationView → Type 0
-IsNetworkAct flight old answer new = (answer ≡ act_reply (is_some flight)) × (new ≡ old)
+-- ---- deeds
 
--- what a packet is as it is sent: its spelling, from one node to another
-abbrev pub sending_of : Packet → Sending
-sending_of packet = record { from = packet.from; to = packet.to; packet = packet_text packet }
+-- What a deed makes of its station: what it comes to at the node; what is remembered of the round then; what is answered where it is made; and
+-- the place of the packet that came, if one did, and is gone.
+pub record StationPlan : Type 0 where
+  pub prospect : Prospect
+  pub turns : RoundTurns
+  pub answer : ReplyView
+  pub came : Option ℕ
 
--- a node that is up sends, and what it sends has a spelling
-pub record IsSent (net : Network) (round : ℕ) (old : StationView) (answer : ReplyView) (new : StationView) : Type 0 where
-  pub allowed : All IsPacket (packets_of net old.number old.node)
-  pub answers : answer ≡ reply.Sent
-  pub same : new ≡ moved_to old.node old.failures (count_send (not (is_none old.node.kept.tentative)) (turns_of round old.turns)) old
+-- a deed of which nothing is remembered, and for which no packet came
+abbrev pub plainly : Prospect → ReplyView → StationView → StationPlan
+plainly prospect answer station = record { prospect = prospect; turns = station.turns; answer = answer; came = None }
 
-abbrev pub IsSendOf : Bool → Network → ℕ → StationView → ReplyView → StationView → Type 0
-IsSendOf false net round old answer new = (answer ≡ reply.NotDue) × (new ≡ old)
-IsSendOf true net round old answer new = IsSent net round old answer new
+-- one of which this is remembered
+abbrev pub noting : RoundTurns → Prospect → ReplyView → StationPlan
+noting turns prospect answer = record { prospect = prospect; turns = turns; answer = answer; came = None }
 
--- a checkpoint is begun; `fits` is what the node's cell has room for, and `call` the device call that failed, where the device did
-pub record IsBegun (fits : RecordView → Bool) (round : ℕ) (old : StationView) (answer : ReplyView) (new : StationView) : Type 0 where
-  pub outcome : Putting
+-- these bytes come, of the packet at a place
+abbrev pub deliver_plan : Network → ℕ → Option (List ℕ) → StationView → StationPlan
+deliver_plan net place None station = plainly Undue reply.NotDue station
+deliver_plan net place (Some bytes) station = record {
+  prospect = deliver_prospect (packet_for net station.number bytes) station.node;
+  turns = station.turns;
+  answer = delivery_reply (delivery_of false (packet_for net station.number bytes));
+  came = Some place;
+}
+
+abbrev pub grant_plan : Option JobView → ℕ → StationView → StationPlan
+grant_plan job round station = noting (count_grant (turns_of round station.turns)) (grant_prospect job station.node) (grant_reply job)
+
+abbrev pub send_plan : Network → ℕ → StationView → StationPlan
+send_plan net round station =
+    noting (count_send (not (is_none station.node.kept.tentative)) (turns_of round station.turns)) (send_prospect net station.number station.node) reply.Sent
+
+abbrev pub start_plan : ℕ → StationView → StationPlan
+start_plan round station = noting (count_start (turns_of round station.turns)) (start_prospect station.number station.node) reply.Started
+
+abbrev pub decide_plan : StationView → StationPlan
+decide_plan station = plainly (decide_prospect station.number station.node) reply.Decided station
+
+-- a node crashes, and comes back, where nodes may restart
+abbrev pub crash_plan : Bool → ℕ → StationView → StationPlan
+crash_plan restarts restart station = plainly (if_due restarts (crash_prospect restart station.node)) reply.Crashed station
+
+abbrev pub recover_plan : Bool → StationView → StationPlan
+recover_plan restarts station = plainly (if_due restarts (recover_prospect station.node)) (back_reply (restored_mode (with_epoch station.node.kept))) station
+
+-- a fault is armed for this device call, and for how many rounds it is to keep the node down
+abbrev pub arm_plan : ℕ → ℕ → StationView → StationPlan
+arm_plan call rounds station = plainly (becoming (with_armed call rounds station.node)) reply.Acted station
+
+abbrev pub idle_plan : ℕ → StationView → StationPlan
+idle_plan round station = noting (count_idle (turns_of round station.turns)) (becoming station.node) reply.Idled
+
+-- the plan of a deed of node k
+abbrev pub plan_of : Setting → ℕ → Deed → StationView → StationPlan
+plan_of setting k (event.Deliver place) station = deliver_plan setting.net place (due_bytes setting.round (flight_at setting k place)) station
+plan_of setting k event.Grant station = grant_plan (node_job setting.net setting.inputs station.node) setting.round station
+plan_of setting k event.Send station = send_plan setting.net setting.round station
+plan_of setting k event.Start station = start_plan setting.round station
+plan_of setting k event.Decide station = decide_plan station
+plan_of setting k (event.Crash fill rounds) station = crash_plan setting.restarts (round_later setting.round rounds) station
+plan_of setting k event.Recover station = recover_plan setting.restarts station
+plan_of setting k (event.Arm fault rounds) station = arm_plan fault.call rounds station
+plan_of setting k event.Idle station = idle_plan setting.round station
+
+-- the same station with its node so, its device having failed so often, and what is remembered of its round
+abbrev pub moved_to : NodeView → ℕ → RoundTurns → StationView → StationView
+moved_to node failures turns station = record { number = station.number; node = node; failures = failures; outlets = station.outlets; turns = turns }
+
+-- what is remembered afterwards: all of it stays where nothing happened
+abbrev pub turns_by : RoundTurns → RoundTurns → Outcome → RoundTurns
+turns_by noted turns outcome.NotDue = turns
+turns_by noted turns outcome.Made = noted
+turns_by noted turns (outcome.Refused refusal) = noted
+turns_by noted turns outcome.Failed = noted
+
+-- A deed comes out by its plan, as its answer tells. `fits` is what the node's cell has room for, and `call` the device call that failed, where
+-- the device did.
+pub record IsPlanned (fits : RecordView → Bool) (round : ℕ) (plan : StationPlan) (old : StationView) (answer : ReplyView) (new : StationView) : Type 0 where
   pub call : ℕ
-  pub step : IsStart old.number round call old.node outcome new.node
-  pub put : IsPut (fits (with_own_now old.number old.node)) old.failures new.failures outcome
-  pub answers : answer ≡ start_reply outcome
-  pub same : new ≡ moved_to new.node new.failures (turns_started outcome round old.turns) old
+  pub step : IsMade (restart_after old.node.armed call round) plan.prospect old.node (outcome_of answer) new.node
+  pub put : IsPut (room_for fits plan.prospect) old.failures new.failures (outcome_of answer)
+  pub answers : answer ≡ answer_by plan.answer (outcome_of answer)
+  -- what is sent has a spelling
+  pub allowed : All IsPacket (packets_by plan.prospect (outcome_of answer))
+  pub same : new ≡ moved_to new.node new.failures (turns_by plan.turns old.turns (outcome_of answer)) old
 
--- and decided
-pub record IsDecided (fits : RecordView → Bool) (round : ℕ) (old : StationView) (answer : ReplyView) (new : StationView) : Type 0 where
-  pub outcome : Putting
-  pub call : ℕ
-  pub step : IsDecision old.number round call old.node outcome new.node
-  pub put : IsPut (fits (decided old.node.kept)) old.failures new.failures outcome
-  pub answers : answer ≡ decision_reply outcome
-  pub same : new ≡ moved_to new.node new.failures old.turns old
+-- ---- turns that come back, and items that leave
 
--- a node that is up crashes, and may be recovered so many rounds later
-pub record IsFallen (rounds round : ℕ) (old : StationView) (answer : ReplyView) (new : StationView) : Type 0 where
-  pub was_up : Bool
-  pub step : IsCrash (round_later round rounds) old.node was_up new.node
-  pub answers : answer ≡ crash_reply was_up
+-- what came back is a turn of its job's own code, and is taken in where it is of the job that is out
+pub record IsInstalled (channels : List Channel) (done : DoneView) (old : StationView) (answer : ReplyView) (new : StationView) : Type 0 where
+  pub turn : ∥ IsTurnOfJob done.job done.after done.taken done.sent ∥₁
+  pub applied : Bool
+  pub step : IsInstall channels done.job done.after done.taken done.sent old.node applied new.node
+  pub answers : answer ≡ install_reply applied
   pub same : new ≡ moved_to new.node old.failures old.turns old
-
--- and one that is down comes back
-pub record IsBack (fits : RecordView → Bool) (round : ℕ) (old : StationView) (answer : ReplyView) (new : StationView) : Type 0 where
-  pub outcome : Recovery
-  pub call : ℕ
-  pub step : IsRecovery round call old.node outcome new.node
-  pub put : IsRecoveryPut (fits (with_epoch old.node.kept)) old.failures new.failures outcome
-  pub answers : answer ≡ recovery_reply outcome
-  pub same : new ≡ moved_to new.node new.failures old.turns old
-
--- a fault is armed for this device call, behind those armed before, and for how many rounds it is to keep the node down
-abbrev pub IsArmed : ℕ → ℕ → StationView → ReplyView → StationView → Type 0
-IsArmed call rounds old answer new = (answer ≡ reply.Acted) × (new ≡ moved_to (with_armed call rounds old.node) old.failures old.turns old)
 
 -- an outlet failed in this round
 abbrev pub has_failed_in : ℕ → Option ℕ → Bool
@@ -187,50 +228,32 @@ abbrev pub IsRelease : ℕ → Option ℕ → StationView → ReplyView → Stat
 IsRelease round None old answer new = (answer ≡ reply.NotDue) × (new ≡ old)
 IsRelease round (Some place) old answer new = IsReleaseAt round place old answer new
 
--- a node lets its turn pass
-abbrev pub IsIdle : ℕ → StationView → ReplyView → StationView → Type 0
-IsIdle round old answer new = (answer ≡ reply.Idled) × (new ≡ moved_to old.node old.failures (count_idle (turns_of round old.turns)) old)
+-- ---- one station, and all
 
--- Nodes may crash and come back in a world of so many nodes: of one alone, since the checkpoints of several aren't coordinated yet.
-abbrev pub may_restart : ℕ → Bool
-may_restart nodes = nodes == 1
+-- an event of this station, or of the network at it
+abbrev pub IsStationStep : Setting → (RecordView → Bool) → EventView → StationView → ReplyView → StationView → Type 0
+IsStationStep setting fits (ByNode k deed) old answer new = IsPlanned fits setting.round (plan_of setting k deed old) old answer new
+IsStationStep setting fits (Install done) old answer new = IsInstalled setting.net.channels done old answer new
+IsStationStep setting fits (Release k) old answer new = IsRelease setting.round (next_release setting.round old) old answer new
+IsStationStep setting fits (ByNetwork k place act) old answer new = (answer ≡ act_reply (is_some (flight_at setting k place))) × (new ≡ old)
 
--- a crash, and a recovery, where nodes may restart; else neither can happen
-abbrev pub IsCrashOf : Bool → ℕ → ℕ → StationView → ReplyView → StationView → Type 0
-IsCrashOf false rounds round old answer new = (answer ≡ reply.NotDue) × (new ≡ old)
-IsCrashOf true rounds round old answer new = IsFallen rounds round old answer new
+-- at the station of this place
+pub record IsActAt (setting : Setting) (place : ℕ) (fits : RecordView → Bool) (station : StationView) (event : EventView) (old : List StationView) (answer : ReplyView) (new : List StationView) : Type 0 where
+  pub later : StationView
+  pub step : IsStationStep setting fits event station answer later
+  pub stations : new ≡ slice_set old place later
 
-abbrev pub IsRecoverOf : Bool → (RecordView → Bool) → ℕ → StationView → ReplyView → StationView → Type 0
-IsRecoverOf false fits round old answer new = (answer ≡ reply.NotDue) × (new ≡ old)
-IsRecoverOf true fits round old answer new = IsBack fits round old answer new
+-- and where there may be none
+abbrev pub IsActOf : Setting → ℕ → Option (RecordView → Bool) → Option StationView → EventView → List StationView → ReplyView → List StationView → Type 0
+IsActOf setting place (Some fits) (Some station) event old answer new = IsActAt setting place fits station event old answer new
+IsActOf setting place (Some fits) None event old answer new = (answer ≡ reply.NotDue) × (new ≡ old)
+IsActOf setting place None station event old answer new = (answer ≡ reply.NotDue) × (new ≡ old)
 
--- An event of the node of this station, of a network that runs on these inputs, with this in flight; `fits` is what the node's cell has room
--- for, and `restarts` says whether nodes may restart
-abbrev pub IsStationStep : Network → List (List ℤ) → Traffic → (RecordView → Bool) → Bool → ℕ → EventView → StationView → ReplyView → StationView → Type 0
-IsStationStep net inputs traffic fits restarts round (event.Deliver k place) old answer new = IsDeliverOf net round (slice_get (flights_to traffic k) place) old answer new
-IsStationStep net inputs traffic fits restarts round (event.Grant k) old answer new = IsGrant round (node_job net inputs old.node) old answer new
-IsStationStep net inputs traffic fits restarts round (event.Install done) old answer new = IsInstalled net.channels done old answer new
-IsStationStep net inputs traffic fits restarts round (event.Send k) old answer new = IsSendOf (not (is_down old.node.mode)) net round old answer new
-IsStationStep net inputs traffic fits restarts round (event.Start k) old answer new = IsBegun fits round old answer new
-IsStationStep net inputs traffic fits restarts round (event.Decide k) old answer new = IsDecided fits round old answer new
-IsStationStep net inputs traffic fits restarts round (event.Release k) old answer new = IsRelease round (next_release round old) old answer new
-IsStationStep net inputs traffic fits restarts round (event.Crash k fill rounds) old answer new = IsCrashOf restarts rounds round old answer new
-IsStationStep net inputs traffic fits restarts round (event.Recover k) old answer new = IsRecoverOf restarts fits round old answer new
-IsStationStep net inputs traffic fits restarts round (event.Arm k fault rounds) old answer new = IsArmed fault.call rounds old answer new
-IsStationStep net inputs traffic fits restarts round (event.Idle k) old answer new = IsIdle round old answer new
-IsStationStep net inputs traffic fits restarts round (event.Lose k place) old answer new = IsNetworkAct (slice_get (flights_to traffic k) place) old answer new
-IsStationStep net inputs traffic fits restarts round (event.Repeat k place) old answer new = IsNetworkAct (slice_get (flights_to traffic k) place) old answer new
-IsStationStep net inputs traffic fits restarts round (event.Delay k place rounds) old answer new = IsNetworkAct (slice_get (flights_to traffic k) place) old answer new
+-- an event at the station of this place; `fits` is, of each station, what its node's cell has room for
+abbrev pub IsAct : Setting → ℕ → List (RecordView → Bool) → EventView → List StationView → ReplyView → List StationView → Type 0
+IsAct setting place fits event old answer new = IsActOf setting place (slice_get fits place) (slice_get old place) event old answer new
 
--- A world
-
--- a network that runs on these inputs: its stations by node number, what is in flight between them, and the round
-pub record WorldView : Type 0 where
-  pub net : Network
-  pub inputs : List (List ℤ)
-  pub stations : List StationView
-  pub traffic : Traffic
-  pub round : ℕ
+-- ---- the round
 
 -- a round need not wait for this node: it has idled, or it is down and not to be recovered yet, or not at all
 abbrev pub is_done_with : Bool → ℕ → StationView → Bool
@@ -242,94 +265,54 @@ are_done_with restarts round (station ∷ stations) = is_done_with restarts roun
 
 -- the round after this answer: after an idle node it advances if it need wait for nobody
 abbrev pub round_after : ReplyView → ℕ → List StationView → ℕ
-round_after reply.Delivered round stations = round
-round_after (reply.Dropped refusal) round stations = round
-round_after (reply.Granted job) round stations = round
-round_after reply.Installed round stations = round
-round_after reply.Discarded round stations = round
-round_after reply.Sent round stations = round
-round_after reply.Started round stations = round
-round_after reply.Decided round stations = round
-round_after (reply.Refused refusal) round stations = round
-round_after (reply.Released output number) round stations = round
-round_after reply.OutletFailed round stations = round
-round_after reply.Crashed round stations = round
-round_after reply.Recovered round stations = round
-round_after reply.InDoubt round stations = round
-round_after reply.Down round stations = round
-round_after reply.Acted round stations = round
 round_after reply.Idled round stations = if are_done_with (may_restart (length stations)) round stations then next_number round else round
-round_after reply.NotDue round stations = round
+round_after answer round stations = round
 
--- an event at the station of this place
-pub record IsActAt (net : Network) (inputs : List (List ℤ)) (traffic : Traffic) (place : ℕ) (fits : RecordView → Bool) (station : StationView) (round : ℕ) (event : EventView) (old : List StationView) (answer : ReplyView) (new : List StationView) : Type 0 where
-  pub later : StationView
-  pub step : IsStationStep net inputs traffic fits (may_restart (length old)) round event station answer later
-  pub stations : new ≡ slice_set old place later
+-- ---- what is in flight afterwards
 
--- and where there may be none
-abbrev pub IsActOf : Network → List (List ℤ) → Traffic → ℕ → Option (RecordView → Bool) → Option StationView → ℕ → EventView → List StationView → ReplyView → List StationView → Type 0
-IsActOf net inputs traffic place (Some fits) (Some station) round event old answer new = IsActAt net inputs traffic place fits station round event old answer new
-IsActOf net inputs traffic place (Some fits) None round event old answer new = (answer ≡ reply.NotDue) × (new ≡ old)
-IsActOf net inputs traffic place None station round event old answer new = (answer ≡ reply.NotDue) × (new ≡ old)
+-- what a packet is as it is sent: its spelling, from one node to another
+abbrev pub sending_of : Packet → Sending
+sending_of packet = record { from = packet.from; to = packet.to; packet = packet_text packet }
 
--- an event at the station of its node; `fits` is, of each station, what its node's cell has room for
-abbrev pub IsAct : Network → List (List ℤ) → Traffic → ℕ → List (RecordView → Bool) → ℕ → EventView → List StationView → ReplyView → List StationView → Type 0
-IsAct net inputs traffic place fits round event old answer new = IsActOf net inputs traffic place (slice_get fits place) (slice_get old place) round event old answer new
+-- what a station sends by a plan, as its answer tells
+abbrev pub plan_sendings : StationPlan → ReplyView → List Sending
+plan_sendings plan answer = map sending_of (packets_by plan.prospect (outcome_of answer))
 
--- What is in flight afterwards
+-- without the packet that came
+abbrev pub traffic_left : Traffic → ℕ → Option ℕ → Traffic
+traffic_left traffic k None = traffic
+traffic_left traffic k (Some place) = traffic_without traffic k place
 
--- something happened
-abbrev pub has_happened : ReplyView → Bool
-has_happened reply.Delivered = true
-has_happened (reply.Dropped refusal) = true
-has_happened (reply.Granted job) = true
-has_happened reply.Installed = true
-has_happened reply.Discarded = true
-has_happened reply.Sent = true
-has_happened reply.Started = true
-has_happened reply.Decided = true
-has_happened (reply.Refused refusal) = true
-has_happened (reply.Released output number) = true
-has_happened reply.OutletFailed = true
-has_happened reply.Crashed = true
-has_happened reply.Recovered = true
-has_happened reply.InDoubt = true
-has_happened reply.Down = true
-has_happened reply.Acted = true
-has_happened reply.Idled = true
-has_happened reply.NotDue = false
+abbrev pub traffic_acted : NetworkAct → Traffic → ℕ → ℕ → Traffic
+traffic_acted event.Lose traffic k place = traffic_without traffic k place
+traffic_acted event.Repeat traffic k place = traffic_repeated traffic k place
+traffic_acted (event.Delay rounds) traffic k place = traffic_delayed traffic k place rounds
 
--- what a station sends
-abbrev pub sendings_of : Network → Option StationView → List Sending
-sendings_of net None = []
-sendings_of net (Some station) = map sending_of (packets_of net station.number station.node)
+-- what an event that happens sends
+abbrev pub sendings_then : Setting → EventView → ReplyView → Option StationView → List Sending
+sendings_then setting (ByNode k deed) answer None = []
+sendings_then setting (ByNode k deed) answer (Some station) = plan_sendings (plan_of setting k deed station) answer
+sendings_then setting (Install done) answer station = []
+sendings_then setting (Release k) answer station = []
+sendings_then setting (ByNetwork k place act) answer station = []
 
--- what an event that happens at this station makes of what is in flight
-abbrev pub traffic_then : Network → ℕ → EventView → Option StationView → Traffic → Traffic
-traffic_then net round (event.Deliver k place) station traffic = traffic_without traffic k place
-traffic_then net round (event.Grant k) station traffic = traffic
-traffic_then net round (event.Install done) station traffic = traffic
-traffic_then net round (event.Send k) station traffic = all_sent round (sendings_of net station) traffic
-traffic_then net round (event.Start k) station traffic = traffic
-traffic_then net round (event.Decide k) station traffic = traffic
-traffic_then net round (event.Release k) station traffic = traffic
-traffic_then net round (event.Crash k fill rounds) station traffic = traffic
-traffic_then net round (event.Recover k) station traffic = traffic
-traffic_then net round (event.Arm k fault rounds) station traffic = traffic
-traffic_then net round (event.Idle k) station traffic = traffic
-traffic_then net round (event.Lose k place) station traffic = traffic_without traffic k place
-traffic_then net round (event.Repeat k place) station traffic = traffic_repeated traffic k place
-traffic_then net round (event.Delay k place rounds) station traffic = traffic_delayed traffic k place rounds
+-- what it takes away of what is in flight, or makes of it
+abbrev pub traffic_then : Setting → EventView → Option StationView → Traffic
+traffic_then setting (ByNode k deed) None = setting.traffic
+traffic_then setting (ByNode k deed) (Some station) = traffic_left setting.traffic k (plan_of setting k deed station).came
+traffic_then setting (Install done) station = setting.traffic
+traffic_then setting (Release k) station = setting.traffic
+traffic_then setting (ByNetwork k place act) station = traffic_acted act setting.traffic k place
 
--- and what this answer makes of it
-abbrev pub traffic_after : Network → ℕ → EventView → ReplyView → Option StationView → Traffic → Traffic
-traffic_after net round event answer station traffic = if has_happened answer then traffic_then net round event station traffic else traffic
+-- so all of it: without the packet that came, and with what was sent
+abbrev pub traffic_after : Setting → EventView → ReplyView → Option StationView → Traffic
+traffic_after setting event answer station =
+    if has_happened answer then all_sent setting.round (sendings_then setting event answer station) (traffic_then setting event station) else setting.traffic
 
--- One event of a world
+-- ---- one event of a world
 pub record IsStep (fits : List (RecordView → Bool)) (event : EventView) (old : WorldView) (answer : ReplyView) (new : WorldView) : Type 0 where
   pub net : new.net ≡ old.net
   pub inputs : new.inputs ≡ old.inputs
-  pub act : IsAct old.net old.inputs old.traffic (event_node event) fits old.round event old.stations answer new.stations
-  pub traffic : new.traffic ≡ traffic_after old.net old.round event answer (slice_get old.stations (event_node event)) old.traffic
+  pub act : IsAct (setting_of old) (event_node event) fits event old.stations answer new.stations
+  pub traffic : new.traffic ≡ traffic_after (setting_of old) event answer (slice_get old.stations (event_node event))
   pub round : new.round ≡ round_after answer old.round new.stations

@@ -1,8 +1,5 @@
 -- What turn-taking remembers of a node's round.
-use Rattle.std.specs.Prelude.{◌==◌, ℕ, ◌+◌, nat_lt, Bool, true, false, if◌then◌else◌, Option, Some, None}
-use Rattle.protocol.specs.Node.JobView.{JobView}
-use Rattle.protocol.specs.declared.putting.Putting.{Putting}
-use Rattle.protocol.specs.declared.putting.Putting.TheVariants as putting
+use Rattle.std.specs.Prelude.{◌==◌, ℕ, ◌+◌, nat_lt, Bool, true, false, if◌then◌else◌}
 use Rattle.protocol.specs.declared.round_turns.RoundTurns.{RoundTurns}
 use Rattle.protocol.specs.declared.limits.TheConstants.{MAX_GRANTS}
 
@@ -26,15 +23,3 @@ count_send holding turns = record { round = turns.round; granted = turns.granted
 
 abbrev pub count_idle : RoundTurns → RoundTurns
 count_idle turns = record { round = turns.round; granted = turns.granted; started = turns.started; sent = turns.sent; sent_holding = turns.sent_holding; idled = true }
-
--- where a job was granted, or none
-abbrev pub turns_granted : Option JobView → ℕ → RoundTurns → RoundTurns
-turns_granted None round turns = turns
-turns_granted (Some job) round turns = count_grant (turns_of round turns)
-
--- a start counts as that of the round unless it couldn't happen: also one that was refused, or in which the node went down
-abbrev pub turns_started : Putting → ℕ → RoundTurns → RoundTurns
-turns_started putting.NotDue round turns = turns
-turns_started putting.Stored round turns = count_start (turns_of round turns)
-turns_started (putting.Refused refusal) round turns = count_start (turns_of round turns)
-turns_started putting.Failed round turns = count_start (turns_of round turns)

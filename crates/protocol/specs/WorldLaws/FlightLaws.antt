@@ -1,8 +1,7 @@
 -- Laws of what is in flight: what holds of the node and the bytes of each packet in flight, and of each that is sent, goes on holding.
-use Rattle.std.proofs.Common.{◌≡◌, ℕ, zero, suc, Bool, true, false, cond, List, [], ◌∷◌, replicate, All, Option, unwrap_or, refl, sym, ap, subst}
-use Rattle.std.specs.Prelude.{IsTrue, slice_get, slice_set, remove, map}
+use Rattle.std.proofs.Common.{◌≡◌, ℕ, zero, suc, Bool, true, false, cond, List, [], ◌∷◌, replicate, All, Option, Some, None, unwrap_or, refl, sym, ap, subst}
+use Rattle.std.specs.Prelude.{IsTrue, slice_get, slice_set, remove}
 use Rattle.std.proofs.lemmas.List.Elements.{All-nil, All-head, All-tail}
-use Rattle.kahn_net.specs.Syntax.{Network}
 use Rattle.wire.proofs.Passing.{sent_passes, repeated_passes, delayed_passes, gone_passes}
 use Rattle.wire.specs.Queue.{with_delay, with_copy}
 use Rattle.wire.specs.Rules.{fate_of}
@@ -11,14 +10,12 @@ use Rattle.wire.specs.Wire.{nth_in}
 use Rattle.wire.specs.declared.queue.Flight.{Flight}
 use Rattle.wire.specs.declared.queue.TheConstants.{NODES}
 use Rattle.wire.specs.declared.sending.Sending.{Sending}
-use Rattle.protocol.specs.Node.NodeView.{Down, InDoubt, ModeView, Runs, running_in}
-use Rattle.protocol.specs.Node.Sending.{packets_from}
-use Rattle.protocol.specs.Node.Starting.{is_running}
-use Rattle.protocol.specs.World.EventView.{EventView, event_node}
+use Rattle.protocol.specs.World.EventView.{EventView, NetworkAct, ByNode, ByNetwork, Install, Release, event_node}
 use Rattle.protocol.specs.World.EventView as event
-use Rattle.protocol.specs.World.InFlight.{AllInFlight, AllSent, EachWasSent, NothingAtFirst, NothingIsMadeUp, OnlyRunningSend, sendings_then}
+use Rattle.protocol.specs.World.InFlight.{AllInFlight, AllSent, EachWasSent, NothingAtFirst, NothingIsMadeUp}
+use Rattle.protocol.specs.World.Replies.{has_happened}
 use Rattle.protocol.specs.World.StationView.{StationView}
-use Rattle.protocol.specs.World.Steps.{has_happened, sending_of, sendings_of, traffic_then}
+use Rattle.protocol.specs.World.Steps.{Setting, plan_of, sendings_then, setting_of, traffic_acted, traffic_left, traffic_then}
 
 abbrev nothing : QueueTraffic
 nothing = record { flights = []; counts = [] }
@@ -98,38 +95,30 @@ Passes test to packet = IsTrue (test to packet)
 pub nothing_at_first : NothingAtFirst
 nothing_at_first test = opened_holds (Passes test)
 
-then_passes : (test : ℕ → List ℕ → Bool) (net : Network) (round : ℕ) (e : EventView) (station : Option StationView) (traffic : Traffic)
-    → AllInFlight test traffic → AllSent test (sendings_then net e station) → AllInFlight test (traffic_then net round e station traffic)
-then_passes test net round (event.Deliver k place) station traffic all sent = gone_holds (Passes test) traffic k place all
-then_passes test net round (event.Grant k) station traffic all sent = all
-then_passes test net round (event.Install done) station traffic all sent = all
-then_passes test net round (event.Send k) station traffic all sent = all_sent_holds (Passes test) round (sendings_of net station) traffic all sent
-then_passes test net round (event.Start k) station traffic all sent = all
-then_passes test net round (event.Decide k) station traffic all sent = all
-then_passes test net round (event.Release k) station traffic all sent = all
-then_passes test net round (event.Crash k fill rounds) station traffic all sent = all
-then_passes test net round (event.Recover k) station traffic all sent = all
-then_passes test net round (event.Arm k fault rounds) station traffic all sent = all
-then_passes test net round (event.Idle k) station traffic all sent = all
-then_passes test net round (event.Lose k place) station traffic all sent = gone_holds (Passes test) traffic k place all
-then_passes test net round (event.Repeat k place) station traffic all sent = repeated_holds (Passes test) traffic k place all
-then_passes test net round (event.Delay k place rounds) station traffic all sent = delayed_holds (Passes test) traffic k place rounds all
+left_passes : (test : ℕ → List ℕ → Bool) (traffic : Traffic) (k : ℕ) (came : Option ℕ) → AllInFlight test traffic → AllInFlight test (traffic_left traffic k came)
+left_passes test traffic k None all = all
+left_passes test traffic k (Some place) all = gone_holds (Passes test) traffic k place all
+
+acted_passes : (test : ℕ → List ℕ → Bool) (act : NetworkAct) (traffic : Traffic) (k place : ℕ) → AllInFlight test traffic → AllInFlight test (traffic_acted act traffic k place)
+acted_passes test event.Lose traffic k place all = gone_holds (Passes test) traffic k place all
+acted_passes test event.Repeat traffic k place all = repeated_holds (Passes test) traffic k place all
+acted_passes test (event.Delay rounds) traffic k place all = delayed_holds (Passes test) traffic k place rounds all
+
+then_passes : (test : ℕ → List ℕ → Bool) (setting : Setting) (e : EventView) (station : Option StationView) → AllInFlight test setting.traffic → AllInFlight test (traffic_then setting e station)
+then_passes test setting (ByNode k deed) None all = all
+then_passes test setting (ByNode k deed) (Some station) all = left_passes test setting.traffic k (plan_of setting k deed station).came all
+then_passes test setting (Install done) station all = all
+then_passes test setting (Release k) station all = all
+then_passes test setting (ByNetwork k place act) station all = acted_passes test act setting.traffic k place all
 
 pub nothing_is_made_up : NothingIsMadeUp
-nothing_is_made_up test net round e answer station traffic all sent = at (has_happened answer) sent
+nothing_is_made_up test setting e answer station all sent = at (has_happened answer) sent
   where
-    at : (b : Bool) → AllSent test (cond b (sendings_then net e station) []) → AllInFlight test (cond b (traffic_then net round e station traffic) traffic)
+    at : (b : Bool) → AllSent test (cond b (sendings_then setting e answer station) [])
+        → AllInFlight test (cond b (all_sent setting.round (sendings_then setting e answer station) (traffic_then setting e station)) setting.traffic)
     at false sent = all
-    at true sent = then_passes test net round e station traffic all sent
+    at true sent = all_sent_holds (Passes test) setting.round (sendings_then setting e answer station) (traffic_then setting e station) (then_passes test setting e station all) sent
 
 pub each_was_sent : EachWasSent
 each_was_sent test fits e old answer new step all sent =
-    subst (AllInFlight test) (sym step.traffic) (nothing_is_made_up test old.net old.round e answer (slice_get old.stations (event_node e)) old.traffic all sent)
-
-pub only_running_send : OnlyRunningSend
-only_running_send net station none = at station.node.mode none
-  where
-    at : (mode : ModeView) → is_running mode ≡ false → map sending_of (packets_from net station.number (running_in station.node.kept station.node.version mode)) ≡ []
-    at Down none = refl
-    at InDoubt none = refl
-    at (Runs running) none = absurd (cc)
+    subst (AllInFlight test) (sym step.traffic) (nothing_is_made_up test (setting_of old) e answer (slice_get old.stations (event_node e)) all sent)

@@ -1,21 +1,16 @@
 -- What has left a station only grows by an event, and is covered at each moment of it.
-use Rattle.std.proofs.Common.{◌≡◌, ◌≢◌, ◌⊎◌, inl, inr, ℕ, zero, suc, ◌≤◌, Bool, true, false, List, ℤ, [], ◌∷◌, length, Option, Some, None, refl, sym, ap, subst, ◌∙◌, arith}
-use Rattle.std.specs.Prelude.{slice_get, slice_set, not}
+use Rattle.std.proofs.Common.{◌≡◌, ◌≢◌, ◌⊎◌, inl, inr, ℕ, zero, suc, ◌≤◌, Bool, List, [], ◌∷◌, length, Option, Some, None, refl, sym, ap, subst, ◌∙◌, arith}
+use Rattle.std.specs.Prelude.{slice_get, slice_set}
 use Rattle.std.proofs.lemmas.List.{map-set}
 use Rattle.kahn_net.specs.Streams.{IsPrefix}
 use Rattle.kahn_net.specs.Laws.Prefixes.{prefix_refl}
-use Rattle.kahn_net.specs.Syntax.{Network}
 use Rattle.record.specs.Ends.{sent_of}
 use Rattle.record.specs.ImageView.{ImageView}
-use Rattle.wire.specs.Traffic.{Traffic, flights_to}
-use Rattle.wire.specs.Queue.{is_due}
-use Rattle.wire.specs.declared.queue.Flight.{Flight}
-use Rattle.protocol.specs.Node.Starting.{is_down, IsBehind}
+use Rattle.protocol.specs.Node.Starting.{IsBehind}
 use Rattle.protocol.specs.Node.Trimming.{current_log}
 use Rattle.record.specs.RecordView.{RecordView}
 use Rattle.protocol.specs.World.Covered.{AreCovered, AreCoveredSince, LeavesAsMuch, LeavesEither}
-use Rattle.protocol.specs.World.EventView.{EventView}
-use Rattle.protocol.specs.World.EventView as event
+use Rattle.protocol.specs.World.EventView.{EventView, ByNode, ByNetwork, Install, Release}
 use Rattle.protocol.specs.World.Growing.{EachBegins}
 use Rattle.protocol.specs.WorldLaws.HandedLaws.{took_or_not, took_begins}
 use Rattle.protocol.specs.World.Invariant.{output_of, outputs_of}
@@ -26,7 +21,7 @@ use Rattle.protocol.specs.World.Pairs.{HasMoved, HasGrown}
 use Rattle.protocol.specs.World.ReplyView.{ReplyView}
 use Rattle.protocol.specs.World.RecordSound.{CoversAll}
 use Rattle.protocol.specs.World.StationView.{OutletView, StationView}
-use Rattle.protocol.specs.World.Steps.{IsBroughtWhen, IsDeliverOf, next_release, IsSendOf, IsReleaseAt, IsRelease, IsCrashOf, IsRecoverOf, IsStationStep}
+use Rattle.protocol.specs.World.Steps.{IsRelease, IsReleaseAt, IsStationStep, Setting, next_release}
 
 -- Outputs that begin with what they had
 
@@ -80,45 +75,13 @@ release_or_not : (round : ℕ) (o : Option ℕ) (old : StationView) (answer : Re
 release_or_not round None old answer new step = begins_still old new (ap (λ (s : StationView). s.outlets) step.1)
 release_or_not round (Some place) old answer new step = release_begins round place old answer new step
 
-send_begins : (net : Network) (b : Bool) (round : ℕ) (old : StationView) (answer : ReplyView) (new : StationView) → IsSendOf b net round old answer new → EachBegins (outputs_of old.outlets) (outputs_of new.outlets)
-send_begins net false round old answer new step = begins_still old new (ap (λ (s : StationView). s.outlets) step.1)
-send_begins net true round old answer new step = begins_still old new (ap (λ (s : StationView). s.outlets) step.same)
-
-brought_begins : (net : Network) (due : Bool) (bytes : List ℕ) (old : StationView) (answer : ReplyView) (new : StationView) → IsBroughtWhen due net bytes old answer new → EachBegins (outputs_of old.outlets) (outputs_of new.outlets)
-brought_begins net false bytes old answer new step = begins_still old new (ap (λ (s : StationView). s.outlets) step.1)
-brought_begins net true bytes old answer new step = begins_still old new (ap (λ (s : StationView). s.outlets) step.same)
-
-deliver_begins : (net : Network) (round : ℕ) (flight : Option Flight) (old : StationView) (answer : ReplyView) (new : StationView) → IsDeliverOf net round flight old answer new
-    → EachBegins (outputs_of old.outlets) (outputs_of new.outlets)
-deliver_begins net round None old answer new step = begins_still old new (ap (λ (s : StationView). s.outlets) step.1)
-deliver_begins net round (Some flight) old answer new step = brought_begins net (is_due round flight) flight.packet old answer new step
-
-crash_begins : (restarts : Bool) (rounds round : ℕ) (old : StationView) (answer : ReplyView) (new : StationView) → IsCrashOf restarts rounds round old answer new → EachBegins (outputs_of old.outlets) (outputs_of new.outlets)
-crash_begins false rounds round old answer new step = begins_still old new (ap (λ (s : StationView). s.outlets) step.1)
-crash_begins true rounds round old answer new step = begins_still old new (ap (λ (s : StationView). s.outlets) step.same)
-
-recovery_begins : (restarts : Bool) (room : RecordView → Bool) (round : ℕ) (old : StationView) (answer : ReplyView) (new : StationView) → IsRecoverOf restarts room round old answer new
-    → EachBegins (outputs_of old.outlets) (outputs_of new.outlets)
-recovery_begins false room round old answer new step = begins_still old new (ap (λ (s : StationView). s.outlets) step.1)
-recovery_begins true room round old answer new step = begins_still old new (ap (λ (s : StationView). s.outlets) step.same)
-
 -- whatever event happens
-pub step_begins : (net : Network) (inputs : List (List ℤ)) (traffic : Traffic) (room : RecordView → Bool) (restarts : Bool) (round : ℕ) (e : EventView) (old : StationView) (answer : ReplyView) (new : StationView)
-    → IsStationStep net inputs traffic room restarts round e old answer new → EachBegins (outputs_of old.outlets) (outputs_of new.outlets)
-step_begins net inputs traffic room restarts round (event.Deliver k place) old answer new step = deliver_begins net round (slice_get (flights_to traffic k) place) old answer new step
-step_begins net inputs traffic room restarts round (event.Grant k) old answer new step = begins_still old new (ap (λ (s : StationView). s.outlets) step.1)
-step_begins net inputs traffic room restarts round (event.Install done) old answer new step = begins_still old new (ap (λ (s : StationView). s.outlets) step.same)
-step_begins net inputs traffic room restarts round (event.Send k) old answer new step = send_begins net (not (is_down old.node.mode)) round old answer new step
-step_begins net inputs traffic room restarts round (event.Start k) old answer new step = begins_still old new (ap (λ (s : StationView). s.outlets) step.same)
-step_begins net inputs traffic room restarts round (event.Decide k) old answer new step = begins_still old new (ap (λ (s : StationView). s.outlets) step.same)
-step_begins net inputs traffic room restarts round (event.Release k) old answer new step = release_or_not round (next_release round old) old answer new step
-step_begins net inputs traffic room restarts round (event.Crash k fill rounds) old answer new step = crash_begins restarts rounds round old answer new step
-step_begins net inputs traffic room restarts round (event.Recover k) old answer new step = recovery_begins restarts room round old answer new step
-step_begins net inputs traffic room restarts round (event.Arm k fault rounds) old answer new step = begins_still old new (ap (λ (s : StationView). s.outlets) step.1)
-step_begins net inputs traffic room restarts round (event.Idle k) old answer new step = begins_still old new (ap (λ (s : StationView). s.outlets) step.1)
-step_begins net inputs traffic room restarts round (event.Lose k place) old answer new step = begins_still old new (ap (λ (s : StationView). s.outlets) step.1)
-step_begins net inputs traffic room restarts round (event.Repeat k place) old answer new step = begins_still old new (ap (λ (s : StationView). s.outlets) step.1)
-step_begins net inputs traffic room restarts round (event.Delay k place rounds) old answer new step = begins_still old new (ap (λ (s : StationView). s.outlets) step.1)
+pub step_begins : (setting : Setting) (room : RecordView → Bool) (e : EventView) (old : StationView) (answer : ReplyView) (new : StationView) → IsStationStep setting room e old answer new
+    → EachBegins (outputs_of old.outlets) (outputs_of new.outlets)
+step_begins setting room (ByNode k deed) old answer new step = begins_still old new (ap (λ (s : StationView). s.outlets) step.same)
+step_begins setting room (Install done) old answer new step = begins_still old new (ap (λ (s : StationView). s.outlets) step.same)
+step_begins setting room (Release k) old answer new step = release_or_not setting.round (next_release setting.round old) old answer new step
+step_begins setting room (ByNetwork k place act) old answer new step = begins_still old new (ap (λ (s : StationView). s.outlets) step.1)
 
 -- What a crash leaves covers what has left
 

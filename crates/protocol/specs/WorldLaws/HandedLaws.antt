@@ -12,7 +12,7 @@ use Rattle.kahn_net.specs.Syntax.{Network}
 use Rattle.record.specs.Ends.{sent_of}
 use Rattle.record.specs.RecordView.{RecordView}
 use Rattle.protocol.specs.Node.NodeView.{ModeView, Down, InDoubt, Runs, running_node, running_in}
-use Rattle.protocol.specs.Node.Starting.{is_running}
+use Rattle.protocol.specs.Node.Modes.{is_running}
 use Rattle.protocol.specs.Node.Trimming.{HasNext, TookNext, current_log, logged_at}
 use Rattle.protocol.specs.World.Invariant.{output_of, outputs_of, StationInvariant}
 use Rattle.protocol.specs.WorldLaws.LeaveLaws.{has_next}

@@ -15,79 +15,51 @@ use Rattle.record.specs.Ends.{received_at, log_at, base_in, sent_in, base_of, re
 use Rattle.record.specs.declared.image.End.{End}
 use Rattle.retained.specs.LogState.{log_end}
 use Rattle.record.specs.RecordView.{RecordView}
-use Rattle.wire.specs.Traffic.{Traffic}
-use Rattle.protocol.specs.Node.Layout.{is_on, has_process}
+use Rattle.protocol.specs.Node.Layout.{node_at, producer_of, consumer_of, is_on, has_process}
 use Rattle.protocol.specs.NodeLaws.ImageLaws.{map_got}
 use Rattle.protocol.specs.NodeLaws.InnerLaws.{inner_there}
 use Rattle.protocol.specs.NodeLaws.PlaceLaws.{node_below, some_node}
-use Rattle.protocol.specs.Node.NodeView.{ModeView, Down, InDoubt, Runs, running_in}
-use Rattle.protocol.specs.Node.Starting.{IsBehind, own_at}
-use Rattle.protocol.specs.Machine.Images.{Image, AtMost, IsOutput}
-use Rattle.protocol.specs.Machine.Line.{Sound, NotBehind}
-use Rattle.protocol.specs.Machine.Observers.{decisions_of, decides}
-use Rattle.protocol.specs.Machine.Records.{Record, Tentative, effective, chosen}
+use Rattle.protocol.specs.Node.Starting.{IsBehind}
+use Rattle.recovery_line.specs.Images.{Image, AtMost, IsOutput}
+use Rattle.recovery_line.specs.Line.{Sound, NotBehind}
+use Rattle.recovery_line.specs.Observers.{decisions_of, decides}
+use Rattle.recovery_line.specs.Records.{Record, Tentative, effective, chosen}
 use Rattle.protocol.specs.World.Covered.{LeavesEither}
-use Rattle.protocol.specs.World.EventView.{EventView}
-use Rattle.protocol.specs.World.EventView as event
+use Rattle.protocol.specs.World.EventView.{EventView, ByNode, ByNetwork, Install, Release}
 use Rattle.protocol.specs.World.Invariant.{output_of, outputs_of, AreSound, IsNumbered, StationInvariant}
 use Rattle.protocol.specs.WorldLaws.KeptLaws.{next_node, step_kept}
 use Rattle.protocol.specs.WorldLaws.OrderLaws.{behind_itself}
 use Rattle.protocol.specs.WorldLaws.OutputLaws.{map_at, output_there}
 use Rattle.protocol.specs.WorldLaws.ShownLaws.{shown_at}
 use Rattle.protocol.specs.World.OutputView.{OutputView}
-use Rattle.protocol.specs.WorldLaws.RecordLaws.{last_more, record_decided, record_epoch}
+use Rattle.protocol.specs.WorldLaws.DeedLaws.{deed_sound}
+use Rattle.protocol.specs.WorldLaws.PlanLaws.{IsSoundSetting, IsSoundStation, next_record_ahead, next_record_sound}
 use Rattle.protocol.specs.World.RecordSound.{RecordIsSound}
-use Rattle.protocol.specs.World.RecoveryLine.{next_kept, node_at, producer_of, consumer_of, net_seen, record_or_new, records_seen, outlets_seen, records_of, IsLineOf, FitsOutputs, LeavesInLine, LinesFollow}
+use Rattle.protocol.specs.World.RecoveryLine.{next_kept, net_seen, record_or_new, records_seen, outlets_seen, records_of, IsLineOf, FitsOutputs, LeavesInLine, LinesFollow}
 use Rattle.protocol.specs.World.Released.{released_of}
 use Rattle.protocol.specs.World.Sound.{is_output}
 use Rattle.protocol.specs.World.StationView.{StationView}
-use Rattle.protocol.specs.WorldLaws.StepKeeps.{own_now_kept}
-use Rattle.protocol.specs.World.Steps.{IsStationStep}
+use Rattle.protocol.specs.World.Steps.{IsStationStep, Setting, plan_of}
 use Rattle.protocol.specs.World.ReplyView.{ReplyView}
 
 -- ---- what an event may leave of one station
 
-module _ (net : Network) (inputs : List (List ℤ)) where
+module _ (setting : Setting) (sure : IsSoundSetting setting) where
   -- the record that an event puts is as sound as the one before
-  pub next_sound : (e : EventView) (old : StationView) → IsValid net → StationInvariant net inputs old → RecordIsSound net inputs (next_kept e old) (outputs_of old.outlets)
-  next_sound (event.Deliver k place) old valid inv = inv.kept
-  next_sound (event.Grant k) old valid inv = inv.kept
-  next_sound (event.Install done) old valid inv = inv.kept
-  next_sound (event.Send k) old valid inv = inv.kept
-  next_sound (event.Start k) old valid inv = own_now_kept net inputs old valid inv
-  next_sound (event.Decide k) old valid inv = record_decided net inputs (outputs_of old.outlets) old.node.kept inv.kept
-  next_sound (event.Release k) old valid inv = inv.kept
-  next_sound (event.Crash k fill rounds) old valid inv = inv.kept
-  next_sound (event.Recover k) old valid inv = record_epoch net inputs (outputs_of old.outlets) old.node.kept inv.kept
-  next_sound (event.Arm k fault rounds) old valid inv = inv.kept
-  next_sound (event.Idle k) old valid inv = inv.kept
-  next_sound (event.Lose k place) old valid inv = inv.kept
-  next_sound (event.Repeat k place) old valid inv = inv.kept
-  next_sound (event.Delay k place rounds) old valid inv = inv.kept
-
-  -- a start leaves the permanent image alone
-  own_ahead : (old : StationView) (m : ModeView) → IsBehind old.node.kept.permanent (own_at old.number old.node.kept (running_in old.node.kept old.node.version m)).permanent
-  own_ahead old Down = behind_itself old.node.kept.permanent
-  own_ahead old InDoubt = behind_itself old.node.kept.permanent
-  own_ahead old (Runs running) = behind_itself old.node.kept.permanent
+  pub next_sound : (e : EventView) (old : StationView) → IsSoundStation setting old → RecordIsSound setting.net setting.inputs (next_kept setting e old) (outputs_of old.outlets)
+  next_sound (ByNode k deed) old sound = next_record_sound setting.net setting.inputs old (plan_of setting k deed old).prospect (deed_sound setting sure old sound k deed) sound.inv
+  next_sound (Install done) old sound = sound.inv.kept
+  next_sound (Release k) old sound = sound.inv.kept
+  next_sound (ByNetwork k place act) old sound = sound.inv.kept
 
   -- and its permanent image isn't behind
-  pub next_ahead : (e : EventView) (old : StationView) → StationInvariant net inputs old → IsBehind old.node.kept.permanent (next_kept e old).permanent
-  next_ahead (event.Grant k) old inv = behind_itself old.node.kept.permanent
-  next_ahead (event.Install done) old inv = behind_itself old.node.kept.permanent
-  next_ahead (event.Send k) old inv = behind_itself old.node.kept.permanent
-  next_ahead (event.Start k) old inv = own_ahead old old.node.mode
-  next_ahead (event.Decide k) old inv = last_more net inputs (outputs_of old.outlets) old.node.kept inv.kept old.node.kept.tentative refl
-  next_ahead (event.Release k) old inv = behind_itself old.node.kept.permanent
-  next_ahead (event.Crash k fill rounds) old inv = behind_itself old.node.kept.permanent
-  next_ahead (event.Recover k) old inv = behind_itself old.node.kept.permanent
-  next_ahead (event.Arm k fault rounds) old inv = behind_itself old.node.kept.permanent
-  next_ahead (event.Idle k) old inv = behind_itself old.node.kept.permanent
-  next_ahead (event.Lose k place) old inv = behind_itself old.node.kept.permanent
-  next_ahead (event.Repeat k place) old inv = behind_itself old.node.kept.permanent
-  next_ahead (event.Delay k place rounds) old inv = behind_itself old.node.kept.permanent
-  next_ahead (event.Deliver k place) old inv = behind_itself old.node.kept.permanent
+  pub next_ahead : (e : EventView) (old : StationView) → IsSoundStation setting old → IsBehind old.node.kept.permanent (next_kept setting e old).permanent
+  next_ahead (ByNode k deed) old sound = next_record_ahead setting.net setting.inputs old (plan_of setting k deed old).prospect (deed_sound setting sure old sound k deed)
+  next_ahead (Install done) old sound = behind_itself old.node.kept.permanent
+  next_ahead (Release k) old sound = behind_itself old.node.kept.permanent
+  next_ahead (ByNetwork k place act) old sound = behind_itself old.node.kept.permanent
 
+module _ (net : Network) (inputs : List (List ℤ)) where
   fits_outputs : (kept : RecordView) (outputs : List OutputView) → RecordIsSound net inputs kept outputs → FitsOutputs net kept.node outputs kept
   fits_outputs kept outputs sound = record { undecided = sound.undecided; inside = inside; no_gap = sound.permanent.no_gap; covered = sound.covered }
     where
@@ -118,26 +90,6 @@ module _ (net : Network) (inputs : List (List ℤ)) where
               let high = here.within.to_end in
               (omega (arith, received, base, low), omega (arith, received, sent, high))
 
-  -- where nothing left, and a record is left that is the one of before or the next one
-  pub either_in_line : (e : EventView) (old new : StationView) (left : Option (List ℕ)) → IsValid net → StationInvariant net inputs old → outputs_of old.outlets ≡ outputs_of new.outlets → new.node.kept.node ≡ old.node.kept.node
-      → LeavesEither old.node.kept (next_kept e old) left → LeavesInLine net old new left
-  either_in_line e old new left valid inv same node leaves = record {
-    something = leaves.something;
-    at_first = λ kept is. fits kept (leaves.one_of kept is);
-    at_last = λ kept is. subst (λ (outputs : List OutputView). FitsOutputs net new.node.kept.node outputs kept) same (subst (λ (home : ℕ). FitsOutputs net home (outputs_of old.outlets) kept) (sym node) (fits kept (leaves.one_of kept is)));
-    not_behind = λ kept is. ahead kept (leaves.one_of kept is);
-  }
-    where
-      fits : (kept : RecordView) → (kept ≡ old.node.kept) ⊎ (kept ≡ next_kept e old) → FitsOutputs net old.node.kept.node (outputs_of old.outlets) kept
-      fits kept (inl it) = subst (FitsOutputs net old.node.kept.node (outputs_of old.outlets)) (sym it) (fits_outputs old.node.kept (outputs_of old.outlets) inv.kept)
-      fits kept (inr it) =
-          subst (FitsOutputs net old.node.kept.node (outputs_of old.outlets)) (sym it)
-          (subst (λ (home : ℕ). FitsOutputs net home (outputs_of old.outlets) (next_kept e old)) (next_node net inputs e old) (fits_outputs (next_kept e old) (outputs_of old.outlets) (next_sound e old valid inv)))
-
-      ahead : (kept : RecordView) → (kept ≡ old.node.kept) ⊎ (kept ≡ next_kept e old) → IsBehind old.node.kept.permanent kept.permanent
-      ahead kept (inl it) = subst (λ (r : RecordView). IsBehind old.node.kept.permanent r.permanent) (sym it) (behind_itself old.node.kept.permanent)
-      ahead kept (inr it) = subst (λ (r : RecordView). IsBehind old.node.kept.permanent r.permanent) (sym it) (next_ahead e old inv)
-
   -- where the record of before is left, and kept by the end
   pub same_in_line : (old new : StationView) (left : Option (List ℕ)) → StationInvariant net inputs old → StationInvariant net inputs new → new.node.kept ≡ old.node.kept → LeavesEither old.node.kept old.node.kept left → LeavesInLine net old new left
   same_in_line old new left inv later stays leaves = record {
@@ -151,14 +103,35 @@ module _ (net : Network) (inputs : List (List ℤ)) where
       it kept (inl same) = same
       it kept (inr same) = same
 
-  -- so its permanent image isn't behind
-  pub step_ahead : (traffic : Traffic) (room : RecordView → Bool) (restarts : Bool) (round : ℕ) (e : EventView) (old : StationView) (answer : ReplyView) (new : StationView) → StationInvariant net inputs old → IsStationStep net inputs traffic room restarts round e old answer new
-      → IsBehind old.node.kept.permanent new.node.kept.permanent
-  step_ahead traffic room restarts round e old answer new inv step = at (step_kept net inputs traffic room restarts round e old answer new step)
+module _ (setting : Setting) (sure : IsSoundSetting setting) where
+  -- where nothing left, and a record is left that is the one of before or the next one
+  pub either_in_line : (e : EventView) (old new : StationView) (left : Option (List ℕ)) → IsSoundStation setting old → outputs_of old.outlets ≡ outputs_of new.outlets → new.node.kept.node ≡ old.node.kept.node
+      → LeavesEither old.node.kept (next_kept setting e old) left → LeavesInLine setting.net old new left
+  either_in_line e old new left sound same node leaves = record {
+    something = leaves.something;
+    at_first = λ kept is. fits kept (leaves.one_of kept is);
+    at_last = λ kept is. subst (λ (outputs : List OutputView). FitsOutputs setting.net new.node.kept.node outputs kept) same (subst (λ (home : ℕ). FitsOutputs setting.net home (outputs_of old.outlets) kept) (sym node) (fits kept (leaves.one_of kept is)));
+    not_behind = λ kept is. ahead kept (leaves.one_of kept is);
+  }
     where
-      at : (new.node.kept ≡ old.node.kept) ⊎ (new.node.kept ≡ next_kept e old) → IsBehind old.node.kept.permanent new.node.kept.permanent
+      fits : (kept : RecordView) → (kept ≡ old.node.kept) ⊎ (kept ≡ next_kept setting e old) → FitsOutputs setting.net old.node.kept.node (outputs_of old.outlets) kept
+      fits kept (inl it) = subst (FitsOutputs setting.net old.node.kept.node (outputs_of old.outlets)) (sym it) (fits_outputs setting.net setting.inputs old.node.kept (outputs_of old.outlets) sound.inv.kept)
+      fits kept (inr it) =
+          subst (FitsOutputs setting.net old.node.kept.node (outputs_of old.outlets)) (sym it)
+          (subst (λ (home : ℕ). FitsOutputs setting.net home (outputs_of old.outlets) (next_kept setting e old)) (next_node setting sure e old sound) (fits_outputs setting.net setting.inputs (next_kept setting e old) (outputs_of old.outlets) (next_sound setting sure e old sound)))
+
+      ahead : (kept : RecordView) → (kept ≡ old.node.kept) ⊎ (kept ≡ next_kept setting e old) → IsBehind old.node.kept.permanent kept.permanent
+      ahead kept (inl it) = subst (λ (r : RecordView). IsBehind old.node.kept.permanent r.permanent) (sym it) (behind_itself old.node.kept.permanent)
+      ahead kept (inr it) = subst (λ (r : RecordView). IsBehind old.node.kept.permanent r.permanent) (sym it) (next_ahead setting sure e old sound)
+
+  -- so the permanent image that is kept in the end isn't behind
+  pub step_ahead : (room : RecordView → Bool) (e : EventView) (old : StationView) (answer : ReplyView) (new : StationView) → IsSoundStation setting old → IsStationStep setting room e old answer new
+      → IsBehind old.node.kept.permanent new.node.kept.permanent
+  step_ahead room e old answer new sound step = at (step_kept setting sure room e old answer new sound step)
+    where
+      at : (new.node.kept ≡ old.node.kept) ⊎ (new.node.kept ≡ next_kept setting e old) → IsBehind old.node.kept.permanent new.node.kept.permanent
       at (inl same) = subst (λ (r : RecordView). IsBehind old.node.kept.permanent r.permanent) (sym same) (behind_itself old.node.kept.permanent)
-      at (inr same) = subst (λ (r : RecordView). IsBehind old.node.kept.permanent r.permanent) (sym same) (next_ahead e old inv)
+      at (inr same) = subst (λ (r : RecordView). IsBehind old.node.kept.permanent r.permanent) (sym same) (next_ahead setting sure e old sound)
 
 -- ---- the line of all
 

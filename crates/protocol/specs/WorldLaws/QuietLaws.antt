@@ -32,7 +32,7 @@ use Rattle.protocol.specs.Node.NodeView.{ModeView, Down, InDoubt, Runs, RunningN
 use Rattle.record.specs.Ends.{received_of, sent_of}
 use Rattle.record.specs.declared.image.SavedEnd.{SavedEnd}
 use Rattle.protocol.specs.Node.Choosing.{next_at}
-use Rattle.protocol.specs.Node.Starting.{is_none}
+use Rattle.protocol.specs.Node.Modes.{is_none}
 use Rattle.protocol.specs.Node.Reached.{first_acts}
 use Rattle.protocol.specs.Node.Layout.{is_on, has_process}
 use Rattle.protocol.specs.NodeLaws.NumberedLaws.{where_there}

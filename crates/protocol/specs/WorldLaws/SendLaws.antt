@@ -1,6 +1,6 @@
 -- What a sound node sends is right: it may be spelled, it names what there is, and its items belong.
 use Rattle.std.proofs.Common.{◌≡◌, ◌≢◌, ◌⊎◌, inl, inr, ℕ, zero, suc, ◌+◌, ◌-◌, ◌<◌, ◌≤◌, Bool, true, false, eqb, cond, ℤ, List, [], ◌∷◌, length, take, drop, get_or, Option, Some, None, refl, sym, ap, subst, ◌∙◌, arith}
-use Rattle.std.specs.Prelude.{◌&&◌, not, All, IsTrue, slice_get}
+use Rattle.std.specs.Prelude.{◌&&◌, not, All, IsTrue, option_map, slice_get}
 use Rattle.std.specs.List.{flat_map}
 use Rattle.std.proofs.Math.Logic.{∥∥₁_map}
 use Rattle.std.proofs.lemmas.Bool.{and_parts, eqb-true, eq-eqb, ne_eqb}
@@ -22,12 +22,12 @@ use Rattle.record.specs.ImageView.{ImageView}
 use Rattle.record.specs.declared.image.End.{End}
 use Rattle.datagram.specs.declared.packet.Body.TheVariants.{Data, Ack, Kept}
 use Rattle.datagram.specs.declared.packet.Packet.{Packet}
-use Rattle.protocol.specs.Node.Addresses.{code_node, port_node, producer_node, consumer_node, producer_at, consumer_at, ends_run, runs_between, names_right}
-use Rattle.protocol.specs.Node.Layout.{is_incoming, is_on, is_outgoing, comes_in, goes_out, port_away, port_on}
+use Rattle.protocol.specs.Node.Addresses.{address, port_node, producer_node, consumer_node, ends_run, runs_between, names_right}
+use Rattle.protocol.specs.Node.Layout.{producer_of, consumer_of, is_incoming, is_on, is_outgoing, comes_in, goes_out, port_away, port_on}
 use Rattle.protocol.specs.Node.NodeView.{RunningNode}
 use Rattle.protocol.specs.Node.Reached.{InboxIsSound, LinksAreLaidOut, acts_of}
 use Rattle.protocol.specs.Node.Sending.{inbox_packets, data_packets, first_due, items_due, log_packets, outbox_packets, packets_from, IsWritable}
-use Rattle.protocol.specs.Node.Starting.{is_none}
+use Rattle.protocol.specs.Node.Modes.{is_none}
 use Rattle.protocol.specs.NodeLaws.ImageLaws.{entry_of}
 use Rattle.protocol.specs.NodeLaws.NumberedLaws.{where_mark}
 use Rattle.protocol.specs.NodeLaws.ReleaseLaws.{acts_put_prefix, log_entry, log_stands}
@@ -60,6 +60,9 @@ got_take k xs j x is = prefix_item (take k xs) xs j x (prefix_of (record { rest 
 
 -- ---- the nodes at the ends of a channel
 
+abbrev address_of : Option Code → ℕ
+address_of code = address (option_map (λ (c : Code). c.node) code)
+
 -- a process stands at one end on the node, and one at the other end on another node
 pub record IsApart (net : Network) (home : ℕ) (there : Port) : Type 0 where
   pub on : port_on net (port_node net there) there ≡ true
@@ -90,11 +93,11 @@ module _ (net : Network) (valid : IsValid net) (home : ℕ) where
       at (inr past) = (let here = within p refl in let out = past.0 in absurd (omega (arith, here, out)))
       at (inl found) =
           let code = found.0 in
-          let node : port_node net (Process p) ≡ code.node = ap code_node found.2 in
+          let node : port_node net (Process p) ≡ code.node = ap address_of found.2 in
           let off : not (eqb code.node home) ≡ true = sym (ap (λ (o : Option Code). not (is_on home o)) found.2) ∙ away in
           let below : code.node < MAX_NODES = (valid.codes p code found.2).node in
           record {
-            on = ap (λ (o : Option Code). is_on (code_node o) o) found.2 ∙ eq-eqb code.node code.node refl;
+            on = ap (λ (o : Option Code). is_on (address_of o) o) found.2 ∙ eq-eqb code.node code.node refl;
             below = omega (arith, node, below);
             home_below = home_is here on;
             apart = λ same. differs code off (same ∙ node);
@@ -134,7 +137,7 @@ module _ (net : Network) (valid : IsValid net) (home : ℕ) where
           let channel = found.0 in
           let both = and_parts (port_on net home channel.consumer) (port_away net home channel.producer) (sym (ap (comes_in net home) found.2) ∙ comes) in
           let side = is_apart channel.consumer channel.producer both.0 both.1 (λ p from. valid.producer_is_here c p channel found.2 from) in
-          let node : producer_node net c ≡ port_node net channel.producer = ap (producer_at net) found.2 in
+          let node : producer_node net c ≡ port_node net channel.producer = ap (λ (o : Option Channel). address (producer_of net o)) found.2 in
           let few = valid.channel_count in
           let there = found.1 in
           let below = side.below in
@@ -162,7 +165,7 @@ module _ (net : Network) (valid : IsValid net) (home : ℕ) where
           let both = and_parts (port_on net home channel.producer) (port_away net home channel.consumer) (sym (ap (goes_out net home) found.2) ∙ goes) in
           let side = is_apart channel.producer channel.consumer both.0 both.1 (λ p to. valid.consumer_is_here c p channel found.2 to) in
           let put = put_by channel.producer refl both.0 in
-          let node : consumer_node net c ≡ port_node net channel.consumer = ap (consumer_at net) found.2 in
+          let node : consumer_node net c ≡ port_node net channel.consumer = ap (λ (o : Option Channel). address (consumer_of net o)) found.2 in
           let few = valid.channel_count in
           let there = found.1 in
           let below = side.below in

@@ -8,7 +8,8 @@ use Rattle.protocol.specs.Node.NodeView.{RunningNode}
 use Rattle.kahn_net.specs.Approximations.{approximation}
 use Rattle.protocol.specs.Node.Reached.{InboxesStand, IsJobOf}
 use Rattle.protocol.specs.NodeLaws.LinkLaws.{links_kept}
-use Rattle.protocol.specs.Node.Starting.{with_own, keeping, decided, IsBehind}
+use Rattle.protocol.specs.Node.Starting.{with_own, decided, IsBehind}
+use Rattle.protocol.specs.Node.Modes.{keeping}
 use Rattle.protocol.specs.NodeLaws.StepLaws.{reached_start, reached_decide, reached_grant, on_start, on_decide, on_grant}
 use Rattle.protocol.specs.Node.Choosing.{next_job, after_grant}
 use Rattle.protocol.specs.NodeLaws.GrantLaws.{job_granted}

@@ -3,7 +3,7 @@ use Rattle.ckpt_codec.specs.RecordText.{IsRecord}
 use Rattle.ckpt_store.proofs.Allowed.{allowed_without}
 use Rattle.ckpt_store.proofs.changing.drop_tentative.Goals as goal
 
-pub put_record-requires-clause-record : goal.put_record-requires-clause-record
-put_record-requires-clause-record g c =
+pub put_changed-requires-clause-record : goal.put_changed-requires-clause-record
+put_changed-requires-clause-record g c =
     let kept = c.in-Some.kept in
-    subst IsRecord (sym c.give_up-held.ensures.next) (allowed_without kept (c.requires.holds kept (sym c.in-Some.ensures.value)).allowed)
+    subst IsRecord (sym c.give_up-undo.ensures.next) (allowed_without kept (c.requires.holds kept (sym c.in-Some.ensures.value)).allowed)

@@ -16,4 +16,4 @@ returns-in_err-put g c =
     let found : c.has_room.result ≡ true = search rules in
     let fits : fits_in (C.capacity old) next ≡ true = ap (λ n. has_room (C.capacity old) n) (sym c.spelled_length.ensures) ∙ sym c.has_room.ensures ∙ found in
     rw (p.1, p.2) (put_refused C next old c.put.new.self c.as_slice.result.now text fits c.requires.ready
-    put.any_moment put.same_room c.in_err-put.field-0.0 put.too_large put.unchanged put.cause)
+    put.any_moment put.same_setup c.in_err-put.field-0.0 put.too_large put.unchanged put.cause)

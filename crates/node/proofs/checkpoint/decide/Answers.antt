@@ -1,7 +1,7 @@
-use Rattle.std.proofs.Common.{ap, sym, ◌∙◌}
+use Rattle.std.proofs.Common.{refl, ap, sym, ◌∙◌}
 use Rattle.record.specs.RecordView.{RecordView}
 use Rattle.protocol.specs.Node.Starting.{own_number}
-use Rattle.node.proofs.Starts.{decide_ends, decide_kept, decide_step}
+use Rattle.node.proofs.Starts.{decide_event, decide_kept}
 use Rattle.node.proofs.checkpoint.decide.Goals as goal
 
 pub returns-clause-kept : goal.returns-clause-kept
@@ -12,18 +12,10 @@ returns-clause-kept g c =
     decide_kept C met.includes_now met.value_may_stay met.settled c.args.number c.args.round (C.failed_call c.end_put.new.store.cell) c.args.store.now c.decide-put.new.self c.end_put.new.store c.args.state.now c.end_put.new.state c.decide-put.result c.requires.kept c.end_put.ensures.stays c.end_put.ensures.failed
     c.in-Some.held c.new.result.items c.new.ensures.items (sym c.is_running.ensures ∙ c.if-not-is_running.false) own c.decide-put.ensures
 
-pub returns-clause-step : goal.returns-clause-step
-returns-clause-step g c =
+pub returns-clause-event : goal.returns-clause-event
+returns-clause-event g c =
     let C = g.C.StableCell in
     let met = g.met.C.StableCell in
     let own = ap (λ (r : RecordView). own_number c.args.number r.tentative) c.in-Ok.ensures.1 ∙ (sym c.own_number.ensures ∙ c.in-Some.is) in
-    decide_step C met.includes_now met.value_may_stay met.settled c.args.number c.args.round (C.failed_call c.end_put.new.store.cell) c.args.store.now c.decide-put.new.self c.end_put.new.store c.args.state.now c.end_put.new.state c.decide-put.result c.requires.kept c.end_put.ensures.stays c.end_put.ensures.failed
-    c.in-Some.held c.new.result.items c.new.ensures.items (sym c.is_running.ensures ∙ c.if-not-is_running.false) own c.decide-put.ensures c.end_put.result c.end_put.ensures.answer
-
-pub returns-clause-any_moment : goal.returns-clause-any_moment
-returns-clause-any_moment g c =
-    let C = g.C.StableCell in
-    let met = g.met.C.StableCell in
-    let own = ap (λ (r : RecordView). own_number c.args.number r.tentative) c.in-Ok.ensures.1 ∙ (sym c.own_number.ensures ∙ c.in-Some.is) in
-    (decide_ends C met.includes_now met.value_may_stay met.settled c.args.number c.args.round (C.failed_call c.end_put.new.store.cell) c.args.store.now c.decide-put.new.self c.end_put.new.store c.args.state.now c.end_put.new.state c.decide-put.result c.requires.kept c.end_put.ensures.stays c.end_put.ensures.failed
-    c.in-Some.held c.new.result.items c.new.ensures.items (sym c.is_running.ensures ∙ c.if-not-is_running.false) own c.decide-put.ensures).moments
+    decide_event C met.includes_now met.value_may_stay met.settled c.args.number c.args.round (C.failed_call c.end_put.new.store.cell) c.args.store.now c.decide-put.new.self c.end_put.new.store c.args.state.now c.end_put.new.state c.decide-put.result c.requires.kept c.end_put.ensures.stays c.end_put.ensures.failed
+    c.in-Some.held c.new.result.items c.new.ensures.items (sym c.is_running.ensures ∙ c.if-not-is_running.false) own c.decide-put.ensures met.fits_room met.room_is_bounded c.end_put.result c.end_put.ensures.answer refl

@@ -8,6 +8,6 @@ returns-clause-kept g c =
     crash_has g.C.StableCell c.args.number c.args.restart c.args.store.now c.crash.new.self c.args.state.now c.stop.new.self c.requires up c.crash.ensures.same c.crash.ensures.settled c.stop.ensures
 
 pub returns-clause-step : goal.returns-clause-step
-returns-clause-step g c =
+returns-clause-step g c = λ was_up.
     let up = sym c.is_down.ensures ∙ c.if-is_down.false in
-    (up, crash_step g.C.StableCell c.args.number c.args.restart c.args.store.now c.crash.new.self c.args.state.now c.stop.new.self c.requires up c.crash.ensures.same c.crash.ensures.settled c.stop.ensures)
+    crash_step g.C.StableCell c.args.number c.args.restart c.args.store.now c.crash.new.self c.args.state.now c.stop.new.self c.requires up c.crash.ensures.same c.crash.ensures.settled c.stop.ensures

@@ -1,28 +1,21 @@
-use Rattle.std.proofs.Common.{ℕ, refl, sym, ap, ◌∙◌}
-use Rattle.ckpt_store.specs.StoreView.{record_in}
-use Rattle.protocol.specs.Node.ArmedRestarts.{restart_after}
-use Rattle.node.specs.NodeView.{node_view}
-use Rattle.node.proofs.Recoveries.{came_back, failed_has, failed_step}
+use Rattle.std.proofs.Common.{sym, ◌∙◌}
+use Rattle.ckpt_store.specs.StoreView.{cell_in, record_in}
+use Rattle.ckpt_store.proofs.Room.{epoch_fits, record_fits}
+use Rattle.node.proofs.Recoveries.{not_raised}
 use Rattle.node.proofs.recover.recover.Goals as goal
 
-pub returns-in-Ok-clause-step : goal.returns-in-Ok-clause-step
-returns-in-Ok-clause-step g c =
-    let down = sym c.is_down.ensures ∙ c.if-not-is_down.false in
-    let raised = c.in-Ok.ensures.raised in
-    came_back c.args.round (g.C.StableCell.failed_call c.raise.new.store.cell) (node_view (record_in c.args.store.now) c.args.state.now) (record_in c.raise.new.store) c.come_back.result (node_view (record_in c.raise.new.store) c.come_back.new.state) down raised.2 raised.0
-    (c.come_back.ensures.state (record_in c.raise.new.store)) c.come_back.ensures.answer
-
-pub returns-in-Err-Device-clause-kept : goal.returns-in-Err-Device-clause-kept
-returns-in-Err-Device-clause-kept g c =
+pub returns-in-Err-clause-kept : goal.returns-in-Err-clause-kept
+returns-in-Err-clause-kept g c =
     let C = g.C.StableCell in
     let met = g.met.C.StableCell in
-    let down = sym c.is_down.ensures ∙ c.if-not-is_down.false in
-    failed_has C met.includes_now met.value_may_stay met.settled c.args.number c.args.round (C.failed_call c.crash.new.self.cell) c.args.store.now c.raise.new.store c.crash.new.self c.args.state.now c.requires down c.raise.ensures.any_moment c.crash.ensures.any_moment c.crash.ensures.settled
+    let old = c.args.store.now in
+    (not_raised C met.includes_now met.value_may_stay met.settled c.args.number c.args.round old c.raise.new.store c.end_put.new.store c.args.state.now c.end_put.new.state c.requires (sym c.is_down.ensures ∙ c.if-not-is_down.false)
+    (epoch_fits (C.capacity (cell_in old)) (record_in old) (record_fits C met.fits_room met.room_is_bounded met.value_may_stay old)) c.in-Err.fault c.end_put.result c.in-Err.ensures c.end_put.ensures.answer c.end_put.ensures.stays c.end_put.ensures.failed).0
 
-pub returns-in-Err-Device-clause-step : goal.returns-in-Err-Device-clause-step
-returns-in-Err-Device-clause-step g c =
+pub returns-in-Err-clause-event : goal.returns-in-Err-clause-event
+returns-in-Err-clause-event g c =
     let C = g.C.StableCell in
     let met = g.met.C.StableCell in
-    let down = sym c.is_down.ensures ∙ c.if-not-is_down.false in
-    failed_step C met.includes_now met.value_may_stay met.settled c.args.number c.args.round (C.failed_call c.crash.new.self.cell) c.args.store.now c.raise.new.store c.crash.new.self c.args.state.now c.requires down c.raise.ensures.any_moment c.crash.ensures.any_moment c.crash.ensures.settled
-    c.restart_after-state.result (c.restart_after-state.ensures ∙ ap (λ (call : ℕ). restart_after c.args.state.now.armed.items call c.args.round) c.failed_call.ensures) _ refl
+    let old = c.args.store.now in
+    (not_raised C met.includes_now met.value_may_stay met.settled c.args.number c.args.round old c.raise.new.store c.end_put.new.store c.args.state.now c.end_put.new.state c.requires (sym c.is_down.ensures ∙ c.if-not-is_down.false)
+    (epoch_fits (C.capacity (cell_in old)) (record_in old) (record_fits C met.fits_room met.room_is_bounded met.value_may_stay old)) c.in-Err.fault c.end_put.result c.in-Err.ensures c.end_put.ensures.answer c.end_put.ensures.stays c.end_put.ensures.failed).1

@@ -1,4 +1,5 @@
-use Rattle.protocol.specs.WorldLaws.FlightLaws.{each_was_sent, nothing_at_first, nothing_is_made_up, only_running_send}
+use Rattle.protocol.specs.WorldLaws.DeedLaws.{only_running_send}
+use Rattle.protocol.specs.WorldLaws.FlightLaws.{each_was_sent, nothing_at_first, nothing_is_made_up}
 use Rattle.world.proofs.laws.traffic_law.Goals as goal
 
 pub returns-clause-first : goal.returns-clause-first

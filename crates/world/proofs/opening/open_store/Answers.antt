@@ -8,19 +8,19 @@ use Rattle.world.proofs.opening.open_store.Goals as goal
 
 pub returns-clause-record : goal.returns-clause-record
 returns-clause-record g c =
-    opened_record _ c.args.kept.now c.in_ok-bytes.bytes.items c.in-Ok.cell c.in-Ok-open.store c.recount.new.self c.in-Ok-open.ensures.opens c.recount.ensures c.in_ok-bytes.ensures (c.in-Ok.ensures.formatted.holds ∙ c.as_slice.ensures.value)
+    opened_record _ c.args.kept.now c.in_ok-bytes.bytes.items c.in-Ok.cell c.in-Ok-open.store c.recount.new.self c.in-Ok-open.ensures.opens c.recount.ensures.untouched c.in_ok-bytes.ensures (c.in-Ok.ensures.formatted.holds ∙ c.as_slice.ensures.value)
 
 pub returns-clause-failures : goal.returns-clause-failures
 returns-clause-failures g c =
-    opened_failures _ c.args.kept.now c.in_ok-bytes.bytes.items c.in-Ok.cell c.in-Ok-open.store c.recount.new.self c.in-Ok-open.ensures.opens c.recount.ensures c.in-Ok-open.ensures.ready ∙ c.in-Ok.ensures.failures
+    opened_failures _ c.args.kept.now c.in_ok-bytes.bytes.items c.in-Ok.cell c.in-Ok-open.store c.recount.new.self c.in-Ok-open.ensures.opens c.recount.ensures.untouched c.in-Ok-open.ensures.ready ∙ c.in-Ok.ensures.failures
 
 pub returns-clause-holds : goal.returns-clause-holds
 returns-clause-holds g c =
-    opened_holds _ c.args.kept.now c.in_ok-bytes.bytes.items c.in-Ok.cell c.in-Ok-open.store c.recount.new.self c.in-Ok-open.ensures.opens c.recount.ensures c.in_ok-bytes.ensures (c.in-Ok.ensures.formatted.holds ∙ c.as_slice.ensures.value)
+    opened_holds _ c.args.kept.now c.in_ok-bytes.bytes.items c.in-Ok.cell c.in-Ok-open.store c.recount.new.self c.in-Ok-open.ensures.opens c.recount.ensures.untouched c.in_ok-bytes.ensures (c.in-Ok.ensures.formatted.holds ∙ c.as_slice.ensures.value)
 
 pub returns-clause-room : goal.returns-clause-room
 returns-clause-room g c =
-    opened_room _ c.args.kept.now c.in_ok-bytes.bytes.items c.in-Ok.cell c.in-Ok-open.store c.recount.new.self c.in-Ok-open.ensures.opens c.recount.ensures
+    opened_room _ c.args.kept.now c.in_ok-bytes.bytes.items c.in-Ok.cell c.in-Ok-open.store c.recount.new.self c.in-Ok-open.ensures.opens c.recount.ensures.untouched
     ∙ ap room_on c.in-Ok.ensures.setup.same_sectors
 
 pub returns-clause-fits : goal.returns-clause-fits

@@ -1,13 +1,12 @@
-use Rattle.std.proofs.Common.{rules, refl, ◌≡◌, ◌<◌, ◌∙◌, ap, sym, subst, length, map, Option, ℕ, arith}
-use Rattle.std.specs.Prelude.{IfOk, slice_set}
+use Rattle.std.proofs.Common.{rules, refl, ◌≡◌, ◌<◌, ◌≤◌, ◌∙◌, sym, subst, length, map, Option, ℕ, arith}
+use Rattle.std.specs.Prelude.{IfOk, slice_get, slice_set}
 use Rattle.std.proofs.lemmas.List.{length-map}
 use Rattle.protocol.specs.NodeLaws.PlaceLaws.{nodes_few}
 use Rattle.protocol.specs.World.EventView.{event_node}
 use Rattle.protocol.specs.World.StationView.{StationView}
-use Rattle.protocol.specs.World.Steps.{may_restart, traffic_after}
-use Rattle.protocol.specs.WorldLaws.StepKeeps.{all_here}
+use Rattle.protocol.specs.World.Steps.{setting_in, traffic_after, IsAct, Setting}
 use Rattle.wire.specs.Traffic.{traffic_of}
-use Rattle.world.specs.ReplyView.{reply_view}
+use Rattle.world.specs.ReplyView.{answer_view, reply_view}
 use Rattle.std.proofs.lemmas.Option.{slice_get_read}
 use Rattle.kahn_net.specs.Syntax.{network_of}
 use Rattle.ckpt_store.specs.Spelling.{fits_in}
@@ -18,9 +17,9 @@ use Rattle.protocol.specs.World.Pairs.{AreSameElsewhere}
 use Rattle.protocol.specs.WorldLaws.PairLaws.{elsewhere_set, on_err_map, pairs_refl, pairs_set}
 use Rattle.world.specs.WorldView.{station_view}
 use Rattle.world.specs.declared.station.Station.{Station}
-use Rattle.world.proofs.Restarts.{restarts_at}
+use Rattle.world.proofs.Restarts.{devices_at, devices_nowhere, restarts_at}
 use Rattle.world.proofs.Stations.{all_still, all_grown, all_still_in_line, all_in_line}
-use Rattle.world.proofs.Views.{acted, cell_stays, refused_at, seen_at}
+use Rattle.world.proofs.Views.{acted, cell_stays, refused_at, restarts_are, seen_at, sound_at}
 use Rattle.world.proofs.world.act_at.Goals as goal
 
 pub act-requires : goal.act-requires
@@ -54,22 +53,22 @@ pub returns-clause-grown : goal.returns-clause-grown
 returns-clause-grown g c =
     let net = c.args.net.now.value in
     let x = c.index_mut.result.now in
-    all_grown {cell = g.C.StableCell} g.O.Outlet.taken g.O.Outlet.failures g.met.C.StableCell.only_now (network_of net.program) c.args.inputs.now net.valid c.requires.fits (traffic_of c.args.wire.now) c.requires.flying (fits_in (g.C.StableCell.capacity (cell_in x.node.store))) c.may_restart-restarts.result c.args.round (event_view c.args.event.now) c.args.stations.now.items c.args.number x _ c.act.result
-    (λ alone. all_here (network_of net.program) (map (station_view g.O.Outlet.taken g.O.Outlet.failures) c.args.stations.now.items) (length-map c.args.stations.now.items (station_view g.O.Outlet.taken g.O.Outlet.failures) ∙ c.requires.count) c.requires.numbered c.args.number (station_view g.O.Outlet.taken g.O.Outlet.failures x)
-    (seen_at (station_view g.O.Outlet.taken g.O.Outlet.failures) c.args.stations.now.items c.args.number x (search rules) c.index_mut.ensures.value)
-    (let many : c.len-2.result ≡ length c.args.stations.now.items = search rules in
-    ap may_restart (length-map c.args.stations.now.items (station_view g.O.Outlet.taken g.O.Outlet.failures) ∙ sym many) ∙ (sym c.may_restart-restarts.ensures ∙ alone)))
+    let view = station_view {cell = g.C.StableCell} g.O.Outlet.taken g.O.Outlet.failures in
+    all_grown {cell = g.C.StableCell} g.O.Outlet.taken g.O.Outlet.failures g.met.C.StableCell.only_now (setting_in (network_of net.program) c.args.inputs.now (traffic_of c.args.wire.now) c.may_restart-restarts.result c.args.round)
+    (record { valid = net.valid; fits = c.requires.fits; traffic = c.requires.flying }) (fits_in (g.C.StableCell.capacity (cell_in x.node.store))) (event_view c.args.event.now) c.args.stations.now.items c.args.number x _ c.act.result
+    (sound_at view (network_of net.program) c.args.inputs.now (traffic_of c.args.wire.now) c.args.stations.now.items c.args.number x c.may_restart-restarts.result c.len-2.result c.args.round
+    c.may_restart-restarts.ensures (search rules) (length-map c.args.stations.now.items view ∙ c.requires.count) c.requires.numbered c.requires.sound (search rules) c.index_mut.ensures.value)
     c.requires.sound (search rules) c.index_mut.ensures.value c.act.ensures.moved c.act.ensures.step (on_err_map c.act.result c.act.ensures.refused (λ same. same.0))
 
 pub returns-clause-line : goal.returns-clause-line
 returns-clause-line g c =
     let net = c.args.net.now.value in
     let x = c.index_mut.result.now in
-    all_in_line {cell = g.C.StableCell} g.O.Outlet.taken g.O.Outlet.failures g.met.C.StableCell.only_now (network_of net.program) c.args.inputs.now net.valid c.requires.fits (traffic_of c.args.wire.now) c.requires.flying (fits_in (g.C.StableCell.capacity (cell_in x.node.store))) c.may_restart-restarts.result c.args.round (event_view c.args.event.now) c.args.stations.now.items c.args.number x _ c.act.result
-    (λ alone. all_here (network_of net.program) (map (station_view g.O.Outlet.taken g.O.Outlet.failures) c.args.stations.now.items) (length-map c.args.stations.now.items (station_view g.O.Outlet.taken g.O.Outlet.failures) ∙ c.requires.count) c.requires.numbered c.args.number (station_view g.O.Outlet.taken g.O.Outlet.failures x)
-    (seen_at (station_view g.O.Outlet.taken g.O.Outlet.failures) c.args.stations.now.items c.args.number x (search rules) c.index_mut.ensures.value)
-    (let many : c.len-2.result ≡ length c.args.stations.now.items = search rules in
-    ap may_restart (length-map c.args.stations.now.items (station_view g.O.Outlet.taken g.O.Outlet.failures) ∙ sym many) ∙ (sym c.may_restart-restarts.ensures ∙ alone)))
+    let view = station_view {cell = g.C.StableCell} g.O.Outlet.taken g.O.Outlet.failures in
+    all_in_line {cell = g.C.StableCell} g.O.Outlet.taken g.O.Outlet.failures g.met.C.StableCell.only_now (setting_in (network_of net.program) c.args.inputs.now (traffic_of c.args.wire.now) c.may_restart-restarts.result c.args.round)
+    (record { valid = net.valid; fits = c.requires.fits; traffic = c.requires.flying }) (fits_in (g.C.StableCell.capacity (cell_in x.node.store))) (event_view c.args.event.now) c.args.stations.now.items c.args.number x _ c.act.result
+    (sound_at view (network_of net.program) c.args.inputs.now (traffic_of c.args.wire.now) c.args.stations.now.items c.args.number x c.may_restart-restarts.result c.len-2.result c.args.round
+    c.may_restart-restarts.ensures (search rules) (length-map c.args.stations.now.items view ∙ c.requires.count) c.requires.numbered c.requires.sound (search rules) c.index_mut.ensures.value)
     c.requires.sound (search rules) c.index_mut.ensures.value c.act.ensures.moved c.act.ensures.step (on_err_map c.act.result c.act.ensures.refused (λ same. same.0))
 
 pub returns-clause-refused : goal.returns-clause-refused
@@ -78,11 +77,15 @@ returns-clause-refused g c =
 
 pub returns-clause-step : goal.returns-clause-step
 returns-clause-step g c =
-    acted (network_of c.args.net.now.value.program) c.args.inputs.now (traffic_of c.args.wire.now) (station_view g.O.Outlet.taken g.O.Outlet.failures) (λ (station : Station g.row.C.Denot g.row.O.Denot g.C.StableCell). fits_in (g.C.StableCell.capacity (cell_in station.node.store)))
-    c.may_restart-restarts.result c.args.round (event_view c.args.event.now) c.args.stations.now.items c.args.number c.index_mut.result.now _ c.act.result c.len-2.result c.may_restart-restarts.ensures (search rules) (search rules) c.index_mut.ensures.value c.act.ensures.step
+    let net = network_of c.args.net.now.value.program in
+    let view = station_view {cell = g.C.StableCell} g.O.Outlet.taken g.O.Outlet.failures in
+    let room = λ (station : Station g.row.C.Denot g.row.O.Denot g.C.StableCell). fits_in (g.C.StableCell.capacity (cell_in station.node.store)) in
+    subst (λ (setting : Setting). IfOk c.act.result (λ reply. IsAct setting c.args.number (map room c.args.stations.now.items) (event_view c.args.event.now) (map view c.args.stations.now.items) (reply_view reply) (map view (slice_set c.args.stations.now.items c.args.number c.act.new.self))))
+    (restarts_are net c.args.inputs.now (traffic_of c.args.wire.now) c.args.stations.now.items c.may_restart-restarts.result c.len-2.result c.args.round c.may_restart-restarts.ensures (search rules))
+    (acted (setting_in net c.args.inputs.now (traffic_of c.args.wire.now) c.may_restart-restarts.result c.args.round) view room (event_view c.args.event.now) c.args.stations.now.items c.args.number c.index_mut.result.now _ c.act.result (search rules) c.index_mut.ensures.value c.act.ensures.step)
 
-pub returns-clause-same_rooms : goal.returns-clause-same_rooms
-returns-clause-same_rooms g c =
+pub returns-clause-same_capacities : goal.returns-clause-same_capacities
+returns-clause-same_capacities g c =
     set_keeps (λ (station : Station g.row.C.Denot g.row.O.Denot g.C.StableCell). g.C.StableCell.capacity (cell_in station.node.store)) c.args.stations.now.items c.args.number c.index_mut.result.now _
     (slice_get_read c.args.stations.now.items _ c.args.number c.index_mut.result.now refl (search rules) c.index_mut.ensures.value) c.act.ensures.same_room
 
@@ -91,8 +94,12 @@ returns-clause-unchanged g c = λ leaves. pairs_set _ _ _ c.index_mut.result.now
 
 pub returns-clause-traffic : goal.returns-clause-traffic
 returns-clause-traffic g c =
-    let there = seen_at (station_view g.O.Outlet.taken g.O.Outlet.failures) c.args.stations.now.items c.args.number c.index_mut.result.now (search rules) c.index_mut.ensures.value in
-    subst (λ (station : Option StationView). IfOk c.act.result (λ reply. traffic_of c.act.new.wire ≡ traffic_after (network_of c.args.net.now.value.program) c.args.round (event_view c.args.event.now) (reply_view reply) station (traffic_of c.args.wire.now))) (sym there) c.act.ensures.traffic
+    let net = network_of c.args.net.now.value.program in
+    let view = station_view {cell = g.C.StableCell} g.O.Outlet.taken g.O.Outlet.failures in
+    let there = seen_at view c.args.stations.now.items c.args.number c.index_mut.result.now (search rules) c.index_mut.ensures.value in
+    subst (λ (setting : Setting). IfOk c.act.result (λ reply. traffic_of c.act.new.wire ≡ traffic_after setting (event_view c.args.event.now) (reply_view reply) (slice_get (map view c.args.stations.now.items) c.args.number)))
+    (restarts_are net c.args.inputs.now (traffic_of c.args.wire.now) c.args.stations.now.items c.may_restart-restarts.result c.len-2.result c.args.round c.may_restart-restarts.ensures (search rules))
+    (subst (λ (station : Option StationView). IfOk c.act.result (λ reply. traffic_of c.act.new.wire ≡ traffic_after (setting_in net c.args.inputs.now (traffic_of c.args.wire.now) c.may_restart-restarts.result c.args.round) (event_view c.args.event.now) (reply_view reply) station)) (sym there) c.act.ensures.traffic)
 
 pub returns-clause-others : goal.returns-clause-others
 returns-clause-others g c =
@@ -100,6 +107,13 @@ returns-clause-others g c =
 
 pub returns-clause-armed : goal.returns-clause-armed
 returns-clause-armed g c =
-    let x = c.index_mut.result.now in
-    restarts_at c.args.round g.O.Outlet.taken g.O.Outlet.failures (network_of c.args.net.now.value.program) c.args.inputs.now (traffic_of c.args.wire.now) (fits_in (g.C.StableCell.capacity (cell_in x.node.store))) c.may_restart-restarts.result (event_view c.args.event.now)
-    c.args.stations.now.items c.args.number (event_node (event_view c.args.event.now)) x c.act.new.self c.act.result c.requires.at (search rules) c.index_mut.ensures.value c.act.ensures.step c.act.ensures.armed
+    restarts_at c.args.round c.args.stations.now.items c.args.number (event_node (event_view c.args.event.now)) c.index_mut.result.now c.act.new.self c.act.result c.requires.at (search rules) c.index_mut.ensures.value c.act.ensures.armed
+
+pub returns-clause-device : goal.returns-clause-device
+returns-clause-device g c =
+    devices_at (event_view c.args.event.now) (answer_view c.act.result) c.args.stations.now.items c.args.number (event_node (event_view c.args.event.now)) c.index_mut.result.now c.act.new.self c.requires.at (search rules) c.index_mut.ensures.value c.act.ensures.device
+
+pub returns-then-number-len-clause-device : goal.returns-then-number-len-clause-device
+returns-then-number-len-clause-device g c =
+    let out : length c.args.stations.now.items ≤ c.args.number = search rules in
+    devices_nowhere (event_view c.args.event.now) _ c.args.stations.now.items c.args.number (event_node (event_view c.args.event.now)) c.requires.at out

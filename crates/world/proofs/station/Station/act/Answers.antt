@@ -1,4 +1,4 @@
-use Rattle.std.proofs.Common.{sym, subst}
+use Rattle.std.proofs.Common.{sym, subst, ap}
 use Rattle.kahn_net.specs.Syntax.{network_of}
 use Rattle.net_check.specs.declared.net.Net.{Net}
 use Rattle.protocol.specs.Node.Installing.{TakesTurn}
@@ -6,9 +6,15 @@ use Rattle.protocol.specs.WorldLaws.ActLaws.{takes_turn, like_now}
 use Rattle.world.specs.DoneView.{done_view}
 use Rattle.std.specs.Prelude.{All}
 use Rattle.protocol.specs.Node.Sending.{packets_of, IsWritable}
-use Rattle.protocol.specs.WorldLaws.StepKeeps.{station_writable}
+use Rattle.protocol.specs.WorldLaws.PlanLaws.{station_writable}
 use Rattle.protocol.specs.WorldLaws.HandedLaws.{next_there}
+use Rattle.ckpt_store.specs.Spelling.{fits_in}
+use Rattle.ckpt_store.specs.StoreView.{cell_in}
+use Rattle.protocol.specs.World.Steps.{setting_in}
+use Rattle.wire.specs.Traffic.{traffic_of}
+use Rattle.world.specs.EventView.{event_view}
 use Rattle.world.specs.WorldView.{station_view}
+use Rattle.world.proofs.Planned.{delivered_in}
 use Rattle.world.proofs.station.Station.act.Goals as goal
 
 pub install-requires : goal.install-requires
@@ -33,3 +39,10 @@ send-requires g c =
     let was = station_view g.O.Outlet.taken g.O.Outlet.failures c.args.self.now in
     subst (λ (n : Net). All IsWritable (packets_of (network_of n.program) was.number was.node)) (sym c.deref-in-Send.ensures)
     (station_writable (network_of net.program) c.args.inputs.now net.valid was c.requires.sound c.requires.named)
+
+pub returns-in-Deliver-clause-traffic : goal.returns-in-Deliver-clause-traffic
+returns-in-Deliver-clause-traffic g c =
+    let was = station_view {cell = g.C.StableCell} g.O.Outlet.taken g.O.Outlet.failures c.args.self.now in
+    let setting = setting_in (network_of c.args.net.now.value.program) c.args.inputs.now (traffic_of c.args.wire.now) c.args.restarts c.args.round in
+    delivered_in (fits_in (g.C.StableCell.capacity (cell_in c.args.self.now.node.store))) setting c.in-Deliver.node c.in-Deliver.place (network_of c.deref.result.now.program) (event_view c.args.event.now) was _
+    (traffic_of c.deliver.new.wire) c.deliver.result (ap (λ (n : Net). network_of n.program) c.deref.ensures) (ap event_view c.in-Deliver.is) c.deliver.ensures.step c.deliver.ensures.traffic

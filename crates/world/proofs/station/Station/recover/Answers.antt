@@ -1,37 +1,38 @@
-use Rattle.std.proofs.Common.{◌≡◌, refl, sym, ap, ◌∙◌}
+use Rattle.std.proofs.Common.{true, ap, ◌∙◌}
+use Rattle.ckpt_store.specs.Spelling.{fits_in}
 use Rattle.ckpt_store.specs.StoreView.{cell_in}
-use Rattle.protocol.specs.declared.putting.Recovery.{Recovery}
-use Rattle.protocol.specs.declared.putting.Recovery.TheVariants as recovery
-use Rattle.protocol.specs.World.Replies.{recovery_reply}
-use Rattle.protocol.specs.World.ReplyView.{NotDue}
 use Rattle.node.specs.NodeOf.{view_of}
-use Rattle.protocol.specs.WorldLaws.DownLaws.{recovery_restarts}
+use Rattle.node.specs.NodeView.{mode_view}
+use Rattle.protocol.specs.Node.ArmedRestarts.{restart_after}
+use Rattle.protocol.specs.World.Replies.{answer_by, back_reply}
+use Rattle.protocol.specs.World.ReplyView.{ReplyView}
+use Rattle.protocol.specs.World.Steps.{recover_plan}
+use Rattle.protocol.specs.WorldLaws.DeedLaws.{recover_sends}
+use Rattle.world.specs.WorldView.{station_view}
 use Rattle.world.proofs.Cells.{through}
+use Rattle.world.proofs.Planned.{back_made, back_mode, planned, seen_moved, turns_kept}
 use Rattle.world.proofs.station.Station.recover.Goals as goal
 
 pub returns-in-Err-clause-leaves : goal.returns-in-Err-clause-leaves
 returns-in-Err-clause-leaves g c =
     let was = c.args.self.now in
-    let C = g.C.StableCell in
-    through C was.node.store c.recover.new.self.store was.node.kept.settled _ c.recover.ensures.any_moment
+    through g.C.StableCell was.node.store c.recover.new.self.store was.node.kept.settled _ c.recover.ensures.event.any_moment
 
 pub returns-in-Ok-clause-leaves : goal.returns-in-Ok-clause-leaves
 returns-in-Ok-clause-leaves g c =
     let was = c.args.self.now in
-    let C = g.C.StableCell in
-    through C was.node.store c.recover.new.self.store was.node.kept.settled _ c.recover.ensures.any_moment
+    through g.C.StableCell was.node.store c.recover.new.self.store was.node.kept.settled _ c.recover.ensures.event.any_moment
 
-was_up : (outcome : Recovery) → recovery_reply outcome ≡ NotDue → outcome ≡ recovery.NotDue
-was_up recovery.NotDue is = refl
-was_up recovery.Recovered is = absurd (cc)
-was_up recovery.Waiting is = absurd (cc)
-was_up (recovery.Refused refusal) is = absurd (cc)
-was_up recovery.Failed is = absurd (cc)
-
-pub returns-in-Ok-clause-unchanged : goal.returns-in-Ok-clause-unchanged
-returns-in-Ok-clause-unchanged g c = λ not_due. ap cell_in (c.in-Ok.ensures.unchanged (was_up c.in-Ok.recovery (sym c.recovery_reply.ensures ∙ not_due)))
-
-pub returns-in-Ok-clause-armed : goal.returns-in-Ok-clause-armed
-returns-in-Ok-clause-armed g c = λ down.
-    recovery_restarts c.args.round (g.C.StableCell.failed_call (cell_in c.recover.new.self.store)) (view_of c.args.self.now.node) c.in-Ok.recovery (view_of c.recover.new.self) c.in-Ok.ensures.step
-    (sym c.recovery_reply.ensures ∙ down)
+pub returns-in-Ok-clause-step : goal.returns-in-Ok-clause-step
+returns-in-Ok-clause-step g c =
+    let was = c.args.self.now in
+    let cell = g.C.StableCell in
+    let call = cell.failed_call (cell_in c.recover.new.self.store) in
+    let seen = station_view g.O.Outlet.taken g.O.Outlet.failures was in
+    let came = c.in-Ok.outcome in
+    let event = c.in-Ok.ensures.event in
+    let mode = mode_view c.recover.new.self.state.mode in
+    planned (fits_in (cell.capacity (cell_in was.node.store))) c.args.round (recover_plan true seen) seen _ call came _ (back_reply mode) (back_made mode)
+    (λ made. ap back_reply (back_mode (restart_after (view_of was.node).armed call c.args.round) (view_of was.node) (view_of c.recover.new.self) came event.step made))
+    (c.answer_by.ensures ∙ ap (λ (r : ReplyView). answer_by r came) c.back_reply.ensures) (recover_sends true (view_of was.node)) event.step event.put
+    (seen_moved seen _ _ _ _ _ c.recover.ensures.same_number (turns_kept was.turns came))

@@ -1,21 +1,23 @@
-use Rattle.std.proofs.Common.{ℤ, List, map, ap, sym, subst, ◌∙◌}
+use Rattle.std.proofs.Common.{ℤ, List, length, map, ap, sym, subst, ◌∙◌}
 use Rattle.kahn_net.specs.Syntax.{network_of}
 use Rattle.ckpt_store.specs.Spelling.{fits_in}
 use Rattle.ckpt_store.specs.StoreView.{cell_in}
 use Rattle.world.specs.EventView.{event_view}
-use Rattle.protocol.specs.World.Headline.{released_prefix, AreApproximated}
+use Rattle.protocol.specs.World.Headline.{AreApproximated}
+use Rattle.protocol.specs.WorldLaws.PrefixLaws.{released_prefix}
 use Rattle.protocol.specs.World.Invariant.{StationInvariant, WorldInvariant}
 use Rattle.world.specs.ReplyView.{reply_view}
 use Rattle.protocol.specs.WorldLaws.DropLaws.{never_dropped}
 use Rattle.protocol.specs.WorldLaws.RoomLaws.{never_too_large, rooms_of}
 use Rattle.protocol.specs.World.StationView.{StationView}
-use Rattle.protocol.specs.World.Steps.{round_after}
+use Rattle.protocol.specs.World.Steps.{may_restart, round_after, setting_in}
 use Rattle.protocol.specs.WorldLaws.StepKeeps.{act_keeps_world}
 use Rattle.wire.specs.Traffic.{traffic_of}
 use Rattle.world.specs.WholeView.{world_of}
 use Rattle.world.specs.WorldView.{rooms, station_view, world_view}
 use Rattle.world.specs.declared.station.Station.{Station}
 use Rattle.world.proofs.Lines.{keeps_line, one_line}
+use Rattle.world.proofs.Views.{setting_is}
 use Rattle.world.proofs.world.World.apply.Goals as goal
 
 pub act_at-requires-clause-sound : goal.act_at-requires-clause-sound
@@ -29,8 +31,8 @@ invariant_of-self g c =
     let was = c.args.self.now in
     let view = station_view {cell = g.C.StableCell} g.O.Outlet.taken g.O.Outlet.failures in
     record {
-      sound = act_keeps_world (rooms was.stations.items) (event_view c.args.event) (world_of was) (reply_view c.in-Ok.reply) c.deref.result.now c.from-number.result c.round_after-self.result (map view c.act_at.new.stations.items) (traffic_of c.act_at.new.wire) was.sound
-          c.deref.ensures (c.from-number.ensures ∙ c.node_of.ensures) c.in-Ok.ensures.step (c.in-Ok.ensures.traffic)
+      sound = act_keeps_world (rooms was.stations.items) (event_view c.args.event) (world_of was) (reply_view c.in-Ok.reply) (setting_in (network_of was.net.value.program) c.deref.result.now (traffic_of was.wire) (may_restart (length was.stations.items)) was.round) c.from-number.result c.round_after-self.result (map view c.act_at.new.stations.items) (traffic_of c.act_at.new.wire) was.sound
+          (setting_is view (network_of was.net.value.program) c.deref.result.now was.inputs.value (traffic_of was.wire) was.stations.items was.round c.deref.ensures) (c.from-number.ensures ∙ c.node.ensures) c.in-Ok.ensures.step (c.in-Ok.ensures.traffic)
           (c.round_after-self.ensures ∙ ap (λ (l : List (Station g.row.C.Denot g.row.O.Denot g.C.StableCell)). round_after (reply_view c.in-Ok.reply) was.round (map view l)) c.deref-in-Ok.ensures.value);
     }
 
@@ -39,8 +41,8 @@ returns-in-Ok-clause-prefix g c =
     let was = c.args.self.now in
     let view = station_view {cell = g.C.StableCell} g.O.Outlet.taken g.O.Outlet.failures in
     released_prefix (world_view {cell = g.C.StableCell} g.O.Outlet.taken g.O.Outlet.failures was.net was.inputs c.act_at.new.stations.items (traffic_of c.act_at.new.wire) c.round_after-self.result)
-    (act_keeps_world (rooms was.stations.items) (event_view c.args.event) (world_of was) (reply_view c.in-Ok.reply) c.deref.result.now c.from-number.result c.round_after-self.result (map view c.act_at.new.stations.items) (traffic_of c.act_at.new.wire) was.sound
-    c.deref.ensures (c.from-number.ensures ∙ c.node_of.ensures) c.in-Ok.ensures.step (c.in-Ok.ensures.traffic)
+    (act_keeps_world (rooms was.stations.items) (event_view c.args.event) (world_of was) (reply_view c.in-Ok.reply) (setting_in (network_of was.net.value.program) c.deref.result.now (traffic_of was.wire) (may_restart (length was.stations.items)) was.round) c.from-number.result c.round_after-self.result (map view c.act_at.new.stations.items) (traffic_of c.act_at.new.wire) was.sound
+    (setting_is view (network_of was.net.value.program) c.deref.result.now was.inputs.value (traffic_of was.wire) was.stations.items was.round c.deref.ensures) (c.from-number.ensures ∙ c.node.ensures) c.in-Ok.ensures.step (c.in-Ok.ensures.traffic)
     (c.round_after-self.ensures ∙ ap (λ (l : List (Station g.row.C.Denot g.row.O.Denot g.C.StableCell)). round_after (reply_view c.in-Ok.reply) was.round (map view l)) c.deref-in-Ok.ensures.value))
 
 pub returns-in-Err-clause-prefix : goal.returns-in-Err-clause-prefix
@@ -55,8 +57,8 @@ returns-in-Ok-clause-line g c =
     let was = c.args.self.now in
     let view = station_view {cell = g.C.StableCell} g.O.Outlet.taken g.O.Outlet.failures in
     keeps_line {cell = g.C.StableCell} g.O.Outlet.taken g.O.Outlet.failures (network_of was.net.value.program) was.inputs.value was.stations.items c.act_at.new.stations.items was.round c.round_after-self.result (traffic_of was.wire) (traffic_of c.act_at.new.wire) was.sound
-    (act_keeps_world (rooms was.stations.items) (event_view c.args.event) (world_of was) (reply_view c.in-Ok.reply) c.deref.result.now c.from-number.result c.round_after-self.result (map view c.act_at.new.stations.items) (traffic_of c.act_at.new.wire) was.sound
-    c.deref.ensures (c.from-number.ensures ∙ c.node_of.ensures) c.in-Ok.ensures.step (c.in-Ok.ensures.traffic)
+    (act_keeps_world (rooms was.stations.items) (event_view c.args.event) (world_of was) (reply_view c.in-Ok.reply) (setting_in (network_of was.net.value.program) c.deref.result.now (traffic_of was.wire) (may_restart (length was.stations.items)) was.round) c.from-number.result c.round_after-self.result (map view c.act_at.new.stations.items) (traffic_of c.act_at.new.wire) was.sound
+    (setting_is view (network_of was.net.value.program) c.deref.result.now was.inputs.value (traffic_of was.wire) was.stations.items was.round c.deref.ensures) (c.from-number.ensures ∙ c.node.ensures) c.in-Ok.ensures.step (c.in-Ok.ensures.traffic)
     (c.round_after-self.ensures ∙ ap (λ (l : List (Station g.row.C.Denot g.row.O.Denot g.C.StableCell)). round_after (reply_view c.in-Ok.reply) was.round (map view l)) c.deref-in-Ok.ensures.value))
     c.act_at.ensures.line
 
@@ -76,24 +78,24 @@ returns-in-Err-clause-settled g c = one_line {cell = g.C.StableCell} g.O.Outlet.
 pub returns-in-Ok-clause-same_rooms : goal.returns-in-Ok-clause-same_rooms
 returns-in-Ok-clause-same_rooms g c =
     let capacity = λ (station : Station g.row.C.Denot g.row.O.Denot g.C.StableCell). g.C.StableCell.capacity (cell_in station.node.store) in
-    rooms_of capacity c.act_at.new.stations.items ∙ (ap (map fits_in) c.in-Ok.ensures.same_rooms ∙ sym (rooms_of capacity c.args.self.now.stations.items))
+    rooms_of capacity c.act_at.new.stations.items ∙ (ap (map fits_in) c.in-Ok.ensures.same_capacities ∙ sym (rooms_of capacity c.args.self.now.stations.items))
 
 pub returns-in-Err-clause-same_rooms : goal.returns-in-Err-clause-same_rooms
 returns-in-Err-clause-same_rooms g c =
     let capacity = λ (station : Station g.row.C.Denot g.row.O.Denot g.C.StableCell). g.C.StableCell.capacity (cell_in station.node.store) in
-    rooms_of capacity c.act_at.new.stations.items ∙ (ap (map fits_in) c.in-Err.ensures.same_rooms ∙ sym (rooms_of capacity c.args.self.now.stations.items))
+    rooms_of capacity c.act_at.new.stations.items ∙ (ap (map fits_in) c.in-Err.ensures.same_capacities ∙ sym (rooms_of capacity c.args.self.now.stations.items))
 
 pub returns-in-Ok-clause-roomy : goal.returns-in-Ok-clause-roomy
 returns-in-Ok-clause-roomy g c = λ room.
     let was = c.args.self.now in
     let view = station_view {cell = g.C.StableCell} g.O.Outlet.taken g.O.Outlet.failures in
-    never_too_large (network_of was.net.value.program) (traffic_of was.wire) was.inputs.value c.deref.result.now (λ (station : Station g.row.C.Denot g.row.O.Denot g.C.StableCell). g.C.StableCell.capacity (cell_in station.node.store))
-    was.stations.items c.from-number.result _ was.round (event_view c.args.event) (map view was.stations.items) (reply_view c.in-Ok.reply) (map view c.act_at.new.stations.items)
-    was.sound.valid was.sound.stations c.deref.ensures (c.from-number.ensures ∙ c.node_of.ensures) room c.in-Ok.ensures.step
+    never_too_large (world_of was) (setting_in (network_of was.net.value.program) c.deref.result.now (traffic_of was.wire) (may_restart (length was.stations.items)) was.round)
+    (λ (station : Station g.row.C.Denot g.row.O.Denot g.C.StableCell). g.C.StableCell.capacity (cell_in station.node.store)) was.stations.items c.from-number.result _ (event_view c.args.event) (reply_view c.in-Ok.reply) (map view c.act_at.new.stations.items)
+    was.sound (setting_is view (network_of was.net.value.program) c.deref.result.now was.inputs.value (traffic_of was.wire) was.stations.items was.round c.deref.ensures) (c.from-number.ensures ∙ c.node.ensures) room c.in-Ok.ensures.step
 
 pub returns-in-Ok-clause-heard : goal.returns-in-Ok-clause-heard
 returns-in-Ok-clause-heard g c =
     let was = c.args.self.now in
     let view = station_view {cell = g.C.StableCell} g.O.Outlet.taken g.O.Outlet.failures in
-    never_dropped (network_of was.net.value.program) (traffic_of was.wire) was.inputs.value c.deref.result.now (rooms was.stations.items) c.from-number.result was.round (event_view c.args.event)
-    (map view was.stations.items) (reply_view c.in-Ok.reply) (map view c.act_at.new.stations.items) was.sound.numbered was.sound.traffic c.deref.ensures (c.from-number.ensures ∙ c.node_of.ensures) c.in-Ok.ensures.step
+    never_dropped (world_of was) (setting_in (network_of was.net.value.program) c.deref.result.now (traffic_of was.wire) (may_restart (length was.stations.items)) was.round) (rooms was.stations.items) c.from-number.result (event_view c.args.event)
+    (reply_view c.in-Ok.reply) (map view c.act_at.new.stations.items) was.sound (setting_is view (network_of was.net.value.program) c.deref.result.now was.inputs.value (traffic_of was.wire) was.stations.items was.round c.deref.ensures) (c.from-number.ensures ∙ c.node.ensures) c.in-Ok.ensures.step

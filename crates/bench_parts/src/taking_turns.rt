@@ -1,0 +1,104 @@
+//! Turns of growing lengths.
+
+use crate::clock::processor_micros;
+use kahn_net::History;
+use net_check::{Net, check};
+use net_text::parse;
+use proc_step::{Job, Mode, Place, ProcState};
+use std::alloc::Global;
+use std::sync::Arc;
+use std::time::CpuClock;
+
+// Items of the shortest turn.
+const ITEMS: usize = 250_000;
+
+// Turns of one item each, in each row.
+const TURNS: usize = 20_000;
+
+// The running sum, behind a prelude of so many assignments.
+fn network(alloc: Global, statements: usize) -> anyhow::Result<Arc<Net>> {
+    let mut text = String::from_str(
+        alloc,
+        "kahn 1;\ninput i;\noutput o;\nprocess sum on 0 {\n  var a;\n  var v;\n",
+    )?;
+    for _ in 0..statements {
+        text.push_str("  v = 0;\n")?;
+    }
+    text.push_str("  loop { v = get i; a = a + v; put a to o; }\n}\n")?;
+    let net = check(alloc, parse(alloc, &text)?)?;
+    Ok(Arc::new(alloc, net)?)
+}
+
+// A job at the loop's get, with so many items and so much room.
+fn job(alloc: Global, net: &Arc<Net>, items: usize) -> anyhow::Result<Job> {
+    let share = Arc::try_clone(net)?;
+    anyhow::ensure!(!share.program.processes.is_empty(), "no process");
+    let mut all = Vec::new(alloc);
+    all.push(History::from_vec(vec![in alloc; 1; items]?))?;
+    Ok(Job {
+        net: share,
+        process: 0,
+        version: 0,
+        state: ProcState {
+            mode: Mode::At(Place {
+                site: 0,
+                left: Vec::new(alloc),
+            }),
+            variables: vec![in alloc; 0; 2]?,
+        },
+        items: all,
+        room: Vec::from_slice(alloc, &[0, items])?,
+    })
+}
+
+// Prints how much longer it took than the row before.
+fn print_ratio(rt: &impl Print, micros: u64, before: u64, what: &str) -> anyhow::Result<()> {
+    if before > 0 {
+        let tenths = micros.saturating_mul(10) / before;
+        let (whole, tenth) = (tenths / 10, tenths % 10);
+        println!(rt; "    {whole}.{tenth} times as long, {what}")?;
+    }
+    Ok(())
+}
+
+// One turn over all items.
+fn long_turns(rt: &(impl Print + CpuClock), alloc: Global) -> anyhow::Result<()> {
+    let net = network(alloc, 0)?;
+    let mut before = 0;
+    for items in [ITEMS, 2 * ITEMS, 4 * ITEMS] {
+        let job = job(alloc, &net, items)?;
+        let start = processor_micros(rt)?;
+        let done = job.run(alloc)?;
+        let now = processor_micros(rt)?.saturating_sub(start);
+        let sent = done.sent.iter().map(|sent| sent.len()).max();
+        println!(rt;
+            "one turn over {items:>8} items: {now:>7} us ({} sent)",
+            sent.unwrap_or(0)
+        )?;
+        print_ratio(rt, now, before, "for twice as many items")?;
+        before = now;
+    }
+    Ok(())
+}
+
+// Many turns of one item each, where the walk to the place is longer and longer.
+fn short_turns(rt: &(impl Print + CpuClock), alloc: Global) -> anyhow::Result<()> {
+    let mut before = 0;
+    for statements in [10, 100, 1_000] {
+        let net = network(alloc, statements)?;
+        let start = processor_micros(rt)?;
+        for _ in 0..TURNS {
+            job(alloc, &net, 1)?.run(alloc)?;
+        }
+        let now = processor_micros(rt)?.saturating_sub(start);
+        println!(rt; "{TURNS} turns behind a prelude of {statements:>5} statements: {now:>7} us")?;
+        print_ratio(rt, now, before, "for ten times as many statements")?;
+        before = now;
+    }
+    Ok(())
+}
+
+pub fn measure(rt: &(impl Print + CpuClock), alloc: Global) -> anyhow::Result<()> {
+    long_turns(rt, alloc)?;
+    short_turns(rt, alloc)
+}

@@ -1,0 +1,460 @@
+// Which images and records may be written: each field is tested in its turn.
+ghost use Rattle.std.specs.Prelude.{◌≡◌, ◌↔◌, ◌<◌, [], length, suc, IsTrue, Some, None, option_copied, slice_index, map};
+ghost use Rattle.kahn_net.specs.States.{standing_in};
+ghost use Rattle.kahn_net.specs.declared.limits.TheConstants.{MAX_PROCESSES, MAX_VARIABLES, MAX_CHANNELS};
+ghost use Rattle.record.specs.ProcessView.{SavedProcessView};
+ghost use Rattle.record.specs.declared.image.SavedEnd.{SavedEnd};
+ghost use Rattle.ckpt_codec.specs.Fields.{IsAllowed, AreAllowed};
+ghost use Rattle.ckpt_codec.specs.RecordText.{any, at_most, exactly, between, retained_count, wanted, wanted_or, count, variables_of, role_of, first_of, rest_of, processes_in, ends_in, mode_fields, participants as participant_fields, decision_fields, process_fields, processes_fields, end_fields, saved_end_fields, ends_fields, image_fields, tentative_fields, head_fields, IsRecord};
+ghost use Rattle.ckpt_codec.specs.Testing.{listed, log_fields, process_list_fields, end_list_fields, participant_field, participant_count_field, initiator_field, held_number_field, nodes_field};
+
+use crate::ends::role_number;
+use crate::images::{wanted_ends, wanted_processes};
+use kahn_net::{MAX_CHANNELS, MAX_COUNT, MAX_NODES, MAX_PROCESSES, MAX_VARIABLES, Mode};
+use record::{Decision, End, Image, Record, SavedEnd, SavedProcess, Tentative};
+use retained::{Log, MAX_LOG_ITEMS};
+
+fn number_stands(wanted: Option<u8>, least: u16, number: u8) -> bool
+    ensures { IsTrue result ↔ IsAllowed (wanted_or wanted (between 1 least MAX_PROCESSES number)) }
+{
+    match wanted {
+        Some(wanted) => number == wanted,
+        None => least <= number as u16 && (number as usize) < MAX_PROCESSES,
+    }
+}
+
+fn channel_stands(wanted: Option<u8>, least: u16, channel: u8) -> bool
+    ensures { IsTrue result ↔ IsAllowed (wanted_or wanted (between 2 least MAX_CHANNELS channel)) }
+{
+    match wanted {
+        Some(wanted) => channel == wanted,
+        None => least <= channel as u16,
+    }
+}
+
+fn role_stands(wanted: Option<u8>, role: u8) -> bool
+    ensures { IsTrue result ↔ IsAllowed (wanted_or wanted (at_most 1 2 role)) }
+{
+    match wanted {
+        Some(wanted) => role == wanted,
+        None => role <= 2,
+    }
+}
+
+// How many there are, in one byte.
+fn length_stands(wanted: Option<usize>, most: usize, count: usize) -> bool
+    requires { most < 256 }
+    ensures { IsTrue result ↔ IsAllowed (wanted_or wanted (at_most 1 most count)) }
+{
+    match wanted {
+        Some(wanted) => count == wanted && count < 256,
+        None => count <= most,
+    }
+}
+
+fn end_count_stands(wanted: Option<usize>, count: usize) -> bool
+    ensures { IsTrue result ↔ IsAllowed (wanted_or wanted (at_most 2 MAX_CHANNELS count)) }
+{
+    match wanted {
+        Some(wanted) => count == wanted && count < 65_536,
+        None => count <= MAX_CHANNELS,
+    }
+}
+
+// A count, a position or an epoch.
+fn is_count(number: u64) -> bool
+    ensures { IsTrue result ↔ IsAllowed (count number) }
+{
+    number <= MAX_COUNT
+}
+
+fn site_stands(site: usize) -> bool
+    ensures { IsTrue result ↔ IsAllowed (any 4 site) }
+{
+    site <= u32::MAX as usize
+}
+
+// How many repetitions are round a site: none.
+fn depth_stands(depth: usize) -> bool
+    ensures { IsTrue result ↔ IsAllowed (exactly 1 0 depth) }
+{
+    depth == 0
+}
+
+fn is_mode(mode: &Mode) -> bool
+    ensures { IsTrue result ↔ AreAllowed (mode_fields (standing_in mode.now [])) }
+{
+    match mode {
+        Mode::NotBegun => true,
+        Mode::At(place) => {
+            if !site_stands(place.site) {
+                return false;
+            }
+            depth_stands(place.left.len())
+        }
+        Mode::Finished => true,
+    }
+}
+
+fn number_of(like: Option<&SavedProcess>) -> Option<u8>
+    ensures { result ≡ wanted (λ (p : SavedProcessView). p.number) (option_copied like.entry) }
+{
+    match like {
+        Some(process) => Some(process.number),
+        None => None,
+    }
+}
+
+fn variables_in(like: Option<&SavedProcess>) -> Option<usize>
+    ensures { result ≡ wanted (λ (p : SavedProcessView). length (variables_of p.standing))
+        (option_copied like.entry) }
+{
+    match like {
+        Some(process) => Some(process.state.variables.len()),
+        None => None,
+    }
+}
+
+// A process, as this one of the first image where there is one.
+fn is_process(like: Option<&SavedProcess>, least: u16, process: &SavedProcess) -> bool
+    ensures { IsTrue result
+        ↔ AreAllowed (process_fields (option_copied like.entry) least process.now) }
+{
+    if !number_stands(number_of(like), least, process.number) {
+        return false;
+    }
+    if !is_mode(&process.state.mode) {
+        return false;
+    }
+    length_stands(
+        variables_in(like),
+        MAX_VARIABLES,
+        process.state.variables.len(),
+    )
+}
+
+fn first<T>(list: &[T]) -> Option<&T>
+    ensures { option_copied result ≡ first_of (Some list.now) }
+{
+    match list {
+        [first, ..] => Some(first),
+        [] => None,
+    }
+}
+
+fn rest<T>(list: &[T]) -> &[T]
+    ensures { result.now ≡ listed (rest_of (Some list.now)) }
+{
+    match list {
+        [_, rest @ ..] => rest,
+        [] => list,
+    }
+}
+
+// Processes, as those of the first image where there is one.
+fn are_processes(likes: &[SavedProcess], least: u16, processes: &[SavedProcess]) -> bool
+    ensures { IsTrue result
+        ↔ AreAllowed (processes_fields (Some likes.now) least processes.now) }
+{
+    let [process, behind @ ..] = processes else {
+        return true;
+    };
+    if !is_process(first(likes), least, process) {
+        return false;
+    }
+    are_processes(rest(likes), process.number as u16 + 1, behind)
+}
+
+fn base_stands(limit: u64, base: u64) -> bool
+    ensures { IsTrue result ↔ IsAllowed (at_most 8 limit base) }
+{
+    base <= limit
+}
+
+fn retained_stand(from: u64, log: &Log) -> bool
+    ensures { IsTrue result
+        ↔ IsAllowed (retained_count log.now.base from (length log.now.items)) }
+{
+    log.len() <= MAX_LOG_ITEMS && log.end() <= MAX_COUNT && from <= log.end()
+}
+
+// A log whose base is at most this, and whose end is at least that.
+fn is_log(limit: u64, from: u64, log: &Log) -> bool
+    ensures { IsTrue result ↔ AreAllowed (log_fields limit from log.now) }
+{
+    if !base_stands(limit, log.base()) {
+        return false;
+    }
+    retained_stand(from, log)
+}
+
+fn is_end(end: &End) -> bool
+    ensures { IsTrue result ↔ AreAllowed (end_fields end.now) }
+{
+    match end {
+        End::Receives { received } => is_count(*received),
+        End::Sends { log } => is_log(MAX_COUNT, 0, log),
+        End::Both { received, log } => {
+            if !is_count(*received) {
+                return false;
+            }
+            is_log(*received, *received, log)
+        }
+    }
+}
+
+fn channel_of(like: Option<&SavedEnd>) -> Option<u8>
+    ensures { result ≡ wanted (λ (e : SavedEnd). e.channel) (option_copied like.entry) }
+{
+    match like {
+        Some(saved) => Some(saved.channel),
+        None => None,
+    }
+}
+
+fn role_in(like: Option<&SavedEnd>) -> Option<u8>
+    ensures { result ≡ wanted (λ (e : SavedEnd). role_of e.end) (option_copied like.entry) }
+{
+    match like {
+        Some(saved) => Some(role_number(&saved.end)),
+        None => None,
+    }
+}
+
+// An end of a channel, as this one of the first image where there is one.
+fn is_saved_end(like: Option<&SavedEnd>, least: u16, saved: &SavedEnd) -> bool
+    ensures { IsTrue result
+        ↔ AreAllowed (saved_end_fields (option_copied like.entry) least saved.now) }
+{
+    if !channel_stands(channel_of(like), least, saved.channel) {
+        return false;
+    }
+    if !role_stands(role_in(like), role_number(&saved.end)) {
+        return false;
+    }
+    is_end(&saved.end)
+}
+
+// Ends of channels, as those of the first image where there is one.
+fn are_ends(likes: &[SavedEnd], least: u16, ends: &[SavedEnd]) -> bool
+    ensures { IsTrue result ↔ AreAllowed (ends_fields (Some likes.now) least ends.now) }
+{
+    let [saved, behind @ ..] = ends else {
+        return true;
+    };
+    if !is_saved_end(first(likes), least, saved) {
+        return false;
+    }
+    are_ends(rest(likes), saved.channel as u16 + 1, behind)
+}
+
+fn processes_of(like: Option<&Image>) -> &[SavedProcess]
+    ensures { result.now ≡ listed (processes_in (option_copied like.entry)) }
+{
+    match like {
+        Some(image) => image.processes.as_slice(),
+        None => &[],
+    }
+}
+
+fn ends_of(like: Option<&Image>) -> &[SavedEnd]
+    ensures { result.now ≡ listed (ends_in (option_copied like.entry)) }
+{
+    match like {
+        Some(image) => image.ends.as_slice(),
+        None => &[],
+    }
+}
+
+// How many processes an image has, and each of them.
+fn processes_stand(like: Option<&Image>, image: &Image) -> bool
+    ensures { IsTrue result
+        ↔ AreAllowed (process_list_fields (option_copied like.entry) image.now) }
+{
+    if !length_stands(wanted_processes(like), MAX_PROCESSES, image.processes.len()) {
+        return false;
+    }
+    are_processes(processes_of(like), 0, image.processes.as_slice())
+}
+
+// How many ends an image has, and each of them.
+fn ends_stand(like: Option<&Image>, image: &Image) -> bool
+    ensures { IsTrue result ↔ AreAllowed (end_list_fields (option_copied like.entry) image.now) }
+{
+    if !end_count_stands(wanted_ends(like), image.ends.len()) {
+        return false;
+    }
+    are_ends(ends_of(like), 0, image.ends.as_slice())
+}
+
+/// Whether an image may be written: beside this one where there is one, and else by itself.
+pub fn is_image(like: Option<&Image>, image: &Image) -> bool
+    ensures { IsTrue result ↔ AreAllowed (image_fields (option_copied like.entry) image.now) }
+{
+    if !processes_stand(like, image) {
+        return false;
+    }
+    ends_stand(like, image)
+}
+
+fn is_participant(node: u8, nodes: usize, least: u16, participant: u8) -> bool
+    ensures { IsTrue result ↔ IsAllowed (participant_field node nodes least participant) }
+{
+    least <= participant as u16 && (participant as usize) < nodes && participant != node
+}
+
+// Nodes of a decision, from the least that is left on.
+fn are_participants_from(node: u8, nodes: usize, least: u16, participants: &[u8]) -> bool
+    ensures { IsTrue result ↔ AreAllowed (participant_fields node nodes least participants.now) }
+{
+    let [participant, behind @ ..] = participants else {
+        return true;
+    };
+    if !is_participant(node, nodes, least, *participant) {
+        return false;
+    }
+    are_participants_from(node, nodes, *participant as u16 + 1, behind)
+}
+
+/// Whether a decision of this node, one of so many, may name these nodes: in their order, none twice, and not this one.
+pub fn are_participants(node: u8, nodes: usize, participants: &[u8]) -> bool
+    ensures { IsTrue result ↔ AreAllowed (participant_fields node nodes 0 participants.now) }
+{
+    are_participants_from(node, nodes, 0, participants)
+}
+
+fn decided_number_stands(own: u64, number: u64) -> bool
+    ensures { IsTrue result ↔ IsAllowed (between 8 1 (suc own) number) }
+{
+    number >= 1 && number <= own
+}
+
+fn participant_count_stands(count: usize) -> bool
+    ensures { IsTrue result ↔ IsAllowed (participant_count_field count) }
+{
+    count >= 1 && count < 256
+}
+
+// The decision of a node of so many, whose own entry is this.
+fn is_decision(node: u8, nodes: usize, own: u64, decision: &Option<Decision>) -> bool
+    ensures { IsTrue result ↔ AreAllowed (decision_fields node nodes own decision.now) }
+{
+    let Some(decision) = decision else {
+        return true;
+    };
+    if !decided_number_stands(own, decision.number) {
+        return false;
+    }
+    if !participant_count_stands(decision.participants.len()) {
+        return false;
+    }
+    are_participants_from(node, nodes, 0, decision.participants.as_slice())
+}
+
+fn initiator_stands(highest: &[u64], initiator: u8) -> bool
+    ensures { IsTrue result ↔ IsAllowed (initiator_field highest.now initiator) }
+{
+    (initiator as usize) < highest.len()
+}
+
+fn held_number_stands(highest: &[u64], initiator: u8, number: u64) -> bool
+    requires { initiator < length highest.now }
+    ensures { IsTrue result ↔ IsAllowed (held_number_field highest.now initiator number) }
+{
+    number >= 1 && number == highest[usize::from(initiator)]
+}
+
+fn is_tentative(highest: &[u64], permanent: &Image, tentative: &Option<Tentative>) -> bool
+    ensures { IsTrue result
+        ↔ AreAllowed (tentative_fields highest.now permanent.now tentative.now) }
+{
+    let Some(held) = tentative else {
+        return true;
+    };
+    if !initiator_stands(highest, held.initiator) {
+        return false;
+    }
+    if !held_number_stands(highest, held.initiator, held.number) {
+        return false;
+    }
+    is_image(Some(permanent), &held.image)
+}
+
+fn are_counts(entries: &[u64]) -> bool
+    ensures { IsTrue result ↔ AreAllowed (map count entries.now) }
+{
+    let [entry, behind @ ..] = entries else {
+        return true;
+    };
+    if !is_count(*entry) {
+        return false;
+    }
+    are_counts(behind)
+}
+
+// A node, one of so many.
+fn nodes_stand(node: u8, nodes: usize) -> bool
+    ensures stand { IsTrue result ↔ IsAllowed (nodes_field node nodes) }
+    ensures fits { node < 256 }
+    ensures one { IsTrue result → node < nodes }
+{
+    (node as usize) < nodes && nodes <= MAX_NODES as usize
+}
+
+fn is_head(kept: &Record) -> bool
+    ensures stands { IsTrue result ↔ AreAllowed (head_fields kept.now) }
+    ensures one { IsTrue result → kept.now.node < length kept.now.highest }
+{
+    let nodes = nodes_stand(kept.node, kept.highest.len());
+    if !is_count(kept.epoch) {
+        return false;
+    }
+    nodes
+}
+
+fn entries_stand(kept: &Record) -> bool
+    ensures { IsTrue result ↔ AreAllowed (map count kept.now.highest) }
+{
+    are_counts(kept.highest.as_slice())
+}
+
+fn decision_stands(kept: &Record) -> bool
+    requires { kept.now.node < length kept.now.highest }
+    ensures { IsTrue result ↔ AreAllowed (decision_fields kept.now.node (length kept.now.highest)
+        (slice_index kept.now.highest kept.now.node) kept.now.decision) }
+{
+    let own = kept.highest[usize::from(kept.node)];
+    is_decision(kept.node, kept.highest.len(), own, &kept.decision)
+}
+
+fn permanent_stands(kept: &Record) -> bool
+    ensures { IsTrue result ↔ AreAllowed (image_fields None kept.now.permanent) }
+{
+    is_image(None, &kept.permanent)
+}
+
+fn tentative_stands(kept: &Record) -> bool
+    ensures { IsTrue result ↔ AreAllowed
+        (tentative_fields kept.now.highest kept.now.permanent kept.now.tentative) }
+{
+    is_tentative(kept.highest.as_slice(), &kept.permanent, &kept.tentative)
+}
+
+/// Whether a record may be written.
+pub fn is_record(kept: &Record) -> bool
+    ensures { IsTrue result ↔ IsRecord kept.now }
+{
+    if !is_head(kept) {
+        return false;
+    }
+    if !entries_stand(kept) {
+        return false;
+    }
+    if !decision_stands(kept) {
+        return false;
+    }
+    if !permanent_stands(kept) {
+        return false;
+    }
+    tentative_stands(kept)
+}

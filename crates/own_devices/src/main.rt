@@ -1,0 +1,171 @@
+//! A world over a disk and outlets of one's own: a network with two outputs, event by event, with a crash in the middle. `embedded` is
+//! the same with the disk and the outlet that are there.
+#![tactic(auto)]
+
+mod counting;
+mod ledger;
+
+ghost use Rattle.std.specs.Prelude.{◌≡◌, ◌*◌, ◌^◌, ◌<◌, IfOk, map};
+ghost use Rattle.std.specs.List.{AllByRecursion};
+ghost use Rattle.kahn_net.specs.Syntax.{network_of};
+ghost use Rattle.sector_disk.specs.declared.TheConstants.{SECTOR_BYTES};
+ghost use Rattle.protocol.specs.World.Sound.{output_channels};
+ghost use Rattle.world.specs.OpeningWorld.{IsUnused};
+
+use crate::counting::CountingDisk;
+use crate::ledger::Ledger;
+use gate_cell::GateCell;
+use net_check::{Net, bind, check};
+use net_text::{parse, parse_inputs};
+use outlet::Outlet;
+use sector_disk::MemDisk;
+use std::alloc::{AllocError, Global};
+use std::sync::Arc;
+use world::{Event, Output, Reply, World, list_outputs, node_count};
+
+/// Each item goes to the first output, and the sum of those so far to the second.
+const NET: &str = "kahn 1; input i; output same; output total;
+process sum on 0 { var a; var v; loop { v = get i; put v to same; a = a + v; put a to total; } }";
+
+/// The sectors of the disk.
+const SECTORS: usize = 401;
+
+/// The turn before which the node crashes: it has taken a tentative image then, and not made it permanent.
+const CRASHES_AT: u32 = 2;
+
+type OwnDisk = CountingDisk<MemDisk>;
+
+type OwnWorld = World<GateCell<OwnDisk>, Ledger>;
+
+fn empty_disk(alloc: Global, sectors: usize) -> Result<OwnDisk, AllocError>
+    requires { SECTOR_BYTES * sectors < 2 ^ 64 }
+{
+    Ok(CountingDisk::new(MemDisk::new(alloc, sectors)?))
+}
+
+/// An output that has a ledger of its own.
+fn output_by(alloc: Global, channel: u8) -> Output<Ledger>
+    ensures channel { result.channel ≡ channel }
+    ensures empty { IsUnused (λ ledger. ledger.items.items) result }
+{
+    Output {
+        channel,
+        outlet: Ledger::new(alloc),
+        failed: None,
+    }
+}
+
+/// The two outputs of the network. Their channels are those of the outlets that `world` would make.
+fn own_outputs(alloc: Global, net: &Net) -> anyhow::Result<Vec<Output<Ledger>>>
+    ensures listed { IfOk result
+        (λ outputs. map (λ output. output.channel) outputs.items
+        ≡ output_channels 0 (network_of net.now.program).channels) }
+    ensures empty { IfOk result
+        (λ outputs. AllByRecursion (IsUnused (λ ledger. ledger.items.items)) outputs.items) }
+{
+    let listed = list_outputs(alloc, net)?;
+    let mut own = Vec::with_capacity(alloc, 2)?;
+    match listed.as_slice() {
+        [first, second] => {
+            own.push(output_by(alloc, first.channel))?;
+            own.push(output_by(alloc, second.channel))?;
+            Ok(own)
+        }
+        _ => anyhow::bail!("not two outputs"),
+    }
+}
+
+/// The world before its first event.
+fn open(alloc: Global) -> anyhow::Result<OwnWorld> {
+    let net = check(alloc, parse(alloc, NET)?)?;
+    anyhow::ensure!(node_count(&net) == 1, "several nodes");
+    let inputs = bind(alloc, &net, parse_inputs(alloc, "i: 1 2 3")?)?;
+    let outputs = own_outputs(alloc, &net)?;
+    let net = Arc::new(alloc, net)?;
+    let inputs = Arc::new(alloc, inputs)?;
+    let mut disks = Vec::with_capacity(alloc, 1)?;
+    disks.push(empty_disk(alloc, SECTORS)?)?;
+    Ok(World::new(alloc, net, inputs, disks, outputs)?)
+}
+
+/// One event. `World::apply` refuses for want of memory alone.
+fn apply(alloc: Global, world: &mut OwnWorld, event: Event) -> anyhow::Result<Reply> {
+    match world.apply(alloc, event) {
+        Ok(reply) => Ok(reply),
+        Err(_) => Err(anyhow::anyhow!("no memory")),
+    }
+}
+
+/// The event that is next for node 0. A job that it grants is run, and what came of it is brought back.
+fn step(alloc: Global, world: &mut OwnWorld) -> anyhow::Result<()> {
+    let event = world.pick(0);
+    if let Reply::Granted(job) = apply(alloc, world, event)? {
+        let Ok(done) = job.run(alloc) else {
+            return Err(anyhow::anyhow!("no memory"));
+        };
+        apply(alloc, world, Event::Install(done))?;
+    }
+    Ok(())
+}
+
+/// Goes on until the world is complete.
+fn run(alloc: Global, world: &mut OwnWorld) -> anyhow::Result<()> {
+    for turn in 0..100 {
+        if world.complete() {
+            break;
+        }
+        if turn == CRASHES_AT {
+            apply(
+                alloc,
+                world,
+                Event::Crash {
+                    node: 0,
+                    fill: 0,
+                    rounds: 1,
+                },
+            )?;
+        }
+        step(alloc, world)?;
+    }
+    Ok(())
+}
+
+/// Prints what has left, and what the devices say of it.
+fn report(rt: &HostRuntime, world: OwnWorld) -> anyhow::Result<()> {
+    println!(rt; "complete: {}", world.complete())?;
+    let (disks, outputs) = world.close(rt.alloc())?;
+    for output in &outputs {
+        let ledger = &output.outlet;
+        println!(rt;
+            "channel {}: {} items, sum {}",
+            output.channel,
+            ledger.len(),
+            ledger.sum()
+        )?;
+    }
+    for disk in &disks {
+        println!(rt;
+            "disk: {} reads, {} writes, {} syncs",
+            disk.reads, disk.writes, disk.syncs
+        )?;
+    }
+    Ok(())
+}
+
+/// Prints items on a line of their own.
+fn print_items(rt: &HostRuntime, name: &str, items: &[i64]) -> anyhow::Result<()> {
+    print!(rt; "{name}:")?;
+    for item in items {
+        print!(rt; " {item}")?;
+    }
+    println!(rt; "")?;
+    Ok(())
+}
+
+fn main(rt: HostRuntime) -> anyhow::Result<()> {
+    let mut world = open(rt.alloc())?;
+    run(rt.alloc(), &mut world)?;
+    print_items(&rt, "same", world.released(1))?;
+    print_items(&rt, "total", world.released(2))?;
+    report(&rt, world)
+}

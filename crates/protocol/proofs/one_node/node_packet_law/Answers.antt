@@ -1,5 +1,0 @@
-use Rattle.protocol.proofs.OneHears.{node_hears_ok}
-use Rattle.protocol.proofs.one_node.node_packet_law.Goals as goal
-
-pub returns : goal.returns
-returns c = node_hears_ok

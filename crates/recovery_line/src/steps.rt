@@ -1,0 +1,25 @@
+//! Laws of each step.
+
+ghost use Rattle.recovery_line.specs.Laws.{Opens, StaysConsistent, IsConsistent, RunsOn};
+ghost use Rattle.recovery_line.specs.Laws.{IsTrueWhenSent, StaysTrue, MovesAtMostOnce};
+
+/// The opening world is consistent, and each step keeps it so. Each run leads from a reachable
+/// world to a reachable one, and those are consistent.
+pub fn consistency_law()
+    ensures opening { Opens }
+    ensures step { StaysConsistent }
+    ensures run { RunsOn }
+    ensures reachable { IsConsistent }
+{}
+
+/// What a packet says is true when it is sent, and stays true whatever comes later, so that it may
+/// be lost, repeated, delayed or overtaken.
+pub fn packet_law()
+    ensures sent { IsTrueWhenSent }
+    ensures later { StaysTrue }
+{}
+
+/// A step writes at most one node's record, by one move, and not where it appends to an outlet.
+pub fn move_law()
+    ensures { MovesAtMostOnce }
+{}

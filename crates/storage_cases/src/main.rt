@@ -1,0 +1,124 @@
+//! Runs disks, cells, stores, logs and outlets by the table `cases`: what happens to them, and what has to be answered. Prints each case
+//! that comes out otherwise, and how many came out as written. The cases of `wrong_cases` are wrong on purpose: each has to come out
+//! otherwise. The status is 1 where a case of `cases` comes out otherwise, where one of `wrong_cases` doesn't, and where a line isn't
+//! understood.
+//!
+//! A line `== TITLE` begins a case. Empty lines, and those that begin with `#`, say nothing. Numbers are decimal; bytes stand in
+//! hexadecimal, in groups with spaces between them as one likes; `00*16` is a group so many times. `for CALL 1..4 FILL 0 255` runs the
+//! case for each choice of these numbers. Behind an arrow stands what has to be answered: `done`, `refused NUMBER`, or what is asked for.
+//!
+//! A case begins with nothing but a log without items and an outlet that took none.
+//!
+//! | Line | Meaning |
+//! |---|---|
+//! | `disk 5` | a disk of so many sectors, all zero, in place of what there was |
+//! | `read 1 2 -> 0 7` | of a disk, from sector 1 on, the byte of each sector, or `mixed`. A refused read leaves the bytes, or it is an error |
+//! | `write 1 8 512`, `sector 1 00*6 01f9`, `sync` | a write of so many bytes 8; of one sector, whose other bytes are zero; a sync |
+//! | `calls -> 3`, `failures -> 1`, `sectors -> 4` | what a disk says of itself |
+//! | `format 41`, `open` | a disk becomes a cell that holds these bytes, or the cell that it has; where that is refused it stays a disk |
+//! | `put 42`, `get -> 42`, `room -> 1016` | a cell's value; more than 64 bytes of it are shown as `504 bytes` |
+//! | `store` | a cell becomes the store of its record; where that is refused it stays a cell |
+//! | `take 1 5`, `make permanent 1 5`, `drop 1 5`, `decide 5`, `confirm 5 1`, `raise epoch` | of a store: a tentative image of nothing is taken, by its initiator and number, and so on |
+//! | `record -> epoch 0 entries 0 5 decision none held 5` | of a store's record what changes: a decision is `5 of 1 2`, of these nodes |
+//! | `arm call 2 fill 0`, `recount`, `crash`, `crash fill 255` | a failure of a call, counted from here where it is recounted; a crash. Of a disk, a cell or a store |
+//! | `reopen` | of a cell or a store, behind a crash or a failure |
+//! | `close` | a store becomes its cell, a cell its disk |
+//! | `log at 7` | a log that begins at this position, in place of the one there was |
+//! | `push 10`, `push all 10 20`, `push each 3 from 0`, `push many 9 of 5` | items are put on the log: one; several at once; counting up, one by one; many of one at once |
+//! | `trim 2`, `cut 9`, `base`, `end`, `length`, `empty -> no`, `item 7 -> 10`, `-> none` | what the log lets go of, in front and behind, and what it is |
+//! | `append 1 3`, `taken -> 1 3`, `how many -> 2` | items that the outlet takes from elsewhere; what it took |
+//! | `fails before 1`, `fails behind 3`, `lacks memory 2` | the outlet fails once, before or when it has taken an item, where it holds so many; lacks memory once |
+//! | `numbers of no memory -> 1 1` | the numbers of a cell's and of a log's refusal for want of memory |
+//! | `can release 3 -> yes`, `release 3` | whether what the log has up to a position may be released, and that |
+#![tactic(auto)]
+
+mod answer;
+mod case_outlet;
+mod cell;
+mod disk;
+mod medium;
+mod store;
+mod stream;
+mod words;
+
+use crate::medium::{Medium, step};
+use crate::stream::Streams;
+use crate::words::numbers_of_no_memory;
+use anyhow::Context;
+use case_table::{
+    Case, Difference, Line, Table, Trial, filled, is_wanted, listed, parts_of, read, run_cases,
+    run_wrong_cases, table_of,
+};
+use std::alloc::Global;
+
+/// Each case is of storage.
+#[derive(Clone, Copy, Debug)]
+struct Storage;
+
+/// What a line is answered, and the medium then.
+fn answered(
+    alloc: Global,
+    medium: Medium,
+    streams: &mut Streams,
+    text: &str,
+) -> anyhow::Result<(Medium, String)> {
+    if text == "numbers of no memory" {
+        let numbers = listed(alloc, numbers_of_no_memory().as_slice())?;
+        return Ok((medium, numbers));
+    }
+    let (medium, answer) = step(alloc, medium, text)?;
+    if let Some(answer) = answer {
+        return Ok((medium, answer.into_text(alloc)?));
+    }
+    match streams.ask(alloc, text)? {
+        Some(answer) => Ok((medium, answer.into_text(alloc)?)),
+        None => anyhow::bail!("{text} asks for nothing that is known"),
+    }
+}
+
+impl Trial for Storage {
+    fn found(
+        &self,
+        rt: &HostRuntime,
+        case: &Case,
+        choice: &[u64],
+    ) -> anyhow::Result<Option<Difference>> {
+        let alloc = rt.alloc();
+        let mut medium = Medium::Nothing;
+        let mut streams = Streams::new(alloc);
+        for Line { number, text } in &case.lines {
+            let line = filled(alloc, text, &case.names, choice)?;
+            let (asked, wanted) = parts_of(&line);
+            let (next, came) = answered(alloc, medium, &mut streams, asked).context(format_args!(
+                "line {number}"
+            ))?;
+            medium = next;
+            if !is_wanted(wanted, &came) {
+                return Ok(Some(Difference {
+                    line: *number,
+                    asked: String::from_str(alloc, asked)?,
+                    wanted: String::from_str(alloc, wanted)?,
+                    came,
+                }));
+            }
+        }
+        Ok(None)
+    }
+}
+
+/// The cases of a text.
+fn cases_of<'a>(alloc: Global, text: &'a str) -> anyhow::Result<Table<'a>> {
+    let table = table_of(alloc, text)?;
+    if let Some(line) = table.head.first() {
+        anyhow::bail!("line {}: it stands before the first case", line.number);
+    }
+    Ok(table)
+}
+
+fn main(rt: HostRuntime) -> anyhow::Result<()> {
+    let alloc = rt.alloc();
+    let text = read(&rt, "cases")?;
+    let wrong = read(&rt, "wrong_cases")?;
+    run_cases(&rt, &cases_of(alloc, &text)?.cases, &Storage)?;
+    run_wrong_cases(&rt, &cases_of(alloc, &wrong)?.cases, &Storage)
+}

@@ -1,0 +1,143 @@
+//! What a case stores on: a disk, a cell on it, and a store in the cell.
+
+ghost use Rattle.std.specs.Prelude.{◌*◌, ◌^◌, ◌<◌};
+ghost use Rattle.sector_disk.specs.declared.TheConstants.{SECTOR_BYTES};
+
+use crate::answer::Answer;
+use crate::store::CaseStore;
+use crate::words::sends;
+use crate::{cell, disk, store};
+use case_table::size;
+use ckpt_store::Store;
+use gate_cell::GateCell;
+use sector_disk::MemDisk;
+use std::alloc::{AllocError, Global};
+
+/// The most sectors of a disk.
+const MAX_SECTORS: usize = 5_000;
+
+/// What a case stores on.
+#[derive(Drop)]
+pub enum Medium {
+    Nothing,
+    Disk(MemDisk),
+    Cell(GateCell<MemDisk>),
+    Store(CaseStore),
+}
+
+/// A disk of so many sectors.
+fn empty_disk(alloc: Global, sectors: usize) -> Result<MemDisk, AllocError>
+    requires { SECTOR_BYTES * sectors < 2 ^ 64 }
+{
+    MemDisk::new(alloc, sectors)
+}
+
+fn new_disk(alloc: Global, sectors: usize) -> anyhow::Result<Medium> {
+    anyhow::ensure!(sectors <= MAX_SECTORS, "{sectors} sectors are too many");
+    let disk = empty_disk(alloc, sectors)?;
+    sends(&disk);
+    Ok(Medium::Disk(disk))
+}
+
+/// A disk that is refused is handed back.
+fn format(alloc: Global, disk: MemDisk, value: &[u8]) -> (Medium, Answer) {
+    match GateCell::format(alloc, disk, value) {
+        Ok(cell) => {
+            sends(&cell);
+            (Medium::Cell(cell), Answer::Done)
+        }
+        Err((fault, disk)) => (Medium::Disk(disk), Answer::Refused(fault.number())),
+    }
+}
+
+fn open_cell(alloc: Global, disk: MemDisk) -> (Medium, Answer) {
+    match GateCell::open(alloc, disk) {
+        Ok(cell) => (Medium::Cell(cell), Answer::Done),
+        Err((fault, disk)) => (Medium::Disk(disk), Answer::Refused(fault.number())),
+    }
+}
+
+/// A cell that is refused is handed back.
+fn open_store(alloc: Global, cell: GateCell<MemDisk>) -> (Medium, Answer) {
+    match Store::open(alloc, cell) {
+        Ok(store) => (Medium::Store(store), Answer::Done),
+        Err(refused) => {
+            let number = refused.fault.number();
+            (Medium::Cell(refused.cell), Answer::Refused(number))
+        }
+    }
+}
+
+/// What becomes of a disk that is asked to be something else.
+fn disk_becomes(
+    alloc: Global,
+    disk: MemDisk,
+    word: &str,
+    value: &[u8],
+) -> (Medium, Option<Answer>) {
+    let (medium, answer) = match word {
+        "format" => format(alloc, disk, value),
+        "open" => open_cell(alloc, disk),
+        _ => return (Medium::Disk(disk), None),
+    };
+    (medium, Some(answer))
+}
+
+fn cell_becomes(alloc: Global, cell: GateCell<MemDisk>, word: &str) -> (Medium, Option<Answer>) {
+    match word {
+        "close" => (Medium::Disk(cell.close()), Some(Answer::Done)),
+        "store" => {
+            let (medium, answer) = open_store(alloc, cell);
+            (medium, Some(answer))
+        }
+        _ => (Medium::Cell(cell), None),
+    }
+}
+
+fn store_becomes(store: CaseStore, word: &str) -> (Medium, Option<Answer>) {
+    match word {
+        "close" => (Medium::Cell(store.close()), Some(Answer::Done)),
+        _ => (Medium::Store(store), None),
+    }
+}
+
+impl Medium {
+    /// What it becomes, and what is answered to that.
+    fn turned(self, alloc: Global, word: &str, value: &[u8]) -> (Medium, Option<Answer>) {
+        match self {
+            Medium::Nothing => (Medium::Nothing, None),
+            Medium::Disk(disk) => disk_becomes(alloc, disk, word, value),
+            Medium::Cell(cell) => cell_becomes(alloc, cell, word),
+            Medium::Store(store) => store_becomes(store, word),
+        }
+    }
+
+    /// What is answered to something that leaves it what it is.
+    fn ask(&mut self, alloc: Global, text: &str) -> anyhow::Result<Option<Answer>> {
+        match self {
+            Medium::Nothing => Ok(None),
+            Medium::Disk(it) => disk::ask(alloc, it, text),
+            Medium::Cell(it) => cell::ask(alloc, it, text),
+            Medium::Store(it) => store::ask(alloc, it, text),
+        }
+    }
+}
+
+/// What a line asks of a medium, and what that answers, where it is asked for something that it knows.
+pub fn step(alloc: Global, medium: Medium, text: &str) -> anyhow::Result<(Medium, Option<Answer>)> {
+    if let Some(sectors) = text.strip_prefix("disk ") {
+        return Ok((new_disk(alloc, size(sectors)?)?, Some(Answer::Done)));
+    }
+    let (word, rest) = text.split_once(" ").unwrap_or((text, ""));
+    let value = match word {
+        "format" => case_table::spelled(alloc, &[], rest)?,
+        _ => Vec::new(alloc),
+    };
+    let (medium, turned) = medium.turned(alloc, word, &value);
+    if turned.is_some() {
+        return Ok((medium, turned));
+    }
+    let mut medium = medium;
+    let answer = medium.ask(alloc, text)?;
+    Ok((medium, answer))
+}

@@ -1,0 +1,203 @@
+//! A case: what the program is given, and what has to come of it.
+
+use crate::devices::{Given, Writer};
+use crate::judging::Outcome;
+use crate::texts::{add_line, add_spelled};
+use anyhow::Context;
+use case_table::{Case, Line, byte, number, size};
+use kahn_program::Options;
+use std::alloc::Global;
+use std::io::ErrorKind;
+
+/// The text of a case to which the next lines belong.
+#[derive(Clone, Copy, Debug, PartialEq, Eq)]
+pub enum Part {
+    Net,
+    Inputs,
+    Out,
+    Err,
+}
+
+/// What is asked.
+#[derive(Drop)]
+pub enum Asked {
+    /// A run, or an approximation, by these options.
+    Run(Options),
+    /// The same by a command line, the program's name first.
+    Words(String),
+    /// What a command line asks for, or why it is refused.
+    Options(String),
+    /// The tokens of the network's text.
+    Tokens,
+}
+
+/// A case.
+#[derive(Drop)]
+pub struct Plan {
+    pub asked: Asked,
+    pub net: Given,
+    pub inputs: Given,
+    pub wanted: Outcome,
+    pub out: Writer,
+    pub err: Writer,
+    /// The text that is read.
+    pub part: Part,
+}
+
+fn nothing_given(alloc: Global) -> Given {
+    Given {
+        bytes: Vec::new(alloc),
+        is_there: true,
+        is_slow: false,
+        fails: None,
+    }
+}
+
+fn open_writer(alloc: Global) -> Writer {
+    Writer {
+        taken: Vec::new(alloc),
+        room: None,
+        fails_at_flush: false,
+    }
+}
+
+fn kind_of(name: &str) -> anyhow::Result<ErrorKind> {
+    let kind = match name {
+        "other" => ErrorKind::Other,
+        "invalid data" => ErrorKind::InvalidData,
+        "unexpected end" => ErrorKind::UnexpectedEof,
+        "out of memory" => ErrorKind::OutOfMemory,
+        _ => anyhow::bail!("{name} is no failure"),
+    };
+    Ok(kind)
+}
+
+/// How a reader gives what it has.
+fn set_given(given: &mut Given, how: &str) -> anyhow::Result<()> {
+    if let Some(kind) = how.strip_prefix("fails ") {
+        given.fails = Some(kind_of(kind)?);
+        return Ok(());
+    }
+    match how {
+        "absent" => given.is_there = false,
+        "slow" => given.is_slow = true,
+        _ => anyhow::bail!("{how} is nothing that a reader does"),
+    }
+    Ok(())
+}
+
+/// How a writer takes what it is given.
+fn set_taking(writer: &mut Writer, how: &str) -> anyhow::Result<()> {
+    if let Some(room) = how.strip_prefix("fails behind ") {
+        writer.room = Some(size(room)?);
+        return Ok(());
+    }
+    anyhow::ensure!(
+        how == "fails at the flush",
+        "{how} is nothing that a writer does"
+    );
+    writer.fails_at_flush = true;
+    Ok(())
+}
+
+impl Plan {
+    fn new(alloc: Global) -> Plan {
+        Plan {
+            asked: Asked::Run(Options::new(String::new(alloc), String::new(alloc))),
+            net: nothing_given(alloc),
+            inputs: nothing_given(alloc),
+            wanted: Outcome {
+                out: Vec::new(alloc),
+                err: Vec::new(alloc),
+                status: 0,
+            },
+            out: open_writer(alloc),
+            err: open_writer(alloc),
+            part: Part::Net,
+        }
+    }
+
+    /// The text to which a line belongs.
+    fn text(&mut self) -> &mut Vec<u8> {
+        match self.part {
+            Part::Net => &mut self.net.bytes,
+            Part::Inputs => &mut self.inputs.bytes,
+            Part::Out => &mut self.wanted.out,
+            Part::Err => &mut self.wanted.err,
+        }
+    }
+
+    /// Takes an option of the run.
+    fn set_option(&mut self, word: &str, value: u64) -> anyhow::Result<()> {
+        let Asked::Run(options) = &mut self.asked else {
+            anyhow::bail!("no run is asked for");
+        };
+        match word {
+            "approx" => options.approx = Some(value),
+            "items" => options.items = Some(value),
+            "rounds" => options.rounds = value,
+            _ => anyhow::bail!("{word} is no directive"),
+        }
+        Ok(())
+    }
+
+    /// Takes a directive with words behind it.
+    fn direct(&mut self, alloc: Global, word: &str, rest: &str) -> anyhow::Result<()> {
+        match word {
+            "net" => set_given(&mut self.net, rest),
+            "inputs" => set_given(&mut self.inputs, rest),
+            "out" => set_taking(&mut self.out, rest),
+            "err" => set_taking(&mut self.err, rest),
+            "status" => {
+                self.wanted.status = byte(rest)?;
+                Ok(())
+            }
+            "words" => {
+                self.asked = Asked::Words(String::from_str(alloc, rest)?);
+                Ok(())
+            }
+            "options" => {
+                self.asked = Asked::Options(String::from_str(alloc, rest)?);
+                Ok(())
+            }
+            _ => self.set_option(word, number(rest)?),
+        }
+    }
+
+    /// Takes a directive that is one word.
+    fn turn_to(&mut self, word: &str) -> anyhow::Result<()> {
+        match word {
+            "net" => self.part = Part::Net,
+            "inputs" => self.part = Part::Inputs,
+            "out" => self.part = Part::Out,
+            "err" => self.part = Part::Err,
+            "tokens" => self.asked = Asked::Tokens,
+            _ => anyhow::bail!("{word} is no directive"),
+        }
+        Ok(())
+    }
+
+    fn add(&mut self, rt: &HostRuntime, line: &str) -> anyhow::Result<()> {
+        let Some(directive) = line.strip_prefix("-- ") else {
+            return add_line(self.text(), line);
+        };
+        match directive.split_once(" ") {
+            None => self.turn_to(directive),
+            Some((word, rest)) => {
+                if add_spelled(rt, self.text(), word, rest)? {
+                    return Ok(());
+                }
+                self.direct(rt.alloc(), word, rest)
+            }
+        }
+    }
+}
+
+/// What a case says.
+pub fn plan_of(rt: &HostRuntime, case: &Case) -> anyhow::Result<Plan> {
+    let mut plan = Plan::new(rt.alloc());
+    for Line { number, text } in &case.lines {
+        plan.add(rt, text).context(format_args!("line {number}"))?;
+    }
+    Ok(plan)
+}
