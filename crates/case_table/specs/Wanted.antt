@@ -5,8 +5,8 @@ use Rattle.std.specs.Prelude.{ℕ, List, [], ◌≡◌, ◌≢◌, ◌++◌, ◌
 abbrev pub Begins : List ℕ → List ℕ → Type 0
 Begins first came = (came ≡ first) ⊎ ((rest : List ℕ) × (came ≡ first ++ 32 ∷ rest))
 
--- The answer is the one that is wanted: the same, or, where what is wanted ends in ` ..` (32, 46, 46), one that begins with what stands
--- before that.
+-- The answer is the one that is wanted: the same, or, where what is wanted ends in ` ..` (32, 46, 46), one that begins
+-- with what stands before that.
 abbrev pub IsWanted : List ℕ → List ℕ → Type 0
 IsWanted wanted came = (((first : List ℕ) → wanted ≢ first ++ 32 ∷ 46 ∷ 46 ∷ []) → came ≡ wanted)
     × ((first : List ℕ) → wanted ≡ first ++ 32 ∷ 46 ∷ 46 ∷ [] → Begins first came)

@@ -1,11 +1,14 @@
 -- Numbers and the bytes that spell them.
-use Rattle.std.proofs.Common.{◌≡◌, ℕ, zero, suc, ◌+◌, ◌*◌, ◌^◌, ◌<◌, ◌≤◌, Bool, true, false, nat_lt, cond, List, [], ◌∷◌, ◌++◌, length, take, drop, Ok, Err, refl, sym, ap, subst, ◌∙◌, arith, inl, inr}
+use Rattle.std.proofs.Common.{◌≡◌, ℕ, zero, suc, ◌+◌, ◌*◌, ◌^◌, ◌<◌, ◌≤◌, Bool, true, false, nat_lt, cond, List, []}
+use Rattle.std.proofs.Common.{◌∷◌, ◌++◌, length, take, drop, Ok, Err, refl, sym, ap, subst, ◌∙◌, arith, inl, inr}
 use Rattle.std.specs.Int.{byte_at}
 use Rattle.std.proofs.lemmas.Bool.{cases_lt, ltb-true, ltb-false, le-ltb, lt-ltb}
-use Rattle.std.proofs.lemmas.List.{append-nil, take-append-drop, length-append, length-take, get_or-take, get_or_past, drop_at}
+use Rattle.std.proofs.lemmas.List.{append-nil, take-append-drop, length-append, length-take, get_or-take, get_or_past}
+use Rattle.std.proofs.lemmas.List.{drop_at}
 use Rattle.std.proofs.Math.Nat.{mul-le-mul_left}
 use Rattle.byteorder.specs.Endian.{big_bytes, big_number, big_from}
-use Rattle.byteorder.specs.Numbers.{big_from-cons, big_from-take, big_from-lt, big_number-reads_back, length-bytes_high_first}
+use Rattle.byteorder.specs.Numbers.{big_from-cons, big_from-take, big_from-lt, big_number-reads_back}
+use Rattle.byteorder.specs.Numbers.{length-bytes_high_first}
 use Rattle.ckpt_codec.specs.Fields.{number_text}
 use Rattle.ckpt_codec.specs.declared.fault.CodecFault.{CodecFault}
 use Rattle.ckpt_codec.specs.declared.fault.CodecFault.TheVariants.{Truncated}
@@ -29,7 +32,8 @@ above a b c y lt less =
     omega arith
 
 -- as many bytes with the same number are the same
-same_bytes : (n : ℕ) (xs ys : List ℕ) → length xs ≡ n → length ys ≡ n → AreBytes xs → AreBytes ys → big_number n xs ≡ big_number n ys → xs ≡ ys
+same_bytes : (n : ℕ) (xs ys : List ℕ) → length xs ≡ n → length ys ≡ n → AreBytes xs → AreBytes ys
+    → big_number n xs ≡ big_number n ys → xs ≡ ys
 same_bytes zero [] [] len other xs-are ys-are e = refl
 same_bytes zero [] (y ∷ ys) len other xs-are ys-are e = absurd (omega arith)
 same_bytes zero (x ∷ xs) ys len other xs-are ys-are e = absurd (omega arith)
@@ -43,9 +47,11 @@ same_bytes (suc n) (x ∷ xs) (y ∷ ys) len other xs-are ys-are e =
     let xs-less : big_from 0 n xs < 256 ^ n = big_from-lt 0 n xs (tail_bytes x xs xs-are) in
     let ys-less : big_from 0 n ys < 256 ^ n = big_from-lt 0 n ys (tail_bytes y ys ys-are) in
     let first : x ≡ y = heads x y (256 ^ n) (big_from 0 n xs) (big_from 0 n ys) xs-less ys-less whole in
-    let rest : big_from 0 n xs ≡ big_from 0 n ys = tails x y (256 ^ n) (big_from 0 n xs) (big_from 0 n ys) first whole in
+    let rest : big_from 0 n xs ≡ big_from 0 n ys =
+    tails x y (256 ^ n) (big_from 0 n xs) (big_from 0 n ys) first whole in
     ap (λ (b : ℕ). b ∷ xs) first
-    ∙ ap (λ (zs : List ℕ). y ∷ zs) (same_bytes n xs ys (omega arith) (omega arith) (tail_bytes x xs xs-are) (tail_bytes y ys ys-are) rest)
+    ∙ ap (λ (zs : List ℕ). y ∷ zs)
+    (same_bytes n xs ys (omega arith) (omega arith) (tail_bytes x xs xs-are) (tail_bytes y ys ys-are) rest)
   where
     heads : (a b c p q : ℕ) → p < c → q < c → a * c + p ≡ b * c + q → a ≡ b
     heads a b c p q p-less q-less e =
@@ -83,12 +89,14 @@ back n bytes len are =
     same_bytes n (big_bytes n v) bytes (length-bytes_high_first n v) len (made_bytes n v) are again
 
 -- what is read is spelled by the bytes
-pub number_took : (width : ℕ) (bytes : List ℕ) (x : ℕ × List ℕ) → AreBytes bytes → number_at width bytes ≡ Ok x → (bytes ≡ number_text width x.0 ++ x.1) × (x.0 < 256 ^ width) × AreBytes x.1
+pub number_took : (width : ℕ) (bytes : List ℕ) (x : ℕ × List ℕ) → AreBytes bytes → number_at width bytes ≡ Ok x
+    → (bytes ≡ number_text width x.0 ++ x.1) × (x.0 < 256 ^ width) × AreBytes x.1
 unfolding number_at number_text
 number_took width bytes x are e =
     chosen (nat_lt (length bytes) width) (ltb-false (length bytes) width) e
   where
-    chosen : (short : Bool) → (short ≡ false → width ≤ length bytes) → cond {A = Found ℕ} short (Err Truncated) (Ok (big_number width bytes, drop width bytes)) ≡ Ok x
+    chosen : (short : Bool) → (short ≡ false → width ≤ length bytes)
+        → cond {A = Found ℕ} short (Err Truncated) (Ok (big_number width bytes, drop width bytes)) ≡ Ok x
         → (bytes ≡ big_bytes width x.0 ++ x.1) × (x.0 < 256 ^ width) × AreBytes x.1
     chosen true long e = absurd cc
     chosen false long e =
@@ -96,7 +104,8 @@ number_took width bytes x are e =
         let front : big_bytes width (big_number width bytes) ≡ take width bytes
         = ap (λ (k : ℕ). big_bytes width k) (sym (big_from-take 0 width width bytes (omega arith)))
         ∙ back width (take width bytes) (omega (arith, length-take width bytes)) (front_bytes width bytes are) in
-        let same : (big_number width bytes, drop width bytes) ≡ x = is_found {A = ℕ × List ℕ} (big_number width bytes, drop width bytes) x e in
+        let same : (big_number width bytes, drop width bytes) ≡ x =
+        is_found {A = ℕ × List ℕ} (big_number width bytes, drop width bytes) x e in
         subst (λ (z : ℕ × List ℕ). (bytes ≡ big_bytes width z.0 ++ z.1) × (z.0 < 256 ^ width) × AreBytes z.1) same (
           sym (ap (λ (bs : List ℕ). bs ++ drop width bytes) front ∙ take-append-drop width bytes),
           big_from-lt 0 width bytes are,
@@ -104,12 +113,18 @@ number_took width bytes x are e =
         )
 
 -- what is spelled is read
-pub number_again : (width k : ℕ) (rest : List ℕ) → k < 256 ^ width → number_at width (number_text width k ++ rest) ≡ Ok (k, rest)
+pub number_again : (width k : ℕ) (rest : List ℕ) → k < 256 ^ width
+    → number_at width (number_text width k ++ rest) ≡ Ok (k, rest)
 unfolding number_at number_text
 number_again width k rest lt =
     let long : nat_lt (length (big_bytes width k ++ rest)) width ≡ false
     = le-ltb _ _ (omega (arith, length-append (big_bytes width k) rest, length-bytes_high_first width k)) in
-    rw (long, big_number-reads_back width k rest lt, drop_at (big_bytes width k) rest width (length-bytes_high_first width k)) refl
+    rw (
+      long,
+      big_number-reads_back width k rest lt,
+      drop_at (big_bytes width k) rest width
+          (length-bytes_high_first width k),
+    ) refl
 
 -- too few bytes
 pub number_short : (width : ℕ) (bytes : List ℕ) → length bytes < width → number_at width bytes ≡ Err Truncated
@@ -117,11 +132,13 @@ unfolding number_at
 number_short width bytes lt = rw (lt-ltb (length bytes) width lt) refl
 
 -- nothing is read where there are too few, and then alone
-pub number_stuck : (width : ℕ) (bytes : List ℕ) (fault : CodecFault) → number_at width bytes ≡ Err fault → (fault ≡ Truncated) × (length bytes < width)
+pub number_stuck : (width : ℕ) (bytes : List ℕ) (fault : CodecFault) → number_at width bytes ≡ Err fault
+    → (fault ≡ Truncated) × (length bytes < width)
 unfolding number_at
 number_stuck width bytes fault e = chosen (nat_lt (length bytes) width) (ltb-true (length bytes) width) e
   where
-    chosen : (short : Bool) → (short ≡ true → length bytes < width) → cond {A = Found ℕ} short (Err Truncated) (Ok (big_number width bytes, drop width bytes)) ≡ Err fault
+    chosen : (short : Bool) → (short ≡ true → length bytes < width)
+        → cond {A = Found ℕ} short (Err Truncated) (Ok (big_number width bytes, drop width bytes)) ≡ Err fault
         → (fault ≡ Truncated) × (length bytes < width)
     chosen true less e = (sym (is_fault {A = ℕ × List ℕ} Truncated fault e), less refl)
     chosen false less e = absurd cc

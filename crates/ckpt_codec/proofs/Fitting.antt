@@ -1,5 +1,6 @@
 -- Each record has the fields of one whose items are of 64 bits, as far as bytes can tell.
-use Rattle.std.proofs.Common.{◌≡◌, ℕ, suc, ◌^◌, ◌<◌, Bool, true, false, nat_eq, cond, ℤ, List, [], ◌∷◌, ◌++◌, length, map, slice_index, Option, Some, None, Ok, Err, refl, sym, ap, subst, ◌∙◌}
+use Rattle.std.proofs.Common.{◌≡◌, ℕ, suc, ◌^◌, ◌<◌, Bool, true, false, nat_eq, cond, ℤ, List, [], ◌∷◌, ◌++◌, length}
+use Rattle.std.proofs.Common.{map, slice_index, Option, Some, None, Ok, Err, refl, sym, ap, subst, ◌∙◌}
 use Rattle.std.specs.Prelude.{FitsSigned}
 use Rattle.std.specs.List.{AllByRecursion}
 use Rattle.std.specs.Int.{w64, cast_unsigned, int_wrap}
@@ -16,7 +17,11 @@ use Rattle.record.specs.declared.image.End.{End}
 use Rattle.record.specs.declared.image.End.TheVariants.{Receives, Sends, Both}
 use Rattle.record.specs.declared.record.Tentative.{Tentative}
 use Rattle.ckpt_codec.specs.Fields.{Field}
-use Rattle.ckpt_codec.specs.RecordText.{any, at_most, exactly, count, item, flag, between, wanted_or, decision_fields, first_of, rest_of, wanted, variables_of, mode_fields, process_fields, processes_fields, role_of, retained_count, end_fields, saved_end_fields, ends_fields, processes_in, ends_in, image_fields, tentative_fields, record_fields, items_of_end}
+use Rattle.ckpt_codec.specs.RecordText.{any, at_most, exactly, count, item, flag, between, wanted_or, decision_fields}
+use Rattle.ckpt_codec.specs.RecordText.{first_of, rest_of, wanted, variables_of, mode_fields, process_fields}
+use Rattle.ckpt_codec.specs.RecordText.{processes_fields, role_of, retained_count, end_fields, saved_end_fields}
+use Rattle.ckpt_codec.specs.RecordText.{ends_fields, processes_in, ends_in, image_fields, tentative_fields}
+use Rattle.ckpt_codec.specs.RecordText.{record_fields, items_of_end}
 use Rattle.ckpt_codec.specs.declared.fault.CodecFault.{CodecFault}
 use Rattle.ckpt_codec.specs.declared.fault.CodecFault.TheVariants.{Malformed}
 use Rattle.ckpt_codec.specs.Reading.{Found, number_at}
@@ -45,7 +50,8 @@ all_same : (fields : List Field) → AllAlike fields fields
 all_same [] = tt
 all_same (field ∷ fields) = (same field, all_same fields)
 
-alike_append : (xs ys others more : List Field) → AllAlike xs ys → AllAlike others more → AllAlike (xs ++ others) (ys ++ more)
+alike_append : (xs ys others more : List Field) → AllAlike xs ys → AllAlike others more
+    → AllAlike (xs ++ others) (ys ++ more)
 alike_append [] [] others more one two = two
 alike_append [] (y ∷ ys) others more one two = absurd one
 alike_append (x ∷ xs) [] others more one two = absurd one
@@ -55,43 +61,55 @@ equal : (xs ys : List Field) → xs ≡ ys → AllAlike xs ys
 equal xs ys e = subst (λ (zs : List Field). AllAlike xs zs) e (all_same xs)
 
 -- what offends the one offends the other
-judged_stuck : (field other : Field) (found : Found ℕ) (fault : CodecFault) → Alike field other → judged field found ≡ Stuck fault → judged other found ≡ Stuck fault
+judged_stuck : (field other : Field) (found : Found ℕ) (fault : CodecFault) → Alike field other
+    → judged field found ≡ Stuck fault → judged other found ≡ Stuck fault
 judged_stuck field other (Err f) fault alike e = e
 judged_stuck field other (Ok x) fault alike e =
     by_test (field.allows x.0) (other.allows x.0) (nat_eq x.0 field.value) (nat_eq x.0 other.value) (alike.allows x.0) e
   where
-    by_test : (passes also one two : Bool) → passes ≡ also → cond passes (cond one (Passed x.1) Differs) (Stuck Malformed) ≡ Stuck fault
+    by_test : (passes also one two : Bool) → passes ≡ also
+        → cond passes (cond one (Passed x.1) Differs) (Stuck Malformed) ≡ Stuck fault
         → cond also (cond two (Passed x.1) Differs) (Stuck Malformed) ≡ Stuck fault
     by_test true also true two is e = absurd cc
     by_test true also false two is e = absurd cc
     by_test false true one two is e = absurd cc
     by_test false false one two is e = e
 
-judged_passed : (field other : Field) (found : Found ℕ) (rest : List ℕ) → ((v : ℕ) → field.allows v ≡ other.allows v) → field.value ≡ other.value → judged field found ≡ Passed rest → judged other found ≡ Passed rest
+judged_passed : (field other : Field) (found : Found ℕ) (rest : List ℕ) → ((v : ℕ) → field.allows v ≡ other.allows v)
+    → field.value ≡ other.value → judged field found ≡ Passed rest → judged other found ≡ Passed rest
 judged_passed field other (Err f) rest allows value e = e
 judged_passed field other (Ok x) rest allows value e =
     ap (λ (b : Bool). cond b (cond (nat_eq x.0 other.value) (Passed x.1) Differs) (Stuck Malformed)) (sym (allows x.0))
-    ∙ (ap (λ (n : ℕ). cond (field.allows x.0) (cond (nat_eq x.0 n) (Passed x.1) Differs) (Stuck Malformed)) (sym value) ∙ e)
+    ∙ (ap (λ (n : ℕ). cond (field.allows x.0) (cond (nat_eq x.0 n) (Passed x.1) Differs) (Stuck Malformed)) (sym value)
+    ∙ e)
 
-moved : (field other : Field) (bytes : List ℕ) (o : Outcome) → field.width ≡ other.width → judged other (number_at field.width bytes) ≡ o → scan_field other bytes ≡ o
+moved : (field other : Field) (bytes : List ℕ) (o : Outcome) → field.width ≡ other.width
+    → judged other (number_at field.width bytes) ≡ o → scan_field other bytes ≡ o
 moved field other bytes o width e = ap (λ (w : ℕ). judged other (number_at w bytes)) (sym width) ∙ e
 
-pub stuck_alike : (fields others : List Field) (bytes : List ℕ) (fault : CodecFault) → AllAlike fields others → AreBytes bytes → scan fields bytes ≡ Stuck fault → scan others bytes ≡ Stuck fault
+pub stuck_alike : (fields others : List Field) (bytes : List ℕ) (fault : CodecFault) → AllAlike fields others
+    → AreBytes bytes → scan fields bytes ≡ Stuck fault → scan others bytes ≡ Stuck fault
 stuck_alike [] [] bytes fault alike are e = e
 stuck_alike [] (other ∷ others) bytes fault alike are e = absurd alike
 stuck_alike (field ∷ fields) [] bytes fault alike are e = absurd alike
 stuck_alike (field ∷ fields) (other ∷ others) bytes fault alike are e =
-    by_walk (λ rest rest_are is. stuck_alike fields others rest fault alike.1 rest_are is) (walk_of (scan_field field bytes) (scan fields) (Stuck fault) e)
+    by_walk (λ rest rest_are is. stuck_alike fields others rest fault alike.1 rest_are is)
+    (walk_of (scan_field field bytes) (scan fields) (Stuck fault) e)
   where
-    by_walk : ((rest : List ℕ) → AreBytes rest → scan fields rest ≡ Stuck fault → scan others rest ≡ Stuck fault) → Walk (scan_field field bytes) (scan fields) (Stuck fault)
+    by_walk : ((rest : List ℕ) → AreBytes rest → scan fields rest ≡ Stuck fault → scan others rest ≡ Stuck fault)
+        → Walk (scan_field field bytes) (scan fields) (Stuck fault)
         → scan (other ∷ others) bytes ≡ Stuck fault
     by_walk more (Walk.Passes rest was is) =
         let f = field_passed field bytes rest are was in
         let value : field.value ≡ other.value = alike.0.value f.0.0 in
-        let passed : scan_field other bytes ≡ Passed rest = moved field other bytes (Passed rest) alike.0.width (judged_passed field other (number_at field.width bytes) rest alike.0.allows value was) in
+        let passed : scan_field other bytes ≡ Passed rest =
+        moved field other bytes (Passed rest) alike.0.width
+        (judged_passed field other (number_at field.width bytes) rest alike.0.allows value was) in
         ap (λ (o : Outcome). behind_it o (scan others)) passed ∙ more rest f.2 is
     by_walk more (Walk.Halts f was is) =
-        let stuck : scan_field other bytes ≡ Stuck f = moved field other bytes (Stuck f) alike.0.width (judged_stuck field other (number_at field.width bytes) f alike.0 was) in
+        let stuck : scan_field other bytes ≡ Stuck f =
+        moved field other bytes (Stuck f) alike.0.width
+        (judged_stuck field other (number_at field.width bytes) f alike.0 was) in
         ap (λ (o : Outcome). behind_it o (scan others)) stuck ∙ sym is
     by_walk more (Walk.Parts is) = absurd cc
 
@@ -146,22 +164,32 @@ mode-fit (Done vars) = refl
 abbrev process_wanting : Option ℕ → Option ℕ → ℕ → SavedProcessView → List Field
 process_wanting number variables least p =
     wanted_or number (between 1 least MAX_PROCESSES p.number)
-    ∷ (mode_fields p.standing ++ (wanted_or variables (at_most 1 MAX_VARIABLES (length (variables_of p.standing))) ∷ map item (variables_of p.standing)))
+    ∷ (mode_fields p.standing
+    ++ (wanted_or variables (at_most 1 MAX_VARIABLES (length (variables_of p.standing)))
+    ∷ map item (variables_of p.standing)))
 
-process_alike : (number variables : Option ℕ) (least : ℕ) (p : SavedProcessView) → AllAlike (process_wanting number variables least p) (process_wanting number variables least (fit_process p))
+process_alike : (number variables : Option ℕ) (least : ℕ) (p : SavedProcessView)
+    → AllAlike (process_wanting number variables least p) (process_wanting number variables least (fit_process p))
 process_alike number variables least p =
     let vars = variables_of p.standing in (
       same (wanted_or number (between 1 least MAX_PROCESSES p.number)),
-      alike_append (mode_fields p.standing) (mode_fields (fit_standing p.standing)) _ _ (equal _ _ (mode-fit p.standing))
-          (subst (λ (zs : List ℤ). AllAlike (wanted_or variables (at_most 1 MAX_VARIABLES (length vars)) ∷ map item vars) (wanted_or variables (at_most 1 MAX_VARIABLES (length zs)) ∷ map item zs)) (sym (vars-fit p.standing))
-          (subst (λ (n : ℕ). Alike (wanted_or variables (at_most 1 MAX_VARIABLES (length vars))) (wanted_or variables (at_most 1 MAX_VARIABLES n))) (length-fitting vars) (same _), items_alike vars)),
+      alike_append (mode_fields p.standing) (mode_fields (fit_standing p.standing))
+          _ _ (equal _ _ (mode-fit p.standing))
+          (subst (λ (zs : List ℤ). AllAlike
+          (wanted_or variables (at_most 1 MAX_VARIABLES (length vars)) ∷ map item vars)
+          (wanted_or variables (at_most 1 MAX_VARIABLES (length zs)) ∷ map item zs)) (sym (vars-fit p.standing)) (
+            subst (λ (n : ℕ). Alike (wanted_or variables (at_most 1 MAX_VARIABLES (length vars)))
+                (wanted_or variables (at_most 1 MAX_VARIABLES n))) (length-fitting vars) (same _),
+            items_alike vars,
+          )),
     )
 
 abbrev fit_list : {X : Type 0} → (X → X) → Option (List X) → Option (List X)
 fit_list f None = None
 fit_list f (Some xs) = Some (map f xs)
 
-first-fit : {X : Type 0} (f : X → X) (number : X → ℕ) → ((x : X) → number x ≡ number (f x)) → (like : Option (List X)) → wanted number (first_of like) ≡ wanted number (first_of (fit_list f like))
+first-fit : {X : Type 0} (f : X → X) (number : X → ℕ) → ((x : X) → number x ≡ number (f x)) → (like : Option (List X))
+    → wanted number (first_of like) ≡ wanted number (first_of (fit_list f like))
 first-fit f number is None = refl
 first-fit f number is (Some []) = refl
 first-fit f number is (Some (x ∷ xs)) = ap (λ (n : ℕ). Some n) (is x)
@@ -171,11 +199,13 @@ rest-fit f None = refl
 rest-fit f (Some []) = refl
 rest-fit f (Some (x ∷ xs)) = refl
 
-variables-fit : (p : SavedProcessView) → length (variables_of p.standing) ≡ length (variables_of (fit_process p).standing)
+variables-fit : (p : SavedProcessView)
+    → length (variables_of p.standing) ≡ length (variables_of (fit_process p).standing)
 variables-fit p = length-fitting (variables_of p.standing) ∙ ap (λ (zs : List ℤ). length zs) (sym (vars-fit p.standing))
 
 processes_alike : (like : Option (List SavedProcessView)) (least : ℕ) (ps : List SavedProcessView)
-    → AllAlike (processes_fields like least ps) (processes_fields (fit_list fit_process like) least (map fit_process ps))
+    → AllAlike (processes_fields like least ps)
+    (processes_fields (fit_list fit_process like) least (map fit_process ps))
 processes_alike like least [] = tt
 processes_alike like least (p ∷ ps) =
     let fitted = fit_list fit_process like in
@@ -184,16 +214,28 @@ processes_alike like least (p ∷ ps) =
     let n-is = first-fit fit_process (λ (p : SavedProcessView). p.number) (λ p. refl) like in
     let v-is = first-fit fit_process (λ (p : SavedProcessView). length (variables_of p.standing)) variables-fit like in
     let one : AllAlike (process_fields (first_of like) least p) (process_fields (first_of fitted) least (fit_process p))
-    = subst (λ (m : Option ℕ). AllAlike (process_wanting n v least p) (process_wanting m (wanted (λ (p : SavedProcessView). length (variables_of p.standing)) (first_of fitted)) least (fit_process p))) n-is
-    (subst (λ (m : Option ℕ). AllAlike (process_wanting n v least p) (process_wanting n m least (fit_process p))) v-is (process_alike n v least p)) in
-    let others : AllAlike (processes_fields (rest_of like) (suc p.number) ps) (processes_fields (rest_of fitted) (suc p.number) (map fit_process ps))
-    = subst (λ (l : Option (List SavedProcessView)). AllAlike (processes_fields (rest_of like) (suc p.number) ps) (processes_fields l (suc p.number) (map fit_process ps))) (rest-fit fit_process like)
+    = subst (λ (m : Option ℕ). AllAlike (process_wanting n v least p)
+    (process_wanting m (wanted (λ (p : SavedProcessView). length (variables_of p.standing)) (first_of fitted))
+    least (fit_process p))) n-is
+    (subst (λ (m : Option ℕ). AllAlike (process_wanting n v least p) (process_wanting n m least (fit_process p))) v-is
+    (process_alike n v least p)) in
+    let others : AllAlike (processes_fields (rest_of like) (suc p.number) ps)
+    (processes_fields (rest_of fitted) (suc p.number) (map fit_process ps))
+    = subst (λ (l : Option (List SavedProcessView)). AllAlike (processes_fields (rest_of like) (suc p.number) ps)
+    (processes_fields l (suc p.number) (map fit_process ps))) (rest-fit fit_process like)
     (processes_alike (rest_of like) (suc p.number) ps) in
-    alike_append (process_fields (first_of like) least p) (process_fields (first_of fitted) least (fit_process p)) _ _ one others
+    alike_append (process_fields (first_of like) least p) (process_fields (first_of fitted) least (fit_process p))
+    _ _ one others
 
-processes_fit : (ps : List SavedProcessView) → AllByRecursion (λ (p : SavedProcessView). AllByRecursion (FitsSigned w64) (variables_of p.standing)) (map fit_process ps)
+processes_fit : (ps : List SavedProcessView)
+    → AllByRecursion (λ (p : SavedProcessView). AllByRecursion (FitsSigned w64) (variables_of p.standing))
+    (map fit_process ps)
 processes_fit [] = tt
-processes_fit (p ∷ ps) = (subst (λ (zs : List ℤ). AllByRecursion (FitsSigned w64) zs) (sym (vars-fit p.standing)) (items_fit (variables_of p.standing)), processes_fit ps)
+processes_fit (p ∷ ps) = (
+  subst (λ (zs : List ℤ). AllByRecursion (FitsSigned w64) zs) (sym (vars-fit p.standing))
+      (items_fit (variables_of p.standing)),
+  processes_fit ps,
+)
 
 length-map : {X : Type 0} (f : X → X) (xs : List X) → length xs ≡ length (map f xs)
 length-map f [] = refl
@@ -219,10 +261,15 @@ role-fit (Both received log) = refl
 
 log_alike : (limit from : ℕ) (log : LogState)
     → AllAlike (at_most 8 limit log.base ∷ retained_count log.base from (length log.items) ∷ map item log.items)
-    (at_most 8 limit log.base ∷ retained_count log.base from (length (map fitting log.items)) ∷ map item (map fitting log.items))
+    (at_most 8 limit log.base ∷ retained_count log.base from (length (map fitting log.items))
+    ∷ map item (map fitting log.items))
 log_alike limit from log = (
   same (at_most 8 limit log.base),
-  (subst (λ (n : ℕ). Alike (retained_count log.base from (length log.items)) (retained_count log.base from n)) (length-fitting log.items) (same _), items_alike log.items),
+  (
+    subst (λ (n : ℕ). Alike (retained_count log.base from (length log.items)) (retained_count log.base from n))
+        (length-fitting log.items) (same _),
+    items_alike log.items,
+  ),
 )
 
 end_alike : (e : End) → AllAlike (end_fields e) (end_fields (fit_end e))
@@ -231,15 +278,23 @@ end_alike (Sends log) = log_alike MAX_COUNT 0 log
 end_alike (Both received log) = (same (count received), log_alike received received log)
 
 abbrev end_wanting : Option ℕ → Option ℕ → ℕ → SavedEnd → List Field
-end_wanting channel role least e = wanted_or channel (between 2 least MAX_CHANNELS e.channel) ∷ wanted_or role (at_most 1 2 (role_of e.end)) ∷ end_fields e.end
+end_wanting channel role least e =
+    wanted_or channel (between 2 least MAX_CHANNELS e.channel) ∷ wanted_or role (at_most 1 2 (role_of e.end))
+    ∷ end_fields e.end
 
-saved_alike : (channel role : Option ℕ) (least : ℕ) (e : SavedEnd) → AllAlike (end_wanting channel role least e) (end_wanting channel role least (fit_saved e))
+saved_alike : (channel role : Option ℕ) (least : ℕ) (e : SavedEnd)
+    → AllAlike (end_wanting channel role least e) (end_wanting channel role least (fit_saved e))
 saved_alike channel role least e = (
   same (wanted_or channel (between 2 least MAX_CHANNELS e.channel)),
-  (subst (λ (n : ℕ). Alike (wanted_or role (at_most 1 2 (role_of e.end))) (wanted_or role (at_most 1 2 n))) (role-fit e.end) (same _), end_alike e.end),
+  (
+    subst (λ (n : ℕ). Alike (wanted_or role (at_most 1 2 (role_of e.end))) (wanted_or role (at_most 1 2 n)))
+        (role-fit e.end) (same _),
+    end_alike e.end,
+  ),
 )
 
-ends_alike : (like : Option (List SavedEnd)) (least : ℕ) (es : List SavedEnd) → AllAlike (ends_fields like least es) (ends_fields (fit_list fit_saved like) least (map fit_saved es))
+ends_alike : (like : Option (List SavedEnd)) (least : ℕ) (es : List SavedEnd)
+    → AllAlike (ends_fields like least es) (ends_fields (fit_list fit_saved like) least (map fit_saved es))
 ends_alike like least [] = tt
 ends_alike like least (e ∷ es) =
     let fitted = fit_list fit_saved like in
@@ -247,20 +302,27 @@ ends_alike like least (e ∷ es) =
     let r = wanted (λ (e : SavedEnd). role_of e.end) (first_of like) in
     let n-is = first-fit fit_saved (λ (e : SavedEnd). e.channel) (λ e. refl) like in
     let r-is = first-fit fit_saved (λ (e : SavedEnd). role_of e.end) (λ e. role-fit e.end) like in
-    let one : AllAlike (saved_end_fields (first_of like) least e) (saved_end_fields (first_of fitted) least (fit_saved e))
-    = subst (λ (m : Option ℕ). AllAlike (end_wanting n r least e) (end_wanting m (wanted (λ (e : SavedEnd). role_of e.end) (first_of fitted)) least (fit_saved e))) n-is
-    (subst (λ (m : Option ℕ). AllAlike (end_wanting n r least e) (end_wanting n m least (fit_saved e))) r-is (saved_alike n r least e)) in
-    let others : AllAlike (ends_fields (rest_of like) (suc e.channel) es) (ends_fields (rest_of fitted) (suc e.channel) (map fit_saved es))
-    = subst (λ (l : Option (List SavedEnd)). AllAlike (ends_fields (rest_of like) (suc e.channel) es) (ends_fields l (suc e.channel) (map fit_saved es))) (rest-fit fit_saved like)
+    let one : AllAlike (saved_end_fields (first_of like) least e)
+    (saved_end_fields (first_of fitted) least (fit_saved e))
+    = subst (λ (m : Option ℕ). AllAlike (end_wanting n r least e)
+    (end_wanting m (wanted (λ (e : SavedEnd). role_of e.end) (first_of fitted)) least (fit_saved e))) n-is
+    (subst (λ (m : Option ℕ). AllAlike (end_wanting n r least e) (end_wanting n m least (fit_saved e))) r-is
+    (saved_alike n r least e)) in
+    let others : AllAlike (ends_fields (rest_of like) (suc e.channel) es)
+    (ends_fields (rest_of fitted) (suc e.channel) (map fit_saved es))
+    = subst (λ (l : Option (List SavedEnd)). AllAlike (ends_fields (rest_of like) (suc e.channel) es)
+    (ends_fields l (suc e.channel) (map fit_saved es))) (rest-fit fit_saved like)
     (ends_alike (rest_of like) (suc e.channel) es) in
-    alike_append (saved_end_fields (first_of like) least e) (saved_end_fields (first_of fitted) least (fit_saved e)) _ _ one others
+    alike_append (saved_end_fields (first_of like) least e) (saved_end_fields (first_of fitted) least (fit_saved e))
+    _ _ one others
 
 end_fit : (e : End) → AllByRecursion (FitsSigned w64) (items_of_end (fit_end e))
 end_fit (Receives received) = tt
 end_fit (Sends log) = items_fit log.items
 end_fit (Both received log) = items_fit log.items
 
-ends_fit : (es : List SavedEnd) → AllByRecursion (λ (e : SavedEnd). AllByRecursion (FitsSigned w64) (items_of_end e.end)) (map fit_saved es)
+ends_fit : (es : List SavedEnd)
+    → AllByRecursion (λ (e : SavedEnd). AllByRecursion (FitsSigned w64) (items_of_end e.end)) (map fit_saved es)
 ends_fit [] = tt
 ends_fit (e ∷ es) = (end_fit e.end, ends_fit es)
 
@@ -281,30 +343,42 @@ ends-in : (like : Option ImageView) → fit_list fit_saved (ends_in like) ≡ en
 ends-in None = refl
 ends-in (Some i) = refl
 
-count-in : (like : Option ImageView) → wanted (λ (i : ImageView). length i.processes) like ≡ wanted (λ (i : ImageView). length i.processes) (fit_like like)
+count-in : (like : Option ImageView)
+    → wanted (λ (i : ImageView). length i.processes) like
+    ≡ wanted (λ (i : ImageView). length i.processes) (fit_like like)
 count-in None = refl
 count-in (Some i) = ap (λ (n : ℕ). Some n) (length-map fit_process i.processes)
 
-end_count-in : (like : Option ImageView) → wanted (λ (i : ImageView). length i.ends) like ≡ wanted (λ (i : ImageView). length i.ends) (fit_like like)
+end_count-in : (like : Option ImageView)
+    → wanted (λ (i : ImageView). length i.ends) like ≡ wanted (λ (i : ImageView). length i.ends) (fit_like like)
 end_count-in None = refl
 end_count-in (Some i) = ap (λ (n : ℕ). Some n) (length-map fit_saved i.ends)
 
-count_alike : (one two : Option ℕ) (width limit m n : ℕ) → one ≡ two → m ≡ n → Alike (wanted_or one (at_most width limit m)) (wanted_or two (at_most width limit n))
+count_alike : (one two : Option ℕ) (width limit m n : ℕ) → one ≡ two → m ≡ n
+    → Alike (wanted_or one (at_most width limit m)) (wanted_or two (at_most width limit n))
 count_alike one two width limit m n e d =
     subst (λ (o : Option ℕ). Alike (wanted_or one (at_most width limit m)) (wanted_or o (at_most width limit n))) e
-    (subst (λ (k : ℕ). Alike (wanted_or one (at_most width limit m)) (wanted_or one (at_most width limit k))) d (same _))
+    (subst (λ (k : ℕ). Alike (wanted_or one (at_most width limit m)) (wanted_or one (at_most width limit k))) d
+    (same _))
 
-image_alike : (like : Option ImageView) (i : ImageView) → AllAlike (image_fields like i) (image_fields (fit_like like) (fit_image i))
+image_alike : (like : Option ImageView) (i : ImageView)
+    → AllAlike (image_fields like i) (image_fields (fit_like like) (fit_image i))
 image_alike like i =
     alike_append
-    (wanted_or (wanted (λ (i : ImageView). length i.processes) like) (at_most 1 MAX_PROCESSES (length i.processes)) ∷ processes_fields (processes_in like) 0 i.processes)
-    (wanted_or (wanted (λ (i : ImageView). length i.processes) (fit_like like)) (at_most 1 MAX_PROCESSES (length (map fit_process i.processes))) ∷ processes_fields (processes_in (fit_like like)) 0 (map fit_process i.processes))
+    (wanted_or (wanted (λ (i : ImageView). length i.processes) like) (at_most 1 MAX_PROCESSES (length i.processes))
+    ∷ processes_fields (processes_in like) 0 i.processes)
+    (wanted_or (wanted (λ (i : ImageView). length i.processes) (fit_like like))
+    (at_most 1 MAX_PROCESSES (length (map fit_process i.processes)))
+    ∷ processes_fields (processes_in (fit_like like)) 0 (map fit_process i.processes))
     _ _ (
       count_alike _ _ 1 MAX_PROCESSES _ _ (count-in like) (length-map fit_process i.processes),
-      subst (λ (l : Option (List SavedProcessView)). AllAlike (processes_fields (processes_in like) 0 i.processes) (processes_fields l 0 (map fit_process i.processes))) (processes-in like) (processes_alike (processes_in like) 0 i.processes),
+      subst (λ (l : Option (List SavedProcessView)). AllAlike (processes_fields (processes_in like) 0 i.processes)
+          (processes_fields l 0 (map fit_process i.processes))) (processes-in like)
+          (processes_alike (processes_in like) 0 i.processes),
     ) (
       count_alike _ _ 2 MAX_CHANNELS _ _ (end_count-in like) (length-map fit_saved i.ends),
-      subst (λ (l : Option (List SavedEnd)). AllAlike (ends_fields (ends_in like) 0 i.ends) (ends_fields l 0 (map fit_saved i.ends))) (ends-in like) (ends_alike (ends_in like) 0 i.ends),
+      subst (λ (l : Option (List SavedEnd)). AllAlike (ends_fields (ends_in like) 0 i.ends)
+          (ends_fields l 0 (map fit_saved i.ends))) (ends-in like) (ends_alike (ends_in like) 0 i.ends),
     )
 
 image_is : (i : ImageView) → IsImage (fit_image i)
@@ -332,7 +406,8 @@ record_is kept = record { permanent = image_is kept.permanent; tentative = tenta
 
 pub record_alike : (kept : RecordView) → AllAlike (record_fields kept) (record_fields (fit_record kept))
 record_alike kept =
-    let decision = decision_fields kept.node (length kept.highest) (slice_index kept.highest kept.node) kept.decision in (
+    let decision =
+    decision_fields kept.node (length kept.highest) (slice_index kept.highest kept.node) kept.decision in (
       same (exactly 1 1 1),
       (
         same (any 1 kept.node),
@@ -342,7 +417,8 @@ record_alike kept =
             same _,
             alike_append (map count kept.highest) (map count kept.highest) _ _ (all_same (map count kept.highest))
                 (alike_append decision decision _ _ (all_same decision)
-                (alike_append (image_fields None kept.permanent) (image_fields None (fit_image kept.permanent)) _ _ (image_alike None kept.permanent)
+                (alike_append (image_fields None kept.permanent) (image_fields None (fit_image kept.permanent))
+                _ _ (image_alike None kept.permanent)
                 (tentative_alike kept.highest kept.permanent kept.tentative))),
           ),
         ),

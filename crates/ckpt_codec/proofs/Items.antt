@@ -25,11 +25,15 @@ all_before : (xs ys : List ℤ) → AreItems (xs ++ ys) → AreItems xs × AreIt
 all_before [] ys all = (tt, all)
 all_before (x ∷ xs) ys all = let h = all_before xs ys all.1 in ((all.0, h.0), h.1)
 
-all_flat : {X : Type 0} (f : X → List ℤ) (xs : List X) → AllByRecursion (λ x. AreItems (f x)) xs → AreItems (flat_map f xs)
+all_flat : {X : Type 0} (f : X → List ℤ) (xs : List X) → AllByRecursion (λ x. AreItems (f x)) xs
+    → AreItems (flat_map f xs)
 all_flat f [] all = tt
-all_flat f (x ∷ xs) all = subst (λ (zs : List ℤ). AreItems zs) (sym (flat_map-cons f x xs)) (all_behind (f x) (flat_map f xs) all.0 (all_flat f xs all.1))
+all_flat f (x ∷ xs) all =
+    subst (λ (zs : List ℤ). AreItems zs) (sym (flat_map-cons f x xs))
+    (all_behind (f x) (flat_map f xs) all.0 (all_flat f xs all.1))
 
-all_unflat : {X : Type 0} (f : X → List ℤ) (xs : List X) → AreItems (flat_map f xs) → AllByRecursion (λ x. AreItems (f x)) xs
+all_unflat : {X : Type 0} (f : X → List ℤ) (xs : List X) → AreItems (flat_map f xs)
+    → AllByRecursion (λ x. AreItems (f x)) xs
 all_unflat f [] all = tt
 all_unflat f (x ∷ xs) all =
     let h = all_before (f x) (flat_map f xs) (subst (λ (zs : List ℤ). AreItems zs) (flat_map-cons f x xs) all) in
@@ -37,12 +41,15 @@ all_unflat f (x ∷ xs) all =
 
 image_items : (image : ImageView) → IsImage image → AreItems (items_of_image image)
 image_items image is =
-    all_behind (flat_map (λ (p : SavedProcessView). variables_of p.standing) image.processes) (flat_map (λ (e : SavedEnd). items_of_end e.end) image.ends)
-    (all_flat (λ (p : SavedProcessView). variables_of p.standing) image.processes is.processes) (all_flat (λ (e : SavedEnd). items_of_end e.end) image.ends is.ends)
+    all_behind (flat_map (λ (p : SavedProcessView). variables_of p.standing) image.processes)
+    (flat_map (λ (e : SavedEnd). items_of_end e.end) image.ends)
+    (all_flat (λ (p : SavedProcessView). variables_of p.standing) image.processes is.processes)
+    (all_flat (λ (e : SavedEnd). items_of_end e.end) image.ends is.ends)
 
 items_image : (image : ImageView) → AreItems (items_of_image image) → IsImage image
 items_image image all =
-    let h = all_before (flat_map (λ (p : SavedProcessView). variables_of p.standing) image.processes) (flat_map (λ (e : SavedEnd). items_of_end e.end) image.ends) all in
+    let h = all_before (flat_map (λ (p : SavedProcessView). variables_of p.standing) image.processes)
+    (flat_map (λ (e : SavedEnd). items_of_end e.end) image.ends) all in
     record {
       processes = all_unflat (λ (p : SavedProcessView). variables_of p.standing) image.processes h.0;
       ends = all_unflat (λ (e : SavedEnd). items_of_end e.end) image.ends h.1;
@@ -59,9 +66,11 @@ items_tentative (Some t) all = items_image t.image all
 pub kept_items : (kept : RecordView) → IsKept kept → All (FitsSigned w64) (items_of_record kept)
 kept_items kept is =
     All-from_recursion (FitsSigned w64) (items_of_record kept)
-    (all_behind (items_of_image kept.permanent) (items_of_tentative kept.tentative) (image_items kept.permanent is.permanent) (tentative_items kept.tentative is.tentative))
+    (all_behind (items_of_image kept.permanent) (items_of_tentative kept.tentative)
+    (image_items kept.permanent is.permanent) (tentative_items kept.tentative is.tentative))
 
 pub is_kept : (kept : RecordView) → All (FitsSigned w64) (items_of_record kept) → IsKept kept
 is_kept kept all =
-    let h = all_before (items_of_image kept.permanent) (items_of_tentative kept.tentative) (recursion_from_All (FitsSigned w64) (items_of_record kept) all) in
+    let h = all_before (items_of_image kept.permanent) (items_of_tentative kept.tentative)
+    (recursion_from_All (FitsSigned w64) (items_of_record kept) all) in
     record { permanent = items_image kept.permanent h.0; tentative = items_tentative kept.tentative h.1 }

@@ -1,14 +1,17 @@
 -- The reader of a whole record is lawful.
-use Rattle.std.proofs.Common.{◌≡◌, ℕ, ◌&&◌, nat_eq, nat_lt, nat_le, List, [], ◌∷◌, ◌++◌, length, map, slice_index, Option, Some, None, refl}
+use Rattle.std.proofs.Common.{◌≡◌, ℕ, ◌&&◌, nat_eq, nat_lt, nat_le, List, [], ◌∷◌, ◌++◌, length, map, slice_index}
+use Rattle.std.proofs.Common.{Option, Some, None, refl}
 use Rattle.record.specs.ImageView.{ImageView}
 use Rattle.record.specs.RecordView.{RecordView}
 use Rattle.record.specs.declared.record.Tentative.{Tentative}
 use Rattle.ckpt_codec.specs.Fields.{Field}
 use Rattle.ckpt_codec.specs.RecordText.{any, count, decision_fields, image_fields, tentative_fields}
-use Rattle.ckpt_codec.specs.Reading.{instance_at, pending_at, tentative_at, Head, numbers_at, head_at, images_at, Tail, tail_at, record_of, body_at}
+use Rattle.ckpt_codec.specs.Reading.{instance_at, pending_at, tentative_at, Head, numbers_at, head_at, images_at, Tail}
+use Rattle.ckpt_codec.specs.Reading.{tail_at, record_of, body_at}
 use Rattle.ckpt_codec.proofs.Scan.{Lawful, Each}
 use Rattle.ckpt_codec.proofs.Combining.{same_fields, same_values, built}
-use Rattle.ckpt_codec.proofs.Parts.{plain, count_lawful, any_lawful, nodes_field, highest_lawful, decision_lawful, IfThere, is_there, behind_flag, flag_of, optional_lawful, IsImage, image_lawful}
+use Rattle.ckpt_codec.proofs.Parts.{plain, count_lawful, any_lawful, nodes_field, highest_lawful, decision_lawful}
+use Rattle.ckpt_codec.proofs.Parts.{IfThere, is_there, behind_flag, flag_of, optional_lawful, IsImage, image_lawful}
 
 -- ---- the tentative image
 
@@ -19,13 +22,16 @@ abbrev pub tentative_number : ℕ → ℕ → Field
 tentative_number entry n = record { width = 8; allows = λ v. nat_le 1 v && nat_eq v entry; value = n }
 
 instance_lawful : (highest : List ℕ)
-    → Lawful Each (λ (x : ℕ × ℕ). initiator_field highest x.0 ∷ tentative_number (slice_index highest x.0) x.1 ∷ []) (instance_at highest)
+    → Lawful Each (λ (x : ℕ × ℕ). initiator_field highest x.0 ∷ tentative_number (slice_index highest x.0) x.1 ∷ [])
+    (instance_at highest)
 unfolding instance_at
 instance_lawful highest =
     same_values Each
-    (built (λ i n. (i, n)) (λ x. x.0) (λ x. x.1) (λ (x : ℕ × ℕ). initiator_field highest x.0 ∷ tentative_number (slice_index highest x.0) x.1 ∷ [])
+    (built (λ i n. (i, n)) (λ x. x.0) (λ x. x.1)
+    (λ (x : ℕ × ℕ). initiator_field highest x.0 ∷ tentative_number (slice_index highest x.0) x.1 ∷ [])
     (plain (initiator_field highest) 1 (λ v. nat_lt v (length highest)) (λ n. refl))
-    (λ i is. plain (tentative_number (slice_index highest i)) 8 (λ v. nat_le 1 v && nat_eq v (slice_index highest i)) (λ n. refl)) (λ i is. (0, tt))
+    (λ i is. plain (tentative_number (slice_index highest i)) 8 (λ v. nat_le 1 v && nat_eq v (slice_index highest i))
+    (λ n. refl)) (λ i is. (0, tt))
     (λ x. (refl, refl)) (λ i n. (refl, refl)))
     (λ x is. (tt, tt)) (λ x is. tt)
 
@@ -36,49 +42,63 @@ no_image : IsImage (record { processes = []; ends = [] })
 no_image = record { processes = tt; ends = tt }
 
 abbrev pending_fields : List ℕ → ImageView → Tentative → List Field
-pending_fields highest permanent t = initiator_field highest t.initiator ∷ tentative_number (slice_index highest t.initiator) t.number ∷ image_fields (Some permanent) t.image
+pending_fields highest permanent t =
+    initiator_field highest t.initiator ∷ tentative_number (slice_index highest t.initiator) t.number
+    ∷ image_fields (Some permanent) t.image
 
-pending_lawful : (highest : List ℕ) (permanent : ImageView) → Lawful IsPending (pending_fields highest permanent) (pending_at highest permanent)
+pending_lawful : (highest : List ℕ) (permanent : ImageView)
+    → Lawful IsPending (pending_fields highest permanent) (pending_at highest permanent)
 unfolding pending_at
 pending_lawful highest permanent =
     same_values IsPending
-    (built (λ x image. record { initiator = x.0; number = x.1; image = image }) (λ (t : Tentative). (t.initiator, t.number)) (λ (t : Tentative). t.image) (pending_fields highest permanent)
-    (instance_lawful highest) (λ x is. image_lawful (Some permanent)) (λ x is. (record { processes = []; ends = [] }, no_image))
+    (built (λ x image. record { initiator = x.0; number = x.1; image = image })
+    (λ (t : Tentative). (t.initiator, t.number)) (λ (t : Tentative). t.image) (pending_fields highest permanent)
+    (instance_lawful highest) (λ x is. image_lawful (Some permanent))
+    (λ x is. (record { processes = []; ends = [] }, no_image))
     (λ t. (refl, refl)) (λ x image. (refl, refl)))
     (λ t is. (tt, is)) (λ t is. is.1)
 
 abbrev pub IsTentative : Option Tentative → Type 0
 IsTentative t = IfThere IsPending t
 
-tentative_lawful : (highest : List ℕ) (permanent : ImageView) → Lawful IsTentative (tentative_fields highest permanent) (tentative_at highest permanent)
+tentative_lawful : (highest : List ℕ) (permanent : ImageView)
+    → Lawful IsTentative (tentative_fields highest permanent) (tentative_at highest permanent)
 unfolding tentative_at
 tentative_lawful highest permanent =
     same_fields (tentative_fields highest permanent)
-    (optional_lawful (pending_lawful highest permanent) (record { initiator = 0; number = 0; image = record { processes = []; ends = [] } }) no_image) same
+    (optional_lawful (pending_lawful highest permanent)
+    (record { initiator = 0; number = 0; image = record { processes = []; ends = [] } }) no_image) same
   where
-    same : (t : Option Tentative) → IsTentative t → tentative_fields highest permanent t ≡ flag_of (is_there t) ∷ behind_flag (pending_fields highest permanent) t
+    same : (t : Option Tentative) → IsTentative t
+        → tentative_fields highest permanent t ≡ flag_of (is_there t) ∷ behind_flag (pending_fields highest permanent) t
     same None is = refl
     same (Some t) is = refl
 
 -- ---- the head
 
-numbers_lawful : (node : ℕ) → Lawful Each (λ (x : ℕ × List ℕ). count x.0 ∷ nodes_field node (length x.1) ∷ map count x.1) (numbers_at node)
+numbers_lawful : (node : ℕ)
+    → Lawful Each (λ (x : ℕ × List ℕ). count x.0 ∷ nodes_field node (length x.1) ∷ map count x.1) (numbers_at node)
 unfolding numbers_at
 numbers_lawful node =
     same_values Each
-    (built (λ epoch highest. (epoch, highest)) (λ x. x.0) (λ x. x.1) (λ (x : ℕ × List ℕ). count x.0 ∷ nodes_field node (length x.1) ∷ map count x.1)
-    count_lawful (λ epoch is. highest_lawful node) (λ epoch is. ([], tt)) (λ x. (refl, refl)) (λ epoch highest. (refl, refl)))
+    (built (λ epoch highest. (epoch, highest)) (λ x. x.0) (λ x. x.1)
+    (λ (x : ℕ × List ℕ). count x.0 ∷ nodes_field node (length x.1) ∷ map count x.1)
+    count_lawful (λ epoch is. highest_lawful node) (λ epoch is. ([], tt)) (λ x. (refl, refl))
+    (λ epoch highest. (refl, refl)))
     (λ x is. (tt, tt)) (λ x is. tt)
 
 abbrev head_text : Head → List Field
-head_text head = any 1 head.node ∷ count head.epoch ∷ nodes_field head.node (length head.highest) ∷ map count head.highest
+head_text head =
+    any 1 head.node ∷ count head.epoch ∷ nodes_field head.node (length head.highest) ∷ map count head.highest
 
 head_lawful : Lawful Each head_text head_at
 unfolding head_at
 head_lawful =
     same_values Each
-    (built (λ node x. record { node = node; epoch = x.0; highest = x.1 }) (λ (h : Head). h.node) (λ (h : Head). (h.epoch, h.highest)) head_text
-    (any_lawful 1) (λ node is. numbers_lawful node) (λ node is. ((0, []), tt)) (λ h. (refl, refl)) (λ node x. (refl, refl)))
+    (built (λ node x. record { node = node; epoch = x.0; highest = x.1 }) (λ (h : Head). h.node)
+    (λ (h : Head). (h.epoch, h.highest)) head_text
+    (any_lawful 1) (λ node is. numbers_lawful node) (λ node is. ((0, []), tt)) (λ h. (refl, refl))
+    (λ node x. (refl, refl)))
     (λ h is. (tt, tt)) (λ h is. tt)
 
 -- ---- what follows it
@@ -86,25 +106,31 @@ head_lawful =
 abbrev IsImages : ImageView × Option Tentative → Type 0
 IsImages x = IsImage x.0 × IsTentative x.1
 
-images_lawful : (highest : List ℕ) → Lawful IsImages (λ x. image_fields None x.0 ++ tentative_fields highest x.0 x.1) (images_at highest)
+images_lawful : (highest : List ℕ)
+    → Lawful IsImages (λ x. image_fields None x.0 ++ tentative_fields highest x.0 x.1) (images_at highest)
 unfolding images_at
 images_lawful highest =
-    built (λ permanent tentative. (permanent, tentative)) (λ x. x.0) (λ x. x.1) (λ x. image_fields None x.0 ++ tentative_fields highest x.0 x.1)
-    (image_lawful None) (λ permanent is. tentative_lawful highest permanent) (λ permanent is. (None, tt)) (λ x. (refl, refl)) (λ permanent tentative. (refl, refl))
+    built (λ permanent tentative. (permanent, tentative)) (λ x. x.0) (λ x. x.1)
+    (λ x. image_fields None x.0 ++ tentative_fields highest x.0 x.1)
+    (image_lawful None) (λ permanent is. tentative_lawful highest permanent) (λ permanent is. (None, tt))
+    (λ x. (refl, refl)) (λ permanent tentative. (refl, refl))
 
 abbrev IsTail : Tail → Type 0
 IsTail tail = IsImage tail.permanent × IsTentative tail.tentative
 
 abbrev tail_fields : ℕ → List ℕ → Tail → List Field
 tail_fields node highest tail =
-    decision_fields node (length highest) (slice_index highest node) tail.decision ++ (image_fields None tail.permanent ++ tentative_fields highest tail.permanent tail.tentative)
+    decision_fields node (length highest) (slice_index highest node) tail.decision
+    ++ (image_fields None tail.permanent ++ tentative_fields highest tail.permanent tail.tentative)
 
 tail_lawful : (node : ℕ) (highest : List ℕ) → Lawful IsTail (tail_fields node highest) (tail_at node highest)
 unfolding tail_at
 tail_lawful node highest =
     same_values IsTail
-    (built (λ decision x. record { decision = decision; permanent = x.0; tentative = x.1 }) (λ (t : Tail). t.decision) (λ (t : Tail). (t.permanent, t.tentative)) (tail_fields node highest)
-    (decision_lawful node (length highest) (slice_index highest node)) (λ decision is. images_lawful highest) (λ decision is. ((record { processes = []; ends = [] }, None), (no_image, tt)))
+    (built (λ decision x. record { decision = decision; permanent = x.0; tentative = x.1 }) (λ (t : Tail). t.decision)
+    (λ (t : Tail). (t.permanent, t.tentative)) (tail_fields node highest)
+    (decision_lawful node (length highest) (slice_index highest node)) (λ decision is. images_lawful highest)
+    (λ decision is. ((record { processes = []; ends = [] }, None), (no_image, tt)))
     (λ t. (refl, refl)) (λ decision x. (refl, refl)))
     (λ t is. (tt, is)) (λ t is. is.1)
 
@@ -118,13 +144,21 @@ pub record IsKept (kept : RecordView) : Type 0 where
 abbrev pub body_fields : RecordView → List Field
 body_fields kept =
     any 1 kept.node ∷ count kept.epoch ∷ nodes_field kept.node (length kept.highest)
-    ∷ (map count kept.highest ++ tail_fields kept.node kept.highest (record { decision = kept.decision; permanent = kept.permanent; tentative = kept.tentative }))
+    ∷ (map count kept.highest
+    ++ tail_fields kept.node kept.highest
+    (record { decision = kept.decision; permanent = kept.permanent; tentative = kept.tentative }))
 
 pub body_lawful : Lawful IsKept body_fields body_at
 unfolding body_at
 body_lawful =
     same_values IsKept
-    (built record_of (λ (r : RecordView). record { node = r.node; epoch = r.epoch; highest = r.highest }) (λ (r : RecordView). record { decision = r.decision; permanent = r.permanent; tentative = r.tentative }) body_fields
-    head_lawful (λ head is. tail_lawful head.node head.highest) (λ head is. (record { decision = None; permanent = record { processes = []; ends = [] }; tentative = None }, (no_image, tt)))
+    (built record_of (λ (r : RecordView). record { node = r.node; epoch = r.epoch; highest = r.highest })
+    (λ (r : RecordView). record { decision = r.decision; permanent = r.permanent; tentative = r.tentative })
+    body_fields
+    head_lawful (λ head is. tail_lawful head.node head.highest)
+    (λ head is. (
+      record { decision = None; permanent = record { processes = []; ends = [] }; tentative = None },
+      (no_image, tt),
+    ))
     (λ r. (refl, refl)) (λ head tail. (refl, refl)))
     (λ r is. (tt, (is.permanent, is.tentative))) (λ r is. record { permanent = is.1.0; tentative = is.1.1 })

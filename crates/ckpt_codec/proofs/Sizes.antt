@@ -1,5 +1,6 @@
 -- The lengths of spellings.
-use Rattle.std.proofs.Common.{◌≡◌, ℕ, ◌+◌, ◌*◌, ◌≤◌, ℤ, List, [], ◌∷◌, ◌++◌, length, Option, Some, None, refl, sym, ap, ◌∙◌, length-append, arith}
+use Rattle.std.proofs.Common.{◌≡◌, ℕ, ◌+◌, ◌*◌, ◌≤◌, ℤ, List, [], ◌∷◌, ◌++◌, length, Option, Some, None, refl, sym, ap}
+use Rattle.std.proofs.Common.{◌∙◌, length-append, arith}
 use Rattle.std.specs.Prelude.{sum_by}
 use Rattle.std.specs.List.{flat_map}
 use Rattle.std.proofs.lemmas.List.Concat.{flat_map-cons}
@@ -19,8 +20,12 @@ use Rattle.record.specs.declared.image.End.TheVariants.{Receives, Sends, Both}
 use Rattle.record.specs.declared.record.Tentative.{Tentative}
 use Rattle.ckpt_codec.specs.Fields.{number_text}
 use Rattle.ckpt_codec.specs.RecordText.{variables_of, role_of, record_text}
-use Rattle.ckpt_codec.specs.Spelling.{item_text, items_text, mode_text, state_text, process_text, log_text, end_text, saved_end_text, process_list_text, end_list_text, image_text, participants_text, decision_text, tentative_text, highest_text, head_text}
-use Rattle.ckpt_codec.specs.Lengths.{mode_length, process_length, end_length, saved_end_length, image_length, decision_length, tentative_length, record_length, undecided_length, named_length, named_count, with_decided, spelled_length}
+use Rattle.ckpt_codec.specs.Spelling.{item_text, items_text, mode_text, state_text, process_text, log_text, end_text}
+use Rattle.ckpt_codec.specs.Spelling.{saved_end_text, process_list_text, end_list_text, image_text, participants_text}
+use Rattle.ckpt_codec.specs.Spelling.{decision_text, tentative_text, highest_text, head_text}
+use Rattle.ckpt_codec.specs.Lengths.{mode_length, process_length, end_length, saved_end_length, image_length}
+use Rattle.ckpt_codec.specs.Lengths.{decision_length, tentative_length, record_length, undecided_length, named_length}
+use Rattle.ckpt_codec.specs.Lengths.{named_count, with_decided, spelled_length}
 use Rattle.ckpt_codec.specs.SizeLaws.{permanent_is_shorter, decision_is_shorter, epoch_is_shorter}
 use Rattle.ckpt_codec.proofs.Spelled.{record-spelled}
 
@@ -32,16 +37,22 @@ length-two : (xs ys : List ℕ) (m n : ℕ) → length xs ≡ m → length ys �
 length-two xs ys m n e d = omega (arith, length-append xs ys)
 
 -- each as long as it is said to be
-length-flat : {X : Type 0} (f : X → List ℕ) (size : X → ℕ) → ((x : X) → length (f x) ≡ size x) → (xs : List X) → length (flat_map f xs) ≡ sum_by size xs
+length-flat : {X : Type 0} (f : X → List ℕ) (size : X → ℕ) → ((x : X) → length (f x) ≡ size x) → (xs : List X)
+    → length (flat_map f xs) ≡ sum_by size xs
 length-flat f size is [] = refl
-length-flat f size is (x ∷ xs) = ap (λ (t : List ℕ). length t) (flat_map-cons f x xs) ∙ length-two (f x) (flat_map f xs) (size x) (sum_by size xs) (is x) (length-flat f size is xs) ∙ sym (sum_by-cons size x xs)
+length-flat f size is (x ∷ xs) =
+    ap (λ (t : List ℕ). length t) (flat_map-cons f x xs)
+    ∙ length-two (f x) (flat_map f xs) (size x) (sum_by size xs) (is x) (length-flat f size is xs)
+    ∙ sym (sum_by-cons size x xs)
 
 -- each as long as the others
-length-even : {X : Type 0} (f : X → List ℕ) (size : ℕ) → ((x : X) → length (f x) ≡ size) → (xs : List X) → length (flat_map f xs) ≡ size * length xs
+length-even : {X : Type 0} (f : X → List ℕ) (size : ℕ) → ((x : X) → length (f x) ≡ size) → (xs : List X)
+    → length (flat_map f xs) ≡ size * length xs
 length-even f size is [] = omega arith
 length-even f size is (x ∷ xs) =
     let rest : length (flat_map f xs) ≡ size * length xs = length-even f size is xs in
-    let whole : length (f x ++ flat_map f xs) ≡ size + size * length xs = length-two (f x) (flat_map f xs) size (size * length xs) (is x) rest in
+    let whole : length (f x ++ flat_map f xs) ≡ size + size * length xs =
+    length-two (f x) (flat_map f xs) size (size * length xs) (is x) rest in
     ap (λ (t : List ℕ). length t) (flat_map-cons f x xs) ∙ (whole ∙ omega arith)
 
 length-items : (zs : List ℤ) → length (items_text zs) ≡ 8 * length zs
@@ -51,7 +62,9 @@ length-items zs = length-even item_text 8 (λ z. length-number 8 _) zs
 length-mode : (standing : Standing) → length (mode_text standing) ≡ mode_length standing
 length-mode (NotBegun vars) = length-number 1 0
 length-mode (At point vars) =
-    length-two (number_text 1 1) _ 1 5 (length-number 1 1) (length-two (number_text 4 point.site) (number_text 1 (length point.left)) 4 1 (length-number 4 point.site) (length-number 1 (length point.left)))
+    length-two (number_text 1 1) _ 1 5 (length-number 1 1)
+    (length-two (number_text 4 point.site) (number_text 1 (length point.left)) 4 1 (length-number 4 point.site)
+    (length-number 1 (length point.left)))
 length-mode (Done vars) = length-number 1 2
 
 length-process : (p : SavedProcessView) → length (process_text p) ≡ process_length p
@@ -59,9 +72,15 @@ length-process p =
     let vars = variables_of p.standing in
     let items : length (items_text vars) ≡ 8 * length vars = length-items vars in
     let mode : length (mode_text p.standing) ≡ mode_length p.standing = length-mode p.standing in
-    let counted : length (number_text 1 (length vars) ++ items_text vars) ≡ 1 + 8 * length vars = length-two (number_text 1 (length vars)) (items_text vars) 1 (8 * length vars) (length-number 1 (length vars)) items in
-    let state : length (state_text p.standing) ≡ mode_length p.standing + (1 + 8 * length vars) = length-two (mode_text p.standing) (number_text 1 (length vars) ++ items_text vars) (mode_length p.standing) (1 + 8 * length vars) mode counted in
-    let whole : length (process_text p) ≡ 1 + (mode_length p.standing + (1 + 8 * length vars)) = length-two (number_text 1 p.number) (state_text p.standing) 1 (mode_length p.standing + (1 + 8 * length vars)) (length-number 1 p.number) state in
+    let counted : length (number_text 1 (length vars) ++ items_text vars) ≡ 1 + 8 * length vars =
+    length-two (number_text 1 (length vars)) (items_text vars) 1 (8 * length vars) (length-number 1 (length vars))
+    items in
+    let state : length (state_text p.standing) ≡ mode_length p.standing + (1 + 8 * length vars) =
+    length-two (mode_text p.standing) (number_text 1 (length vars) ++ items_text vars) (mode_length p.standing)
+    (1 + 8 * length vars) mode counted in
+    let whole : length (process_text p) ≡ 1 + (mode_length p.standing + (1 + 8 * length vars)) =
+    length-two (number_text 1 p.number) (state_text p.standing) 1 (mode_length p.standing + (1 + 8 * length vars))
+    (length-number 1 p.number) state in
     whole ∙ regroup (mode_length p.standing) (8 * length vars)
   where
     regroup : (m v : ℕ) → 1 + (m + (1 + v)) ≡ 2 + m + v
@@ -69,8 +88,12 @@ length-process p =
 
 length-log : (log : LogState) → length (log_text log) ≡ 12 + 8 * length log.items
 length-log log =
-    let counted : length (number_text 4 (length log.items) ++ items_text log.items) ≡ 4 + 8 * length log.items = length-two (number_text 4 (length log.items)) (items_text log.items) 4 (8 * length log.items) (length-number 4 (length log.items)) (length-items log.items) in
-    let whole : length (log_text log) ≡ 8 + (4 + 8 * length log.items) = length-two (number_text 8 log.base) (number_text 4 (length log.items) ++ items_text log.items) 8 (4 + 8 * length log.items) (length-number 8 log.base) counted in
+    let counted : length (number_text 4 (length log.items) ++ items_text log.items) ≡ 4 + 8 * length log.items =
+    length-two (number_text 4 (length log.items)) (items_text log.items) 4 (8 * length log.items)
+    (length-number 4 (length log.items)) (length-items log.items) in
+    let whole : length (log_text log) ≡ 8 + (4 + 8 * length log.items) =
+    length-two (number_text 8 log.base) (number_text 4 (length log.items) ++ items_text log.items) 8
+    (4 + 8 * length log.items) (length-number 8 log.base) counted in
     whole ∙ regroup (8 * length log.items)
   where
     regroup : (v : ℕ) → 8 + (4 + v) ≡ 12 + v
@@ -80,15 +103,18 @@ length-end : (e : End) → length (end_text e) ≡ end_length e
 length-end (Receives received) = length-number 8 received
 length-end (Sends log) = length-log log
 length-end (Both received log) =
-    length-two (number_text 8 received) (log_text log) 8 (12 + 8 * length log.items) (length-number 8 received) (length-log log) ∙ regroup (8 * length log.items)
+    length-two (number_text 8 received) (log_text log) 8 (12 + 8 * length log.items) (length-number 8 received)
+    (length-log log) ∙ regroup (8 * length log.items)
   where
     regroup : (v : ℕ) → 8 + (12 + v) ≡ 20 + v
     regroup v = omega arith
 
 length-saved : (e : SavedEnd) → length (saved_end_text e) ≡ saved_end_length e
 length-saved e =
-    length-two (number_text 2 e.channel) (number_text 1 (role_of e.end) ++ end_text e.end) 2 (1 + end_length e.end) (length-number 2 e.channel)
-    (length-two (number_text 1 (role_of e.end)) (end_text e.end) 1 (end_length e.end) (length-number 1 (role_of e.end)) (length-end e.end))
+    length-two (number_text 2 e.channel) (number_text 1 (role_of e.end) ++ end_text e.end) 2 (1 + end_length e.end)
+    (length-number 2 e.channel)
+    (length-two (number_text 1 (role_of e.end)) (end_text e.end) 1 (end_length e.end) (length-number 1 (role_of e.end))
+    (length-end e.end))
     ∙ regroup (end_length e.end)
   where
     regroup : (v : ℕ) → 2 + (1 + v) ≡ 3 + v
@@ -99,8 +125,10 @@ length-image i =
     let p = sum_by process_length i.processes in
     let e = sum_by saved_end_length i.ends in
     length-two (process_list_text i.processes) (end_list_text i.ends) (1 + p) (2 + e)
-    (length-two (number_text 1 (length i.processes)) (flat_map process_text i.processes) 1 p (length-number 1 (length i.processes)) (length-flat process_text process_length length-process i.processes))
-    (length-two (number_text 2 (length i.ends)) (flat_map saved_end_text i.ends) 2 e (length-number 2 (length i.ends)) (length-flat saved_end_text saved_end_length length-saved i.ends))
+    (length-two (number_text 1 (length i.processes)) (flat_map process_text i.processes) 1 p
+    (length-number 1 (length i.processes)) (length-flat process_text process_length length-process i.processes))
+    (length-two (number_text 2 (length i.ends)) (flat_map saved_end_text i.ends) 2 e (length-number 2 (length i.ends))
+    (length-flat saved_end_text saved_end_length length-saved i.ends))
     ∙ regroup p e
   where
     regroup : (p e : ℕ) → (1 + p) + (2 + e) ≡ 3 + p + e
@@ -110,9 +138,12 @@ length-decision : (d : Option DecisionView) → length (decision_text d) ≡ dec
 length-decision None = length-number 1 0
 length-decision (Some d) =
     let ps = length d.participants in
-    let nodes : length (participants_text d.participants) ≡ 1 * ps = length-even (number_text 1) 1 (λ p. length-number 1 p) d.participants in
-    length-two (number_text 1 1) (number_text 8 d.number ++ (number_text 1 ps ++ participants_text d.participants)) 1 (8 + (1 + 1 * ps)) (length-number 1 1)
-    (length-two (number_text 8 d.number) (number_text 1 ps ++ participants_text d.participants) 8 (1 + 1 * ps) (length-number 8 d.number)
+    let nodes : length (participants_text d.participants) ≡ 1 * ps =
+    length-even (number_text 1) 1 (λ p. length-number 1 p) d.participants in
+    length-two (number_text 1 1) (number_text 8 d.number ++ (number_text 1 ps ++ participants_text d.participants)) 1
+    (8 + (1 + 1 * ps)) (length-number 1 1)
+    (length-two (number_text 8 d.number) (number_text 1 ps ++ participants_text d.participants) 8 (1 + 1 * ps)
+    (length-number 8 d.number)
     (length-two (number_text 1 ps) (participants_text d.participants) 1 (1 * ps) (length-number 1 ps) nodes))
     ∙ regroup ps
   where
@@ -122,9 +153,12 @@ length-decision (Some d) =
 length-tentative : (t : Option Tentative) → length (tentative_text t) ≡ tentative_length t
 length-tentative None = length-number 1 0
 length-tentative (Some t) =
-    length-two (number_text 1 1) (number_text 1 t.initiator ++ (number_text 8 t.number ++ image_text t.image)) 1 (1 + (8 + image_length t.image)) (length-number 1 1)
-    (length-two (number_text 1 t.initiator) (number_text 8 t.number ++ image_text t.image) 1 (8 + image_length t.image) (length-number 1 t.initiator)
-    (length-two (number_text 8 t.number) (image_text t.image) 8 (image_length t.image) (length-number 8 t.number) (length-image t.image)))
+    length-two (number_text 1 1) (number_text 1 t.initiator ++ (number_text 8 t.number ++ image_text t.image)) 1
+    (1 + (8 + image_length t.image)) (length-number 1 1)
+    (length-two (number_text 1 t.initiator) (number_text 8 t.number ++ image_text t.image) 1 (8 + image_length t.image)
+    (length-number 1 t.initiator)
+    (length-two (number_text 8 t.number) (image_text t.image) 8 (image_length t.image) (length-number 8 t.number)
+    (length-image t.image)))
     ∙ regroup (image_length t.image)
   where
     regroup : (v : ℕ) → 1 + (1 + (8 + v)) ≡ 10 + v
@@ -133,10 +167,15 @@ length-tentative (Some t) =
 length-head : (kept : RecordView) → length (head_text kept) ≡ 11 + 8 * length kept.highest
 length-head kept =
     let n = length kept.highest in
-    let entries : length (highest_text kept.highest) ≡ 8 * n = length-even (number_text 8) 8 (λ h. length-number 8 h) kept.highest in
-    length-two (number_text 1 1) (number_text 1 kept.node ++ (number_text 8 kept.epoch ++ (number_text 1 n ++ highest_text kept.highest))) 1 (1 + (8 + (1 + 8 * n))) (length-number 1 1)
-    (length-two (number_text 1 kept.node) (number_text 8 kept.epoch ++ (number_text 1 n ++ highest_text kept.highest)) 1 (8 + (1 + 8 * n)) (length-number 1 kept.node)
-    (length-two (number_text 8 kept.epoch) (number_text 1 n ++ highest_text kept.highest) 8 (1 + 8 * n) (length-number 8 kept.epoch)
+    let entries : length (highest_text kept.highest) ≡ 8 * n =
+    length-even (number_text 8) 8 (λ h. length-number 8 h) kept.highest in
+    length-two (number_text 1 1)
+    (number_text 1 kept.node ++ (number_text 8 kept.epoch ++ (number_text 1 n ++ highest_text kept.highest))) 1
+    (1 + (8 + (1 + 8 * n))) (length-number 1 1)
+    (length-two (number_text 1 kept.node) (number_text 8 kept.epoch ++ (number_text 1 n ++ highest_text kept.highest))
+    1 (8 + (1 + 8 * n)) (length-number 1 kept.node)
+    (length-two (number_text 8 kept.epoch) (number_text 1 n ++ highest_text kept.highest) 8 (1 + 8 * n)
+    (length-number 8 kept.epoch)
     (length-two (number_text 1 n) (highest_text kept.highest) 1 (8 * n) (length-number 1 n) entries)))
     ∙ regroup (8 * n)
   where
@@ -150,9 +189,13 @@ length-record kept =
     let p = image_length kept.permanent in
     let t = tentative_length kept.tentative in
     ap (λ (b : List ℕ). length b) (record-spelled kept)
-    ∙ (length-two (head_text kept) (decision_text kept.decision ++ (image_text kept.permanent ++ tentative_text kept.tentative)) h (d + (p + t)) (length-head kept)
-    (length-two (decision_text kept.decision) (image_text kept.permanent ++ tentative_text kept.tentative) d (p + t) (length-decision kept.decision)
-    (length-two (image_text kept.permanent) (tentative_text kept.tentative) p t (length-image kept.permanent) (length-tentative kept.tentative)))
+    ∙ (length-two (head_text kept)
+    (decision_text kept.decision ++ (image_text kept.permanent ++ tentative_text kept.tentative)) h (d + (p + t))
+    (length-head kept)
+    (length-two (decision_text kept.decision) (image_text kept.permanent ++ tentative_text kept.tentative) d (p + t)
+    (length-decision kept.decision)
+    (length-two (image_text kept.permanent) (tentative_text kept.tentative) p t (length-image kept.permanent)
+    (length-tentative kept.tentative)))
     ∙ regroup h d p t)
   where
     regroup : (h d p t : ℕ) → h + (d + (p + t)) ≡ h + p + t + d
@@ -163,7 +206,8 @@ unfolding spelled_length
 length-spelled kept n is = is ∙ sym (length-record kept)
 
 -- a move that lets an image go, or none, makes the spelling no longer
-no_longer : (kept next : RecordView) → record_length next ≤ record_length kept → spelled_length next ≤ spelled_length kept
+no_longer : (kept next : RecordView) → record_length next ≤ record_length kept
+    → spelled_length next ≤ spelled_length kept
 unfolding spelled_length
 no_longer kept next shorter =
     let before = length-record kept in
@@ -173,7 +217,8 @@ no_longer kept next shorter =
 pub permanent_is_no_longer : (kept : RecordView) → spelled_length (with_permanent kept) ≤ spelled_length kept
 permanent_is_no_longer kept = no_longer kept (with_permanent kept) (permanent_is_shorter kept)
 
-pub decision_is_no_longer : (number : ℕ) (kept : RecordView) → spelled_length (with_decision number [] kept) ≤ spelled_length kept
+pub decision_is_no_longer : (number : ℕ) (kept : RecordView)
+    → spelled_length (with_decision number [] kept) ≤ spelled_length kept
 decision_is_no_longer number kept = no_longer kept (with_decision number [] kept) (decision_is_shorter number kept)
 
 pub epoch_is_no_longer : (kept : RecordView) → spelled_length (with_epoch kept) ≤ spelled_length kept
@@ -187,4 +232,5 @@ named-decision (Some d) = refl
 pub length-with : (kept : RecordView) (named : Option ℕ) (n : ℕ) → n ≡ undecided_length kept + named_length named
     → (decision : Option DecisionView) → named_count decision ≡ named → n ≡ spelled_length (with_decided decision kept)
 length-with kept named n is decision as_many =
-    length-spelled (with_decided decision kept) n (is ∙ ap (λ m. undecided_length kept + m) (ap named_length (sym as_many) ∙ named-decision decision))
+    length-spelled (with_decided decision kept) n
+    (is ∙ ap (λ m. undecided_length kept + m) (ap named_length (sym as_many) ∙ named-decision decision))

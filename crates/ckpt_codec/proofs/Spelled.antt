@@ -1,5 +1,6 @@
 -- The fields of a record spell it, and where they may stand its numbers can be written.
-use Rattle.std.proofs.Common.{◌≡◌, ℕ, suc, ◌^◌, ◌<◌, ℤ, List, [], ◌∷◌, ◌++◌, length, map, slice_index, Option, Some, None, refl, sym, ap, ◌∙◌, append_assoc}
+use Rattle.std.proofs.Common.{◌≡◌, ℕ, suc, ◌^◌, ◌<◌, ℤ, List, [], ◌∷◌, ◌++◌, length, map, slice_index, Option, Some}
+use Rattle.std.proofs.Common.{None, refl, sym, ap, ◌∙◌, append_assoc}
 use Rattle.std.specs.Prelude.{FitsSigned}
 use Rattle.std.specs.List.{flat_map, AllByRecursion}
 use Rattle.std.specs.Int.{w64}
@@ -19,10 +20,21 @@ use Rattle.record.specs.declared.image.End.{End}
 use Rattle.record.specs.declared.image.End.TheVariants.{Receives, Sends, Both}
 use Rattle.record.specs.declared.record.Tentative.{Tentative}
 use Rattle.ckpt_codec.specs.Fields.{Field, IsAllowed, number_text, field_text, text_of}
-use Rattle.ckpt_codec.specs.RecordText.{any, at_most, exactly, count, item, flag, between, wanted_or, participants, decision_fields, first_of, rest_of, wanted, variables_of, mode_fields, process_fields, processes_fields, role_of, retained_count, end_fields, saved_end_fields, ends_fields, processes_in, ends_in, image_fields, tentative_fields, head_fields, record_fields, record_text, IsRecord, items_of_end, IsRecordText}
-use Rattle.ckpt_codec.specs.Spelling.{item_text, items_text, mode_text, state_text, process_text, HasShortMode, IsShortProcess, HasItems, log_text, end_text, saved_end_text, EndHasItems, process_list_text, end_list_text, image_text, IsShortImage, ImageHasItems, participants_text, decision_text, IsShortDecision, tentative_text, IsShortTentative, TentativeHasItems, highest_text, spelling, IsShortRecord, RecordHasItems}
+use Rattle.ckpt_codec.specs.RecordText.{any, at_most, exactly, count, item, flag, between, wanted_or, participants}
+use Rattle.ckpt_codec.specs.RecordText.{decision_fields, first_of, rest_of, wanted, variables_of, mode_fields}
+use Rattle.ckpt_codec.specs.RecordText.{process_fields, processes_fields, role_of, retained_count, end_fields}
+use Rattle.ckpt_codec.specs.RecordText.{saved_end_fields, ends_fields, processes_in, ends_in, image_fields}
+use Rattle.ckpt_codec.specs.RecordText.{tentative_fields, head_fields, record_fields, record_text, IsRecord}
+use Rattle.ckpt_codec.specs.RecordText.{items_of_end, IsRecordText}
+use Rattle.ckpt_codec.specs.Spelling.{item_text, items_text, mode_text, state_text, process_text, HasShortMode}
+use Rattle.ckpt_codec.specs.Spelling.{IsShortProcess, HasItems, log_text, end_text, saved_end_text, EndHasItems}
+use Rattle.ckpt_codec.specs.Spelling.{process_list_text, end_list_text, image_text, IsShortImage, ImageHasItems}
+use Rattle.ckpt_codec.specs.Spelling.{participants_text, decision_text, IsShortDecision, tentative_text}
+use Rattle.ckpt_codec.specs.Spelling.{IsShortTentative, TentativeHasItems, highest_text, spelling, IsShortRecord}
+use Rattle.ckpt_codec.specs.Spelling.{RecordHasItems}
 use Rattle.ckpt_codec.proofs.Text.{AllAllowed}
-use Rattle.ckpt_codec.proofs.Parts.{nodes_field, participant_field, participant_count, process_count, end_count, IsImage}
+use Rattle.ckpt_codec.proofs.Parts.{nodes_field, participant_field, participant_count, process_count, end_count}
+use Rattle.ckpt_codec.proofs.Parts.{IsImage}
 use Rattle.ckpt_codec.proofs.Records.{initiator_field, tentative_number, IsTentative}
 use Rattle.ckpt_codec.proofs.Items.{kept_items}
 
@@ -39,128 +51,182 @@ text-append [] others = refl
 text-append (field ∷ fields) others =
     text-cons field (fields ++ others)
     ∙ (ap (λ (t : List ℕ). field_text field ++ t) (text-append fields others)
-    ∙ (sym (append_assoc (field_text field) (text_of fields) (text_of others)) ∙ ap (λ (t : List ℕ). t ++ text_of others) (sym (text-cons field fields))))
+    ∙ (sym (append_assoc (field_text field) (text_of fields) (text_of others))
+    ∙ ap (λ (t : List ℕ). t ++ text_of others) (sym (text-cons field fields))))
 
 -- one behind another
-two_texts : (xs ys : List Field) (one two : List ℕ) → text_of xs ≡ one → text_of ys ≡ two → text_of (xs ++ ys) ≡ one ++ two
-two_texts xs ys one two e d = text-append xs ys ∙ (ap (λ (t : List ℕ). t ++ text_of ys) e ∙ ap (λ (t : List ℕ). one ++ t) d)
+two_texts : (xs ys : List Field) (one two : List ℕ) → text_of xs ≡ one → text_of ys ≡ two
+    → text_of (xs ++ ys) ≡ one ++ two
+two_texts xs ys one two e d =
+    text-append xs ys ∙ (ap (λ (t : List ℕ). t ++ text_of ys) e ∙ ap (λ (t : List ℕ). one ++ t) d)
 
-behind_one : (field : Field) (fields : List Field) (two : List ℕ) → text_of fields ≡ two → text_of (field ∷ fields) ≡ field_text field ++ two
+behind_one : (field : Field) (fields : List Field) (two : List ℕ) → text_of fields ≡ two
+    → text_of (field ∷ fields) ≡ field_text field ++ two
 behind_one field fields two e = text-cons field fields ∙ ap (λ (t : List ℕ). field_text field ++ t) e
 
 wanted-text : (like : Option ℕ) (field : Field) → field_text (wanted_or like field) ≡ field_text field
 wanted-text None field = refl
 wanted-text (Some n) field = refl
 
-behind_wanted : (like : Option ℕ) (field : Field) (fields : List Field) (two : List ℕ) → text_of fields ≡ two → text_of (wanted_or like field ∷ fields) ≡ field_text field ++ two
-behind_wanted like field fields two e = behind_one (wanted_or like field) fields two e ∙ ap (λ (t : List ℕ). t ++ two) (wanted-text like field)
+behind_wanted : (like : Option ℕ) (field : Field) (fields : List Field) (two : List ℕ) → text_of fields ≡ two
+    → text_of (wanted_or like field ∷ fields) ≡ field_text field ++ two
+behind_wanted like field fields two e =
+    behind_one (wanted_or like field) fields two e ∙ ap (λ (t : List ℕ). t ++ two) (wanted-text like field)
 
 items-spelled : (zs : List ℤ) → text_of (map item zs) ≡ items_text zs
 unfolding item_text
 items-spelled [] = refl
-items-spelled (z ∷ zs) = behind_one (item z) (map item zs) (items_text zs) (items-spelled zs) ∙ sym (flat_map-cons item_text z zs)
+items-spelled (z ∷ zs) =
+    behind_one (item z) (map item zs) (items_text zs) (items-spelled zs) ∙ sym (flat_map-cons item_text z zs)
 
 counts-spelled : (ns : List ℕ) → text_of (map count ns) ≡ highest_text ns
 counts-spelled [] = refl
-counts-spelled (n ∷ ns) = behind_one (count n) (map count ns) (highest_text ns) (counts-spelled ns) ∙ sym (flat_map-cons (number_text 8) n ns)
+counts-spelled (n ∷ ns) =
+    behind_one (count n) (map count ns) (highest_text ns) (counts-spelled ns) ∙ sym (flat_map-cons (number_text 8) n ns)
 
-participants-spelled : (node nodes least : ℕ) (ps : List ℕ) → text_of (participants node nodes least ps) ≡ participants_text ps
+participants-spelled : (node nodes least : ℕ) (ps : List ℕ)
+    → text_of (participants node nodes least ps) ≡ participants_text ps
 participants-spelled node nodes least [] = refl
 participants-spelled node nodes least (p ∷ ps) =
-    behind_one (participant_field node nodes least p) (participants node nodes (suc p) ps) (participants_text ps) (participants-spelled node nodes (suc p) ps)
+    behind_one (participant_field node nodes least p) (participants node nodes (suc p) ps) (participants_text ps)
+    (participants-spelled node nodes (suc p) ps)
     ∙ sym (flat_map-cons (number_text 1) p ps)
 
-decision-spelled : (node nodes own : ℕ) (d : Option DecisionView) → text_of (decision_fields node nodes own d) ≡ decision_text d
+decision-spelled : (node nodes own : ℕ) (d : Option DecisionView)
+    → text_of (decision_fields node nodes own d) ≡ decision_text d
 decision-spelled node nodes own None = text-one (flag 0)
 decision-spelled node nodes own (Some d) =
-    let three = behind_one (participant_count (length d.participants)) (participants node nodes 0 d.participants) (participants_text d.participants) (participants-spelled node nodes 0 d.participants) in
-    let two = behind_one (between 8 1 (suc own) d.number) (participant_count (length d.participants) ∷ participants node nodes 0 d.participants) (number_text 1 (length d.participants) ++ participants_text d.participants) three in
-    behind_one (flag 1) (between 8 1 (suc own) d.number ∷ participant_count (length d.participants) ∷ participants node nodes 0 d.participants)
+    let three =
+    behind_one (participant_count (length d.participants)) (participants node nodes 0 d.participants)
+    (participants_text d.participants) (participants-spelled node nodes 0 d.participants) in
+    let two =
+    behind_one (between 8 1 (suc own) d.number)
+    (participant_count (length d.participants) ∷ participants node nodes 0 d.participants)
+    (number_text 1 (length d.participants) ++ participants_text d.participants) three in
+    behind_one (flag 1)
+    (between 8 1 (suc own) d.number ∷ participant_count (length d.participants)
+    ∷ participants node nodes 0 d.participants)
     (number_text 8 d.number ++ (number_text 1 (length d.participants) ++ participants_text d.participants)) two
 
 mode-spelled : (standing : Standing) → text_of (mode_fields standing) ≡ mode_text standing
 mode-spelled (NotBegun vars) = text-one (at_most 1 2 0)
 mode-spelled (At point vars) =
-    behind_one (at_most 1 2 1) (any 4 point.site ∷ exactly 1 0 (length point.left) ∷ []) (number_text 4 point.site ++ number_text 1 (length point.left))
-    (behind_one (any 4 point.site) (exactly 1 0 (length point.left) ∷ []) (number_text 1 (length point.left)) (text-one (exactly 1 0 (length point.left))))
+    behind_one (at_most 1 2 1) (any 4 point.site ∷ exactly 1 0 (length point.left) ∷ [])
+    (number_text 4 point.site ++ number_text 1 (length point.left))
+    (behind_one (any 4 point.site) (exactly 1 0 (length point.left) ∷ []) (number_text 1 (length point.left))
+    (text-one (exactly 1 0 (length point.left))))
 mode-spelled (Done vars) = text-one (at_most 1 2 2)
 
-process-spelled : (like : Option SavedProcessView) (least : ℕ) (p : SavedProcessView) → text_of (process_fields like least p) ≡ process_text p
+process-spelled : (like : Option SavedProcessView) (least : ℕ) (p : SavedProcessView)
+    → text_of (process_fields like least p) ≡ process_text p
 process-spelled like least p =
     let vars = variables_of p.standing in
     let like_count = wanted (λ (p : SavedProcessView). length (variables_of p.standing)) like in
-    let behind = behind_wanted like_count (at_most 1 MAX_VARIABLES (length vars)) (map item vars) (items_text vars) (items-spelled vars) in
-    let state = two_texts (mode_fields p.standing) (wanted_or like_count (at_most 1 MAX_VARIABLES (length vars)) ∷ map item vars) (mode_text p.standing) (number_text 1 (length vars) ++ items_text vars) (mode-spelled p.standing) behind in
+    let behind =
+    behind_wanted like_count (at_most 1 MAX_VARIABLES (length vars)) (map item vars) (items_text vars)
+    (items-spelled vars) in
+    let state =
+    two_texts (mode_fields p.standing)
+    (wanted_or like_count (at_most 1 MAX_VARIABLES (length vars)) ∷ map item vars) (mode_text p.standing)
+    (number_text 1 (length vars) ++ items_text vars) (mode-spelled p.standing) behind in
     behind_wanted (wanted (λ (p : SavedProcessView). p.number) like) (between 1 least MAX_PROCESSES p.number)
-    (mode_fields p.standing ++ (wanted_or like_count (at_most 1 MAX_VARIABLES (length vars)) ∷ map item vars)) (state_text p.standing) state
+    (mode_fields p.standing ++ (wanted_or like_count (at_most 1 MAX_VARIABLES (length vars)) ∷ map item vars))
+    (state_text p.standing) state
 
-processes-spelled : (like : Option (List SavedProcessView)) (least : ℕ) (ps : List SavedProcessView) → text_of (processes_fields like least ps) ≡ flat_map process_text ps
+processes-spelled : (like : Option (List SavedProcessView)) (least : ℕ) (ps : List SavedProcessView)
+    → text_of (processes_fields like least ps) ≡ flat_map process_text ps
 processes-spelled like least [] = refl
 processes-spelled like least (p ∷ ps) =
-    two_texts (process_fields (first_of like) least p) (processes_fields (rest_of like) (suc p.number) ps) (process_text p) (flat_map process_text ps)
+    two_texts (process_fields (first_of like) least p) (processes_fields (rest_of like) (suc p.number) ps)
+    (process_text p) (flat_map process_text ps)
     (process-spelled (first_of like) least p) (processes-spelled (rest_of like) (suc p.number) ps)
     ∙ sym (flat_map-cons process_text p ps)
 
-log-spelled : (limit from : ℕ) (log : LogState) → text_of (at_most 8 limit log.base ∷ retained_count log.base from (length log.items) ∷ map item log.items) ≡ log_text log
+log-spelled : (limit from : ℕ) (log : LogState)
+    → text_of (at_most 8 limit log.base ∷ retained_count log.base from (length log.items) ∷ map item log.items)
+    ≡ log_text log
 log-spelled limit from log =
-    behind_one (at_most 8 limit log.base) (retained_count log.base from (length log.items) ∷ map item log.items) (number_text 4 (length log.items) ++ items_text log.items)
-    (behind_one (retained_count log.base from (length log.items)) (map item log.items) (items_text log.items) (items-spelled log.items))
+    behind_one (at_most 8 limit log.base) (retained_count log.base from (length log.items) ∷ map item log.items)
+    (number_text 4 (length log.items) ++ items_text log.items)
+    (behind_one (retained_count log.base from (length log.items)) (map item log.items) (items_text log.items)
+    (items-spelled log.items))
 
 end-spelled : (e : End) → text_of (end_fields e) ≡ end_text e
 end-spelled (Receives received) = text-one (count received)
 end-spelled (Sends log) = log-spelled MAX_COUNT 0 log
 end-spelled (Both received log) =
-    behind_one (count received) (at_most 8 received log.base ∷ retained_count log.base received (length log.items) ∷ map item log.items) (log_text log) (log-spelled received received log)
+    behind_one (count received)
+    (at_most 8 received log.base ∷ retained_count log.base received (length log.items) ∷ map item log.items)
+    (log_text log) (log-spelled received received log)
 
-saved_end-spelled : (like : Option SavedEnd) (least : ℕ) (e : SavedEnd) → text_of (saved_end_fields like least e) ≡ saved_end_text e
+saved_end-spelled : (like : Option SavedEnd) (least : ℕ) (e : SavedEnd)
+    → text_of (saved_end_fields like least e) ≡ saved_end_text e
 saved_end-spelled like least e =
     let like_role = wanted (λ (e : SavedEnd). role_of e.end) like in
-    behind_wanted (wanted (λ (e : SavedEnd). e.channel) like) (between 2 least MAX_CHANNELS e.channel) (wanted_or like_role (at_most 1 2 (role_of e.end)) ∷ end_fields e.end)
-    (number_text 1 (role_of e.end) ++ end_text e.end) (behind_wanted like_role (at_most 1 2 (role_of e.end)) (end_fields e.end) (end_text e.end) (end-spelled e.end))
+    behind_wanted (wanted (λ (e : SavedEnd). e.channel) like) (between 2 least MAX_CHANNELS e.channel)
+    (wanted_or like_role (at_most 1 2 (role_of e.end)) ∷ end_fields e.end)
+    (number_text 1 (role_of e.end) ++ end_text e.end)
+    (behind_wanted like_role (at_most 1 2 (role_of e.end)) (end_fields e.end) (end_text e.end) (end-spelled e.end))
 
-ends-spelled : (like : Option (List SavedEnd)) (least : ℕ) (es : List SavedEnd) → text_of (ends_fields like least es) ≡ flat_map saved_end_text es
+ends-spelled : (like : Option (List SavedEnd)) (least : ℕ) (es : List SavedEnd)
+    → text_of (ends_fields like least es) ≡ flat_map saved_end_text es
 ends-spelled like least [] = refl
 ends-spelled like least (e ∷ es) =
-    two_texts (saved_end_fields (first_of like) least e) (ends_fields (rest_of like) (suc e.channel) es) (saved_end_text e) (flat_map saved_end_text es)
+    two_texts (saved_end_fields (first_of like) least e) (ends_fields (rest_of like) (suc e.channel) es)
+    (saved_end_text e) (flat_map saved_end_text es)
     (saved_end-spelled (first_of like) least e) (ends-spelled (rest_of like) (suc e.channel) es)
     ∙ sym (flat_map-cons saved_end_text e es)
 
 image-spelled : (like : Option ImageView) (i : ImageView) → text_of (image_fields like i) ≡ image_text i
 image-spelled like i =
-    two_texts (process_count like (length i.processes) ∷ processes_fields (processes_in like) 0 i.processes) (end_count like (length i.ends) ∷ ends_fields (ends_in like) 0 i.ends)
+    two_texts (process_count like (length i.processes) ∷ processes_fields (processes_in like) 0 i.processes)
+    (end_count like (length i.ends) ∷ ends_fields (ends_in like) 0 i.ends)
     (process_list_text i.processes) (end_list_text i.ends)
-    (behind_wanted (wanted (λ (i : ImageView). length i.processes) like) (at_most 1 MAX_PROCESSES (length i.processes)) (processes_fields (processes_in like) 0 i.processes)
+    (behind_wanted (wanted (λ (i : ImageView). length i.processes) like) (at_most 1 MAX_PROCESSES (length i.processes))
+    (processes_fields (processes_in like) 0 i.processes)
     (flat_map process_text i.processes) (processes-spelled (processes_in like) 0 i.processes))
-    (behind_wanted (wanted (λ (i : ImageView). length i.ends) like) (at_most 2 MAX_CHANNELS (length i.ends)) (ends_fields (ends_in like) 0 i.ends)
+    (behind_wanted (wanted (λ (i : ImageView). length i.ends) like) (at_most 2 MAX_CHANNELS (length i.ends))
+    (ends_fields (ends_in like) 0 i.ends)
     (flat_map saved_end_text i.ends) (ends-spelled (ends_in like) 0 i.ends))
 
-tentative-spelled : (highest : List ℕ) (permanent : ImageView) (t : Option Tentative) → text_of (tentative_fields highest permanent t) ≡ tentative_text t
+tentative-spelled : (highest : List ℕ) (permanent : ImageView) (t : Option Tentative)
+    → text_of (tentative_fields highest permanent t) ≡ tentative_text t
 tentative-spelled highest permanent None = text-one (flag 0)
 tentative-spelled highest permanent (Some t) =
     let entry = slice_index highest t.initiator in
-    behind_one (flag 1) (initiator_field highest t.initiator ∷ tentative_number entry t.number ∷ image_fields (Some permanent) t.image)
+    behind_one (flag 1)
+    (initiator_field highest t.initiator ∷ tentative_number entry t.number ∷ image_fields (Some permanent) t.image)
     (number_text 1 t.initiator ++ (number_text 8 t.number ++ image_text t.image))
-    (behind_one (initiator_field highest t.initiator) (tentative_number entry t.number ∷ image_fields (Some permanent) t.image) (number_text 8 t.number ++ image_text t.image)
-    (behind_one (tentative_number entry t.number) (image_fields (Some permanent) t.image) (image_text t.image) (image-spelled (Some permanent) t.image)))
+    (behind_one (initiator_field highest t.initiator)
+    (tentative_number entry t.number ∷ image_fields (Some permanent) t.image)
+    (number_text 8 t.number ++ image_text t.image)
+    (behind_one (tentative_number entry t.number) (image_fields (Some permanent) t.image) (image_text t.image)
+    (image-spelled (Some permanent) t.image)))
 
 abbrev behind_highest : RecordView → List Field
 behind_highest kept =
-    decision_fields kept.node (length kept.highest) (slice_index kept.highest kept.node) kept.decision ++ (image_fields None kept.permanent ++ tentative_fields kept.highest kept.permanent kept.tentative)
+    decision_fields kept.node (length kept.highest) (slice_index kept.highest kept.node) kept.decision
+    ++ (image_fields None kept.permanent ++ tentative_fields kept.highest kept.permanent kept.tentative)
 
 abbrev behind_text : RecordView → List ℕ
 behind_text kept = decision_text kept.decision ++ (image_text kept.permanent ++ tentative_text kept.tentative)
 
 behind-spelled : (kept : RecordView) → text_of (behind_highest kept) ≡ behind_text kept
 behind-spelled kept =
-    two_texts (decision_fields kept.node (length kept.highest) (slice_index kept.highest kept.node) kept.decision) (image_fields None kept.permanent ++ tentative_fields kept.highest kept.permanent kept.tentative)
+    two_texts (decision_fields kept.node (length kept.highest) (slice_index kept.highest kept.node) kept.decision)
+    (image_fields None kept.permanent ++ tentative_fields kept.highest kept.permanent kept.tentative)
     (decision_text kept.decision) (image_text kept.permanent ++ tentative_text kept.tentative)
     (decision-spelled kept.node (length kept.highest) (slice_index kept.highest kept.node) kept.decision)
-    (two_texts (image_fields None kept.permanent) (tentative_fields kept.highest kept.permanent kept.tentative) (image_text kept.permanent) (tentative_text kept.tentative)
+    (two_texts (image_fields None kept.permanent) (tentative_fields kept.highest kept.permanent kept.tentative)
+    (image_text kept.permanent) (tentative_text kept.tentative)
     (image-spelled None kept.permanent) (tentative-spelled kept.highest kept.permanent kept.tentative))
 
 -- the highest numbers, and what follows them
-highest_behind : (kept : RecordView) → text_of (map count kept.highest ++ behind_highest kept) ≡ highest_text kept.highest ++ behind_text kept
-highest_behind kept = two_texts (map count kept.highest) (behind_highest kept) (highest_text kept.highest) (behind_text kept) (counts-spelled kept.highest) (behind-spelled kept)
+highest_behind : (kept : RecordView)
+    → text_of (map count kept.highest ++ behind_highest kept) ≡ highest_text kept.highest ++ behind_text kept
+highest_behind kept =
+    two_texts (map count kept.highest) (behind_highest kept) (highest_text kept.highest) (behind_text kept)
+    (counts-spelled kept.highest) (behind-spelled kept)
 
 regrouped : (v n e c h r : List ℕ) → v ++ (n ++ (e ++ (c ++ (h ++ r)))) ≡ (v ++ (n ++ (e ++ (c ++ h)))) ++ r
 regrouped v n e c h r = sym (simp append_assoc)
@@ -171,10 +237,14 @@ record-spelled kept =
     let rest = map count kept.highest ++ behind_highest kept in
     let nodes = nodes_field kept.node (length kept.highest) in
     let text = highest_text kept.highest ++ behind_text kept in
-    behind_one (exactly 1 1 1) (any 1 kept.node ∷ count kept.epoch ∷ nodes ∷ rest) (number_text 1 kept.node ++ (number_text 8 kept.epoch ++ (number_text 1 (length kept.highest) ++ text)))
-    (behind_one (any 1 kept.node) (count kept.epoch ∷ nodes ∷ rest) (number_text 8 kept.epoch ++ (number_text 1 (length kept.highest) ++ text))
-    (behind_one (count kept.epoch) (nodes ∷ rest) (number_text 1 (length kept.highest) ++ text) (behind_one nodes rest text (highest_behind kept))))
-    ∙ regrouped (number_text 1 1) (number_text 1 kept.node) (number_text 8 kept.epoch) (number_text 1 (length kept.highest)) (highest_text kept.highest) (behind_text kept)
+    behind_one (exactly 1 1 1) (any 1 kept.node ∷ count kept.epoch ∷ nodes ∷ rest)
+    (number_text 1 kept.node ++ (number_text 8 kept.epoch ++ (number_text 1 (length kept.highest) ++ text)))
+    (behind_one (any 1 kept.node) (count kept.epoch ∷ nodes ∷ rest)
+    (number_text 8 kept.epoch ++ (number_text 1 (length kept.highest) ++ text))
+    (behind_one (count kept.epoch) (nodes ∷ rest) (number_text 1 (length kept.highest) ++ text)
+    (behind_one nodes rest text (highest_behind kept))))
+    ∙ regrouped (number_text 1 1) (number_text 1 kept.node) (number_text 8 kept.epoch)
+    (number_text 1 (length kept.highest)) (highest_text kept.highest) (behind_text kept)
 
 -- ---- numbers that can be written
 
@@ -191,32 +261,47 @@ mode_short (NotBegun vars) all = tt
 mode_short (At point vars) all = (all.1.0.0, all.1.1.0.0)
 mode_short (Done vars) all = tt
 
-process_short : (like : Option SavedProcessView) (least : ℕ) (p : SavedProcessView) → AllAllowed (process_fields like least p) → IsShortProcess p
+process_short : (like : Option SavedProcessView) (least : ℕ) (p : SavedProcessView)
+    → AllAllowed (process_fields like least p) → IsShortProcess p
 process_short like least p all =
     let vars = variables_of p.standing in
-    let h = allowed-split (mode_fields p.standing) (wanted_or (wanted (λ (p : SavedProcessView). length (variables_of p.standing)) like) (at_most 1 MAX_VARIABLES (length vars)) ∷ map item vars) all.1 in
-    (mode_short p.standing h.0, wanted-less (wanted (λ (p : SavedProcessView). length (variables_of p.standing)) like) (at_most 1 MAX_VARIABLES (length (variables_of p.standing))) h.1.0)
+    let h = allowed-split (mode_fields p.standing)
+    (wanted_or (wanted (λ (p : SavedProcessView). length (variables_of p.standing)) like)
+    (at_most 1 MAX_VARIABLES (length vars)) ∷ map item vars) all.1 in (
+      mode_short p.standing h.0,
+      wanted-less (wanted (λ (p : SavedProcessView). length (variables_of p.standing)) like)
+          (at_most 1 MAX_VARIABLES (length (variables_of p.standing))) h.1.0,
+    )
 
-processes_short : (like : Option (List SavedProcessView)) (least : ℕ) (ps : List SavedProcessView) → AllAllowed (processes_fields like least ps) → AllByRecursion IsShortProcess ps
+processes_short : (like : Option (List SavedProcessView)) (least : ℕ) (ps : List SavedProcessView)
+    → AllAllowed (processes_fields like least ps) → AllByRecursion IsShortProcess ps
 processes_short like least [] all = tt
 processes_short like least (p ∷ ps) all =
-    let h = allowed-split (process_fields (first_of like) least p) (processes_fields (rest_of like) (suc p.number) ps) all in
+    let h = allowed-split (process_fields (first_of like) least p) (processes_fields (rest_of like) (suc p.number) ps)
+    all in
     (process_short (first_of like) least p h.0, processes_short (rest_of like) (suc p.number) ps h.1)
 
 image_short : (like : Option ImageView) (i : ImageView) → AllAllowed (image_fields like i) → IsShortImage i
 image_short like i all =
-    let h = allowed-split (process_count like (length i.processes) ∷ processes_fields (processes_in like) 0 i.processes) (end_count like (length i.ends) ∷ ends_fields (ends_in like) 0 i.ends) all in
+    let h = allowed-split
+    (process_count like (length i.processes) ∷ processes_fields (processes_in like) 0 i.processes)
+    (end_count like (length i.ends) ∷ ends_fields (ends_in like) 0 i.ends) all in
     record {
-      processes = wanted-less (wanted (λ (i : ImageView). length i.processes) like) (at_most 1 MAX_PROCESSES (length i.processes)) h.0.0;
+      processes =
+          wanted-less (wanted (λ (i : ImageView). length i.processes) like)
+          (at_most 1 MAX_PROCESSES (length i.processes)) h.0.0;
       each = All-from_recursion IsShortProcess i.processes (processes_short (processes_in like) 0 i.processes h.0.1);
-      ends = wanted-less (wanted (λ (i : ImageView). length i.ends) like) (at_most 2 MAX_CHANNELS (length i.ends)) h.1.0;
+      ends = wanted-less (wanted (λ (i : ImageView). length i.ends) like) (at_most 2 MAX_CHANNELS (length i.ends))
+          h.1.0;
     }
 
-decision_short : (node nodes own : ℕ) (d : Option DecisionView) → AllAllowed (decision_fields node nodes own d) → IsShortDecision d
+decision_short : (node nodes own : ℕ) (d : Option DecisionView) → AllAllowed (decision_fields node nodes own d)
+    → IsShortDecision d
 decision_short node nodes own None all = tt
 decision_short node nodes own (Some d) all = all.1.1.0.0
 
-tentative_short : (highest : List ℕ) (permanent : ImageView) (t : Option Tentative) → AllAllowed (tentative_fields highest permanent t) → IsShortTentative t
+tentative_short : (highest : List ℕ) (permanent : ImageView) (t : Option Tentative)
+    → AllAllowed (tentative_fields highest permanent t) → IsShortTentative t
 tentative_short highest permanent None all = tt
 tentative_short highest permanent (Some t) all = image_short (Some permanent) t.image all.1.1.1
 
@@ -226,26 +311,36 @@ record_short kept is =
     let images = image_fields None kept.permanent ++ tentative_fields kept.highest kept.permanent kept.tentative in
     let one = allowed-split (head_fields kept) (map count kept.highest ++ behind_highest kept) all in
     let two = allowed-split (map count kept.highest) (behind_highest kept) one.1 in
-    let three = allowed-split (decision_fields kept.node (length kept.highest) (slice_index kept.highest kept.node) kept.decision) images two.1 in
-    let four = allowed-split (image_fields None kept.permanent) (tentative_fields kept.highest kept.permanent kept.tentative) three.1 in
+    let three =
+    allowed-split
+    (decision_fields kept.node (length kept.highest) (slice_index kept.highest kept.node) kept.decision) images
+    two.1 in
+    let four =
+    allowed-split (image_fields None kept.permanent) (tentative_fields kept.highest kept.permanent kept.tentative)
+    three.1 in
     record {
       nodes = one.0.1.1.1.0.0;
-      decision = decision_short kept.node (length kept.highest) (slice_index kept.highest kept.node) kept.decision three.0;
+      decision =
+          decision_short kept.node (length kept.highest) (slice_index kept.highest kept.node) kept.decision three.0;
       permanent = image_short None kept.permanent four.0;
       tentative = tentative_short kept.highest kept.permanent kept.tentative four.1;
     }
 
 -- ---- items
 
-all_so : {X : Type 0} (P Q : X → Type 0) → ((x : X) → P x → Q x) → (xs : List X) → AllByRecursion P xs → AllByRecursion Q xs
+all_so : {X : Type 0} (P Q : X → Type 0) → ((x : X) → P x → Q x) → (xs : List X) → AllByRecursion P xs
+    → AllByRecursion Q xs
 all_so P Q so [] all = tt
 all_so P Q so (x ∷ xs) all = (so x all.0, all_so P Q so xs all.1)
 
 image_is : (i : ImageView) → ImageHasItems i → IsImage i
 image_is i has = record {
-  processes = all_so HasItems (λ p. AllByRecursion (FitsSigned w64) (variables_of p.standing)) (λ p fit. recursion_from_All (FitsSigned w64) (variables_of p.standing) fit) i.processes
+  processes =
+      all_so HasItems (λ p. AllByRecursion (FitsSigned w64) (variables_of p.standing))
+      (λ p fit. recursion_from_All (FitsSigned w64) (variables_of p.standing) fit) i.processes
       (recursion_from_All HasItems i.processes has.processes);
-  ends = all_so EndHasItems (λ e. AllByRecursion (FitsSigned w64) (items_of_end e.end)) (λ e fit. recursion_from_All (FitsSigned w64) (items_of_end e.end) fit) i.ends
+  ends = all_so EndHasItems (λ e. AllByRecursion (FitsSigned w64) (items_of_end e.end))
+      (λ e fit. recursion_from_All (FitsSigned w64) (items_of_end e.end) fit) i.ends
       (recursion_from_All EndHasItems i.ends has.ends);
 }
 
@@ -253,9 +348,15 @@ tentative_is : (t : Option Tentative) → TentativeHasItems t → IsTentative t
 tentative_is None has = tt
 tentative_is (Some t) has = image_is t.image has
 
-pub is_text : (kept : RecordView) (bytes : List ℕ) → IsRecord kept → RecordHasItems kept → bytes ≡ spelling kept → IsRecordText kept bytes
+pub is_text : (kept : RecordView) (bytes : List ℕ) → IsRecord kept → RecordHasItems kept → bytes ≡ spelling kept
+    → IsRecordText kept bytes
 is_text kept bytes is has e = record {
   allowed = is;
-  items = kept_items kept (record { permanent = image_is kept.permanent has.permanent; tentative = tentative_is kept.tentative has.tentative });
+  items = kept_items kept
+      (record {
+        permanent = image_is kept.permanent has.permanent;
+        tentative =
+            tentative_is kept.tentative has.tentative;
+      });
   spelled = e ∙ sym (record-spelled kept);
 }

@@ -1,4 +1,5 @@
--- Why bytes are no record. The first offence from the left decides: the fields before it are some record's, and may stand there.
+-- Why bytes are no record. The first offence from the left decides: the fields before it are some record's, and may
+-- stand there.
 use Rattle.std.specs.Prelude.{◌≡◌, ◌≢◌, ◌⊎◌, ℕ, ◌^◌, ◌<◌, false, List, [], ◌∷◌, ◌++◌, length, Result, Ok, Err}
 use Rattle.record.specs.RecordView.{RecordView}
 use Rattle.ckpt_codec.specs.Fields.{Field, AreAllowed, number_text, text_of}

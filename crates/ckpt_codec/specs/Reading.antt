@@ -1,11 +1,13 @@
 -- Reading from the front: what is read and what is left, or the first offence.
-use Rattle.std.specs.Prelude.{◌≡◌, ℕ, zero, suc, ◌+◌, ◌==◌, ◌&&◌, Bool, nat_le, nat_lt, not, if◌then◌else◌, ℤ, List, [], ◌∷◌, length, drop, slice_get, slice_index, Option, Some, None, Result, Ok, Err}
+use Rattle.std.specs.Prelude.{◌≡◌, ℕ, zero, suc, ◌+◌, ◌==◌, ◌&&◌, Bool, nat_le, nat_lt, not, if◌then◌else◌, ℤ, List, []}
+use Rattle.std.specs.Prelude.{◌∷◌, length, drop, slice_get, slice_index, Option, Some, None, Result, Ok, Err}
 use Rattle.std.specs.Int.{w64, cast_signed}
 use Rattle.byteorder.specs.Endian.{big_number}
 use Rattle.kahn_net.specs.Statements.{Point, point_at}
 use Rattle.kahn_net.specs.Processes.{Standing}
 use Rattle.kahn_net.specs.Processes.Standing.{NotBegun, At, Done}
-use Rattle.kahn_net.specs.declared.limits.TheConstants.{MAX_COUNT, MAX_NODES, MAX_PROCESSES, MAX_CHANNELS, MAX_VARIABLES}
+use Rattle.kahn_net.specs.declared.limits.TheConstants.{MAX_COUNT, MAX_NODES, MAX_PROCESSES, MAX_CHANNELS}
+use Rattle.kahn_net.specs.declared.limits.TheConstants.{MAX_VARIABLES}
 use Rattle.retained.specs.LogState.{LogState}
 use Rattle.retained.specs.declared.log.TheConstants.{MAX_LOG_ITEMS}
 use Rattle.record.specs.DecisionView.{DecisionView}
@@ -36,7 +38,8 @@ Reader A = List ℕ → Found A
 
 -- the number in so many bytes
 unfoldable pub number_at : ℕ → Reader ℕ
-number_at width bytes = if nat_lt (length bytes) width then Err Truncated else Ok (big_number width bytes, drop width bytes)
+number_at width bytes =
+    if nat_lt (length bytes) width then Err Truncated else Ok (big_number width bytes, drop width bytes)
 
 -- what passes a test
 abbrev pub if_passes : (ℕ → Bool) → Found ℕ → Found ℕ
@@ -53,7 +56,8 @@ wanted_test None allows v = allows v
 wanted_test (Some n) allows v = v == n
 
 unfoldable pub item_at : Reader ℤ
-item_at bytes = if nat_lt (length bytes) 8 then Err Truncated else Ok (cast_signed w64 (big_number 8 bytes), drop 8 bytes)
+item_at bytes =
+    if nat_lt (length bytes) 8 then Err Truncated else Ok (cast_signed w64 (big_number 8 bytes), drop 8 bytes)
 
 abbrev pub count_at : Reader ℕ
 count_at = field_at 8 (λ v. nat_le v MAX_COUNT)
@@ -64,12 +68,14 @@ flag_at bytes = field_at 1 (λ v. nat_le v 1) bytes >>= λ x. Ok (x.0 == 1, x.1)
 
 -- a part that may be left out
 abbrev pub optional : {A : Type 0} → Reader A → Reader (Option A)
-optional read bytes = flag_at bytes >>= λ there. if there.0 then (read there.1 >>= λ x. Ok (Some x.0, x.1)) else Ok (None, there.1)
+optional read bytes =
+    flag_at bytes >>= λ there. if there.0 then (read there.1 >>= λ x. Ok (Some x.0, x.1)) else Ok (None, there.1)
 
 -- so many in turn, each by what the ones before it leave to it
 unfoldable pub so_many : {S X : Type 0} → (S → Reader X) → (S → X → S) → ℕ → S → Reader (List X)
 so_many each next zero s bytes = Ok ([], bytes)
-so_many each next (suc n) s bytes = each s bytes >>= λ x. so_many each next n (next s x.0) x.1 >>= λ others. Ok (x.0 ∷ others.0, others.1)
+so_many each next (suc n) s bytes =
+    each s bytes >>= λ x. so_many each next n (next s x.0) x.1 >>= λ others. Ok (x.0 ∷ others.0, others.1)
 
 -- each the same way
 abbrev pub each_as : {X : Type 0} → Reader X → Unit {0} → Reader X
@@ -108,7 +114,9 @@ unfoldable pub participant_list_at : ℕ → ℕ → Reader (List ℕ)
 participant_list_at node nodes bytes = participant_count_at bytes >>= λ n. participants_at node nodes n.0 n.1
 
 unfoldable pub decided_at : ℕ → ℕ → ℕ → Reader DecisionView
-decided_at node nodes own bytes = decided_number_at own bytes >>= λ number. participant_list_at node nodes number.1 >>= λ ps. Ok (record { number = number.0; participants = ps.0 }, ps.1)
+decided_at node nodes own bytes =
+    decided_number_at own bytes >>= λ number. participant_list_at node nodes number.1 >>= λ ps. Ok
+    (record { number = number.0; participants = ps.0 }, ps.1)
 
 unfoldable pub decision_at : ℕ → ℕ → ℕ → Reader (Option DecisionView)
 decision_at node nodes own bytes = optional (decided_at node nodes own) bytes
@@ -142,7 +150,9 @@ standing_on PastAll vars = Done vars
 
 -- what follows a mode
 abbrev pub footing_in : ℕ → Reader Footing
-footing_in mode bytes = if mode == 0 then Ok (BeforeAll, bytes) else if mode == 1 then (place_at bytes >>= λ p. Ok (AtPoint p.0, p.1)) else Ok (PastAll, bytes)
+footing_in mode bytes =
+    if mode == 0 then Ok (BeforeAll, bytes) else if mode == 1 then (place_at bytes >>= λ p. Ok (AtPoint p.0, p.1)) else
+    Ok (PastAll, bytes)
 
 abbrev pub mode_number_at : Reader ℕ
 mode_number_at = field_at 1 (λ v. nat_le v 2)
@@ -167,7 +177,8 @@ process_number_at like least = field_at 1 (wanted_test like (λ v. nat_le least 
 
 unfoldable pub process_at : Option ℕ → Option ℕ → ℕ → Reader SavedProcessView
 process_at number variables least bytes =
-    process_number_at number least bytes >>= λ x. state_at variables x.1 >>= λ state. Ok (record { number = x.0; standing = state.0 }, state.1)
+    process_number_at number least bytes >>= λ x. state_at variables x.1 >>= λ state. Ok
+    (record { number = x.0; standing = state.0 }, state.1)
 
 -- the element at this place, where there is a list
 abbrev pub nth : {A : Type 0} → Option (List A) → ℕ → Option A
@@ -194,7 +205,9 @@ abbrev pub process_count_at : Option ℕ → Reader ℕ
 process_count_at like = field_at 1 (wanted_test like (λ v. nat_le v MAX_PROCESSES))
 
 unfoldable pub process_list_at : Option ImageView → Reader (List SavedProcessView)
-process_list_at like bytes = process_count_at (wanted (λ (i : ImageView). length i.processes) like) bytes >>= λ n. processes_at (processes_in like) n.0 n.1
+process_list_at like bytes =
+    process_count_at (wanted (λ (i : ImageView). length i.processes) like) bytes >>= λ n. processes_at
+    (processes_in like) n.0 n.1
 
 -- ---- ends
 
@@ -202,7 +215,8 @@ abbrev pub base_at : ℕ → Reader ℕ
 base_at limit = field_at 8 (λ v. nat_le v limit)
 
 abbrev pub retained_at : ℕ → ℕ → Reader ℕ
-retained_at base from = field_at 4 (λ v. nat_le v MAX_LOG_ITEMS && (nat_le (base + v) MAX_COUNT && nat_le from (base + v)))
+retained_at base from =
+    field_at 4 (λ v. nat_le v MAX_LOG_ITEMS && (nat_le (base + v) MAX_COUNT && nat_le from (base + v)))
 
 -- the items from this base on
 unfoldable pub retained_items_at : ℕ → ℕ → Reader (List ℤ)
@@ -210,14 +224,17 @@ retained_items_at base from bytes = retained_at base from bytes >>= λ n. items_
 
 -- a log whose base is at most this, and whose end is at least that
 unfoldable pub log_at : ℕ → ℕ → Reader LogState
-log_at limit from bytes = base_at limit bytes >>= λ base. retained_items_at base.0 from base.1 >>= λ items. Ok (record { base = base.0; items = items.0 }, items.1)
+log_at limit from bytes =
+    base_at limit bytes >>= λ base. retained_items_at base.0 from base.1 >>= λ items. Ok
+    (record { base = base.0; items = items.0 }, items.1)
 
 -- an end of this role
 unfoldable pub end_at : ℕ → Reader End
 end_at role bytes =
     if role == 0 then (count_at bytes >>= λ received. Ok (Receives received.0, received.1))
     else if role == 1 then (log_at MAX_COUNT 0 bytes >>= λ log. Ok (Sends log.0, log.1))
-    else (count_at bytes >>= λ received. log_at received.0 received.0 received.1 >>= λ log. Ok (Both received.0 log.0, log.1))
+    else (count_at bytes >>= λ received. log_at received.0 received.0 received.1 >>= λ log. Ok
+    (Both received.0 log.0, log.1))
 
 abbrev pub role_at : Option ℕ → Reader ℕ
 role_at like = field_at 1 (wanted_test like (λ v. nat_le v 2))
@@ -230,7 +247,8 @@ channel_at like least = field_at 2 (wanted_test like (λ v. nat_le least v && na
 
 unfoldable pub saved_end_at : Option ℕ → Option ℕ → ℕ → Reader SavedEnd
 saved_end_at channel role least bytes =
-    channel_at channel least bytes >>= λ x. role_end_at role x.1 >>= λ end. Ok (record { channel = x.0; end = end.0 }, end.1)
+    channel_at channel least bytes >>= λ x. role_end_at role x.1 >>= λ end. Ok
+    (record { channel = x.0; end = end.0 }, end.1)
 
 abbrev pub channel_wanted : Option (List SavedEnd) → ℕ → Option ℕ
 channel_wanted like place = wanted (λ (e : SavedEnd). e.channel) (nth like place)
@@ -251,12 +269,15 @@ abbrev pub end_count_at : Option ℕ → Reader ℕ
 end_count_at like = field_at 2 (wanted_test like (λ v. nat_le v MAX_CHANNELS))
 
 unfoldable pub end_list_at : Option ImageView → Reader (List SavedEnd)
-end_list_at like bytes = end_count_at (wanted (λ (i : ImageView). length i.ends) like) bytes >>= λ n. ends_at (ends_in like) n.0 n.1
+end_list_at like bytes =
+    end_count_at (wanted (λ (i : ImageView). length i.ends) like) bytes >>= λ n. ends_at (ends_in like) n.0 n.1
 
 -- ---- images and the whole
 
 unfoldable pub image_at : Option ImageView → Reader ImageView
-image_at like bytes = process_list_at like bytes >>= λ ps. end_list_at like ps.1 >>= λ es. Ok (record { processes = ps.0; ends = es.0 }, es.1)
+image_at like bytes =
+    process_list_at like bytes >>= λ ps. end_list_at like ps.1 >>= λ es. Ok
+    (record { processes = ps.0; ends = es.0 }, es.1)
 
 abbrev pub initiator_at : List ℕ → Reader ℕ
 initiator_at highest = field_at 1 (λ v. nat_lt v (length highest))
@@ -267,11 +288,13 @@ tentative_number_at entry = field_at 8 (λ v. nat_le 1 v && (v == entry))
 -- an initiator, and the number of its checkpoint
 unfoldable pub instance_at : List ℕ → Reader (ℕ × ℕ)
 instance_at highest bytes =
-    initiator_at highest bytes >>= λ initiator. tentative_number_at (slice_index highest initiator.0) initiator.1 >>= λ number. Ok ((initiator.0, number.0), number.1)
+    initiator_at highest bytes >>= λ initiator. tentative_number_at (slice_index highest initiator.0) initiator.1 >>=
+    λ number. Ok ((initiator.0, number.0), number.1)
 
 unfoldable pub pending_at : List ℕ → ImageView → Reader Tentative
 pending_at highest permanent bytes =
-    instance_at highest bytes >>= λ x. image_at (Some permanent) x.1 >>= λ image. Ok (record { initiator = x.0.0; number = x.0.1; image = image.0 }, image.1)
+    instance_at highest bytes >>= λ x. image_at (Some permanent) x.1 >>= λ image. Ok
+    (record { initiator = x.0.0; number = x.0.1; image = image.0 }, image.1)
 
 unfoldable pub tentative_at : List ℕ → ImageView → Reader (Option Tentative)
 tentative_at highest permanent bytes = optional (pending_at highest permanent) bytes
@@ -284,14 +307,19 @@ pub record Head : Type 0 where
 
 -- the epoch and the highest numbers
 unfoldable pub numbers_at : ℕ → Reader (ℕ × List ℕ)
-numbers_at node bytes = count_at bytes >>= λ epoch. highest_at node epoch.1 >>= λ highest. Ok ((epoch.0, highest.0), highest.1)
+numbers_at node bytes =
+    count_at bytes >>= λ epoch. highest_at node epoch.1 >>= λ highest. Ok ((epoch.0, highest.0), highest.1)
 
 unfoldable pub head_at : Reader Head
-head_at bytes = number_at 1 bytes >>= λ node. numbers_at node.0 node.1 >>= λ x. Ok (record { node = node.0; epoch = x.0.0; highest = x.0.1 }, x.1)
+head_at bytes =
+    number_at 1 bytes >>= λ node. numbers_at node.0 node.1 >>= λ x. Ok
+    (record { node = node.0; epoch = x.0.0; highest = x.0.1 }, x.1)
 
 -- the two images
 unfoldable pub images_at : List ℕ → Reader (ImageView × Option Tentative)
-images_at highest bytes = image_at None bytes >>= λ permanent. tentative_at highest permanent.0 permanent.1 >>= λ tentative. Ok ((permanent.0, tentative.0), tentative.1)
+images_at highest bytes =
+    image_at None bytes >>= λ permanent. tentative_at highest permanent.0 permanent.1 >>= λ tentative. Ok
+    ((permanent.0, tentative.0), tentative.1)
 
 -- what follows the head
 pub record Tail : Type 0 where
@@ -301,16 +329,27 @@ pub record Tail : Type 0 where
 
 unfoldable pub tail_at : ℕ → List ℕ → Reader Tail
 tail_at node highest bytes =
-    decision_at node (length highest) (slice_index highest node) bytes >>= λ decision. images_at highest decision.1 >>= λ x.
+    decision_at node (length highest) (slice_index highest node) bytes >>= λ decision. images_at highest decision.1 >>=
+    λ x.
     Ok (record { decision = decision.0; permanent = x.0.0; tentative = x.0.1 }, x.1)
 
 -- a record of its head and what follows it
 abbrev pub record_of : Head → Tail → RecordView
-record_of head tail = record { node = head.node; epoch = head.epoch; highest = head.highest; decision = tail.decision; permanent = tail.permanent; tentative = tail.tentative }
+record_of head tail =
+    record {
+      node = head.node;
+      epoch = head.epoch;
+      highest = head.highest;
+      decision = tail.decision;
+      permanent =
+          tail.permanent;
+      tentative = tail.tentative;
+    }
 
 -- what follows the version
 unfoldable pub body_at : Reader RecordView
-body_at bytes = head_at bytes >>= λ head. tail_at head.0.node head.0.highest head.1 >>= λ tail. Ok (record_of head.0 tail.0, tail.1)
+body_at bytes =
+    head_at bytes >>= λ head. tail_at head.0.node head.0.highest head.1 >>= λ tail. Ok (record_of head.0 tail.0, tail.1)
 
 -- what takes all the bytes
 abbrev pub if_all : {A : Type 0} → Found A → Result A CodecFault

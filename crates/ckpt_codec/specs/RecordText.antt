@@ -1,11 +1,13 @@
--- The grammar of records: the fields of a record in their order, and the bytes that they make. What may stand in a field
--- depends on the fields before it alone.
-use Rattle.std.specs.Prelude.{◌≡◌, ℕ, suc, ◌+◌, true, ◌==◌, ◌&&◌, not, nat_lt, nat_le, ℤ, List, [], ◌∷◌, ◌++◌, length, map, Option, Some, None, slice_index, All, FitsSigned}
+-- The grammar of records: the fields of a record in their order, and the bytes that they make. What may stand in a
+-- field depends on the fields before it alone.
+use Rattle.std.specs.Prelude.{◌≡◌, ℕ, suc, ◌+◌, true, ◌==◌, ◌&&◌, not, nat_lt, nat_le, ℤ, List, [], ◌∷◌, ◌++◌, length}
+use Rattle.std.specs.Prelude.{map, Option, Some, None, slice_index, All, FitsSigned}
 use Rattle.std.specs.List.{flat_map}
 use Rattle.std.specs.Int.{w64, cast_unsigned, int_wrap}
 use Rattle.kahn_net.specs.Processes.{Standing}
 use Rattle.kahn_net.specs.Processes.Standing.{NotBegun, At, Done}
-use Rattle.kahn_net.specs.declared.limits.TheConstants.{MAX_COUNT, MAX_NODES, MAX_PROCESSES, MAX_CHANNELS, MAX_VARIABLES}
+use Rattle.kahn_net.specs.declared.limits.TheConstants.{MAX_COUNT, MAX_NODES, MAX_PROCESSES, MAX_CHANNELS}
+use Rattle.kahn_net.specs.declared.limits.TheConstants.{MAX_VARIABLES}
 use Rattle.retained.specs.declared.log.TheConstants.{MAX_LOG_ITEMS}
 use Rattle.record.specs.DecisionView.{DecisionView}
 use Rattle.record.specs.ProcessView.{SavedProcessView}
@@ -58,7 +60,8 @@ wanted_or (Some n) field = exactly field.width n field.value
 abbrev pub participants : ℕ → ℕ → ℕ → List ℕ → List Field
 participants node nodes least [] = []
 participants node nodes least (p ∷ ps) =
-    record { width = 1; allows = λ v. nat_le least v && (nat_lt v nodes && not (v == node)); value = p } ∷ participants node nodes (suc p) ps
+    record { width = 1; allows = λ v. nat_le least v && (nat_lt v nodes && not (v == node)); value = p }
+    ∷ participants node nodes (suc p) ps
 
 -- the decision of a node of so many, whose own entry is this
 abbrev pub decision_fields : ℕ → ℕ → ℕ → Option DecisionView → List Field
@@ -101,12 +104,14 @@ abbrev pub process_fields : Option SavedProcessView → ℕ → SavedProcessView
 process_fields like least process =
     wanted_or (wanted (λ (p : SavedProcessView). p.number) like) (between 1 least MAX_PROCESSES process.number)
     ∷ (mode_fields process.standing
-    ++ (wanted_or (wanted (λ (p : SavedProcessView). length (variables_of p.standing)) like) (at_most 1 MAX_VARIABLES (length (variables_of process.standing)))
+    ++ (wanted_or (wanted (λ (p : SavedProcessView). length (variables_of p.standing)) like)
+    (at_most 1 MAX_VARIABLES (length (variables_of process.standing)))
     ∷ map item (variables_of process.standing)))
 
 abbrev pub processes_fields : Option (List SavedProcessView) → ℕ → List SavedProcessView → List Field
 processes_fields like least [] = []
-processes_fields like least (p ∷ ps) = process_fields (first_of like) least p ++ processes_fields (rest_of like) (suc p.number) ps
+processes_fields like least (p ∷ ps) =
+    process_fields (first_of like) least p ++ processes_fields (rest_of like) (suc p.number) ps
 
 abbrev pub role_of : End → ℕ
 role_of (Receives received) = 0
@@ -115,12 +120,20 @@ role_of (Both received log) = 2
 
 -- how many items are retained from this base on, at least up to this position
 abbrev pub retained_count : ℕ → ℕ → ℕ → Field
-retained_count base from n = record { width = 4; allows = λ v. nat_le v MAX_LOG_ITEMS && (nat_le (base + v) MAX_COUNT && nat_le from (base + v)); value = n }
+retained_count base from n =
+    record {
+      width = 4;
+      allows =
+          λ v. nat_le v MAX_LOG_ITEMS && (nat_le (base + v) MAX_COUNT && nat_le from (base + v));
+      value = n;
+    }
 
 abbrev pub end_fields : End → List Field
 end_fields (Receives received) = count received ∷ []
 end_fields (Sends log) = count log.base ∷ retained_count log.base 0 (length log.items) ∷ map item log.items
-end_fields (Both received log) = count received ∷ at_most 8 received log.base ∷ retained_count log.base received (length log.items) ∷ map item log.items
+end_fields (Both received log) =
+    count received ∷ at_most 8 received log.base ∷ retained_count log.base received (length log.items)
+    ∷ map item log.items
 
 -- an end of a channel, which has at least this number, as this one of the first image
 abbrev pub saved_end_fields : Option SavedEnd → ℕ → SavedEnd → List Field
@@ -131,7 +144,8 @@ saved_end_fields like least saved =
 
 abbrev pub ends_fields : Option (List SavedEnd) → ℕ → List SavedEnd → List Field
 ends_fields like least [] = []
-ends_fields like least (e ∷ es) = saved_end_fields (first_of like) least e ++ ends_fields (rest_of like) (suc e.channel) es
+ends_fields like least (e ∷ es) =
+    saved_end_fields (first_of like) least e ++ ends_fields (rest_of like) (suc e.channel) es
 
 abbrev pub processes_in : Option ImageView → Option (List SavedProcessView)
 processes_in None = None
@@ -144,8 +158,10 @@ ends_in (Some image) = Some image.ends
 -- an image like this one, where there is one
 abbrev pub image_fields : Option ImageView → ImageView → List Field
 image_fields like image =
-    (wanted_or (wanted (λ (i : ImageView). length i.processes) like) (at_most 1 MAX_PROCESSES (length image.processes)) ∷ processes_fields (processes_in like) 0 image.processes)
-    ++ (wanted_or (wanted (λ (i : ImageView). length i.ends) like) (at_most 2 MAX_CHANNELS (length image.ends)) ∷ ends_fields (ends_in like) 0 image.ends)
+    (wanted_or (wanted (λ (i : ImageView). length i.processes) like) (at_most 1 MAX_PROCESSES (length image.processes))
+    ∷ processes_fields (processes_in like) 0 image.processes)
+    ++ (wanted_or (wanted (λ (i : ImageView). length i.ends) like) (at_most 2 MAX_CHANNELS (length image.ends))
+    ∷ ends_fields (ends_in like) 0 image.ends)
 
 -- ---- a record
 
@@ -180,7 +196,9 @@ items_of_end (Sends log) = log.items
 items_of_end (Both received log) = log.items
 
 abbrev pub items_of_image : ImageView → List ℤ
-items_of_image image = flat_map (λ (p : SavedProcessView). variables_of p.standing) image.processes ++ flat_map (λ (e : SavedEnd). items_of_end e.end) image.ends
+items_of_image image =
+    flat_map (λ (p : SavedProcessView). variables_of p.standing) image.processes
+    ++ flat_map (λ (e : SavedEnd). items_of_end e.end) image.ends
 
 abbrev pub items_of_tentative : Option Tentative → List ℤ
 items_of_tentative None = []

@@ -1,5 +1,7 @@
--- Laws of how long a record gets: one whose images are within bounds fits, and a move that lets an image go makes none longer.
-use Rattle.std.proofs.Common.{◌≡◌, ℕ, zero, suc, ◌+◌, ◌*◌, ◌≤◌, Bool, true, false, cond, List, [], ◌∷◌, length, Option, Some, None, refl, subst, sym, ap, arith}
+-- Laws of how long a record gets: one whose images are within bounds fits, and a move that lets an image go makes none
+-- longer.
+use Rattle.std.proofs.Common.{◌≡◌, ℕ, zero, suc, ◌+◌, ◌*◌, ◌≤◌, Bool, true, false, cond, List, [], ◌∷◌, length, Option}
+use Rattle.std.proofs.Common.{Some, None, refl, subst, sym, ap, arith}
 use Rattle.std.specs.Prelude.{slice_get, sum_by, ◌==◌, not}
 use Rattle.std.proofs.lemmas.List.{length-set}
 use Rattle.std.proofs.lemmas.List.Sums.{sum_by-cons, length-filter, count_by-le-length}
@@ -10,13 +12,15 @@ use Rattle.record.specs.DecisionView.{DecisionView}
 use Rattle.record.specs.ProcessView.{SavedProcessView}
 use Rattle.record.specs.ImageView.{ImageView}
 use Rattle.record.specs.RecordView.{RecordView}
-use Rattle.record.specs.Moves.{with_tentative, last_image, with_permanent, without_tentative, decision_by, decision_or, with_decision, without_node, confirmed, with_confirmed, without_own, with_epoch}
+use Rattle.record.specs.Moves.{with_tentative, last_image, with_permanent, without_tentative, decision_by, decision_or}
+use Rattle.record.specs.Moves.{with_decision, without_node, confirmed, with_confirmed, without_own, with_epoch}
 use Rattle.record.specs.declared.image.SavedEnd.{SavedEnd}
 use Rattle.record.specs.declared.image.End.{End}
 use Rattle.record.specs.declared.image.End.TheVariants.{Receives, Sends, Both}
 use Rattle.record.specs.declared.record.Tentative.{Tentative}
 use Rattle.ckpt_codec.specs.RecordText.{variables_of, items_of_end}
-use Rattle.ckpt_codec.specs.Lengths.{mode_length, process_length, end_length, saved_end_length, image_length, decision_length, tentative_length, record_length}
+use Rattle.ckpt_codec.specs.Lengths.{mode_length, process_length, end_length, saved_end_length, image_length}
+use Rattle.ckpt_codec.specs.Lengths.{decision_length, tentative_length, record_length}
 use Rattle.ckpt_codec.specs.declared.lengths.TheConstants.{MAX_RECORD_BYTES, MAX_RETAINED_ITEMS}
 
 -- Bounds
@@ -28,10 +32,12 @@ items_at saved = length (items_of_end saved.end)
 abbrev pub items_in : ImageView → ℕ
 items_in image = sum_by items_at image.ends
 
--- an image of no more processes, variables of each, and channels than a network has, and with at most so many items in all its logs
+-- an image of no more processes, variables of each, and channels than a network has, and with at most so many items in
+-- all its logs
 pub record IsImageWithin (most : ℕ) (image : ImageView) : Type 0 where
   pub processes : length image.processes ≤ MAX_PROCESSES
-  pub variables : (k : ℕ) (saved : SavedProcessView) → slice_get image.processes k ≡ Some saved → length (variables_of saved.standing) ≤ MAX_VARIABLES
+  pub variables : (k : ℕ) (saved : SavedProcessView) → slice_get image.processes k ≡ Some saved
+      → length (variables_of saved.standing) ≤ MAX_VARIABLES
   pub ends : length image.ends ≤ MAX_CHANNELS
   pub items : items_in image ≤ most
 
@@ -45,7 +51,8 @@ pub record IsRecordWithin (most : ℕ) (kept : RecordView) : Type 0 where
 -- Sums
 
 -- a sum of numbers none of which is above this one
-pub sum_by_at_most : {X : Type 0} (f : X → ℕ) (m : ℕ) (xs : List X) → ((k : ℕ) (x : X) → slice_get xs k ≡ Some x → f x ≤ m) → sum_by f xs ≤ length xs * m
+pub sum_by_at_most : {X : Type 0} (f : X → ℕ) (m : ℕ) (xs : List X)
+    → ((k : ℕ) (x : X) → slice_get xs k ≡ Some x → f x ≤ m) → sum_by f xs ≤ length xs * m
 sum_by_at_most f m [] few = omega arith
 sum_by_at_most f m (x ∷ xs) few =
     let one : f x ≤ m = few zero x refl in
@@ -54,10 +61,12 @@ sum_by_at_most f m (x ∷ xs) few =
 
 -- Lengths
 
-process_fits : (saved : SavedProcessView) → length (variables_of saved.standing) ≤ MAX_VARIABLES → process_length saved ≤ 520
+process_fits : (saved : SavedProcessView) → length (variables_of saved.standing) ≤ MAX_VARIABLES
+    → process_length saved ≤ 520
 process_fits saved few = at saved.standing few
   where
-    at : (standing : Standing) → length (variables_of standing) ≤ MAX_VARIABLES → 2 + mode_length standing + 8 * length (variables_of standing) ≤ 520
+    at : (standing : Standing) → length (variables_of standing) ≤ MAX_VARIABLES
+        → 2 + mode_length standing + 8 * length (variables_of standing) ≤ 520
     at (NotBegun vars) few = omega (arith, few)
     at (At point vars) few = omega (arith, few)
     at (Done vars) few = omega (arith, few)
@@ -72,26 +81,33 @@ ends_fit [] = omega arith
 ends_fit (saved ∷ ends) =
     let one : end_length saved.end ≤ 20 + 8 * length (items_of_end saved.end) = end_fits saved.end in
     let rest : sum_by saved_end_length ends ≤ 23 * length ends + 8 * sum_by items_at ends = ends_fit ends in
-    let long : sum_by saved_end_length (saved ∷ ends) ≡ 3 + end_length saved.end + sum_by saved_end_length ends = sum_by-cons saved_end_length saved ends in
-    let many : sum_by items_at (saved ∷ ends) ≡ length (items_of_end saved.end) + sum_by items_at ends = sum_by-cons items_at saved ends in
+    let long : sum_by saved_end_length (saved ∷ ends) ≡ 3 + end_length saved.end + sum_by saved_end_length ends =
+    sum_by-cons saved_end_length saved ends in
+    let many : sum_by items_at (saved ∷ ends) ≡ length (items_of_end saved.end) + sum_by items_at ends =
+    sum_by-cons items_at saved ends in
     omega (arith, one, rest, long, many)
 
 -- an image without items is at most 39,171 bytes long, and each item is 8
 pub image_fits : (most : ℕ) (image : ImageView) → IsImageWithin most image → image_length image ≤ 39171 + 8 * most
 image_fits most image within =
     let all : sum_by process_length image.processes ≤ length image.processes * 520 =
-    sum_by_at_most process_length 520 image.processes (λ k saved is. process_fits saved (within.variables k saved is)) in
-    let ends : sum_by saved_end_length image.ends ≤ 23 * length image.ends + 8 * sum_by items_at image.ends = ends_fit image.ends in
+    sum_by_at_most process_length 520 image.processes
+    (λ k saved is. process_fits saved (within.variables k saved is)) in
+    let ends : sum_by saved_end_length image.ends ≤ 23 * length image.ends + 8 * sum_by items_at image.ends =
+    ends_fit image.ends in
     let processes = within.processes in
     let channels = within.ends in
     let retained : sum_by items_at image.ends ≤ most = within.items in
     omega (arith, all, ends, processes, channels, retained)
 
-decision_fits : (decision : Option DecisionView) → ((d : DecisionView) → decision ≡ Some d → length d.participants ≤ MAX_NODES) → decision_length decision ≤ 26
+decision_fits : (decision : Option DecisionView)
+    → ((d : DecisionView) → decision ≡ Some d → length d.participants ≤ MAX_NODES) → decision_length decision ≤ 26
 decision_fits None few = omega arith
 decision_fits (Some d) few = let nodes = few d refl in omega (arith, nodes)
 
-tentative_fits : (most : ℕ) (tentative : Option Tentative) → ((t : Tentative) → tentative ≡ Some t → IsImageWithin most t.image) → tentative_length tentative ≤ 39181 + 8 * most
+tentative_fits : (most : ℕ) (tentative : Option Tentative)
+    → ((t : Tentative) → tentative ≡ Some t → IsImageWithin most t.image)
+    → tentative_length tentative ≤ 39181 + 8 * most
 tentative_fits most None within = omega arith
 tentative_fits most (Some t) within = let image = image_fits most t.image (within t refl) in omega (arith, image)
 
@@ -107,11 +123,13 @@ record_fits kept within =
 -- Moves
 
 -- an image is as long as the one that is held, which has its own head
-last_is_shorter : (permanent : ImageView) (tentative : Option Tentative) → image_length (last_image permanent tentative) + 1 ≤ image_length permanent + tentative_length tentative
+last_is_shorter : (permanent : ImageView) (tentative : Option Tentative)
+    → image_length (last_image permanent tentative) + 1 ≤ image_length permanent + tentative_length tentative
 last_is_shorter permanent None = omega arith
 last_is_shorter permanent (Some held) = omega arith
 
-own_is_shorter : (node : ℕ) (tentative : Option Tentative) → tentative_length (without_own node tentative) ≤ tentative_length tentative
+own_is_shorter : (node : ℕ) (tentative : Option Tentative)
+    → tentative_length (without_own node tentative) ≤ tentative_length tentative
 own_is_shorter node None = omega arith
 own_is_shorter node (Some held) = at (held.initiator == node)
   where
@@ -141,26 +159,31 @@ epoch_is_shorter kept = let own = own_is_shorter kept.node kept.tentative in ome
 -- and each move of a record within bounds gives one within bounds
 
 module _ (most : ℕ) (kept : RecordView) (within : IsRecordWithin most kept) where
-  last_within : (tentative : Option Tentative) → ((t : Tentative) → tentative ≡ Some t → IsImageWithin most t.image) → IsImageWithin most (last_image kept.permanent tentative)
+  last_within : (tentative : Option Tentative) → ((t : Tentative) → tentative ≡ Some t → IsImageWithin most t.image)
+      → IsImageWithin most (last_image kept.permanent tentative)
   last_within None held = within.permanent
   last_within (Some t) held = held t refl
 
-  by_within : (number : ℕ) (participants : List ℕ) → length participants ≤ MAX_NODES → (d : DecisionView) → decision_by number participants ≡ Some d → length d.participants ≤ MAX_NODES
+  by_within : (number : ℕ) (participants : List ℕ) → length participants ≤ MAX_NODES → (d : DecisionView)
+      → decision_by number participants ≡ Some d → length d.participants ≤ MAX_NODES
   by_within number [] few d is = absurd (cc)
   by_within number (p ∷ ps) few d is =
       let same : p ∷ ps ≡ d.participants = cc in
       omega (arith, few, ap (length {A = ℕ}) same)
 
-  or_within : (number : ℕ) (participants : List ℕ) → length participants ≤ MAX_NODES → (d : DecisionView) → decision_or kept.decision number participants ≡ Some d → length d.participants ≤ MAX_NODES
+  or_within : (number : ℕ) (participants : List ℕ) → length participants ≤ MAX_NODES → (d : DecisionView)
+      → decision_or kept.decision number participants ≡ Some d → length d.participants ≤ MAX_NODES
   or_within number [] few d is = within.decision d is
   or_within number (p ∷ ps) few d is = by_within number (p ∷ ps) few d is
 
-  confirmed_within : (number node : ℕ) (decision : Option DecisionView) → ((d : DecisionView) → decision ≡ Some d → length d.participants ≤ MAX_NODES)
+  confirmed_within : (number node : ℕ) (decision : Option DecisionView)
+      → ((d : DecisionView) → decision ≡ Some d → length d.participants ≤ MAX_NODES)
       → (d : DecisionView) → confirmed number node decision ≡ Some d → length d.participants ≤ MAX_NODES
   confirmed_within number node None few d is = absurd (cc)
   confirmed_within number node (Some e) few d is = at (e.number == number) is
     where
-      at : (b : Bool) → cond b (decision_by number (without_node node e.participants)) (Some e) ≡ Some d → length d.participants ≤ MAX_NODES
+      at : (b : Bool) → cond b (decision_by number (without_node node e.participants)) (Some e) ≡ Some d
+          → length d.participants ≤ MAX_NODES
       at false is = few d is
       at true is =
           let some = length-filter (λ (p : ℕ). not (p == node)) e.participants in
@@ -168,7 +191,9 @@ module _ (most : ℕ) (kept : RecordView) (within : IsRecordWithin most kept) wh
           let before = few e refl in
           by_within number (without_node node e.participants) (omega (arith, some, all, before)) d is
 
-  own_within : (node : ℕ) (tentative : Option Tentative) → ((t : Tentative) → tentative ≡ Some t → IsImageWithin most t.image) → (t : Tentative) → without_own node tentative ≡ Some t → IsImageWithin most t.image
+  own_within : (node : ℕ) (tentative : Option Tentative)
+      → ((t : Tentative) → tentative ≡ Some t → IsImageWithin most t.image) → (t : Tentative)
+      → without_own node tentative ≡ Some t → IsImageWithin most t.image
   own_within node None held t is = absurd (cc)
   own_within node (Some s) held t is = at (s.initiator == node) is
     where
@@ -176,7 +201,8 @@ module _ (most : ℕ) (kept : RecordView) (within : IsRecordWithin most kept) wh
       at true is = absurd (cc)
       at false is = held t is
 
-  pub within_tentative : (initiator number : ℕ) (image : ImageView) → IsImageWithin most image → IsRecordWithin most (with_tentative initiator number image kept)
+  pub within_tentative : (initiator number : ℕ) (image : ImageView) → IsImageWithin most image
+      → IsRecordWithin most (with_tentative initiator number image kept)
   within_tentative initiator number image here = record {
     nodes = (let same = length-set kept.highest initiator number in let few = within.nodes in omega (arith, same, few));
     decision = within.decision;
@@ -185,12 +211,27 @@ module _ (most : ℕ) (kept : RecordView) (within : IsRecordWithin most kept) wh
   }
 
   pub within_permanent : IsRecordWithin most (with_permanent kept)
-  within_permanent = record { nodes = within.nodes; decision = within.decision; permanent = last_within kept.tentative within.tentative; tentative = λ t is. absurd (cc) }
+  within_permanent =
+      record {
+        nodes = within.nodes;
+        decision = within.decision;
+        permanent =
+            last_within kept.tentative within.tentative;
+        tentative = λ t is. absurd (cc);
+      }
 
   pub within_without_tentative : IsRecordWithin most (without_tentative kept)
-  within_without_tentative = record { nodes = within.nodes; decision = within.decision; permanent = within.permanent; tentative = λ t is. absurd (cc) }
+  within_without_tentative =
+      record {
+        nodes = within.nodes;
+        decision = within.decision;
+        permanent = within.permanent;
+        tentative =
+            λ t is. absurd (cc);
+      }
 
-  pub within_decision : (number : ℕ) (participants : List ℕ) → length participants ≤ MAX_NODES → IsRecordWithin most (with_decision number participants kept)
+  pub within_decision : (number : ℕ) (participants : List ℕ) → length participants ≤ MAX_NODES
+      → IsRecordWithin most (with_decision number participants kept)
   within_decision number participants few = record {
     nodes = within.nodes;
     decision = or_within number participants few;
@@ -199,7 +240,21 @@ module _ (most : ℕ) (kept : RecordView) (within : IsRecordWithin most kept) wh
   }
 
   pub within_confirmed : (number node : ℕ) → IsRecordWithin most (with_confirmed number node kept)
-  within_confirmed number node = record { nodes = within.nodes; decision = confirmed_within number node kept.decision within.decision; permanent = within.permanent; tentative = within.tentative }
+  within_confirmed number node =
+      record {
+        nodes = within.nodes;
+        decision = confirmed_within number node kept.decision within.decision;
+        permanent =
+            within.permanent;
+        tentative = within.tentative;
+      }
 
   pub within_epoch : IsRecordWithin most (with_epoch kept)
-  within_epoch = record { nodes = within.nodes; decision = within.decision; permanent = within.permanent; tentative = own_within kept.node kept.tentative within.tentative }
+  within_epoch =
+      record {
+        nodes = within.nodes;
+        decision = within.decision;
+        permanent = within.permanent;
+        tentative =
+            own_within kept.node kept.tentative within.tentative;
+      }

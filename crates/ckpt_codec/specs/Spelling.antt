@@ -33,7 +33,8 @@ mode_text (At point vars) = number_text 1 1 ++ (number_text 4 point.site ++ numb
 mode_text (Done vars) = number_text 1 2
 
 abbrev pub state_text : Standing → List ℕ
-state_text standing = mode_text standing ++ (number_text 1 (length (variables_of standing)) ++ items_text (variables_of standing))
+state_text standing =
+    mode_text standing ++ (number_text 1 (length (variables_of standing)) ++ items_text (variables_of standing))
 
 abbrev pub process_text : SavedProcessView → List ℕ
 process_text process = number_text 1 process.number ++ state_text process.standing
@@ -96,7 +97,9 @@ participants_text participants = flat_map (number_text 1) participants
 
 abbrev pub decision_text : Option DecisionView → List ℕ
 decision_text None = number_text 1 0
-decision_text (Some d) = number_text 1 1 ++ (number_text 8 d.number ++ (number_text 1 (length d.participants) ++ participants_text d.participants))
+decision_text (Some d) =
+    number_text 1 1
+    ++ (number_text 8 d.number ++ (number_text 1 (length d.participants) ++ participants_text d.participants))
 
 abbrev pub IsShortDecision : Option DecisionView → Type 0
 IsShortDecision None = Unit {0}
@@ -104,7 +107,8 @@ IsShortDecision (Some d) = length d.participants < 256
 
 abbrev pub tentative_text : Option Tentative → List ℕ
 tentative_text None = number_text 1 0
-tentative_text (Some t) = number_text 1 1 ++ (number_text 1 t.initiator ++ (number_text 8 t.number ++ image_text t.image))
+tentative_text (Some t) =
+    number_text 1 1 ++ (number_text 1 t.initiator ++ (number_text 8 t.number ++ image_text t.image))
 
 abbrev pub IsShortTentative : Option Tentative → Type 0
 IsShortTentative None = Unit {0}
@@ -118,10 +122,14 @@ abbrev pub highest_text : List ℕ → List ℕ
 highest_text highest = flat_map (number_text 8) highest
 
 abbrev pub head_text : RecordView → List ℕ
-head_text kept = number_text 1 1 ++ (number_text 1 kept.node ++ (number_text 8 kept.epoch ++ (number_text 1 (length kept.highest) ++ highest_text kept.highest)))
+head_text kept =
+    number_text 1 1
+    ++ (number_text 1 kept.node
+    ++ (number_text 8 kept.epoch ++ (number_text 1 (length kept.highest) ++ highest_text kept.highest)))
 
 abbrev pub spelling : RecordView → List ℕ
-spelling kept = head_text kept ++ (decision_text kept.decision ++ (image_text kept.permanent ++ tentative_text kept.tentative))
+spelling kept =
+    head_text kept ++ (decision_text kept.decision ++ (image_text kept.permanent ++ tentative_text kept.tentative))
 
 -- a record whose numbers can be written in their bytes
 pub record IsShortRecord (kept : RecordView) : Type 0 where

@@ -1,10 +1,12 @@
 -- Parts of images and records, as they are tested one by one.
-use Rattle.std.specs.Prelude.{ℕ, nat_lt, nat_le, not, ◌&&◌, ◌==◌, List, [], ◌∷◌, length, map, Option, Some, None, slice_index}
+use Rattle.std.specs.Prelude.{ℕ, nat_lt, nat_le, not, ◌&&◌, ◌==◌, List, [], ◌∷◌, length, map, Option, Some, None}
+use Rattle.std.specs.Prelude.{slice_index}
 use Rattle.kahn_net.specs.declared.limits.TheConstants.{MAX_NODES, MAX_PROCESSES, MAX_CHANNELS}
 use Rattle.retained.specs.LogState.{LogState}
 use Rattle.record.specs.ImageView.{ImageView}
 use Rattle.ckpt_codec.specs.Fields.{Field}
-use Rattle.ckpt_codec.specs.RecordText.{at_most, wanted, wanted_or, retained_count, item, processes_in, ends_in, processes_fields, ends_fields}
+use Rattle.ckpt_codec.specs.RecordText.{at_most, wanted, wanted_or, retained_count, item, processes_in, ends_in}
+use Rattle.ckpt_codec.specs.RecordText.{processes_fields, ends_fields}
 
 -- the parts that are to be matched; none where there is no first image
 abbrev pub listed : {A : Type 0} → Option (List A) → List A

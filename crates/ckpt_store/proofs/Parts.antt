@@ -9,7 +9,8 @@ use Rattle.ckpt_codec.specs.RecordText.{IsRecord, count, head_fields, decision_f
 -- what holds of each of two lists' elements holds of the first one's, and of the second one's
 pub all_front : {X : Type 0} (P : X → Type 0) (xs ys : List X) → All P (xs ++ ys) → All P xs
 all_front P [] ys all = All-nil P
-all_front P (x ∷ xs) ys all = All-cons P x xs (All-head P x (xs ++ ys) all) (all_front P xs ys (All-tail P x (xs ++ ys) all))
+all_front P (x ∷ xs) ys all =
+    All-cons P x xs (All-head P x (xs ++ ys) all) (all_front P xs ys (All-tail P x (xs ++ ys) all))
 
 pub all_back : {X : Type 0} (P : X → Type 0) (xs ys : List X) → All P (xs ++ ys) → All P ys
 all_back P [] ys all = all
@@ -19,7 +20,8 @@ all_back P (x ∷ xs) ys all = all_back P xs ys (All-tail P x (xs ++ ys) all)
 pub record AreParts (kept : RecordView) : Type 0 where
   pub head : AreAllowed (head_fields kept)
   pub entries : AreAllowed (map count kept.highest)
-  pub decision : AreAllowed (decision_fields kept.node (length kept.highest) (slice_index kept.highest kept.node) kept.decision)
+  pub decision : AreAllowed
+      (decision_fields kept.node (length kept.highest) (slice_index kept.highest kept.node) kept.decision)
   pub permanent : AreAllowed (image_fields None kept.permanent)
   pub tentative : AreAllowed (tentative_fields kept.highest kept.permanent kept.tentative)
 
@@ -28,7 +30,8 @@ module _ (kept : RecordView) where
   parts_of all =
       let tentative : List Field = tentative_fields kept.highest kept.permanent kept.tentative in
       let permanent : List Field = image_fields None kept.permanent in
-      let decision : List Field = decision_fields kept.node (length kept.highest) (slice_index kept.highest kept.node) kept.decision in
+      let decision : List Field =
+      decision_fields kept.node (length kept.highest) (slice_index kept.highest kept.node) kept.decision in
       let entries : List Field = map count kept.highest in
       let behind = all_back IsAllowed (head_fields kept) (entries ++ (decision ++ (permanent ++ tentative))) all in
       let behind2 = all_back IsAllowed entries (decision ++ (permanent ++ tentative)) behind in
@@ -45,7 +48,8 @@ module _ (kept : RecordView) where
   whole parts =
       let tentative : List Field = tentative_fields kept.highest kept.permanent kept.tentative in
       let permanent : List Field = image_fields None kept.permanent in
-      let decision : List Field = decision_fields kept.node (length kept.highest) (slice_index kept.highest kept.node) kept.decision in
+      let decision : List Field =
+      decision_fields kept.node (length kept.highest) (slice_index kept.highest kept.node) kept.decision in
       let entries : List Field = map count kept.highest in
       All-append IsAllowed (head_fields kept) (entries ++ (decision ++ (permanent ++ tentative))) parts.head
       (All-append IsAllowed entries (decision ++ (permanent ++ tentative)) parts.entries

@@ -1,5 +1,6 @@
 -- For which changes a record itself gives cause to refuse, and with which refusal: the first that applies.
-use Rattle.std.specs.Prelude.{◌≡◌, ℕ, ◌==◌, nat_le, nat_lt, not, ◌&&◌, Bool, true, false, if◌then◌else◌, Option, Some, None, is_some, Result, Err, IfErr}
+use Rattle.std.specs.Prelude.{◌≡◌, ℕ, ◌==◌, nat_le, nat_lt, not, ◌&&◌, Bool, true, false, if◌then◌else◌, Option, Some}
+use Rattle.std.specs.Prelude.{None, is_some, Result, Err, IfErr}
 use Rattle.std.specs.List.{list_any}
 use Rattle.kahn_net.specs.declared.limits.TheConstants.{MAX_COUNT}
 use Rattle.record.specs.DecisionView.{DecisionView}
@@ -8,7 +9,8 @@ use Rattle.record.specs.Moves.{highest_seen}
 use Rattle.record.specs.declared.record.Tentative.{Tentative}
 use Rattle.ckpt_store.specs.StoreFault.{IsOfPut}
 use Rattle.ckpt_store.specs.declared.fault.StoreFault.{StoreFault}
-use Rattle.ckpt_store.specs.declared.fault.StoreFault.TheVariants.{Reopen, HoldsOther, PastNumber, NotHeld, Unsettled, Spent}
+use Rattle.ckpt_store.specs.declared.fault.StoreFault.TheVariants.{Reopen, HoldsOther, PastNumber, NotHeld, Unsettled}
+use Rattle.ckpt_store.specs.declared.fault.StoreFault.TheVariants.{Spent}
 
 -- exactly this instance is held
 abbrev pub is_held : ℕ → ℕ → Option Tentative → Bool
@@ -20,8 +22,8 @@ abbrev pub is_other_held : ℕ → ℕ → Option Tentative → Bool
 is_other_held initiator number None = false
 is_other_held initiator number (Some held) = not (is_held initiator number (Some held))
 
--- 40 where another instance is held, 41 where the number is at most the highest seen of its initiator, 43 for an instance of the
--- node's own while a decision is unsettled, 44 where the number is no count
+-- 40 where another instance is held, 41 where the number is at most the highest seen of its initiator, 43 for an
+-- instance of the node's own while a decision is unsettled, 44 where the number is no count
 abbrev pub refusal_to_take : ℕ → ℕ → RecordView → Option StoreFault
 refusal_to_take initiator number kept =
     if is_other_held initiator number kept.tentative then Some HoldsOther

@@ -1,7 +1,9 @@
 -- Why a store refuses, and the numbers of its refusals.
 use Rattle.std.specs.Prelude.{◌≡◌, ℕ, ◌<◌, Bool, true, false, Result, IsErrOf}
 use Rattle.ckpt_store.specs.declared.fault.StoreFault.{StoreFault}
-use Rattle.ckpt_store.specs.declared.fault.StoreFault.TheVariants.{NoMemory, Device, TooLarge, Reopen, Truncated, Version, Malformed, HoldsOther, PastNumber, NotHeld, Unsettled, Spent}
+use Rattle.ckpt_store.specs.declared.fault.StoreFault.TheVariants.{NoMemory, Device, TooLarge, Reopen, Truncated}
+use Rattle.ckpt_store.specs.declared.fault.StoreFault.TheVariants.{Version, Malformed, HoldsOther, PastNumber, NotHeld}
+use Rattle.ckpt_store.specs.declared.fault.StoreFault.TheVariants.{Unsettled, Spent}
 use Rattle.gate_cell.specs.declared.fault.CellFault.{CellFault}
 use Rattle.gate_cell.specs.declared.fault.CellFault.TheVariants as cell
 use Rattle.ckpt_codec.specs.declared.fault.CodecFault.{CodecFault}
@@ -35,7 +37,8 @@ of_codec codec.Truncated = Truncated
 of_codec codec.Version = Version
 of_codec codec.Malformed = Malformed
 
--- a refusal that comes once the record itself gives no cause for one: of memory, of the device, or of the record's length
+-- a refusal that comes once the record itself gives no cause for one: of memory, of the device, or of the record's
+-- length
 abbrev pub IsOfPut : StoreFault → Type 0
 IsOfPut NoMemory = Unit {0}
 IsOfPut Device = Unit {0}

@@ -27,7 +27,15 @@ Holds {words = words} store kept = IsRecordText kept (words.value store.cell)
 
 -- a record of nothing
 abbrev pub blank : RecordView
-blank = record { node = 0; epoch = 0; highest = []; decision = None; permanent = record { processes = []; ends = [] }; tentative = None }
+blank = record {
+  node = 0;
+  epoch = 0;
+  highest = [];
+  decision = None;
+  permanent = record { processes = []; ends = [] };
+  tentative =
+      None;
+}
 
 abbrev pub record_or_blank : Result RecordView CodecFault → RecordView
 record_or_blank (Ok kept) = kept
@@ -42,11 +50,14 @@ abbrev pub record_in : {C : Type 0} {words : CellWords C} → Store C words → 
 record_in {words = words} store = record_spelled (words.value store.cell)
 
 -- the record was changed to the next one by one put, or that was refused
-abbrev pub Changes : {C : Type 0} {words : CellWords C} → (RecordView → Option StoreFault) → (RecordView → RecordView) → Store C words → Store C words → {T : Type 0} → Result T StoreFault → Type 0
-Changes {words = words} cause next old new result = IsChange words cause next old.cell new.cell old.known new.known result
+abbrev pub Changes : {C : Type 0} {words : CellWords C} → (RecordView → Option StoreFault) → (RecordView → RecordView)
+    → Store C words → Store C words → {T : Type 0} → Result T StoreFault → Type 0
+Changes {words = words} cause next old new result =
+    IsChange words cause next old.cell new.cell old.known new.known result
 
 -- nothing was to be done, and nothing was
-abbrev pub Stays : {C : Type 0} {words : CellWords C} → Store C words → Store C words → {T : Type 0} → Result T StoreFault → Type 0
+abbrev pub Stays : {C : Type 0} {words : CellWords C} → Store C words → Store C words → {T : Type 0}
+    → Result T StoreFault → Type 0
 Stays old new result = IsIdle old.cell new.cell old.known new.known result
 
 -- the cell that a store was opened on, whether or not it was
@@ -59,7 +70,8 @@ abbrev pub record_or : StoreFault → Option RecordView → Result RecordView St
 record_or fault None = Err fault
 record_or fault (Some kept) = Ok kept
 
-abbrev pub answer_of : {C : Type 0} {words : CellWords C} → Result (Store C words) (Refused C) → Result RecordView StoreFault
+abbrev pub answer_of : {C : Type 0} {words : CellWords C} → Result (Store C words) (Refused C)
+    → Result RecordView StoreFault
 answer_of (Ok store) = record_or Reopen store.known
 answer_of (Err refused) = Err refused.fault
 
@@ -68,7 +80,8 @@ abbrev pub Opens : {C : Type 0} {words : CellWords C} → C → Result (Store C 
 Opens {words = words} cell result = IsLoad words cell (cell_after result) (answer_of result)
 
 -- it was reopened in its place, or that was refused
-abbrev pub Reopens : {C : Type 0} {words : CellWords C} → Store C words → Store C words → {T : Type 0} → Result T StoreFault → Type 0
+abbrev pub Reopens : {C : Type 0} {words : CellWords C} → Store C words → Store C words → {T : Type 0}
+    → Result T StoreFault → Type 0
 Reopens {words = words} old new result = IsReload words old.cell new.cell new.known result
 
 -- The record, whether it is known, and what a crash leaves of it are as before, at every moment; and so are the cell's

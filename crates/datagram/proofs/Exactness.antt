@@ -1,5 +1,7 @@
 -- Packets are read as they are spelled, and what is spelled is read.
-use Rattle.std.proofs.Common.{◌≡◌, ◌≢◌, ℕ, zero, suc, ◌≤◌, Bool, true, false, ◌&&◌, not, nat_eq, nat_le, cond, List, [], ◌∷◌, ◌++◌, length, Some, None, option_map, Result, Ok, Err, refl, sym, ap, subst, ◌∙◌, append_assoc, arith}
+use Rattle.std.proofs.Common.{◌≡◌, ◌≢◌, ℕ, zero, suc, ◌≤◌, Bool, true, false, ◌&&◌, not, nat_eq, nat_le, cond, List, []}
+use Rattle.std.proofs.Common.{◌∷◌, ◌++◌, length, Some, None, option_map, Result, Ok, Err, refl, sym, ap, subst, ◌∙◌}
+use Rattle.std.proofs.Common.{append_assoc, arith}
 use Rattle.std.specs.Prelude.{IfOk, IsErrOf}
 use Rattle.std.specs.List.{flat_map, AllByRecursion}
 use Rattle.std.proofs.lemmas.Bool.{leb-true, le-leb, eqb-true, eqb-false, ne_eqb}
@@ -12,12 +14,18 @@ use Rattle.datagram.specs.declared.fault.PacketFault.{PacketFault}
 use Rattle.datagram.specs.declared.fault.PacketFault.TheVariants.{NoMemory, BadPacket}
 use Rattle.datagram.specs.declared.packet.Need.{Need}
 use Rattle.datagram.specs.declared.packet.Body.{Body}
-use Rattle.datagram.specs.declared.packet.Body.TheVariants.{Data, Ack, Kept, Ask, Took, Covered, Refused, Query, Commit, Ended, Settled, Undone}
+use Rattle.datagram.specs.declared.packet.Body.TheVariants.{Data, Ack, Kept, Ask, Took, Covered, Refused, Query, Commit}
+use Rattle.datagram.specs.declared.packet.Body.TheVariants.{Ended, Settled, Undone}
 use Rattle.datagram.specs.declared.packet.Packet.{Packet}
-use Rattle.datagram.specs.PacketText.{IsChannel, IsCount, IsPositive, IsNeed, AreNeeds, IsBody, IsPacket, IsPacketText, number_text, need_text, needs_text, kind_of, body_text, packet_text}
-use Rattle.datagram.specs.Reading.{are_ascending, ◌>>=◌, Found, Field, channel, count, positive, needs_count, if_passes, need_at, needs_at, need_list_at, data_body, counts_body, kept_body, ask_body, refused_body, read_as, took_at, body_at, are_nodes, packet_at, whole_at, Reads, IsReadUnlessMemory}
+use Rattle.datagram.specs.PacketText.{IsChannel, IsCount, IsPositive, IsNeed, AreNeeds, IsBody, IsPacket, IsPacketText}
+use Rattle.datagram.specs.PacketText.{number_text, need_text, needs_text, kind_of, body_text, packet_text}
+use Rattle.datagram.specs.Reading.{are_ascending, ◌>>=◌, Found, Field, channel, count, positive, needs_count, if_passes}
+use Rattle.datagram.specs.Reading.{need_at, needs_at, need_list_at, data_body, counts_body, kept_body, ask_body}
+use Rattle.datagram.specs.Reading.{refused_body, read_as, took_at, body_at, are_nodes, packet_at, whole_at, Reads}
+use Rattle.datagram.specs.Reading.{IsReadUnlessMemory}
 use Rattle.datagram.proofs.Rising.{is_rising, rising}
-use Rattle.datagram.proofs.Parts.{AreBytes, AreBytes-rest, after_found, chosen, is_found, passed, was, Splits, both_split, Exact, back2, back8, limited_exact, item_exact, reason_exact, both_exact}
+use Rattle.datagram.proofs.Parts.{AreBytes, AreBytes-rest, after_found, chosen, is_found, passed, was, Splits}
+use Rattle.datagram.proofs.Parts.{both_split, Exact, back2, back8, limited_exact, item_exact, reason_exact, both_exact}
 
 -- ---- tests
 
@@ -46,7 +54,11 @@ count_exact = limited_exact IsCount (λ n. nat_le n MAX_COUNT) 8 back8
 positive_exact : Exact positive
 positive_exact = limited_exact IsPositive (λ n. nat_le 1 n && nat_le n MAX_COUNT) 8 back8
     (λ k e. let p = and_both (nat_le 1 k) (nat_le k MAX_COUNT) e in (leb-true 1 k p.0, leb-true k MAX_COUNT p.1))
-    (λ k fits. (both_and (nat_le 1 k) (nat_le k MAX_COUNT) (le-leb 1 k fits.0) (le-leb k MAX_COUNT fits.1), omega arith))
+    (λ k fits. (
+      both_and (nat_le 1 k) (nat_le k MAX_COUNT) (le-leb 1 k fits.0) (le-leb k MAX_COUNT fits.1),
+      omega
+          arith,
+    ))
 
 needs_count_exact : Exact needs_count
 needs_count_exact = limited_exact (λ n. n ≤ MOST_NEEDS) (λ n. nat_le n MOST_NEEDS) 2 back2
@@ -54,15 +66,18 @@ needs_count_exact = limited_exact (λ n. n ≤ MOST_NEEDS) (λ n. nat_le n MOST_
 
 -- ---- needs
 
-need_takes : (bytes : List ℕ) (x : Need × List ℕ) → AreBytes bytes → need_at bytes ≡ Some x → Splits bytes (need_text x.0) x.1 × IsNeed x.0
+need_takes : (bytes : List ℕ) (x : Need × List ℕ) → AreBytes bytes → need_at bytes ≡ Some x
+    → Splits bytes (need_text x.0) x.1 × IsNeed x.0
 need_takes bytes x fits e =
-    let a = after_found (channel.read bytes) (λ a. positive.read a.1 >>= λ b. Some (record { channel = a.0; count = b.0 }, b.1)) x e in
+    let a = after_found (channel.read bytes)
+    (λ a. positive.read a.1 >>= λ b. Some (record { channel = a.0; count = b.0 }, b.1)) x e in
     let b = after_found (positive.read a.0.1) (λ b. Some (record { channel = a.0.0; count = b.0 }, b.1)) x a.2 in
     let first = channel_exact.takes bytes a.0 fits a.1 in
     let second = positive_exact.takes a.0.1 b.0 first.0.bytes_left b.1 in
     let whole = both_split bytes (number_text 2 a.0.0) a.0.1 (number_text 8 b.0.0) b.0.1 first.0 second.0 in
     let made : Need × List ℕ = (record { channel = a.0.0; count = b.0.0 }, b.0.1) in
-    subst (λ (y : Need × List ℕ). Splits bytes (need_text y.0) y.1 × IsNeed y.0) (is_found made x b.2) (whole, (first.1, second.1))
+    subst (λ (y : Need × List ℕ). Splits bytes (need_text y.0) y.1 × IsNeed y.0) (is_found made x b.2)
+    (whole, (first.1, second.1))
 
 need_again : (need : Need) (rest : List ℕ) → IsNeed need → need_at (need_text need ++ rest) ≡ Some (need, rest)
 need_again need rest fits =
@@ -77,27 +92,33 @@ needs_take : (n : ℕ) (bytes : List ℕ) (x : List Need × List ℕ) → AreByt
 unfolding needs_at
 needs_take zero bytes x fits e =
     let made : List Need × List ℕ = ([], bytes) in
-    subst (λ (y : List Need × List ℕ). Splits bytes (flat_map need_text y.0) y.1 × (length y.0 ≡ 0) × AllByRecursion IsNeed y.0) (is_found made x e) (record { joined = refl; bytes_left = fits }, refl, tt)
+    subst (λ (y : List Need × List ℕ). Splits bytes (flat_map need_text y.0) y.1 × (length y.0 ≡ 0)
+    × AllByRecursion IsNeed y.0) (is_found made x e) (record { joined = refl; bytes_left = fits }, refl, tt)
 needs_take (suc n) bytes x fits e =
-    let a = after_found (need_at bytes) (λ first. needs_at n first.1 >>= λ others. Some (first.0 ∷ others.0, others.1)) x e in
+    let a = after_found (need_at bytes) (λ first. needs_at n first.1 >>= λ others. Some (first.0 ∷ others.0, others.1))
+    x e in
     let b = after_found (needs_at n a.0.1) (λ others. Some (a.0.0 ∷ others.0, others.1)) x a.2 in
     let first = need_takes bytes a.0 fits a.1 in
     let second = needs_take n a.0.1 b.0 first.0.bytes_left b.1 in
     let whole = both_split bytes (need_text a.0.0) a.0.1 (flat_map need_text b.0.0) b.0.1 first.0 second.0 in
     let made : List Need × List ℕ = (a.0.0 ∷ b.0.0, b.0.1) in
-    subst (λ (y : List Need × List ℕ). Splits bytes (flat_map need_text y.0) y.1 × (length y.0 ≡ suc n) × AllByRecursion IsNeed y.0) (is_found made x b.2)
+    subst (λ (y : List Need × List ℕ). Splits bytes (flat_map need_text y.0) y.1 × (length y.0 ≡ suc n)
+    × AllByRecursion IsNeed y.0) (is_found made x b.2)
     (rw flat_map-cons whole, ap suc second.1, (first.1, second.2))
 
-needs_again : (needs : List Need) (rest : List ℕ) → AllByRecursion IsNeed needs → needs_at (length needs) (flat_map need_text needs ++ rest) ≡ Some (needs, rest)
+needs_again : (needs : List Need) (rest : List ℕ) → AllByRecursion IsNeed needs
+    → needs_at (length needs) (flat_map need_text needs ++ rest) ≡ Some (needs, rest)
 unfolding needs_at
 needs_again [] rest fits = refl
 needs_again (need ∷ needs) rest fits =
     let regrouped : flat_map need_text (need ∷ needs) ++ rest ≡ need_text need ++ (flat_map need_text needs ++ rest)
-    = ap (λ (t : List ℕ). t ++ rest) (flat_map-cons need_text need needs) ∙ append_assoc (need_text need) (flat_map need_text needs) rest in
+    = ap (λ (t : List ℕ). t ++ rest) (flat_map-cons need_text need needs)
+    ∙ append_assoc (need_text need) (flat_map need_text needs) rest in
     ap (needs_at (suc (length needs))) regrouped
     ∙ rw (need_again need (flat_map need_text needs ++ rest) fits.0, needs_again needs rest fits.1) refl
 
-need_list_takes : (bytes : List ℕ) (x : List Need × List ℕ) → AreBytes bytes → need_list_at bytes ≡ Some x → Splits bytes (needs_text x.0) x.1 × AreNeeds x.0
+need_list_takes : (bytes : List ℕ) (x : List Need × List ℕ) → AreBytes bytes → need_list_at bytes ≡ Some x
+    → Splits bytes (needs_text x.0) x.1 × AreNeeds x.0
 unfolding need_list_at
 need_list_takes bytes x fits e =
     let a = after_found (needs_count.read bytes) (λ n. if_passes (are_ascending 0) (needs_at n.0 n.1)) x e in
@@ -113,7 +134,8 @@ need_list_takes bytes x fits e =
       },
     )
 
-need_list_again : (needs : List Need) (rest : List ℕ) → AreNeeds needs → need_list_at (needs_text needs ++ rest) ≡ Some (needs, rest)
+need_list_again : (needs : List Need) (rest : List ℕ) → AreNeeds needs
+    → need_list_at (needs_text needs ++ rest) ≡ Some (needs, rest)
 unfolding need_list_at
 need_list_again needs rest fits =
     let passes : are_ascending 0 needs ≡ true = rising 0 needs (λ need more e. omega arith) fits.ascending in
@@ -154,9 +176,11 @@ by_test true here rest x e on_here on_rest = on_here refl e
 by_test false here rest x e on_here on_rest = on_rest e
 
 -- a body that is made of a field's value
-says_as : {A : Type 0} (f : Field A) → Exact f → (make : A → Body) (kind k : ℕ) → ((a : A) → body_text (make a) ≡ f.text a)
+says_as : {A : Type 0} (f : Field A) → Exact f → (make : A → Body) (kind k : ℕ)
+    → ((a : A) → body_text (make a) ≡ f.text a)
     → ((a : A) → k ≡ kind_of (make a)) → ((a : A) → f.Fits a → IsBody (make a))
-    → (bytes : List ℕ) (x : Body × List ℕ) → AreBytes bytes → nat_eq kind k ≡ true → read_as make (f.read bytes) ≡ Some x → Says kind bytes x
+    → (bytes : List ℕ) (x : Body × List ℕ) → AreBytes bytes → nat_eq kind k ≡ true
+    → read_as make (f.read bytes) ≡ Some x → Says kind bytes x
 says_as {A = A} f exact make kind k text is_kind body bytes x fits test e =
     let w = was (λ (p : A × List ℕ). (make p.0, p.1)) (f.read bytes) x e in
     let t = exact.takes bytes w.0 fits w.1 in
@@ -167,42 +191,69 @@ says_as {A = A} f exact make kind k text is_kind body bytes x fits test e =
       kind_is = eqb-true kind k test ∙ is_kind w.0.0;
     })
 
-data_says : (kind : ℕ) (bytes : List ℕ) (x : Body × List ℕ) → AreBytes bytes → nat_eq kind 1 ≡ true → read_as (λ x. Data x.0 x.1.0 x.1.1) (data_body.read bytes) ≡ Some x → Says kind bytes x
-data_says kind bytes x = says_as data_body data_exact (λ x. Data x.0 x.1.0 x.1.1) kind 1 (λ a. refl) (λ a. refl) (λ a. λ f. (f.0, f.1.0, f.1.1)) bytes x
+data_says : (kind : ℕ) (bytes : List ℕ) (x : Body × List ℕ) → AreBytes bytes → nat_eq kind 1 ≡ true
+    → read_as (λ x. Data x.0 x.1.0 x.1.1) (data_body.read bytes) ≡ Some x → Says kind bytes x
+data_says kind bytes x =
+    says_as data_body data_exact (λ x. Data x.0 x.1.0 x.1.1) kind 1 (λ a. refl) (λ a. refl)
+    (λ a. λ f. (f.0, f.1.0, f.1.1)) bytes x
 
-ack_says : (kind : ℕ) (bytes : List ℕ) (x : Body × List ℕ) → AreBytes bytes → nat_eq kind 2 ≡ true → read_as (λ x. Ack x.0 x.1.0 x.1.1) (counts_body.read bytes) ≡ Some x → Says kind bytes x
-ack_says kind bytes x = says_as counts_body counts_exact (λ x. Ack x.0 x.1.0 x.1.1) kind 2 (λ a. refl) (λ a. refl) (λ a. λ f. (f.0, f.1.0, f.1.1)) bytes x
+ack_says : (kind : ℕ) (bytes : List ℕ) (x : Body × List ℕ) → AreBytes bytes → nat_eq kind 2 ≡ true
+    → read_as (λ x. Ack x.0 x.1.0 x.1.1) (counts_body.read bytes) ≡ Some x → Says kind bytes x
+ack_says kind bytes x =
+    says_as counts_body counts_exact (λ x. Ack x.0 x.1.0 x.1.1) kind 2 (λ a. refl) (λ a. refl)
+    (λ a. λ f. (f.0, f.1.0, f.1.1)) bytes x
 
-kept_says : (kind : ℕ) (bytes : List ℕ) (x : Body × List ℕ) → AreBytes bytes → nat_eq kind 3 ≡ true → read_as (λ x. Kept x.0 x.1) (kept_body.read bytes) ≡ Some x → Says kind bytes x
-kept_says kind bytes x = says_as kept_body kept_exact (λ x. Kept x.0 x.1) kind 3 (λ a. refl) (λ a. refl) (λ a. λ f. f) bytes x
+kept_says : (kind : ℕ) (bytes : List ℕ) (x : Body × List ℕ) → AreBytes bytes → nat_eq kind 3 ≡ true
+    → read_as (λ x. Kept x.0 x.1) (kept_body.read bytes) ≡ Some x → Says kind bytes x
+kept_says kind bytes x =
+    says_as kept_body kept_exact (λ x. Kept x.0 x.1) kind 3 (λ a. refl) (λ a. refl) (λ a. λ f. f) bytes x
 
-ask_says : (kind : ℕ) (bytes : List ℕ) (x : Body × List ℕ) → AreBytes bytes → nat_eq kind 4 ≡ true → read_as (λ x. Ask x.0 x.1.0 x.1.1) (ask_body.read bytes) ≡ Some x → Says kind bytes x
-ask_says kind bytes x = says_as ask_body ask_exact (λ x. Ask x.0 x.1.0 x.1.1) kind 4 (λ a. refl) (λ a. refl) (λ a. λ f. (f.0, f.1.0, f.1.1)) bytes x
+ask_says : (kind : ℕ) (bytes : List ℕ) (x : Body × List ℕ) → AreBytes bytes → nat_eq kind 4 ≡ true
+    → read_as (λ x. Ask x.0 x.1.0 x.1.1) (ask_body.read bytes) ≡ Some x → Says kind bytes x
+ask_says kind bytes x =
+    says_as ask_body ask_exact (λ x. Ask x.0 x.1.0 x.1.1) kind 4 (λ a. refl) (λ a. refl)
+    (λ a. λ f. (f.0, f.1.0, f.1.1)) bytes x
 
-covered_says : (kind : ℕ) (bytes : List ℕ) (x : Body × List ℕ) → AreBytes bytes → nat_eq kind 6 ≡ true → read_as (λ x. Covered x.0 x.1.0 x.1.1) (ask_body.read bytes) ≡ Some x → Says kind bytes x
-covered_says kind bytes x = says_as ask_body ask_exact (λ x. Covered x.0 x.1.0 x.1.1) kind 6 (λ a. refl) (λ a. refl) (λ a. λ f. (f.0, f.1.0, f.1.1)) bytes x
+covered_says : (kind : ℕ) (bytes : List ℕ) (x : Body × List ℕ) → AreBytes bytes → nat_eq kind 6 ≡ true
+    → read_as (λ x. Covered x.0 x.1.0 x.1.1) (ask_body.read bytes) ≡ Some x → Says kind bytes x
+covered_says kind bytes x =
+    says_as ask_body ask_exact (λ x. Covered x.0 x.1.0 x.1.1) kind 6 (λ a. refl) (λ a. refl)
+    (λ a. λ f. (f.0, f.1.0, f.1.1)) bytes x
 
-refused_says : (kind : ℕ) (bytes : List ℕ) (x : Body × List ℕ) → AreBytes bytes → nat_eq kind 7 ≡ true → read_as (λ x. Refused x.0 x.1.0 x.1.1) (refused_body.read bytes) ≡ Some x → Says kind bytes x
-refused_says kind bytes x = says_as refused_body refused_exact (λ x. Refused x.0 x.1.0 x.1.1) kind 7 (λ a. refl) (λ a. refl) (λ a. λ f. (f.0, f.1.0)) bytes x
+refused_says : (kind : ℕ) (bytes : List ℕ) (x : Body × List ℕ) → AreBytes bytes → nat_eq kind 7 ≡ true
+    → read_as (λ x. Refused x.0 x.1.0 x.1.1) (refused_body.read bytes) ≡ Some x → Says kind bytes x
+refused_says kind bytes x =
+    says_as refused_body refused_exact (λ x. Refused x.0 x.1.0 x.1.1) kind 7 (λ a. refl) (λ a. refl)
+    (λ a. λ f. (f.0, f.1.0)) bytes x
 
-query_says : (kind : ℕ) (bytes : List ℕ) (x : Body × List ℕ) → AreBytes bytes → nat_eq kind 8 ≡ true → read_as (Query) (positive.read bytes) ≡ Some x → Says kind bytes x
+query_says : (kind : ℕ) (bytes : List ℕ) (x : Body × List ℕ) → AreBytes bytes → nat_eq kind 8 ≡ true
+    → read_as (Query) (positive.read bytes) ≡ Some x → Says kind bytes x
 query_says kind bytes x = says_as positive positive_exact (Query) kind 8 (λ a. refl) (λ a. refl) (λ a. λ f. f) bytes x
 
-commit_says : (kind : ℕ) (bytes : List ℕ) (x : Body × List ℕ) → AreBytes bytes → nat_eq kind 9 ≡ true → read_as (Commit) (positive.read bytes) ≡ Some x → Says kind bytes x
+commit_says : (kind : ℕ) (bytes : List ℕ) (x : Body × List ℕ) → AreBytes bytes → nat_eq kind 9 ≡ true
+    → read_as (Commit) (positive.read bytes) ≡ Some x → Says kind bytes x
 commit_says kind bytes x = says_as positive positive_exact (Commit) kind 9 (λ a. refl) (λ a. refl) (λ a. λ f. f) bytes x
 
-ended_says : (kind : ℕ) (bytes : List ℕ) (x : Body × List ℕ) → AreBytes bytes → nat_eq kind 10 ≡ true → read_as (Ended) (positive.read bytes) ≡ Some x → Says kind bytes x
+ended_says : (kind : ℕ) (bytes : List ℕ) (x : Body × List ℕ) → AreBytes bytes → nat_eq kind 10 ≡ true
+    → read_as (Ended) (positive.read bytes) ≡ Some x → Says kind bytes x
 ended_says kind bytes x = says_as positive positive_exact (Ended) kind 10 (λ a. refl) (λ a. refl) (λ a. λ f. f) bytes x
 
-settled_says : (kind : ℕ) (bytes : List ℕ) (x : Body × List ℕ) → AreBytes bytes → nat_eq kind 11 ≡ true → read_as (Settled) (positive.read bytes) ≡ Some x → Says kind bytes x
-settled_says kind bytes x = says_as positive positive_exact (Settled) kind 11 (λ a. refl) (λ a. refl) (λ a. λ f. f) bytes x
+settled_says : (kind : ℕ) (bytes : List ℕ) (x : Body × List ℕ) → AreBytes bytes → nat_eq kind 11 ≡ true
+    → read_as (Settled) (positive.read bytes) ≡ Some x → Says kind bytes x
+settled_says kind bytes x =
+    says_as positive positive_exact (Settled) kind 11 (λ a. refl) (λ a. refl) (λ a. λ f. f) bytes x
 
-undone_says : (kind : ℕ) (bytes : List ℕ) (x : Body × List ℕ) → AreBytes bytes → nat_eq kind 12 ≡ true → read_as (λ x. Undone x.0 x.1.0 x.1.1) (counts_body.read bytes) ≡ Some x → Says kind bytes x
-undone_says kind bytes x = says_as counts_body counts_exact (λ x. Undone x.0 x.1.0 x.1.1) kind 12 (λ a. refl) (λ a. refl) (λ a. λ f. (f.0, f.1.0, f.1.1)) bytes x
+undone_says : (kind : ℕ) (bytes : List ℕ) (x : Body × List ℕ) → AreBytes bytes → nat_eq kind 12 ≡ true
+    → read_as (λ x. Undone x.0 x.1.0 x.1.1) (counts_body.read bytes) ≡ Some x → Says kind bytes x
+undone_says kind bytes x =
+    says_as counts_body counts_exact (λ x. Undone x.0 x.1.0 x.1.1) kind 12 (λ a. refl) (λ a. refl)
+    (λ a. λ f. (f.0, f.1.0, f.1.1)) bytes x
 
-took_says : (kind : ℕ) (bytes : List ℕ) (x : Body × List ℕ) → AreBytes bytes → nat_eq kind 5 ≡ true → took_at bytes ≡ Some x → Says kind bytes x
+took_says : (kind : ℕ) (bytes : List ℕ) (x : Body × List ℕ) → AreBytes bytes → nat_eq kind 5 ≡ true
+    → took_at bytes ≡ Some x → Says kind bytes x
 took_says kind bytes x fits test e =
-    let a = after_found (ask_body.read bytes) (λ a. need_list_at a.1 >>= λ b. Some (Took a.0.0 a.0.1.0 a.0.1.1 b.0, b.1)) x e in
+    let a = after_found (ask_body.read bytes)
+    (λ a. need_list_at a.1 >>= λ b. Some (Took a.0.0 a.0.1.0 a.0.1.1 b.0, b.1)) x e in
     let b = after_found (need_list_at a.0.1) (λ b. Some (Took a.0.0.0 a.0.0.1.0 a.0.0.1.1 b.0, b.1)) x a.2 in
     let first = ask_exact.takes bytes a.0 fits a.1 in
     let second = need_list_takes a.0.1 b.0 first.0.bytes_left b.1 in
@@ -212,7 +263,8 @@ took_says kind bytes x fits test e =
     let whole = both_split bytes (ask_body.text a.0.0) a.0.1 (needs_text b.0.0) b.0.1 first.0 second.0 in
     let regrouped : ask_body.text a.0.0 ++ needs_text b.0.0 ≡ body_text (Took number channel count b.0.0)
     = append_assoc (number_text 8 number) (number_text 2 channel ++ number_text 8 count) (needs_text b.0.0)
-    ∙ ap (λ (t : List ℕ). number_text 8 number ++ t) (append_assoc (number_text 2 channel) (number_text 8 count) (needs_text b.0.0)) in
+    ∙ ap (λ (t : List ℕ). number_text 8 number ++ t)
+    (append_assoc (number_text 2 channel) (number_text 8 count) (needs_text b.0.0)) in
     let made : Body × List ℕ = (Took number channel count b.0.0, b.0.1) in
     subst (λ (y : Body × List ℕ). Says kind bytes y) (is_found made x b.2) (record {
       takes = subst (λ (spelled : List ℕ). Splits bytes spelled b.0.1) regrouped whole;
@@ -220,7 +272,8 @@ took_says kind bytes x fits test e =
       kind_is = eqb-true kind 5 test;
     })
 
-body_takes : (kind : ℕ) (bytes : List ℕ) (x : Body × List ℕ) → AreBytes bytes → body_at kind bytes ≡ Some x → Says kind bytes x
+body_takes : (kind : ℕ) (bytes : List ℕ) (x : Body × List ℕ) → AreBytes bytes → body_at kind bytes ≡ Some x
+    → Says kind bytes x
 unfolding body_at
 body_takes kind bytes x fits e =
     by_test _ _ _ x e (took_says kind bytes x fits) (λ e1.
@@ -237,24 +290,41 @@ body_takes kind bytes x fits e =
     by_test (nat_eq kind 12) _ _ x e11 (undone_says kind bytes x fits) (λ e12.
     absurd cc))))))))))))
 
-body_again : (body : Body) (rest : List ℕ) → IsBody body → body_at (kind_of body) (body_text body ++ rest) ≡ Some (body, rest)
+body_again : (body : Body) (rest : List ℕ) → IsBody body
+    → body_at (kind_of body) (body_text body ++ rest) ≡ Some (body, rest)
 unfolding body_at
-body_again (Data channel position item) rest fits = ap (read_as (λ x. Data x.0 x.1.0 x.1.1)) (data_exact.again (channel, (position, item)) rest (fits.0, (fits.1, fits.2)))
-body_again (Ack channel epoch next) rest fits = ap (read_as (λ x. Ack x.0 x.1.0 x.1.1)) (counts_exact.again (channel, (epoch, next)) rest (fits.0, (fits.1, fits.2)))
-body_again (Kept channel count) rest fits = ap (read_as (λ x. Kept x.0 x.1)) (kept_exact.again (channel, count) rest fits)
-body_again (Ask number channel count) rest fits = ap (read_as (λ x. Ask x.0 x.1.0 x.1.1)) (ask_exact.again (number, (channel, count)) rest (fits.0, (fits.1, fits.2)))
+body_again (Data channel position item) rest fits =
+    ap (read_as (λ x. Data x.0 x.1.0 x.1.1))
+    (data_exact.again (channel, (position, item)) rest (fits.0, (fits.1, fits.2)))
+body_again (Ack channel epoch next) rest fits =
+    ap (read_as (λ x. Ack x.0 x.1.0 x.1.1))
+    (counts_exact.again (channel, (epoch, next)) rest (fits.0, (fits.1, fits.2)))
+body_again (Kept channel count) rest fits =
+    ap (read_as (λ x. Kept x.0 x.1)) (kept_exact.again (channel, count) rest fits)
+body_again (Ask number channel count) rest fits =
+    ap (read_as (λ x. Ask x.0 x.1.0 x.1.1)) (ask_exact.again (number, (channel, count)) rest (fits.0, (fits.1, fits.2)))
 body_again (Took number channel count needs) rest fits =
-    let regrouped : body_text (Took number channel count needs) ++ rest ≡ (number_text 8 number ++ (number_text 2 channel ++ number_text 8 count)) ++ (needs_text needs ++ rest)
+    let regrouped : body_text (Took number channel count needs) ++ rest
+    ≡ (number_text 8 number ++ (number_text 2 channel ++ number_text 8 count)) ++ (needs_text needs ++ rest)
     = simp append_assoc in
     ap took_at regrouped
-    ∙ rw (ask_exact.again (number, (channel, count)) (needs_text needs ++ rest) (fits.0, (fits.1, fits.2)), need_list_again needs rest fits.3) refl
-body_again (Covered number channel count) rest fits = ap (read_as (λ x. Covered x.0 x.1.0 x.1.1)) (ask_exact.again (number, (channel, count)) rest (fits.0, (fits.1, fits.2)))
-body_again (Refused number channel reason) rest fits = ap (read_as (λ x. Refused x.0 x.1.0 x.1.1)) (refused_exact.again (number, (channel, reason)) rest (fits.0, (fits.1, tt)))
+    ∙ rw (
+      ask_exact.again (number, (channel, count)) (needs_text needs ++ rest) (fits.0, (fits.1, fits.2)),
+      need_list_again needs rest fits.3,
+    ) refl
+body_again (Covered number channel count) rest fits =
+    ap (read_as (λ x. Covered x.0 x.1.0 x.1.1))
+    (ask_exact.again (number, (channel, count)) rest (fits.0, (fits.1, fits.2)))
+body_again (Refused number channel reason) rest fits =
+    ap (read_as (λ x. Refused x.0 x.1.0 x.1.1))
+    (refused_exact.again (number, (channel, reason)) rest (fits.0, (fits.1, tt)))
 body_again (Query number) rest fits = ap (read_as (Query)) (positive_exact.again number rest fits)
 body_again (Commit number) rest fits = ap (read_as (Commit)) (positive_exact.again number rest fits)
 body_again (Ended number) rest fits = ap (read_as (Ended)) (positive_exact.again number rest fits)
 body_again (Settled number) rest fits = ap (read_as (Settled)) (positive_exact.again number rest fits)
-body_again (Undone channel epoch sent) rest fits = ap (read_as (λ x. Undone x.0 x.1.0 x.1.1)) (counts_exact.again (channel, (epoch, sent)) rest (fits.0, (fits.1, fits.2)))
+body_again (Undone channel epoch sent) rest fits =
+    ap (read_as (λ x. Undone x.0 x.1.0 x.1.1))
+    (counts_exact.again (channel, (epoch, sent)) rest (fits.0, (fits.1, fits.2)))
 
 -- ---- packets
 
@@ -267,31 +337,39 @@ nodes_are from to e =
 are_nodes_of : (from to : ℕ) → from ≤ LAST_NODE → to ≤ LAST_NODE → from ≢ to → are_nodes from to ≡ true
 are_nodes_of from to from_fits to_fits apart =
     both_and (nat_le from LAST_NODE) (nat_le to LAST_NODE && not (nat_eq from to)) (le-leb from LAST_NODE from_fits)
-    (both_and (nat_le to LAST_NODE) (not (nat_eq from to)) (le-leb to LAST_NODE to_fits) (rw (ne_eqb from to apart) refl))
+    (both_and (nat_le to LAST_NODE) (not (nat_eq from to)) (le-leb to LAST_NODE to_fits)
+    (rw (ne_eqb from to apart) refl))
 
-packet_takes : (bytes : List ℕ) (x : Packet × List ℕ) → AreBytes bytes → packet_at bytes ≡ Some x → (bytes ≡ packet_text x.0 ++ x.1) × IsPacket x.0
+packet_takes : (bytes : List ℕ) (x : Packet × List ℕ) → AreBytes bytes → packet_at bytes ≡ Some x
+    → (bytes ≡ packet_text x.0 ++ x.1) × IsPacket x.0
 unfolding packet_at
 packet_takes [] x fits e = absurd cc
 packet_takes (kind ∷ []) x fits e = absurd cc
 packet_takes (kind ∷ from ∷ []) x fits e = absurd cc
 packet_takes (kind ∷ from ∷ to ∷ text) x fits e =
-    let c = chosen (are_nodes from to) (option_map (λ y. (record { from = from; to = to; body = y.0 }, y.1)) (body_at kind text)) x e in
+    let c = chosen (are_nodes from to)
+    (option_map (λ y. (record { from = from; to = to; body = y.0 }, y.1)) (body_at kind text)) x e in
     let w = was (λ (y : Body × List ℕ). (record { from = from; to = to; body = y.0 }, y.1)) (body_at kind text) x c.1 in
-    let says = body_takes kind text w.0 (AreBytes-rest to text (AreBytes-rest from (to ∷ text) (AreBytes-rest kind (from ∷ to ∷ text) fits))) w.1 in
+    let says =
+    body_takes kind text w.0
+    (AreBytes-rest to text (AreBytes-rest from (to ∷ text) (AreBytes-rest kind (from ∷ to ∷ text) fits))) w.1 in
     let nodes = nodes_are from to c.0 in
     let made : Packet × List ℕ = (record { from = from; to = to; body = w.0.0 }, w.0.1) in
     subst (λ (y : Packet × List ℕ). (kind ∷ from ∷ to ∷ text ≡ packet_text y.0 ++ y.1) × IsPacket y.0) w.2 (
-      ap (λ (t : List ℕ). kind ∷ from ∷ to ∷ t) says.takes.joined ∙ ap (λ (k : ℕ). k ∷ from ∷ to ∷ (body_text w.0.0 ++ w.0.1)) says.kind_is,
+      ap (λ (t : List ℕ). kind ∷ from ∷ to ∷ t) says.takes.joined
+          ∙ ap (λ (k : ℕ). k ∷ from ∷ to ∷ (body_text w.0.0 ++ w.0.1)) says.kind_is,
       record { from = nodes.0; to = nodes.1; apart = nodes.2; body = says.body },
     )
 
-packet_again : (packet : Packet) (rest : List ℕ) → IsPacket packet → packet_at (packet_text packet ++ rest) ≡ Some (packet, rest)
+packet_again : (packet : Packet) (rest : List ℕ) → IsPacket packet
+    → packet_at (packet_text packet ++ rest) ≡ Some (packet, rest)
 unfolding packet_at
 packet_again packet rest fits =
     rw (are_nodes_of packet.from packet.to fits.from fits.to fits.apart, body_again packet.body rest fits.body) refl
 
 -- no spelling begins another
-pub begins_none : (packet other : Packet) (spelling rest : List ℕ) → IsPacketText packet spelling → IsPacketText other (spelling ++ rest)
+pub begins_none : (packet other : Packet) (spelling rest : List ℕ) → IsPacketText packet spelling
+    → IsPacketText other (spelling ++ rest)
     → (rest ≡ []) × (other ≡ packet)
 begins_none packet other spelling rest one two =
     let longer : packet_text packet ++ rest ≡ packet_text other ++ []
@@ -301,12 +379,15 @@ begins_none packet other spelling rest one two =
     (ap (λ (x : Packet × List ℕ). x.1) both, sym (ap (λ (x : Packet × List ℕ). x.0) both))
 
 -- a text spells one packet at most
-pub one_packet : (packet other : Packet) (spelling : List ℕ) → IsPacketText packet spelling → IsPacketText other spelling → other ≡ packet
+pub one_packet : (packet other : Packet) (spelling : List ℕ) → IsPacketText packet spelling
+    → IsPacketText other spelling → other ≡ packet
 one_packet packet other spelling one two =
-    (begins_none packet other spelling [] one (subst (λ (text : List ℕ). IsPacketText other text) (sym (append-nil spelling)) two)).1
+    (begins_none packet other spelling [] one
+    (subst (λ (text : List ℕ). IsPacketText other text) (sym (append-nil spelling)) two)).1
 
 -- what is read of all the bytes
-pub whole_takes : (bytes : List ℕ) (packet : Packet) → AreBytes bytes → whole_at bytes ≡ Some packet → IsPacketText packet bytes
+pub whole_takes : (bytes : List ℕ) (packet : Packet) → AreBytes bytes → whole_at bytes ≡ Some packet
+    → IsPacketText packet bytes
 unfolding whole_at
 whole_takes bytes packet fits e =
     let a = after_found (packet_at bytes) (λ x. cond (nat_eq (length x.1) 0) (Some x.0) None) packet e in
@@ -325,18 +406,22 @@ whole_again bytes packet text =
     = ap packet_at (text.spelled ∙ sym (append-nil (packet_text packet))) ∙ packet_again packet [] text.allowed in
     rw read refl
 
-pub is_spelled : (bytes : List ℕ) (r : Result Packet PacketFault) → AreBytes bytes → Reads (λ (p : Packet). p) r (whole_at bytes) → IfOk r (λ packet. IsPacketText packet bytes)
+pub is_spelled : (bytes : List ℕ) (r : Result Packet PacketFault) → AreBytes bytes
+    → Reads (λ (p : Packet). p) r (whole_at bytes) → IfOk r (λ packet. IsPacketText packet bytes)
 is_spelled bytes (Ok packet) fits read = whole_takes bytes packet fits read
 is_spelled bytes (Err fault) fits read = tt
 
-pub is_read : (bytes : List ℕ) (r : Result Packet PacketFault) (packet : Packet) → Reads (λ (p : Packet). p) r (whole_at bytes) → IsPacketText packet bytes → IsReadUnlessMemory packet r
+pub is_read : (bytes : List ℕ) (r : Result Packet PacketFault) (packet : Packet)
+    → Reads (λ (p : Packet). p) r (whole_at bytes) → IsPacketText packet bytes → IsReadUnlessMemory packet r
 is_read bytes (Ok found) packet read text = is_found found packet (sym read ∙ whole_again bytes packet text)
 is_read bytes (Err NoMemory) packet read text = refl
 is_read bytes (Err BadPacket) packet read text = let e = sym read ∙ whole_again bytes packet text in absurd cc
 
-pub is_refused : (bytes : List ℕ) (r : Result Packet PacketFault) (packet : Packet) → Reads (λ (p : Packet). p) r (whole_at bytes) → IsErrOf r BadPacket → ¬ (IsPacketText packet bytes)
+pub is_refused : (bytes : List ℕ) (r : Result Packet PacketFault) (packet : Packet)
+    → Reads (λ (p : Packet). p) r (whole_at bytes) → IsErrOf r BadPacket → ¬ (IsPacketText packet bytes)
 is_refused bytes r packet read is text =
     let bad : Result Packet PacketFault = Err BadPacket in
-    let none : whole_at bytes ≡ None = subst (λ (x : Result Packet PacketFault). Reads (λ (p : Packet). p) x (whole_at bytes)) is read in
+    let none : whole_at bytes ≡ None =
+    subst (λ (x : Result Packet PacketFault). Reads (λ (p : Packet). p) x (whole_at bytes)) is read in
     let e : None ≡ Some packet = sym none ∙ whole_again bytes packet text in
     absurd cc

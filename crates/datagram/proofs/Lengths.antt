@@ -7,7 +7,8 @@ use Rattle.byteorder.specs.Numbers.{length-bytes_high_first}
 use Rattle.datagram.specs.PacketText.{number_text, item_text, need_text, needs_text, body_text, reason_number}
 use Rattle.datagram.specs.declared.packet.Need.{Need}
 use Rattle.datagram.specs.declared.packet.Body.{Body}
-use Rattle.datagram.specs.declared.packet.Body.TheVariants.{Data, Ack, Kept, Ask, Took, Covered, Refused, Query, Commit, Ended, Settled, Undone}
+use Rattle.datagram.specs.declared.packet.Body.TheVariants.{Data, Ack, Kept, Ask, Took, Covered, Refused, Query, Commit}
+use Rattle.datagram.specs.declared.packet.Body.TheVariants.{Ended, Settled, Undone}
 
 number_len : (bytes n : ℕ) → length (number_text bytes n) ≡ bytes
 unfolding number_text
@@ -21,11 +22,14 @@ item_len item = length-bytes_high_first 8 (cast_unsigned w64 item)
 two_len : (a b : List ℕ) (m n : ℕ) → length a ≡ m → length b ≡ n → length (a ++ b) ≡ m + n
 two_len a b m n is was = omega (arith, length-append a b, is, was)
 
-three_len : (a b c : List ℕ) (m n k : ℕ) → length a ≡ m → length b ≡ n → length c ≡ k → length (a ++ (b ++ c)) ≡ m + n + k
+three_len : (a b c : List ℕ) (m n k : ℕ) → length a ≡ m → length b ≡ n → length c ≡ k
+    → length (a ++ (b ++ c)) ≡ m + n + k
 three_len a b c m n k is was are = omega (arith, length-append a (b ++ c), length-append b c, is, was, are)
 
 need_len : (need : Need) → length (need_text need) ≡ 10
-need_len need = two_len (number_text 2 need.channel) (number_text 8 need.count) 2 8 (number_len 2 need.channel) (number_len 8 need.count)
+need_len need =
+    two_len (number_text 2 need.channel) (number_text 8 need.count) 2 8 (number_len 2 need.channel)
+    (number_len 8 need.count)
 
 all_needs_len : (needs : List Need) → length (flat_map need_text needs) ≡ 10 * length needs
 all_needs_len [] = refl
@@ -34,7 +38,8 @@ all_needs_len (need ∷ needs) =
 
 needs_len : (needs : List Need) → length (needs_text needs) ≡ 2 + 10 * length needs
 needs_len needs =
-    two_len (number_text 2 (length needs)) (flat_map need_text needs) 2 (10 * length needs) (number_len 2 (length needs)) (all_needs_len needs)
+    two_len (number_text 2 (length needs)) (flat_map need_text needs) 2 (10 * length needs)
+    (number_len 2 (length needs)) (all_needs_len needs)
 
 -- by what is said
 abbrev pub len_of : Body → ℕ
@@ -51,30 +56,38 @@ len_of (Ended number) = 8
 len_of (Settled number) = 8
 len_of (Undone channel epoch sent) = 18
 
-counts_len : (channel first second : ℕ) → length (number_text 2 channel ++ (number_text 8 first ++ number_text 8 second)) ≡ 18
+counts_len : (channel first second : ℕ)
+    → length (number_text 2 channel ++ (number_text 8 first ++ number_text 8 second)) ≡ 18
 counts_len channel first second =
-    three_len (number_text 2 channel) (number_text 8 first) (number_text 8 second) 2 8 8 (number_len 2 channel) (number_len 8 first) (number_len 8 second)
+    three_len (number_text 2 channel) (number_text 8 first) (number_text 8 second) 2 8 8 (number_len 2 channel)
+    (number_len 8 first) (number_len 8 second)
 
-ask_len : (number channel count : ℕ) → length (number_text 8 number ++ (number_text 2 channel ++ number_text 8 count)) ≡ 18
+ask_len : (number channel count : ℕ)
+    → length (number_text 8 number ++ (number_text 2 channel ++ number_text 8 count)) ≡ 18
 ask_len number channel count =
-    three_len (number_text 8 number) (number_text 2 channel) (number_text 8 count) 8 2 8 (number_len 8 number) (number_len 2 channel) (number_len 8 count)
+    three_len (number_text 8 number) (number_text 2 channel) (number_text 8 count) 8 2 8 (number_len 8 number)
+    (number_len 2 channel) (number_len 8 count)
 
 pub body_len : (body : Body) → length (body_text body) ≡ len_of body
 body_len (Data channel position item) =
-    three_len (number_text 2 channel) (number_text 8 position) (item_text item) 2 8 8 (number_len 2 channel) (number_len 8 position) (item_len item)
+    three_len (number_text 2 channel) (number_text 8 position) (item_text item) 2 8 8 (number_len 2 channel)
+    (number_len 8 position) (item_len item)
 body_len (Ack channel epoch next) = counts_len channel epoch next
-body_len (Kept channel count) = two_len (number_text 2 channel) (number_text 8 count) 2 8 (number_len 2 channel) (number_len 8 count)
+body_len (Kept channel count) =
+    two_len (number_text 2 channel) (number_text 8 count) 2 8 (number_len 2 channel) (number_len 8 count)
 body_len (Ask number channel count) = ask_len number channel count
 body_len (Took number channel count needs) =
     omega (
       arith,
       length-append (number_text 8 number) (number_text 2 channel ++ (number_text 8 count ++ needs_text needs)),
       number_len 8 number,
-      three_len (number_text 2 channel) (number_text 8 count) (needs_text needs) 2 8 (2 + 10 * length needs) (number_len 2 channel) (number_len 8 count) (needs_len needs),
+      three_len (number_text 2 channel) (number_text 8 count) (needs_text needs) 2 8 (2 + 10 * length needs)
+          (number_len 2 channel) (number_len 8 count) (needs_len needs),
     )
 body_len (Covered number channel count) = ask_len number channel count
 body_len (Refused number channel reason) =
-    three_len (number_text 8 number) (number_text 2 channel) (reason_number reason ∷ []) 8 2 1 (number_len 8 number) (number_len 2 channel) refl
+    three_len (number_text 8 number) (number_text 2 channel) (reason_number reason ∷ []) 8 2 1 (number_len 8 number)
+    (number_len 2 channel) refl
 body_len (Query number) = number_len 8 number
 body_len (Commit number) = number_len 8 number
 body_len (Ended number) = number_len 8 number

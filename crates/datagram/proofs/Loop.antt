@@ -1,5 +1,6 @@
 -- Needs read one by one.
-use Rattle.std.proofs.Common.{◌≡◌, ℕ, suc, ◌-◌, ◌+◌, ◌≤◌, ◌<◌, List, [], ◌∷◌, ◌++◌, Some, None, refl, sym, ap, ◌∙◌, append_assoc, arith}
+use Rattle.std.proofs.Common.{◌≡◌, ℕ, suc, ◌-◌, ◌+◌, ◌≤◌, ◌<◌, List, [], ◌∷◌, ◌++◌, Some, None, refl, sym, ap, ◌∙◌}
+use Rattle.std.proofs.Common.{append_assoc, arith}
 use Rattle.std.proofs.lemmas.List.{append-nil}
 use Rattle.datagram.specs.declared.fault.PacketFault.{PacketFault}
 use Rattle.datagram.specs.declared.fault.PacketFault.TheVariants.{NoMemory, BadPacket}
@@ -16,18 +17,21 @@ moved_over before need None = refl
 moved_over before need (Some x) = ap (λ (needs : List Need). Some (needs, x.1)) (simp append_assoc)
 
 -- one more was read
-pub one_more : (before : List Need) (count i : ℕ) (text : List ℕ) (need : Need) (rest : List ℕ) (whole : Found (List Need)) → i < count
+pub one_more : (before : List Need) (count i : ℕ) (text : List ℕ) (need : Need) (rest : List ℕ)
+    (whole : Found (List Need)) → i < count
     → need_at text ≡ Some (need, rest) → behind before (needs_at (count - i) text) ≡ whole
     → behind (before ++ need ∷ []) (needs_at (count - (i + 1)) rest) ≡ whole
 unfolding needs_at
 one_more before count i text need rest whole lt found so_far =
     let left : count - i ≡ suc (count - (i + 1)) = omega arith in
-    let step : behind before (needs_at (count - i) text) ≡ behind (before ++ need ∷ []) (needs_at (count - (i + 1)) rest)
+    let step : behind before (needs_at (count - i) text)
+    ≡ behind (before ++ need ∷ []) (needs_at (count - (i + 1)) rest)
     = rw (left, found) (moved_over before need (needs_at (count - (i + 1)) rest)) in
     sym step ∙ so_far
 
 -- one can't be read
-pub stops : (fault : PacketFault) (before : List Need) (count i : ℕ) (text : List ℕ) (whole : Found (List Need)) → i < count
+pub stops : (fault : PacketFault) (before : List Need) (count i : ℕ) (text : List ℕ) (whole : Found (List Need))
+    → i < count
     → Fails fault (need_at text) → behind before (needs_at (count - i) text) ≡ whole → Fails fault whole
 unfolding needs_at
 stops NoMemory before count i text whole lt failed so_far = tt

@@ -1,18 +1,22 @@
 -- What a field reads is its spelling of a value that it has, and of such a value it reads the spelling again.
-use Rattle.std.proofs.Common.{◌≡◌, ℕ, suc, ◌+◌, ◌^◌, ◌<◌, ◌≤◌, ◌⊎◌, Bool, true, false, nat_eq, nat_lt, cond, List, [], ◌∷◌, ◌++◌, ℤ, pos, negsuc, length, slice_index, take, drop, Option, Some, None, option_map, refl, sym, ap, subst, ◌∙◌, append_assoc, arith, inl, inr}
+use Rattle.std.proofs.Common.{◌≡◌, ℕ, suc, ◌+◌, ◌^◌, ◌<◌, ◌≤◌, ◌⊎◌, Bool, true, false, nat_eq, nat_lt, cond, List, []}
+use Rattle.std.proofs.Common.{◌∷◌, ◌++◌, ℤ, pos, negsuc, length, slice_index, take, drop, Option, Some, None}
+use Rattle.std.proofs.Common.{option_map, refl, sym, ap, subst, ◌∙◌, append_assoc, arith, inl, inr}
 use Rattle.std.specs.Prelude.{FitsSigned}
 use Rattle.std.specs.Int.{w64, cast_signed, cast_unsigned}
 use Rattle.std.proofs.lemmas.Bool.{cases_lt, eqb-true, ltb-false, le-ltb}
 use Rattle.std.proofs.lemmas.Int.{of_z-to_z, to_z-of_z}
 use Rattle.std.proofs.Math.Facts.{sfits_to_z, Fits-of_lt}
-use Rattle.std.proofs.lemmas.List.{take-append-drop, length-append, length-take, get_or-drop, get_or-take, get_or_past, drop_at}
+use Rattle.std.proofs.lemmas.List.{take-append-drop, length-append, length-take, get_or-drop, get_or-take, get_or_past}
+use Rattle.std.proofs.lemmas.List.{drop_at}
 use Rattle.std.proofs.lemmas.Nat.{be_bytes_2, be_bytes_8}
 use Rattle.byteorder.specs.Endian.{big_bytes, big_number}
 use Rattle.byteorder.specs.Numbers.{big_from-take, big_from-lt, big_number-reads_back, length-bytes_high_first}
 use Rattle.datagram.specs.PacketText.{number_text, item_text, reason_number}
 use Rattle.datagram.specs.declared.packet.Reason.{Reason}
 use Rattle.datagram.specs.declared.packet.Reason.TheVariants.{Busy, Behind, Recovering, TooLarge}
-use Rattle.datagram.specs.Reading.{◌>>=◌, Found, Field, number_at, item_at, item, if_passes, limited, reason_of, reason_at, reason, both}
+use Rattle.datagram.specs.Reading.{◌>>=◌, Found, Field, number_at, item_at, item, if_passes, limited, reason_of}
+use Rattle.datagram.specs.Reading.{reason_at, reason, both}
 
 -- each of them is a byte
 abbrev pub AreBytes : List ℕ → Type 0
@@ -32,7 +36,8 @@ pub AreBytes-rest : (b : ℕ) (text : List ℕ) → AreBytes (b ∷ text) → Ar
 AreBytes-rest b text fits place = fits (suc place)
 
 -- a step that found something
-pub after_found : {A B : Type 0} (r : Option A) (f : A → Option B) (y : B) → (r >>= f) ≡ Some y → (x : A) × (r ≡ Some x) × (f x ≡ Some y)
+pub after_found : {A B : Type 0} (r : Option A) (f : A → Option B) (y : B) → (r >>= f) ≡ Some y
+    → (x : A) × (r ≡ Some x) × (f x ≡ Some y)
 after_found (Some x) f y e = (x, refl, e)
 after_found None f y e = absurd cc
 
@@ -51,7 +56,8 @@ found x = Some x
 pub is_found : {A : Type 0} (x y : A) → found x ≡ found y → x ≡ y
 is_found x y e = cc
 
-pub passed : {A : Type 0} (test : A → Bool) (r : Found A) (y : A × List ℕ) → if_passes test r ≡ Some y → (r ≡ Some y) × (test y.0 ≡ true)
+pub passed : {A : Type 0} (test : A → Bool) (r : Found A) (y : A × List ℕ) → if_passes test r ≡ Some y
+    → (r ≡ Some y) × (test y.0 ≡ true)
 passed test None y e = absurd cc
 passed test (Some x) y e =
     let c = chosen (test x.0) (Some x) y e in
@@ -64,14 +70,16 @@ pub record Splits (whole text left : List ℕ) : Type 0 where
   pub bytes_left : AreBytes left
 
 -- two texts, one behind the other
-pub both_split : (whole one middle two left : List ℕ) → Splits whole one middle → Splits middle two left → Splits whole (one ++ two) left
+pub both_split : (whole one middle two left : List ℕ) → Splits whole one middle → Splits middle two left
+    → Splits whole (one ++ two) left
 both_split whole one middle two left first second = record {
   joined = first.joined ∙ (ap (λ (behind : List ℕ). one ++ behind) second.joined ∙ sym (append_assoc one two left));
   bytes_left = second.bytes_left;
 }
 
 pub record Exact {A : Type 0} (f : Field A) : Type 0 where
-  pub takes : (bytes : List ℕ) (x : A × List ℕ) → AreBytes bytes → f.read bytes ≡ Some x → Splits bytes (f.text x.0) x.1 × f.Fits x.0
+  pub takes : (bytes : List ℕ) (x : A × List ℕ) → AreBytes bytes → f.read bytes ≡ Some x
+      → Splits bytes (f.text x.0) x.1 × f.Fits x.0
   pub again : (x : A) (rest : List ℕ) → f.Fits x → f.read (f.text x ++ rest) ≡ Some (x, rest)
 
 -- ---- numbers
@@ -87,12 +95,15 @@ pub back8 : Back 8
 back8 bytes len fits = be_bytes_8 bytes (big_number 8 bytes) len fits (omega arith)
 
 -- the first bytes are those of the number in them
-front_back : (n : ℕ) → Back n → (bytes : List ℕ) → n ≤ length bytes → AreBytes bytes → big_bytes n (big_number n bytes) ≡ take n bytes
+front_back : (n : ℕ) → Back n → (bytes : List ℕ) → n ≤ length bytes → AreBytes bytes
+    → big_bytes n (big_number n bytes) ≡ take n bytes
 front_back n back bytes long fits =
     let same : big_number n (take n bytes) ≡ big_number n bytes = big_from-take 0 n n bytes (omega arith) in
-    ap (λ (k : ℕ). big_bytes n k) (sym same) ∙ back (take n bytes) (omega (arith, length-take n bytes)) (front_bytes n bytes fits)
+    ap (λ (k : ℕ). big_bytes n k) (sym same)
+    ∙ back (take n bytes) (omega (arith, length-take n bytes)) (front_bytes n bytes fits)
 
-number_takes : (n : ℕ) → Back n → (bytes : List ℕ) (x : ℕ × List ℕ) → AreBytes bytes → number_at n bytes ≡ Some x → Splits bytes (number_text n x.0) x.1 × (x.0 < 256 ^ n)
+number_takes : (n : ℕ) → Back n → (bytes : List ℕ) (x : ℕ × List ℕ) → AreBytes bytes → number_at n bytes ≡ Some x
+    → Splits bytes (number_text n x.0) x.1 × (x.0 < 256 ^ n)
 unfolding number_at number_text
 number_takes n back bytes x fits e =
     let c = not_chosen (nat_lt (length bytes) n) (Some (big_number n bytes, drop n bytes)) x e in
@@ -101,7 +112,8 @@ number_takes n back bytes x fits e =
       joined = rw (front_back n back bytes long fits) (sym (take-append-drop n bytes));
       bytes_left = rest_bytes n bytes fits;
     } in
-    subst (λ (y : ℕ × List ℕ). Splits bytes (big_bytes n y.0) y.1 × (y.0 < 256 ^ n)) (is_found (big_number n bytes, drop n bytes) x c.1) (made, big_from-lt 0 n bytes fits)
+    subst (λ (y : ℕ × List ℕ). Splits bytes (big_bytes n y.0) y.1 × (y.0 < 256 ^ n))
+    (is_found (big_number n bytes, drop n bytes) x c.1) (made, big_from-lt 0 n bytes fits)
 
 long_enough : (n k : ℕ) (rest : List ℕ) → nat_lt (length (big_bytes n k ++ rest)) n ≡ false
 long_enough n k rest = le-ltb _ _ (omega (arith, length-append (big_bytes n k) rest, length-bytes_high_first n k))
@@ -109,7 +121,12 @@ long_enough n k rest = le-ltb _ _ (omega (arith, length-append (big_bytes n k) r
 number_again : (n k : ℕ) (rest : List ℕ) → k < 256 ^ n → number_at n (number_text n k ++ rest) ≡ Some (k, rest)
 unfolding number_at number_text
 number_again n k rest lt =
-    rw (long_enough n k rest, big_number-reads_back n k rest lt, drop_at (big_bytes n k) rest n (length-bytes_high_first n k)) refl
+    rw (
+      long_enough n k rest,
+      big_number-reads_back n k rest lt,
+      drop_at (big_bytes n k) rest n
+          (length-bytes_high_first n k),
+    ) refl
 
 pub limited_exact : (Fits : ℕ → Type 0) (test : ℕ → Bool) (n : ℕ) → Back n → ((k : ℕ) → test k ≡ true → Fits k)
     → ((k : ℕ) → Fits k → (test k ≡ true) × (k < 256 ^ n)) → Exact (limited Fits test n)
@@ -127,25 +144,36 @@ limited_exact Fits test n back sound complete = record {
 signed_fits : (n : ℕ) → n < 256 ^ 8 → FitsSigned w64 (cast_signed w64 n)
 signed_fits n lt = sfits_to_z {w = w64} {n = n} (Fits-of_lt lt)
 
-item_takes : (bytes : List ℕ) (x : ℤ × List ℕ) → AreBytes bytes → item_at bytes ≡ Some x → Splits bytes (item_text x.0) x.1 × FitsSigned w64 x.0
+item_takes : (bytes : List ℕ) (x : ℤ × List ℕ) → AreBytes bytes → item_at bytes ≡ Some x
+    → Splits bytes (item_text x.0) x.1 × FitsSigned w64 x.0
 unfolding item_at item_text
 item_takes bytes x fits e =
     let c = not_chosen (nat_lt (length bytes) 8) (Some (cast_signed w64 (big_number 8 bytes), drop 8 bytes)) x e in
     let long : 8 ≤ length bytes = ltb-false _ _ c.0 in
     let lt : big_number 8 bytes < 256 ^ 8 = big_from-lt 0 8 bytes fits in
-    let same : cast_unsigned w64 (cast_signed w64 (big_number 8 bytes)) ≡ big_number 8 bytes = of_z-to_z w64 (big_number 8 bytes) lt in
+    let same : cast_unsigned w64 (cast_signed w64 (big_number 8 bytes)) ≡ big_number 8 bytes =
+    of_z-to_z w64 (big_number 8 bytes) lt in
     let made : Splits bytes (item_text (cast_signed w64 (big_number 8 bytes))) (drop 8 bytes) = record {
       joined = sym (take-append-drop 8 bytes)
-          ∙ ap (λ (t : List ℕ). t ++ drop 8 bytes) (sym (ap (λ (k : ℕ). big_bytes 8 k) same ∙ front_back 8 back8 bytes long fits));
+          ∙ ap (λ (t : List ℕ). t ++ drop 8 bytes)
+          (sym (ap (λ (k : ℕ). big_bytes 8 k) same ∙ front_back 8 back8 bytes long fits));
       bytes_left = rest_bytes 8 bytes fits;
     } in
-    subst (λ (y : ℤ × List ℕ). Splits bytes (item_text y.0) y.1 × FitsSigned w64 y.0) (is_found (cast_signed w64 (big_number 8 bytes), drop 8 bytes) x c.1) (made, signed_fits (big_number 8 bytes) lt)
+    subst (λ (y : ℤ × List ℕ). Splits bytes (item_text y.0) y.1 × FitsSigned w64 y.0)
+    (is_found (cast_signed w64 (big_number 8 bytes), drop 8 bytes) x c.1)
+    (made, signed_fits (big_number 8 bytes) lt)
 
 -- a reader of so many bytes reads those of a number as that number
 reads_bytes : {A : Type 0} (view : ℕ → A) (n k : ℕ) (rest : List ℕ) → k < 256 ^ n
-    → cond {A = Option (A × List ℕ)} (nat_lt (length (big_bytes n k ++ rest)) n) None (Some (view (big_number n (big_bytes n k ++ rest)), drop n (big_bytes n k ++ rest))) ≡ Some (view k, rest)
+    → cond {A = Option (A × List ℕ)} (nat_lt (length (big_bytes n k ++ rest)) n) None
+    (Some (view (big_number n (big_bytes n k ++ rest)), drop n (big_bytes n k ++ rest))) ≡ Some (view k, rest)
 reads_bytes view n k rest lt =
-    rw (long_enough n k rest, big_number-reads_back n k rest lt, drop_at (big_bytes n k) rest n (length-bytes_high_first n k)) refl
+    rw (
+      long_enough n k rest,
+      big_number-reads_back n k rest lt,
+      drop_at (big_bytes n k) rest n
+          (length-bytes_high_first n k),
+    ) refl
 
 unsigned_fits : (z : ℤ) → FitsSigned w64 z → cast_unsigned w64 z < 256 ^ 8
 unsigned_fits (pos n) fits = let lt = fits.sfits in omega arith
@@ -173,10 +201,13 @@ of_reason n k r _ test same is = eqb-true n k test ∙ is ∙ ap reason_number s
 
 has_reason : (n : ℕ) (r : Reason) → reason_of n ≡ Some r → n ≡ reason_number r
 has_reason n r e =
-    elim (either (nat_eq n 1) Busy (cond (nat_eq n 2) (Some Behind) (cond (nat_eq n 3) (Some Recovering) (cond (nat_eq n 4) (Some TooLarge) None))) r e) [
+    elim (either (nat_eq n 1) Busy
+    (cond (nat_eq n 2) (Some Behind)
+    (cond (nat_eq n 3) (Some Recovering) (cond (nat_eq n 4) (Some TooLarge) None))) r e) [
       | inl p ↦ of_reason n 1 Busy r p.0 p.1 refl
       | inr p ↦
-          elim (either (nat_eq n 2) Behind (cond (nat_eq n 3) (Some Recovering) (cond (nat_eq n 4) (Some TooLarge) None)) r p.1) [
+          elim (either (nat_eq n 2) Behind
+          (cond (nat_eq n 3) (Some Recovering) (cond (nat_eq n 4) (Some TooLarge) None)) r p.1) [
             | inl q ↦ of_reason n 2 Behind r q.0 q.1 refl
             | inr q ↦
                 elim (either (nat_eq n 3) Recovering (cond (nat_eq n 4) (Some TooLarge) None) r q.1) [
@@ -189,17 +220,20 @@ has_reason n r e =
     ]
 
 -- what a mapped value was
-pub was : {A B : Type 0} (f : A → B) (r : Option A) (y : B) → option_map f r ≡ Some y → (x : A) × (r ≡ Some x) × (f x ≡ y)
+pub was : {A B : Type 0} (f : A → B) (r : Option A) (y : B) → option_map f r ≡ Some y
+    → (x : A) × (r ≡ Some x) × (f x ≡ y)
 was f None y e = absurd cc
 was f (Some x) y e = (x, refl, is_found (f x) y e)
 
-reason_takes : (bytes : List ℕ) (x : Reason × List ℕ) → AreBytes bytes → reason_at bytes ≡ Some x → Splits bytes (reason_number x.0 ∷ []) x.1 × Unit {0}
+reason_takes : (bytes : List ℕ) (x : Reason × List ℕ) → AreBytes bytes → reason_at bytes ≡ Some x
+    → Splits bytes (reason_number x.0 ∷ []) x.1 × Unit {0}
 reason_takes [] x fits e = absurd cc
 reason_takes (n ∷ rest) x fits e =
     let w = was (λ (r : Reason). (r, rest)) (reason_of n) x e in
     let is : n ≡ reason_number w.0 = has_reason n w.0 w.1 in
     let made : Reason × List ℕ = (w.0, rest) in
-    subst (λ (y : Reason × List ℕ). Splits (n ∷ rest) (reason_number y.0 ∷ []) y.1 × Unit {0}) w.2 (record { joined = ap (λ (k : ℕ). k ∷ rest) is; bytes_left = AreBytes-rest n rest fits }, tt)
+    subst (λ (y : Reason × List ℕ). Splits (n ∷ rest) (reason_number y.0 ∷ []) y.1 × Unit {0}) w.2
+    (record { joined = ap (λ (k : ℕ). k ∷ rest) is; bytes_left = AreBytes-rest n rest fits }, tt)
 
 reason_again : (r : Reason) (rest : List ℕ) → Unit {0} → reason_at (reason_number r ∷ rest) ≡ Some (r, rest)
 reason_again Busy rest fits = refl
@@ -221,7 +255,13 @@ both_exact {A = A} {B = B} f g ef eg = record {
       let second = eg.takes a.0.1 b.0 first.0.bytes_left b.1 in
       let whole = both_split bytes (f.text a.0.0) a.0.1 (g.text b.0.0) b.0.1 first.0 second.0 in
       let made : (A × B) × List ℕ = ((a.0.0, b.0.0), b.0.1) in
-      subst (λ (y : (A × B) × List ℕ). Splits bytes (f.text y.0.0 ++ g.text y.0.1) y.1 × (f.Fits y.0.0 × g.Fits y.0.1)) (is_found made x b.2) (whole, (first.1, second.1));
+      subst (λ (y : (A × B) × List ℕ). Splits bytes (f.text y.0.0 ++ g.text y.0.1) y.1 × (f.Fits y.0.0 × g.Fits y.0.1))
+      (is_found made x b.2) (whole, (first.1, second.1));
   again = λ x rest fits.
-      rw (append_assoc (f.text x.0) (g.text x.1) rest, ef.again x.0 (g.text x.1 ++ rest) fits.0, eg.again x.1 rest fits.1) refl;
+      rw (
+        append_assoc (f.text x.0) (g.text x.1) rest,
+        ef.again x.0 (g.text x.1 ++ rest) fits.0,
+        eg.again x.1 rest
+            fits.1,
+      ) refl;
 }

@@ -1,5 +1,7 @@
 -- Reading from the front: what is read and what is left, or nothing.
-use Rattle.std.specs.Prelude.{◌≡◌, ℕ, zero, suc, ◌+◌, ◌≤◌, ◌==◌, ◌&&◌, Bool, true, nat_le, nat_lt, not, if◌then◌else◌, ℤ, List, [], ◌∷◌, ◌++◌, length, drop, Option, Some, None, option_map, Result, Ok, Err, FitsSigned}
+use Rattle.std.specs.Prelude.{◌≡◌, ℕ, zero, suc, ◌+◌, ◌≤◌, ◌==◌, ◌&&◌, Bool, true, nat_le, nat_lt, not, if◌then◌else◌}
+use Rattle.std.specs.Prelude.{ℤ, List, [], ◌∷◌, ◌++◌, length, drop, Option, Some, None, option_map, Result, Ok, Err}
+use Rattle.std.specs.Prelude.{FitsSigned}
 use Rattle.std.specs.Int.{w64, cast_signed}
 use Rattle.byteorder.specs.Endian.{big_number}
 use Rattle.datagram.specs.declared.packet.TheConstants.{LAST_NODE, LAST_CHANNEL, MOST_NEEDS}
@@ -10,7 +12,8 @@ use Rattle.datagram.specs.declared.packet.Need.{Need}
 use Rattle.datagram.specs.declared.packet.Reason.{Reason}
 use Rattle.datagram.specs.declared.packet.Reason.TheVariants.{Busy, Behind, Recovering, TooLarge}
 use Rattle.datagram.specs.declared.packet.Body.{Body}
-use Rattle.datagram.specs.declared.packet.Body.TheVariants.{Data, Ack, Kept, Ask, Took, Covered, Refused, Query, Commit, Ended, Settled, Undone}
+use Rattle.datagram.specs.declared.packet.Body.TheVariants.{Data, Ack, Kept, Ask, Took, Covered, Refused, Query, Commit}
+use Rattle.datagram.specs.declared.packet.Body.TheVariants.{Ended, Settled, Undone}
 use Rattle.datagram.specs.declared.packet.Packet.{Packet}
 use Rattle.datagram.specs.PacketText.{IsChannel, IsCount, IsPositive, number_text, item_text, reason_number}
 
@@ -157,7 +160,8 @@ packet_at [] = None
 packet_at (kind ∷ []) = None
 packet_at (kind ∷ from ∷ []) = None
 packet_at (kind ∷ from ∷ to ∷ text) =
-    if are_nodes from to then option_map (λ x. (record { from = from; to = to; body = x.0 }, x.1)) (body_at kind text) else None
+    if are_nodes from to then option_map (λ x. (record { from = from; to = to; body = x.0 }, x.1)) (body_at kind text)
+    else None
 
 -- the packet that takes all the bytes
 unfoldable pub whole_at : List ℕ → Option Packet

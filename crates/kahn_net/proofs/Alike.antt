@@ -1,5 +1,6 @@
 -- Lists of statements and of links that read alike.
-use Rattle.std.proofs.Common.{◌≡◌, ◌↔◌, ◌∙◌, ℕ, suc, ◌+◌, ◌<◌, List, [], ◌∷◌, length, drop, get_or, refl, sym, ap, Box, Vec, Global}
+use Rattle.std.proofs.Common.{◌≡◌, ◌↔◌, ◌∙◌, ℕ, suc, ◌+◌, ◌<◌, List, [], ◌∷◌, length, drop, get_or, refl, sym, ap, Box}
+use Rattle.std.proofs.Common.{Vec, Global}
 use Rattle.kahn_net.specs.declared.program.Link.{Link}
 use Rattle.kahn_net.specs.declared.program.Statement.{Statement}
 use Rattle.kahn_net.specs.declared.program.Statement.{Get, Assign, Put, Stop, If'}
@@ -7,7 +8,8 @@ use Rattle.kahn_net.specs.declared.program.Expr.{Expr}
 use Rattle.kahn_net.specs.declared.program.Expr.TheViews as view
 use Rattle.kahn_net.specs.declared.program.Statement.TheViews as statement
 use Rattle.kahn_net.specs.Laws.Syntax.{chain_of, if_of, block_at}
-use Rattle.kahn_net.specs.Syntax.{Tree, Chain, Links, NoLinks, LinkThen, links_of, tree_of, then_of, Block, Nothing, GetThen, AssignThen, PutThen, StopThen, IfThen, block_of}
+use Rattle.kahn_net.specs.Syntax.{Tree, Chain, Links, NoLinks, LinkThen, links_of, tree_of, then_of, Block, Nothing}
+use Rattle.kahn_net.specs.Syntax.{GetThen, AssignThen, PutThen, StopThen, IfThen, block_of}
 
 -- as many statements
 count : Block → ℕ
@@ -54,26 +56,42 @@ LinksDecide xs ys i = (links_of (drop i xs) ≡ links_of (drop i ys)) ↔ (links
 chain_split : (s t : Tree) (more others : Links) → Chain s more ≡ Chain t others → (s ≡ t) × (more ≡ others)
 chain_split s t more others e = (cc, cc)
 
-pub chains_same : (a b : Expr) (first other : Box Expr Global) (links others : Vec Link Global) → a ≡ view.Chain first links → b ≡ view.Chain other others
-    → (tree_of a ≡ tree_of b) ↔ ((tree_of first.value ≡ tree_of other.value) × (links_of links.items ≡ links_of others.items))
+pub chains_same : (a b : Expr) (first other : Box Expr Global) (links others : Vec Link Global)
+    → a ≡ view.Chain first links → b ≡ view.Chain other others
+    → (tree_of a ≡ tree_of b)
+    ↔ ((tree_of first.value ≡ tree_of other.value) × (links_of links.items ≡ links_of others.items))
 chains_same a b first other links others ha hb =
     let at_a : tree_of a ≡ Chain (tree_of first.value) (links_of links.items) = ap tree_of ha ∙ chain_of first links in
-    let at_b : tree_of b ≡ Chain (tree_of other.value) (links_of others.items) = ap tree_of hb ∙ chain_of other others in (
-      λ e. chain_split (tree_of first.value) (tree_of other.value) (links_of links.items) (links_of others.items) (sym at_a ∙ e ∙ at_b),
-      λ p. at_a ∙ (let one = p.0 in let more = p.1 in let joined : Chain (tree_of first.value) (links_of links.items) ≡ Chain (tree_of other.value) (links_of others.items) = cc in joined) ∙ sym at_b,
+    let at_b : tree_of b ≡ Chain (tree_of other.value) (links_of others.items) =
+    ap tree_of hb ∙ chain_of other others in (
+      λ e. chain_split (tree_of first.value) (tree_of other.value) (links_of links.items) (links_of others.items)
+          (sym at_a ∙ e ∙ at_b),
+      λ p. at_a
+          ∙ (let one = p.0 in let more = p.1 in
+          let joined : Chain (tree_of first.value) (links_of links.items)
+          ≡ Chain (tree_of other.value) (links_of others.items) = cc in joined) ∙ sym at_b,
     )
 
 -- ifs
 if_split : (s t : Tree) (a b c d : Block) → IfThen s a b Nothing ≡ IfThen t c d Nothing → (s ≡ t) × (a ≡ c) × (b ≡ d)
 if_split s t a b c d e = (cc, cc, cc)
 
-pub ifs_same : (a b : Statement) (test test' : Expr) (first second first' second' : Vec Statement Global) → a ≡ statement.If test first second → b ≡ statement.If test' first' second'
-    → (then_of a Nothing ≡ then_of b Nothing) ↔ ((tree_of test ≡ tree_of test') × (block_of first.items ≡ block_of first'.items) × (block_of second.items ≡ block_of second'.items))
+pub ifs_same : (a b : Statement) (test test' : Expr) (first second first' second' : Vec Statement Global)
+    → a ≡ statement.If test first second → b ≡ statement.If test' first' second'
+    → (then_of a Nothing ≡ then_of b Nothing)
+    ↔ ((tree_of test ≡ tree_of test') × (block_of first.items ≡ block_of first'.items)
+    × (block_of second.items ≡ block_of second'.items))
 ifs_same a b test test' first second first' second' ha hb =
-    let at_a : then_of a Nothing ≡ IfThen (tree_of test) (block_of first.items) (block_of second.items) Nothing = ap (λ (s : Statement). then_of s Nothing) ha ∙ if_of test first second Nothing in
-    let at_b : then_of b Nothing ≡ IfThen (tree_of test') (block_of first'.items) (block_of second'.items) Nothing = ap (λ (s : Statement). then_of s Nothing) hb ∙ if_of test' first' second' Nothing in (
-      λ e. if_split (tree_of test) (tree_of test') (block_of first.items) (block_of second.items) (block_of first'.items) (block_of second'.items) (sym at_a ∙ e ∙ at_b),
-      λ p. at_a ∙ (let one = p.0 in let two = p.1 in let three = p.2 in let joined : IfThen (tree_of test) (block_of first.items) (block_of second.items) Nothing ≡ IfThen (tree_of test') (block_of first'.items) (block_of second'.items) Nothing = cc in joined) ∙ sym at_b,
+    let at_a : then_of a Nothing ≡ IfThen (tree_of test) (block_of first.items) (block_of second.items) Nothing =
+    ap (λ (s : Statement). then_of s Nothing) ha ∙ if_of test first second Nothing in
+    let at_b : then_of b Nothing ≡ IfThen (tree_of test') (block_of first'.items) (block_of second'.items) Nothing =
+    ap (λ (s : Statement). then_of s Nothing) hb ∙ if_of test' first' second' Nothing in (
+      λ e. if_split (tree_of test) (tree_of test') (block_of first.items) (block_of second.items)
+          (block_of first'.items) (block_of second'.items) (sym at_a ∙ e ∙ at_b),
+      λ p. at_a
+          ∙ (let one = p.0 in let two = p.1 in let three = p.2 in
+          let joined : IfThen (tree_of test) (block_of first.items) (block_of second.items) Nothing
+          ≡ IfThen (tree_of test') (block_of first'.items) (block_of second'.items) Nothing = cc in joined) ∙ sym at_b,
     )
 
 -- a statement alone, what comes after it, and the two put together
@@ -126,15 +144,19 @@ followed_is Stop rest = refl
 followed_is (If' test p first q second) rest = refl
 
 -- statements with those after them are the same where they and those after them are
-pub thens_same : (s t : Statement) (rest more : Block) → (then_of s rest ≡ then_of t more) ↔ ((then_of s Nothing ≡ then_of t Nothing) × (rest ≡ more))
+pub thens_same : (s t : Statement) (rest more : Block)
+    → (then_of s rest ≡ then_of t more) ↔ ((then_of s Nothing ≡ then_of t Nothing) × (rest ≡ more))
 thens_same s t rest more = (
   λ e. (sym (alone_is s rest) ∙ ap alone e ∙ alone_is t more, sym (after_is s rest) ∙ ap after e ∙ after_is t more),
-  λ p. sym (followed_is s rest) ∙ (ap (λ (b : Block). followed_by b rest) p.0 ∙ ap (followed_by (then_of t Nothing)) p.1) ∙ followed_is t more,
+  λ p. sym (followed_is s rest)
+      ∙ (ap (λ (b : Block). followed_by b rest) p.0 ∙ ap (followed_by (then_of t Nothing)) p.1) ∙ followed_is t more,
 )
 
 -- at a place of two lists of statements
-pub same_at : (xs ys : List Statement) (i : ℕ) (x y : Statement) → i < length xs → i < length ys → x ≡ get_or xs i x → y ≡ get_or ys i y
-    → (block_of (drop i xs) ≡ block_of (drop i ys)) ↔ ((then_of x Nothing ≡ then_of y Nothing) × (block_of (drop (i + 1) xs) ≡ block_of (drop (i + 1) ys)))
+pub same_at : (xs ys : List Statement) (i : ℕ) (x y : Statement) → i < length xs → i < length ys → x ≡ get_or xs i x
+    → y ≡ get_or ys i y
+    → (block_of (drop i xs) ≡ block_of (drop i ys))
+    ↔ ((then_of x Nothing ≡ then_of y Nothing) × (block_of (drop (i + 1) xs) ≡ block_of (drop (i + 1) ys)))
 same_at xs ys i x y lx ly hx hy =
     let at_x = block_at xs i x lx hx in
     let at_y = block_at ys i y ly hy in

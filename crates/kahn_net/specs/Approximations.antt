@@ -26,8 +26,8 @@ next_from codes inputs histories c (channel ∷ channels) =
 abbrev pub next_histories : Network → List (List ℤ) → List (List ℤ) → List (List ℤ)
 next_histories net inputs histories = next_from net.codes inputs histories 0 net.channels
 
--- The n-th approximation. At first the inputs are whole and every other history is empty (as inputs that fit have it); then again and
--- again each producer goes by the approximation before.
+-- The n-th approximation. At first the inputs are whole and every other history is empty (as inputs that fit have it);
+-- then again and again each producer goes by the approximation before.
 abbrev pub approximation : Network → List (List ℤ) → ℕ → List (List ℤ)
 approximation net inputs zero = inputs
 approximation net inputs (suc n) = next_histories net inputs (approximation net inputs n)
@@ -41,8 +41,12 @@ pub record Belongs (net : Network) (inputs : List (List ℤ)) (c k : ℕ) (v : �
 abbrev pub IsReached : Network → List (List ℤ) → ℕ → Type 0
 IsReached net inputs n = approximation net inputs n ≡ approximation net inputs (suc n)
 
--- histories solve a network's equations: the inputs are as they came, and each other channel has what its process's function gives
+-- histories solve a network's equations: the inputs are as they came, and each other channel has what its process's
+-- function gives
 pub record IsSolution (net : Network) (inputs histories : List (List ℤ)) : Type 0 where
   pub count : length histories ≡ length net.channels
-  pub inputs_agree : (c : ℕ) (channel : Channel) → slice_get net.channels c ≡ Some channel → channel.producer ≡ Outside → history_of histories c ≡ history_of inputs c
-  pub equations : (c p : ℕ) (channel : Channel) (code : Code) → slice_get net.channels c ≡ Some channel → slice_get net.codes p ≡ Some code → channel.producer ≡ Process p → history_of histories c ≡ output_of code histories c
+  pub inputs_agree : (c : ℕ) (channel : Channel) → slice_get net.channels c ≡ Some channel → channel.producer ≡ Outside
+      → history_of histories c ≡ history_of inputs c
+  pub equations : (c p : ℕ) (channel : Channel) (code : Code) → slice_get net.channels c ≡ Some channel
+      → slice_get net.codes p ≡ Some code → channel.producer ≡ Process p
+      → history_of histories c ≡ output_of code histories c

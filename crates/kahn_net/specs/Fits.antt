@@ -10,7 +10,9 @@ abbrev pub IsEmptyWhereMade : Channel → List ℤ → Type 0
 IsEmptyWhereMade channel items = (p : ℕ) → channel.producer ≡ Process p → items ≡ []
 
 abbrev pub IsEmptyAt : List Channel → List (List ℤ) → ℕ → Type 0
-IsEmptyAt channels inputs c = (channel : Channel) (items : List ℤ) → slice_get channels c ≡ Some channel → slice_get inputs c ≡ Some items → IsEmptyWhereMade channel items
+IsEmptyAt channels inputs c =
+    (channel : Channel) (items : List ℤ) → slice_get channels c ≡ Some channel → slice_get inputs c ≡ Some items
+    → IsEmptyWhereMade channel items
 
 abbrev pub IsEmptyInside : List Channel → List (List ℤ) → Type 0
 IsEmptyInside channels inputs = (c : ℕ) → IsEmptyAt channels inputs c

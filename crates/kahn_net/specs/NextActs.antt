@@ -20,7 +20,8 @@ next_on number (PutThen e channel rest) site = cond (number == site) (Puts chann
 next_on number (StopThen rest) site = next_on number rest site
 next_on number (IfThen test first second rest) site =
     cond (nat_lt site (number + sites_of first)) (next_on number first site)
-    (cond (nat_lt site (number + sites_of first + sites_of second)) (next_on (number + sites_of first) second site) (next_on (number + sites_of first + sites_of second) rest site))
+    (cond (nat_lt site (number + sites_of first + sites_of second)) (next_on (number + sites_of first) second site)
+    (next_on (number + sites_of first + sites_of second) rest site))
 
 abbrev pub next_in_body : ℕ → Option Block → ℕ → Next
 next_in_body number None site = NoNext
@@ -28,7 +29,9 @@ next_in_body number (Some body) site = next_on number body site
 
 -- the get or put of this site of a process
 abbrev pub next_at : Code → ℕ → Next
-next_at code site = cond (nat_lt site (sites_of code.prelude)) (next_on 0 code.prelude site) (next_in_body (sites_of code.prelude) code.body site)
+next_at code site =
+    cond (nat_lt site (sites_of code.prelude)) (next_on 0 code.prelude site)
+    (next_in_body (sites_of code.prelude) code.body site)
 
 abbrev pub next_of : Code → Standing → Next
 next_of code (NotBegun vars) = Begins

@@ -1,24 +1,27 @@
 -- What a process does on whole input histories, and the function that it is.
-use Rattle.std.specs.Prelude.{◌≡◌, ℕ, zero, suc, ◌≤◌, ℤ, List, [], ◌∷◌, length, drop, Option, Some, None, if◌then◌else◌, ◌==◌, IsTrue}
+use Rattle.std.specs.Prelude.{◌≡◌, ℕ, zero, suc, ◌≤◌, ℤ, List, [], ◌∷◌, length, drop, Option, Some, None, if◌then◌else◌}
+use Rattle.std.specs.Prelude.{◌==◌, IsTrue}
 use Rattle.kahn_net.specs.Streams.{total}
 use Rattle.kahn_net.specs.Syntax.{Block, Code}
 use Rattle.kahn_net.specs.Valid.{is_passing}
-use Rattle.kahn_net.specs.Statements.{Act, Got, Sent, Point, Step, End, Ended, Waits, Stopped, Trace, no_steps, trace_of, then_do, sites_of}
+use Rattle.kahn_net.specs.Statements.{Act, Got, Sent, Point, Step, End, Ended, Waits, Stopped, Trace, no_steps}
+use Rattle.kahn_net.specs.Statements.{trace_of, then_do, sites_of}
 
 -- a body again and again, at most this often
 abbrev pub passes : ℕ → ℕ → Block → List ℤ → List (List ℤ) → Trace
 passes zero site body vars unread = no_steps (Ended vars unread)
 passes (suc n) site body vars unread = then_do (trace_of site [] body vars unread) (passes n site body)
 
--- The loop, where there is one: its body again and again until it waits or stops. Each whole pass of a valid body takes an item, so that one pass
--- more than there are items unread is always enough.
+-- The loop, where there is one: its body again and again until it waits or stops. Each whole pass of a valid body takes
+-- an item, so that one pass more than there are items unread is always enough.
 abbrev pub loop_trace : ℕ → Option Block → List ℤ → List (List ℤ) → Trace
 loop_trace site None vars unread = no_steps (Ended vars unread)
 loop_trace site (Some body) vars unread = passes (suc (total unread)) site body vars unread
 
 -- the acts of a process on these input histories: its prelude, and then its loop
 abbrev pub process_trace : Code → List (List ℤ) → Trace
-process_trace code inputs = then_do (trace_of 0 [] code.prelude code.vars inputs) (loop_trace (sites_of code.prelude) code.body)
+process_trace code inputs =
+    then_do (trace_of 0 [] code.prelude code.vars inputs) (loop_trace (sites_of code.prelude) code.body)
 
 -- the item that an act puts on a channel, and those put later
 abbrev pub sent_by : ℕ → Act → List ℤ → List ℤ
@@ -61,8 +64,8 @@ standing_at [] (Waits point vars channel) = At point vars
 standing_at [] (Ended vars unread) = Done vars
 standing_at [] (Stopped vars) = Done vars
 
--- Where a process of this trace stands after its first m acts. Before the first one it may also not have begun, and then its variables
--- are the first ones: what it assigns before its first get or put is no act.
+-- Where a process of this trace stands after its first m acts. Before the first one it may also not have begun, and
+-- then its variables are the first ones: what it assigns before its first get or put is no act.
 abbrev pub IsHere : Code → Trace → ℕ → Standing → Type 0
 IsHere code t m (NotBegun vars) = (m ≡ 0) × (vars ≡ code.vars)
 IsHere code t m (At point vars) = At point vars ≡ standing_at (drop m t.steps) t.end

@@ -1,11 +1,14 @@
 -- What statements do, on what is unread of each input channel: the acts made, in order, and how it ends.
-use Rattle.std.specs.Prelude.{ℕ, ◌+◌, ℤ, pos, Bool, cond, not, int_lt, int_le, List, [], ◌∷◌, ◌++◌, slice_index_or, slice_set}
+use Rattle.std.specs.Prelude.{ℕ, ◌+◌, ℤ, pos, Bool, cond, not, int_lt, int_le, List, [], ◌∷◌, ◌++◌, slice_index_or}
+use Rattle.std.specs.Prelude.{slice_set}
 use Rattle.std.specs.Int.{int_wrapping_add, int_wrapping_sub, int_wrapping_mul, int_wrapping_neg, w64}
 use Rattle.std.specs.Ordering.{int_eq}
 use Rattle.kahn_net.specs.declared.program.Operator.{Operator}
-use Rattle.kahn_net.specs.declared.program.Operator.TheVariants.{Add, Subtract, Multiply, Equal, NotEqual, Less, LessOrEqual, Greater, GreaterOrEqual}
+use Rattle.kahn_net.specs.declared.program.Operator.TheVariants.{Add, Subtract, Multiply, Equal, NotEqual, Less}
+use Rattle.kahn_net.specs.declared.program.Operator.TheVariants.{LessOrEqual, Greater, GreaterOrEqual}
 use Rattle.kahn_net.specs.Streams.{history_of}
-use Rattle.kahn_net.specs.Syntax.{Tree, Number, Name, Minus, Chain, Links, NoLinks, LinkThen, Block, Nothing, GetThen, AssignThen, PutThen, StopThen, IfThen}
+use Rattle.kahn_net.specs.Syntax.{Tree, Number, Name, Minus, Chain, Links, NoLinks, LinkThen, Block, Nothing, GetThen}
+use Rattle.kahn_net.specs.Syntax.{AssignThen, PutThen, StopThen, IfThen}
 
 -- a comparison gives 1 or 0
 abbrev pub one_if_so : Bool → ℤ
@@ -33,15 +36,16 @@ abbrev mutual
 
   pub value_along : Links → List ℤ → ℤ → ℤ
   value_along NoLinks vars left = left
-  value_along (LinkThen operator value rest) vars left = value_along rest vars (apply operator left (value_of value vars))
+  value_along (LinkThen operator value rest) vars left =
+      value_along rest vars (apply operator left (value_of value vars))
 
 -- one act: an item that is taken from a channel, or put on it
 pub data Act : Type 0 where
   Got : (channel : ℕ) (item : ℤ) → Act
   Sent : (channel : ℕ) (item : ℤ) → Act
 
--- A point in a process: the site at which it stands (the number of its statement among the gets and puts of the process, in order of the
--- text), and the passes that remain of each repetition round it, the outermost first.
+-- A point in a process: the site at which it stands (the number of its statement among the gets and puts of the
+-- process, in order of the text), and the passes that remain of each repetition round it, the outermost first.
 pub record Point : Type 0 where
   pub site : ℕ
   pub left : List ℕ
@@ -55,8 +59,8 @@ pub record Step : Type 0 where
   pub vars : List ℤ
   pub act : Act
 
--- how statements end: after the last one, with the new variables and what is then unread; or waiting at a get for an item of its channel;
--- or at a stop, which finishes the process
+-- how statements end: after the last one, with the new variables and what is then unread; or waiting at a get for an
+-- item of its channel; or at a stop, which finishes the process
 pub data End : Type 0 where
   Ended : (vars : List ℤ) (unread : List (List ℤ)) → End
   Waits : (point : Point) (vars : List ℤ) (channel : ℕ) → End
@@ -77,7 +81,8 @@ after_step step t = record { steps = step ∷ t.steps; end = t.end }
 -- takes the next item of a channel and goes on with it, or waits where nothing is unread
 abbrev pub on_get : List ℤ → Point → ℕ → List ℤ → (ℤ → List ℤ → Trace) → Trace
 on_get [] point channel vars go = no_steps (Waits point vars channel)
-on_get (item ∷ later) point channel vars go = after_step (record { point = point; vars = vars; act = Got channel item }) (go item later)
+on_get (item ∷ later) point channel vars go =
+    after_step (record { point = point; vars = vars; act = Got channel item }) (go item later)
 
 -- goes on from where statements ended; what waits still waits, and what stopped has stopped
 abbrev pub from_end : End → (List ℤ → List (List ℤ) → Trace) → Trace
@@ -102,16 +107,20 @@ sites_of (IfThen test first second rest) = sites_of first + (sites_of second + s
 abbrev pub choose : ℤ → Trace → Trace → Trace
 choose value first second = cond (int_eq value (pos 0)) second first
 
--- what statements do whose first get or put has this site, where so many passes of the repetitions round them remain, with these variables,
--- where this is unread on each channel
+-- what statements do whose first get or put has this site, where so many passes of the repetitions round them remain,
+-- with these variables, where this is unread on each channel
 abbrev pub trace_of : ℕ → List ℕ → Block → List ℤ → List (List ℤ) → Trace
 trace_of site left Nothing vars unread = no_steps (Ended vars unread)
 trace_of site left (GetThen x channel rest) vars unread =
-    on_get (history_of unread channel) (point_at site left) channel vars (λ item later. trace_of (site + 1) left rest (slice_set vars x item) (slice_set unread channel later))
-trace_of site left (AssignThen x e rest) vars unread = trace_of site left rest (slice_set vars x (value_of e vars)) unread
+    on_get (history_of unread channel) (point_at site left) channel vars
+    (λ item later. trace_of (site + 1) left rest (slice_set vars x item) (slice_set unread channel later))
+trace_of site left (AssignThen x e rest) vars unread =
+    trace_of site left rest (slice_set vars x (value_of e vars)) unread
 trace_of site left (PutThen e channel rest) vars unread =
-    after_step (record { point = point_at site left; vars = vars; act = Sent channel (value_of e vars) }) (trace_of (site + 1) left rest vars unread)
+    after_step (record { point = point_at site left; vars = vars; act = Sent channel (value_of e vars) })
+    (trace_of (site + 1) left rest vars unread)
 trace_of site left (StopThen rest) vars unread = no_steps (Stopped vars)
 trace_of site left (IfThen test first second rest) vars unread =
-    then_do (choose (value_of test vars) (trace_of site left first vars unread) (trace_of (site + sites_of first) left second vars unread))
+    then_do (choose (value_of test vars) (trace_of site left first vars unread)
+    (trace_of (site + sites_of first) left second vars unread))
     (trace_of (site + sites_of first + sites_of second) left rest)

@@ -1,5 +1,6 @@
--- Histories: the items that go over each channel, by the channel's number. After Kahn, "The semantics of a simple language for
--- parallel programming" (1974): a network means the histories of its channels, whole lists without machine or schedule.
+-- Histories: the items that go over each channel, by the channel's number. After Kahn, "The semantics of a simple
+-- language for parallel programming" (1974): a network means the histories of its channels, whole lists without machine
+-- or schedule.
 use Rattle.std.specs.Prelude.{◌≡◌, ℕ, ◌+◌, ℤ, List, [], ◌∷◌, length, slice_index_or, take}
 
 -- A history is a list of items, in order. This is the history of a channel, empty where there is no such channel.

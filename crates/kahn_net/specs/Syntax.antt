@@ -1,9 +1,11 @@
 -- A network without the pointers of its boxes and vectors: two networks that read alike are equal here.
 use Rattle.std.specs.Prelude.{ℕ, ℤ, List, [], ◌∷◌, map, Option, Some, None, Vec}
 use Rattle.kahn_net.specs.declared.program.Operator.{Operator}
-use Rattle.kahn_net.specs.declared.program.Expr.{Expr, Literal, Variable, Negate', Chain', Row_of-Link, end_of-Link, more_of-Link}
+use Rattle.kahn_net.specs.declared.program.Expr.{Expr, Literal, Variable, Negate', Chain', Row_of-Link, end_of-Link}
+use Rattle.kahn_net.specs.declared.program.Expr.{more_of-Link}
 use Rattle.kahn_net.specs.declared.program.Link.{Link}
-use Rattle.kahn_net.specs.declared.program.Statement.{Statement, Get, Assign, Put, Stop, If', Row_of-Statement, end_of-Statement, more_of-Statement}
+use Rattle.kahn_net.specs.declared.program.Statement.{Statement, Get, Assign, Put, Stop, If', Row_of-Statement}
+use Rattle.kahn_net.specs.declared.program.Statement.{end_of-Statement, more_of-Statement}
 use Rattle.kahn_net.specs.declared.program.Process.{Process}
 use Rattle.kahn_net.specs.declared.program.Channel.{Channel}
 use Rattle.kahn_net.specs.declared.program.Program.{Program}
@@ -77,7 +79,8 @@ body_of None = None
 body_of (Some body) = Some (block_of body.items)
 
 abbrev pub code_of : Process → Code
-code_of p = record { node = p.node; vars = p.variables.items; prelude = block_of p.prelude.items; body = body_of p.body }
+code_of p =
+    record { node = p.node; vars = p.variables.items; prelude = block_of p.prelude.items; body = body_of p.body }
 
 abbrev pub network_of : Program → Network
 network_of n = record { channels = n.channels.items; codes = map code_of n.processes.items }

@@ -1,12 +1,15 @@
 -- When a network is valid: a clause for each rule, over the network alone.
-use Rattle.std.specs.Prelude.{◌≡◌, ◌≢◌, ◌↔◌, ℕ, suc, ◌+◌, ◌<◌, ◌≤◌, Bool, true, false, ◌&&◌, ◌||◌, ◌==◌, nat_lt, length, slice_get, Option, Some, None, IsTrue}
-use Rattle.kahn_net.specs.Syntax.{Tree, Number, Name, Minus, Chain, Links, NoLinks, LinkThen, Block, Nothing, GetThen, AssignThen, PutThen, StopThen, IfThen, Code, Network}
+use Rattle.std.specs.Prelude.{◌≡◌, ◌≢◌, ◌↔◌, ℕ, suc, ◌+◌, ◌<◌, ◌≤◌, Bool, true, false, ◌&&◌, ◌||◌, ◌==◌, nat_lt, length}
+use Rattle.std.specs.Prelude.{slice_get, Option, Some, None, IsTrue}
+use Rattle.kahn_net.specs.Syntax.{Tree, Number, Name, Minus, Chain, Links, NoLinks, LinkThen, Block, Nothing, GetThen}
+use Rattle.kahn_net.specs.Syntax.{AssignThen, PutThen, StopThen, IfThen, Code, Network}
 use Rattle.kahn_net.specs.declared.program.Channel.{Channel}
 use Rattle.kahn_net.specs.declared.program.Port.TheVariants.{Outside, Process}
-use Rattle.kahn_net.specs.declared.limits.TheConstants.{MAX_CHANNELS, MAX_NODES, MAX_PROCESSES, MAX_UNITS, MAX_VARIABLES}
+use Rattle.kahn_net.specs.declared.limits.TheConstants.{MAX_CHANNELS, MAX_NODES, MAX_PROCESSES, MAX_UNITS}
+use Rattle.kahn_net.specs.declared.limits.TheConstants.{MAX_VARIABLES}
 
--- Statements pass where one of them passes: a get and a stop do, and an if both of whose blocks do. A loop whose body passes can't go
--- round without end on what is at hand.
+-- Statements pass where one of them passes: a get and a stop do, and an if both of whose blocks do. A loop whose body
+-- passes can't go round without end on what is at hand.
 abbrev pub is_passing : Block → Bool
 is_passing Nothing = false
 is_passing (GetThen x c rest) = true
@@ -34,7 +37,8 @@ block_units (GetThen x c rest) = suc (block_units rest)
 block_units (AssignThen x e rest) = suc (expr_units e + block_units rest)
 block_units (PutThen e c rest) = suc (expr_units e + block_units rest)
 block_units (StopThen rest) = suc (block_units rest)
-block_units (IfThen test first second rest) = suc (expr_units test + (block_units first + (block_units second + block_units rest)))
+block_units (IfThen test first second rest) =
+    suc (expr_units test + (block_units first + (block_units second + block_units rest)))
 
 abbrev pub body_units : Option Block → ℕ
 body_units None = 0
@@ -55,12 +59,17 @@ abbrev mutual
 -- each variable and each channel is below these numbers
 abbrev pub block_within : ℕ → ℕ → Block → Bool
 block_within variables channels Nothing = true
-block_within variables channels (GetThen x c rest) = nat_lt x variables && (nat_lt c channels && block_within variables channels rest)
-block_within variables channels (AssignThen x e rest) = nat_lt x variables && (expr_within variables e && block_within variables channels rest)
-block_within variables channels (PutThen e c rest) = expr_within variables e && (nat_lt c channels && block_within variables channels rest)
+block_within variables channels (GetThen x c rest) =
+    nat_lt x variables && (nat_lt c channels && block_within variables channels rest)
+block_within variables channels (AssignThen x e rest) =
+    nat_lt x variables && (expr_within variables e && block_within variables channels rest)
+block_within variables channels (PutThen e c rest) =
+    expr_within variables e && (nat_lt c channels && block_within variables channels rest)
 block_within variables channels (StopThen rest) = block_within variables channels rest
 block_within variables channels (IfThen test first second rest) =
-    expr_within variables test && (block_within variables channels first && (block_within variables channels second && block_within variables channels rest))
+    expr_within variables test &&
+    (block_within variables channels first &&
+    (block_within variables channels second && block_within variables channels rest))
 
 abbrev pub body_within : ℕ → ℕ → Option Block → Bool
 body_within variables channels None = true
@@ -73,7 +82,8 @@ block_gets channel (GetThen x c rest) = (c == channel) || block_gets channel res
 block_gets channel (AssignThen x e rest) = block_gets channel rest
 block_gets channel (PutThen e c rest) = block_gets channel rest
 block_gets channel (StopThen rest) = block_gets channel rest
-block_gets channel (IfThen test first second rest) = block_gets channel first || (block_gets channel second || block_gets channel rest)
+block_gets channel (IfThen test first second rest) =
+    block_gets channel first || (block_gets channel second || block_gets channel rest)
 
 -- some statement puts on this channel
 abbrev pub block_puts : ℕ → Block → Bool
@@ -82,7 +92,8 @@ block_puts channel (GetThen x c rest) = block_puts channel rest
 block_puts channel (AssignThen x e rest) = block_puts channel rest
 block_puts channel (PutThen e c rest) = (c == channel) || block_puts channel rest
 block_puts channel (StopThen rest) = block_puts channel rest
-block_puts channel (IfThen test first second rest) = block_puts channel first || (block_puts channel second || block_puts channel rest)
+block_puts channel (IfThen test first second rest) =
+    block_puts channel first || (block_puts channel second || block_puts channel rest)
 
 abbrev pub body_gets : ℕ → Option Block → Bool
 body_gets channel None = false
@@ -112,11 +123,16 @@ pub record IsValid (net : Network) : Type 0 where
   pub process_count : length net.codes ≤ MAX_PROCESSES
   pub codes : (p : ℕ) (code : Code) → slice_get net.codes p ≡ Some code → IsValidCode (length net.channels) code
   -- the one process that puts on a channel is its producer, and nobody puts on an input
-  pub producer : (c p : ℕ) (channel : Channel) (code : Code) → slice_get net.channels c ≡ Some channel → slice_get net.codes p ≡ Some code → IsTrue (code_puts c code) ↔ (channel.producer ≡ Process p)
+  pub producer : (c p : ℕ) (channel : Channel) (code : Code) → slice_get net.channels c ≡ Some channel
+      → slice_get net.codes p ≡ Some code → IsTrue (code_puts c code) ↔ (channel.producer ≡ Process p)
   -- the one process that gets from a channel is its consumer, and nobody gets from an output
-  pub consumer : (c p : ℕ) (channel : Channel) (code : Code) → slice_get net.channels c ≡ Some channel → slice_get net.codes p ≡ Some code → IsTrue (code_gets c code) ↔ (channel.consumer ≡ Process p)
+  pub consumer : (c p : ℕ) (channel : Channel) (code : Code) → slice_get net.channels c ≡ Some channel
+      → slice_get net.codes p ≡ Some code → IsTrue (code_gets c code) ↔ (channel.consumer ≡ Process p)
   -- producers and consumers are processes of the network
-  pub producer_is_here : (c p : ℕ) (channel : Channel) → slice_get net.channels c ≡ Some channel → channel.producer ≡ Process p → p < length net.codes
-  pub consumer_is_here : (c p : ℕ) (channel : Channel) → slice_get net.channels c ≡ Some channel → channel.consumer ≡ Process p → p < length net.codes
+  pub producer_is_here : (c p : ℕ) (channel : Channel) → slice_get net.channels c ≡ Some channel
+      → channel.producer ≡ Process p → p < length net.codes
+  pub consumer_is_here : (c p : ℕ) (channel : Channel) → slice_get net.channels c ≡ Some channel
+      → channel.consumer ≡ Process p → p < length net.codes
   -- a channel has a process at one end at least
-  pub joined : (c : ℕ) (channel : Channel) → slice_get net.channels c ≡ Some channel → channel.producer ≡ Outside → channel.consumer ≢ Outside
+  pub joined : (c : ℕ) (channel : Channel) → slice_get net.channels c ≡ Some channel → channel.producer ≡ Outside
+      → channel.consumer ≢ Outside

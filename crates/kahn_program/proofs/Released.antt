@@ -1,5 +1,7 @@
 -- What a world's outlets took are the streams of a run.
-use Rattle.std.proofs.Common.{◌≡◌, ◌≢◌, ◌⊎◌, inl, inr, Vec, Global, ℕ, suc, ◌+◌, ◌<◌, Bool, true, false, ◌&&◌, List, ℤ, [], ◌∷◌, ◌++◌, length, map, drop, get_or, Option, Some, refl, sym, ap, subst, ◌∙◌, append_assoc, arith}
+use Rattle.std.proofs.Common.{◌≡◌, ◌≢◌, ◌⊎◌, inl, inr, Vec, Global, ℕ, suc, ◌+◌, ◌<◌, Bool, true, false, ◌&&◌, List, ℤ}
+use Rattle.std.proofs.Common.{[], ◌∷◌, ◌++◌, length, map, drop, get_or, Option, Some, refl, sym, ap, subst, ◌∙◌}
+use Rattle.std.proofs.Common.{append_assoc, arith}
 use Rattle.std.specs.Prelude.{Result, Ok, Err, IfOk, IfSome, slice_get, IsTrue, if◌then◌else◌}
 use Rattle.std.specs.Io.KnownBytes.{Appends}
 use Rattle.std.proofs.Math.Logic.{∥∥₁_map}
@@ -25,7 +27,8 @@ use Rattle.net_check.specs.declared.net.Net.{Net}
 use Rattle.kahn_program.specs.Report.{one_if_output, output_count, report_text}
 use Rattle.kahn_program.specs.Readings.{IsNetOf, AreInputsOf}
 use Rattle.kahn_program.specs.Statuses.{status_of_run}
-use Rattle.kahn_program.specs.Runs.{released_streams, cut_at, first_items, is_whole, run_text, IsRun, IsLast, IsReport, IsReportOf, IsReported, HasWritten}
+use Rattle.kahn_program.specs.Runs.{released_streams, cut_at, first_items, is_whole, run_text, IsRun, IsLast, IsReport}
+use Rattle.kahn_program.specs.Runs.{IsReportOf, IsReported, HasWritten}
 use Rattle.kahn_program.specs.Runnable.{IsReportFailure}
 use Rattle.kahn_program.specs.declared.failure.Failure.{Failure}
 use Rattle.std.specs.Prelude.{IfErr}
@@ -34,43 +37,68 @@ use Rattle.kahn_program.specs.Readings.{IsRunFailure, of_report}
 -- The streams of a world, each of which the station of its producer's node has
 
 module _ (world : WorldView) (inv : WorldInvariant world) where
-  same_items : (j c : ℕ) (items : List ℤ) → slice_get (output_channels 0 world.net.channels) j ≡ Some c → slice_get (released_streams world.net world.stations) j ≡ Some items → items ≡ released_of c world.stations
+  same_items : (j c : ℕ) (items : List ℤ) → slice_get (output_channels 0 world.net.channels) j ≡ Some c
+      → slice_get (released_streams world.net world.stations) j ≡ Some items → items ≡ released_of c world.stations
   same_items j c items is there =
-      let at : Some items ≡ Some (released_of c world.stations) = sym there ∙ map_at (λ (channel : ℕ). released_of channel world.stations) (output_channels 0 world.net.channels) j c is in
+      let at : Some items ≡ Some (released_of c world.stations) =
+      sym there
+      ∙ map_at (λ (channel : ℕ). released_of channel world.stations) (output_channels 0 world.net.channels) j c
+      is in
       cc
 
   -- each is of an output of a station
-  streams_are : (P : List ℤ → ℕ → Type 0) → ((i : ℕ) (station : StationView) → slice_get world.stations i ≡ Some station → (j : ℕ) (output : OutputView) → slice_get (outputs_of station.outlets) j ≡ Some output → P output.taken output.channel)
-      → (j c : ℕ) (items : List ℤ) → slice_get (output_channels 0 world.net.channels) j ≡ Some c → slice_get (released_streams world.net world.stations) j ≡ Some items → P items c
+  streams_are : (P : List ℤ → ℕ → Type 0)
+      → ((i : ℕ) (station : StationView) → slice_get world.stations i ≡ Some station → (j : ℕ) (output : OutputView)
+      → slice_get (outputs_of station.outlets) j ≡ Some output → P output.taken output.channel)
+      → (j c : ℕ) (items : List ℤ) → slice_get (output_channels 0 world.net.channels) j ≡ Some c
+      → slice_get (released_streams world.net world.stations) j ≡ Some items → P items c
   streams_are P all j c items is there =
       let entry = channel_there 0 world.net.channels j c is in
       let sum : c ≡ entry.0 = (let place = entry.2 in omega (arith, place)) in
       let shown = output_shown world inv c entry.1 (ap (slice_get world.net.channels) sum ∙ entry.3) entry.4 in
       let one = shown.at.shown in
       subst (λ (list : List ℤ). P list c) (sym (same_items j c items is there ∙ one.shows))
-      (subst (P one.outlet.taken) one.channel (all shown.home shown.at.station shown.at.here one.place (output_of one.outlet) (map_at output_of shown.at.station.outlets one.place one.outlet one.there)))
+      (subst (P one.outlet.taken) one.channel
+      (all shown.home shown.at.station shown.at.here one.place (output_of one.outlet)
+      (map_at output_of shown.at.station.outlets one.place one.outlet one.there)))
 
 length_map : (f : ℕ → List ℤ) (cs : List ℕ) → length (map f cs) ≡ length cs
 length_map f [] = refl
 length_map f (c ∷ cs) = ap suc (length_map f cs)
 
 -- what has left a world are the streams of a run
-world_run : (world : WorldView) (complete : Bool) → WorldInvariant world → (IsTrue complete → AreWhole world) → IsRun world.net world.inputs (released_streams world.net world.stations) complete
+world_run : (world : WorldView) (complete : Bool) → WorldInvariant world → (IsTrue complete → AreWhole world)
+    → IsRun world.net world.inputs (released_streams world.net world.stations) complete
 world_run world complete inv whole = record {
   count = length_map (λ (channel : ℕ). released_of channel world.stations) (output_channels 0 world.net.channels);
-  prefix = ∥∥₁_map (released_prefix world inv) (λ a. (a.0, streams_are world inv (λ items c. IsPrefix items (history_of (approximation world.net world.inputs a.0) c)) a.1));
-  whole = λ done. ∥∥₁_map (whole done) (λ a. (a.0, a.1, streams_are world inv (λ items c. items ≡ history_of (approximation world.net world.inputs a.0) c) a.2));
+  prefix =
+      ∥∥₁_map (released_prefix world inv)
+      (λ a. (
+        a.0,
+        streams_are world inv
+            (λ items c. IsPrefix items (history_of (approximation world.net world.inputs a.0) c)) a.1,
+      ));
+  whole = λ done. ∥∥₁_map (whole done)
+      (λ a. (
+        a.0,
+        a.1,
+        streams_are world inv
+            (λ items c. items ≡ history_of (approximation world.net world.inputs a.0) c) a.2,
+      ));
 }
 
 -- Streams in order of the channels
 
-one_listed : (f : ℕ → List ℤ) (b : Bool) (number : ℕ) (rest : List ℕ) → (if b then f number ∷ [] else []) ++ map f rest ≡ map f (if b then number ∷ rest else rest)
+one_listed : (f : ℕ → List ℤ) (b : Bool) (number : ℕ) (rest : List ℕ)
+    → (if b then f number ∷ [] else []) ++ map f rest ≡ map f (if b then number ∷ rest else rest)
 one_listed f true number rest = refl
 one_listed f false number rest = refl
 
 -- one more channel was looked at
-pub streams_next : (f : ℕ → List ℤ) (channels : List Channel) (k : ℕ) (d : Channel) (before now whole : List (List ℤ)) → k < length channels → before ++ map f (output_channels k (drop k channels)) ≡ whole
-    → now ≡ before ++ (if goes_outside (get_or channels k d).consumer then f k ∷ [] else []) → now ++ map f (output_channels (k + 1) (drop (k + 1) channels)) ≡ whole
+pub streams_next : (f : ℕ → List ℤ) (channels : List Channel) (k : ℕ) (d : Channel) (before now whole : List (List ℤ))
+    → k < length channels → before ++ map f (output_channels k (drop k channels)) ≡ whole
+    → now ≡ before ++ (if goes_outside (get_or channels k d).consumer then f k ∷ [] else [])
+    → now ++ map f (output_channels (k + 1) (drop (k + 1) channels)) ≡ whole
 streams_next f channels k d before now whole within so_far added =
     let next : suc k ≡ k + 1 = omega arith in
     let rest : List ℕ = output_channels (suc k) (drop (suc k) channels) in
@@ -78,10 +106,12 @@ streams_next f channels k d before now whole within so_far added =
     ∙ (ap (λ (list : List (List ℤ)). list ++ map f rest) added
     ∙ (append_assoc before _ (map f rest)
     ∙ (ap (λ (list : List (List ℤ)). before ++ list) (one_listed f (goes_outside (get_or channels k d).consumer) k rest)
-    ∙ (ap (λ (list : List Channel). before ++ map f (output_channels k list)) (sym (drop-cons channels k d within)) ∙ so_far))))
+    ∙ (ap (λ (list : List Channel). before ++ map f (output_channels k list)) (sym (drop-cons channels k d within))
+    ∙ so_far))))
 
 -- the same of a world that is of this network and these inputs
-pub run_of : (world : WorldView) (net : Network) (inputs : List (List ℤ)) (complete : Bool) → world.net ≡ net → world.inputs ≡ inputs → WorldInvariant world → (IsTrue complete → AreWhole world)
+pub run_of : (world : WorldView) (net : Network) (inputs : List (List ℤ)) (complete : Bool) → world.net ≡ net
+    → world.inputs ≡ inputs → WorldInvariant world → (IsTrue complete → AreWhole world)
     → IsRun net inputs (released_streams net world.stations) complete
 run_of world net inputs complete same_net same_inputs inv whole =
     subst (λ (n : Network). IsRun n inputs (released_streams n world.stations) complete) same_net
@@ -89,22 +119,30 @@ run_of world net inputs complete same_net same_inputs inv whole =
     (world_run world complete inv whole))
 
 -- as many streams as outputs
-pub counted_streams : (f : ℕ → List ℤ) (number : ℕ) (channels : List Channel) → length (map f (output_channels number channels)) ≡ output_count channels
+pub counted_streams : (f : ℕ → List ℤ) (number : ℕ) (channels : List Channel)
+    → length (map f (output_channels number channels)) ≡ output_count channels
 counted_streams f number [] = refl
 counted_streams f number (channel ∷ channels) = at channel.consumer (counted_streams f (suc number) channels)
   where
     at : (port : Port) → length (map f (output_channels (suc number) channels)) ≡ output_count channels
-        → length (map f (if goes_outside port then number ∷ output_channels (suc number) channels else output_channels (suc number) channels)) ≡ one_if_output port (output_count channels)
-    at Outside rest = let more : suc (output_count channels) ≡ output_count channels + 1 = omega arith in ap suc rest ∙ more
+        → length
+        (map f (if goes_outside port then number
+        ∷ output_channels (suc number) channels else output_channels (suc number) channels))
+        ≡ one_if_output port (output_count channels)
+    at Outside rest = let more : suc (output_count channels) ≡ output_count channels + 1 = omega arith in
+        ap suc rest ∙ more
     at (Process p) rest = rest
 
 -- The report of a run
 
-twice : (f : ℕ → List ℤ) (g : List ℤ → List ℤ) (numbers : List ℕ) → map (λ (number : ℕ). g (f number)) numbers ≡ map g (map f numbers)
+twice : (f : ℕ → List ℤ) (g : List ℤ → List ℤ) (numbers : List ℕ)
+    → map (λ (number : ℕ). g (f number)) numbers ≡ map g (map f numbers)
 twice f g [] = refl
 twice f g (number ∷ numbers) = ap (λ (rest : List (List ℤ)). g (f number) ∷ rest) (twice f g numbers)
 
-pub reported : (net : Net) (inputs : List (List ℤ)) (given : List Channel) (rounds : ℕ) (items cut : Option ℕ) (streams : List (List ℤ)) (now : WorldView) (text : List ℕ) (complete told : Bool) → given ≡ net.program.channels.items
+pub reported : (net : Net) (inputs : List (List ℤ)) (given : List Channel) (rounds : ℕ) (items cut : Option ℕ)
+    (streams : List (List ℤ)) (now : WorldView) (text : List ℕ) (complete told : Bool)
+    → given ≡ net.program.channels.items
     → cut ≡ cut_at items (map (λ (channel : ℕ). released_of channel now.stations) (output_channels 0 given))
     → streams ≡ map (λ (channel : ℕ). first_items cut (released_of channel now.stations)) (output_channels 0 given)
     → told ≡ is_whole cut complete
@@ -113,56 +151,77 @@ pub reported : (net : Net) (inputs : List (List ℤ)) (given : List Channel) (ro
     → complete ≡ are_quiet now
     → IsLast (network_of net.program) inputs rounds items now
     → IsReport net rounds items inputs text told
-reported net inputs given rounds items cut streams now text complete told channels where_cut listed whole printed run quiet last =
+reported net inputs given rounds items cut streams now text complete told channels where_cut listed whole printed run
+    quiet last =
     let stations = now.stations in
     let released : List (List ℤ) = released_streams (network_of net.program) stations in
-    let same : map (λ (channel : ℕ). released_of channel stations) (output_channels 0 given) ≡ released = ap (λ (l : List Channel). map (λ (channel : ℕ). released_of channel stations) (output_channels 0 l)) channels in
+    let same : map (λ (channel : ℕ). released_of channel stations) (output_channels 0 given) ≡ released =
+    ap (λ (l : List Channel). map (λ (channel : ℕ). released_of channel stations) (output_channels 0 l)) channels in
     let at : cut ≡ cut_at items released = where_cut ∙ ap (cut_at items) same in
-    let all : streams ≡ map (first_items cut) released = listed ∙ (twice (λ (channel : ℕ). released_of channel stations) (first_items cut) (output_channels 0 given) ∙ ap (map (first_items cut)) same) in
+    let all : streams ≡ map (first_items cut) released =
+    listed ∙ (twice (λ (channel : ℕ). released_of channel stations) (first_items cut) (output_channels 0 given)
+    ∙ ap (map (first_items cut)) same) in
     let text_is : text ≡ run_text net cut released complete =
     printed ∙ (ap (λ (l : List (List ℤ)). report_text net.program.channels.items net.channel_names.items l told) all
-    ∙ ap (λ (b : Bool). report_text net.program.channels.items net.channel_names.items (map (first_items cut) released) b) whole) in
+    ∙ ap (λ (b : Bool). report_text net.program.channels.items net.channel_names.items (map (first_items cut) released)
+    b) whole) in
     ∣ (
       now,
       last,
       subst (IsRun (network_of net.program) inputs released) quiet run,
       whole ∙ (ap (λ (c : Option ℕ). is_whole c complete) at ∙ ap (is_whole (cut_at items released)) quiet),
-      text_is ∙ (ap (λ (c : Option ℕ). run_text net c released complete) at ∙ ap (run_text net (cut_at items released) released) quiet),
+      text_is ∙ (ap (λ (c : Option ℕ). run_text net c released complete) at
+          ∙ ap (run_text net (cut_at items released) released) quiet),
     ) ∣₁
 
 -- Whether each output has so many items
 
 module _ (f : ℕ → List ℤ) (test : List ℤ → Bool) where
-  one_passed : (b : Bool) (number : ℕ) (rest : List ℕ) (passes : Bool) → passes ≡ (if b then test (f number) else true) → passes ≡ true
+  one_passed : (b : Bool) (number : ℕ) (rest : List ℕ) (passes : Bool) → passes ≡ (if b then test (f number) else true)
+      → passes ≡ true
       → list_all test (map f (if b then number ∷ rest else rest)) ≡ list_all test (map f rest)
-  one_passed true number rest passes is yes_it_is = ap (λ (p : Bool). p && list_all test (map f rest)) (sym is ∙ yes_it_is)
+  one_passed true number rest passes is yes_it_is =
+      ap (λ (p : Bool). p && list_all test (map f rest)) (sym is ∙ yes_it_is)
   one_passed false number rest passes is yes_it_is = refl
 
   here : (channels : List Channel) (k : ℕ) (d : Channel) → k < length channels
       → list_all test (map f (output_channels k (drop k channels)))
-      ≡ list_all test (map f (if goes_outside (get_or channels k d).consumer then k ∷ output_channels (suc k) (drop (suc k) channels) else output_channels (suc k) (drop (suc k) channels)))
-  here channels k d within = ap (λ (l : List Channel). list_all test (map f (output_channels k l))) (drop-cons channels k d within)
+      ≡ list_all test
+      (map f (if goes_outside (get_or channels k d).consumer then k
+      ∷ output_channels (suc k) (drop (suc k) channels) else output_channels (suc k) (drop (suc k) channels)))
+  here channels k d within =
+      ap (λ (l : List Channel). list_all test (map f (output_channels k l))) (drop-cons channels k d within)
 
   -- one more channel was looked at, and has them
-  pub all_next : (channels : List Channel) (k : ℕ) (d : Channel) (passes whole : Bool) → k < length channels → list_all test (map f (output_channels k (drop k channels))) ≡ whole
+  pub all_next : (channels : List Channel) (k : ℕ) (d : Channel) (passes whole : Bool) → k < length channels
+      → list_all test (map f (output_channels k (drop k channels))) ≡ whole
       → passes ≡ (if goes_outside (get_or channels k d).consumer then test (f k) else true) → passes ≡ true
       → list_all test (map f (output_channels (k + 1) (drop (k + 1) channels))) ≡ whole
   all_next channels k d passes whole within so_far is yes_it_is =
       let next : suc k ≡ k + 1 = omega arith in
       ap (λ (n : ℕ). list_all test (map f (output_channels n (drop n channels)))) (sym next)
-      ∙ (sym (one_passed (goes_outside (get_or channels k d).consumer) k (output_channels (suc k) (drop (suc k) channels)) passes is yes_it_is)
+      ∙ (sym (one_passed (goes_outside (get_or channels k d).consumer) k
+      (output_channels (suc k) (drop (suc k) channels)) passes is yes_it_is)
       ∙ (sym (here channels k d within) ∙ so_far))
 
 -- The report that is asked for, of the texts of two readers
-pub run_of_readers : (approx : Option ℕ) (rounds : ℕ) (items : Option ℕ) (net_bytes input_bytes : Option (List ℕ)) (net : Net) (inputs : List (List ℤ)) (result : Result (Vec ℕ Global × Bool) Failure) → IfSome net_bytes (λ bytes. IsNetOf bytes net) → IfSome input_bytes (λ bytes. AreInputsOf bytes net inputs)
-    → IfOk result (λ report. IsReportOf approx rounds items net inputs report.0.items report.1) → IfOk result (λ report. IsReported approx rounds items net_bytes input_bytes report.0.items report.1)
+pub run_of_readers : (approx : Option ℕ) (rounds : ℕ) (items : Option ℕ) (net_bytes input_bytes : Option (List ℕ))
+    (net : Net) (inputs : List (List ℤ)) (result : Result (Vec ℕ Global × Bool) Failure)
+    → IfSome net_bytes (λ bytes. IsNetOf bytes net) → IfSome input_bytes (λ bytes. AreInputsOf bytes net inputs)
+    → IfOk result (λ report. IsReportOf approx rounds items net inputs report.0.items report.1)
+    → IfOk result (λ report. IsReported approx rounds items net_bytes input_bytes report.0.items report.1)
 run_of_readers approx rounds items net_bytes input_bytes net inputs (Err e) of_net of_inputs report = tt
-run_of_readers approx rounds items net_bytes input_bytes net inputs (Ok r) of_net of_inputs report = ∣ (net, inputs, of_net, of_inputs, report) ∣₁
+run_of_readers approx rounds items net_bytes input_bytes net inputs (Ok r) of_net of_inputs report =
+    ∣ (net, inputs, of_net, of_inputs, report) ∣₁
 
-pub failed_run : {T : Type 0} (approx : Option ℕ) (net_bytes input_bytes : Option (List ℕ)) (net : Net) (inputs : List (List ℤ)) (result : Result T Failure) → IfSome net_bytes (λ bytes. IsNetOf bytes net) → IfSome input_bytes (λ bytes. AreInputsOf bytes net inputs)
-    → IfErr result (IsReportFailure approx (network_of net.program) inputs) → IfErr result (IsRunFailure approx net_bytes input_bytes)
+pub failed_run : {T : Type 0} (approx : Option ℕ) (net_bytes input_bytes : Option (List ℕ)) (net : Net)
+    (inputs : List (List ℤ)) (result : Result T Failure) → IfSome net_bytes (λ bytes. IsNetOf bytes net)
+    → IfSome input_bytes (λ bytes. AreInputsOf bytes net inputs)
+    → IfErr result (IsReportFailure approx (network_of net.program) inputs)
+    → IfErr result (IsRunFailure approx net_bytes input_bytes)
 failed_run approx net_bytes input_bytes net inputs (Ok value) of_net of_inputs err = tt
-failed_run approx net_bytes input_bytes net inputs (Err failure) of_net of_inputs err = of_report net inputs of_net of_inputs err
+failed_run approx net_bytes input_bytes net inputs (Err failure) of_net of_inputs err =
+    of_report net inputs of_net of_inputs err
 
 -- what was written where the status is that of a report
 one_status : (a b : Bool) → status_of_run a ≡ status_of_run b → a ≡ b
@@ -175,11 +234,16 @@ not_failed : (a : Bool) → status_of_run a ≡ 1 → ⊥
 not_failed true e = cc
 not_failed false e = cc
 
-pub written_report : (approx : Option ℕ) (rounds : ℕ) (items : Option ℕ) (net_bytes input_bytes before after : Option (List ℕ)) (text : List ℕ) (complete : Bool) (status : ℕ) → IsReported approx rounds items net_bytes input_bytes text complete
+pub written_report : (approx : Option ℕ) (rounds : ℕ) (items : Option ℕ)
+    (net_bytes input_bytes before after : Option (List ℕ)) (text : List ℕ) (complete : Bool) (status : ℕ)
+    → IsReported approx rounds items net_bytes input_bytes text complete
     → (status ≡ 1) ⊎ (status ≡ status_of_run complete) → (status ≢ 1 → Appends before after text)
-    → (whole : Bool) → status ≡ status_of_run whole → HasWritten approx rounds items net_bytes input_bytes before after whole
-written_report approx rounds items net_bytes input_bytes before after text complete status of (inl failed) writes whole is = absurd (not_failed whole (sym is ∙ failed))
-written_report approx rounds items net_bytes input_bytes before after text complete status of (inr came) writes whole is =
+    → (whole : Bool) → status ≡ status_of_run whole
+    → HasWritten approx rounds items net_bytes input_bytes before after whole
+written_report approx rounds items net_bytes input_bytes before after text complete status of (inl failed) writes whole
+    is = absurd (not_failed whole (sym is ∙ failed))
+written_report approx rounds items net_bytes input_bytes before after text complete status of (inr came) writes whole
+    is =
     let same : complete ≡ whole = one_status complete whole (sym came ∙ is) in
     subst (HasWritten approx rounds items net_bytes input_bytes before after) same
     ∣ (text, of, writes (λ failed. not_failed complete (sym came ∙ failed))) ∣₁

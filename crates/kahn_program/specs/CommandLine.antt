@@ -13,7 +13,8 @@ required name = record (new_rule name) { required = true }
 
 -- `--NAME N`, of a number within these bounds
 abbrev pub number : Text → ℕ → ℕ → Rule
-number name least most = record (new_rule name) { long = Some name; value_names = 1; parser = Some (Unsigned least most) }
+number name least most =
+    record (new_rule name) { long = Some name; value_names = 1; parser = Some (Unsigned least most) }
 
 -- and with this text where the command line has none
 abbrev pub by_default : Text → Rule → Rule
@@ -33,12 +34,15 @@ kahnrun =
     let plain = with_rule items (flag (codes "plain")) in
     with_rule plain (number (codes "approx") 0 MAX_APPROXIMATION)
 
--- what an option's text gives: a number within these bounds, which the text writes in decimal, or none where the option has no text
+-- what an option's text gives: a number within these bounds, which the text writes in decimal, or none where the option
+-- has no text
 abbrev pub IsNumber : ℕ → ℕ → Option Text → Option ℕ → Type 0
 IsNumber least most None None = Unit {0}
 IsNumber least most None (Some number) = ⊥
 IsNumber least most (Some text) None = ⊥
-IsNumber least most (Some text) (Some number) = IsNumeral 10 (without_leading_plus text) × (number ≡ digits_value 10 (without_leading_plus text)) × (least ≤ number) × (number ≤ most)
+IsNumber least most (Some text) (Some number) =
+    IsNumeral 10 (without_leading_plus text) × (number ≡ digits_value 10 (without_leading_plus text))
+    × (least ≤ number) × (number ≤ most)
 
 -- what a flag's text gives
 pub record IsFlag (text : Option Text) (is_set : Bool) : Type 0 where

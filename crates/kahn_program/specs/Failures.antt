@@ -4,14 +4,16 @@ use Rattle.std.specs.Fmt.{decimal}
 use Rattle.kahn_program.specs.declared.failure.Source.{Source}
 use Rattle.kahn_program.specs.declared.failure.Source.TheVariants.{Net, Inputs}
 use Rattle.kahn_program.specs.declared.failure.Failure.{Failure}
-use Rattle.kahn_program.specs.declared.failure.Failure.TheVariants.{Line, Whole, NotText, Unreadable, Approximation, NoMemory, Other}
+use Rattle.kahn_program.specs.declared.failure.Failure.TheVariants.{Line, Whole, NotText, Unreadable, Approximation}
+use Rattle.kahn_program.specs.declared.failure.Failure.TheVariants.{NoMemory, Other}
 
 abbrev pub source_text : Source → List ℕ
 source_text Net = codes "net"
 source_text Inputs = codes "inputs"
 
 abbrev pub failure_text : Failure → List ℕ
-failure_text (Line source line number) = source_text source ++ codes " line " ++ decimal line ++ codes ": refusal " ++ decimal number
+failure_text (Line source line number) =
+    source_text source ++ codes " line " ++ decimal line ++ codes ": refusal " ++ decimal number
 failure_text (Whole source number) = source_text source ++ codes ": refusal " ++ decimal number
 failure_text (NotText source) = source_text source ++ codes ": not text"
 failure_text (Unreadable source) = source_text source ++ codes ": cannot be read"

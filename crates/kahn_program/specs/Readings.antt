@@ -17,7 +17,8 @@ use Rattle.net_check.specs.declared.fault.NetFault.{NetFault}
 use Rattle.net_check.specs.declared.fault.NetFault.TheVariants as fault
 use Rattle.net_check.specs.declared.net.Net.{Net}
 use Rattle.kahn_program.specs.declared.failure.Failure.{Failure}
-use Rattle.kahn_program.specs.declared.failure.Failure.TheVariants.{Line, Whole, NotText, Unreadable, Approximation, NoMemory, Other}
+use Rattle.kahn_program.specs.declared.failure.Failure.TheVariants.{Line, Whole, NotText, Unreadable, Approximation}
+use Rattle.kahn_program.specs.declared.failure.Failure.TheVariants.{NoMemory, Other}
 use Rattle.kahn_program.specs.Failures.{failure_line, status_of}
 use Rattle.kahn_program.specs.Runnable.{IsReportFailure}
 use Rattle.kahn_program.specs.declared.failure.Source.{Source}
@@ -88,32 +89,50 @@ IsOutside source failure = (failure ≡ NoMemory) ⊎ (failure ≡ Unreadable so
 
 -- this text isn't in the grammar, or its tree has a fault
 pub data IsNetTextFailure : List ℕ → Failure → Type 0 where
-  bad_text : {bytes : List ℕ} {failure : Failure} (fault : TextFault) → IsParseFault bytes fault → failure ≡ text_failure_of source.Net fault → IsNetTextFailure bytes failure
-  bad_net : {bytes : List ℕ} {failure : Failure} (tree : List DeclarationTree) (fault : NetFault) → IsTextOf tree bytes → HasFault tree fault → failure ≡ net_failure_of source.Net fault → IsNetTextFailure bytes failure
+  bad_text : {bytes : List ℕ} {failure : Failure} (fault : TextFault) → IsParseFault bytes fault
+      → failure ≡ text_failure_of source.Net fault → IsNetTextFailure bytes failure
+  bad_net : {bytes : List ℕ} {failure : Failure} (tree : List DeclarationTree) (fault : NetFault) → IsTextOf tree bytes
+      → HasFault tree fault → failure ≡ net_failure_of source.Net fault → IsNetTextFailure bytes failure
 
 -- this text isn't of inputs' lines, or its lines have a fault for the network
 pub data IsInputsTextFailure : Net → List ℕ → Failure → Type 0 where
-  bad_lines : {net : Net} {bytes : List ℕ} {failure : Failure} (fault : TextFault) → IsInputsFault bytes fault → failure ≡ text_failure_of source.Inputs fault → IsInputsTextFailure net bytes failure
-  bad_inputs : {net : Net} {bytes : List ℕ} {failure : Failure} (lines : List InputTree) (fault : NetFault) → IsInputsText bytes lines → HasInputFault net.channel_names.items (network_of net.program) lines fault → failure ≡ net_failure_of source.Inputs fault → IsInputsTextFailure net bytes failure
+  bad_lines : {net : Net} {bytes : List ℕ} {failure : Failure} (fault : TextFault) → IsInputsFault bytes fault
+      → failure ≡ text_failure_of source.Inputs fault → IsInputsTextFailure net bytes failure
+  bad_inputs : {net : Net} {bytes : List ℕ} {failure : Failure} (lines : List InputTree) (fault : NetFault)
+      → IsInputsText bytes lines → HasInputFault net.channel_names.items (network_of net.program) lines fault
+      → failure ≡ net_failure_of source.Inputs fault → IsInputsTextFailure net bytes failure
 
 -- why a reader with these bytes, where they are known, gives no network
 pub data IsNetFailure : Option (List ℕ) → Failure → Type 0 where
-  net_unread : {known : Option (List ℕ)} {failure : Failure} → IsReadFailure source.Net known failure → IsNetFailure known failure
-  net_refused : {known : Option (List ℕ)} {failure : Failure} → IfSome known (λ bytes. IsNetTextFailure bytes failure) → IsNetFailure known failure
+  net_unread : {known : Option (List ℕ)} {failure : Failure} → IsReadFailure source.Net known failure
+      → IsNetFailure known failure
+  net_refused : {known : Option (List ℕ)} {failure : Failure} → IfSome known (λ bytes. IsNetTextFailure bytes failure)
+      → IsNetFailure known failure
 
 -- why it gives no inputs for the network
 pub data IsInputsFailure : Net → Option (List ℕ) → Failure → Type 0 where
-  inputs_unread : {net : Net} {known : Option (List ℕ)} {failure : Failure} → IsReadFailure source.Inputs known failure → IsInputsFailure net known failure
-  inputs_refused : {net : Net} {known : Option (List ℕ)} {failure : Failure} → IfSome known (λ bytes. IsInputsTextFailure net bytes failure) → IsInputsFailure net known failure
+  inputs_unread : {net : Net} {known : Option (List ℕ)} {failure : Failure} → IsReadFailure source.Inputs known failure
+      → IsInputsFailure net known failure
+  inputs_refused : {net : Net} {known : Option (List ℕ)} {failure : Failure}
+      → IfSome known (λ bytes. IsInputsTextFailure net bytes failure) → IsInputsFailure net known failure
 
--- Why the program on readers with these bytes, where they are known, ends without a report, where it is asked for this approximation or for a
--- run: the network's reader, then that of the inputs for the network that it describes, then what is asked for.
+-- Why the program on readers with these bytes, where they are known, ends without a report, where it is asked for this
+-- approximation or for a run: the network's reader, then that of the inputs for the network that it describes, then
+-- what is asked for.
 pub data IsRunFailure : Option ℕ → Option (List ℕ) → Option (List ℕ) → Failure → Type 0 where
-  of_net : {approx : Option ℕ} {net_bytes input_bytes : Option (List ℕ)} {failure : Failure} → IsNetFailure net_bytes failure → IsRunFailure approx net_bytes input_bytes failure
-  of_inputs : {approx : Option ℕ} {net_bytes input_bytes : Option (List ℕ)} {failure : Failure} (net : Net) → IfSome net_bytes (λ bytes. IsNetOf bytes net) → IsInputsFailure net input_bytes failure → IsRunFailure approx net_bytes input_bytes failure
-  of_report : {approx : Option ℕ} {net_bytes input_bytes : Option (List ℕ)} {failure : Failure} (net : Net) (inputs : List (List ℤ)) → IfSome net_bytes (λ bytes. IsNetOf bytes net) → IfSome input_bytes (λ bytes. AreInputsOf bytes net inputs) → IsReportFailure approx (network_of net.program) inputs failure → IsRunFailure approx net_bytes input_bytes failure
+  of_net : {approx : Option ℕ} {net_bytes input_bytes : Option (List ℕ)} {failure : Failure}
+      → IsNetFailure net_bytes failure → IsRunFailure approx net_bytes input_bytes failure
+  of_inputs : {approx : Option ℕ} {net_bytes input_bytes : Option (List ℕ)} {failure : Failure} (net : Net)
+      → IfSome net_bytes (λ bytes. IsNetOf bytes net) → IsInputsFailure net input_bytes failure
+      → IsRunFailure approx net_bytes input_bytes failure
+  of_report : {approx : Option ℕ} {net_bytes input_bytes : Option (List ℕ)} {failure : Failure} (net : Net)
+      (inputs : List (List ℤ)) → IfSome net_bytes (λ bytes. IsNetOf bytes net)
+      → IfSome input_bytes (λ bytes. AreInputsOf bytes net inputs)
+      → IsReportFailure approx (network_of net.program) inputs failure
+      → IsRunFailure approx net_bytes input_bytes failure
 
 -- the line of such a failure was written; its status is this one
 abbrev pub HasTold : Option ℕ → Option (List ℕ) → Option (List ℕ) → Option (List ℕ) → Option (List ℕ) → ℕ → Type 0
 HasTold approx net_bytes input_bytes before after status =
-    ∥ ((failure : Failure) × IsRunFailure approx net_bytes input_bytes failure × (status ≡ status_of failure) × Appends before after (failure_line failure)) ∥₁
+    ∥ ((failure : Failure) × IsRunFailure approx net_bytes input_bytes failure × (status ≡ status_of failure)
+    × Appends before after (failure_line failure)) ∥₁

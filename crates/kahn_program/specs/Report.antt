@@ -43,7 +43,8 @@ line_if_output (Process p) name streams go = go streams
 abbrev pub output_lines : List Channel → List NameTree → List (List ℤ) → List ℕ
 output_lines [] names streams = []
 output_lines (channel ∷ channels) [] streams = []
-output_lines (channel ∷ channels) (name ∷ names) streams = line_if_output channel.consumer name streams (output_lines channels names)
+output_lines (channel ∷ channels) (name ∷ names) streams =
+    line_if_output channel.consumer name streams (output_lines channels names)
 
 abbrev pub report_text : List Channel → List NameTree → List (List ℤ) → Bool → List ℕ
 report_text channels names streams complete = output_lines channels names streams ++ verdict complete

@@ -6,11 +6,13 @@ use Rattle.ckpt_store.specs.StoreFault.{refusal_number}
 use Rattle.ckpt_store.specs.declared.fault.StoreFault.{StoreFault}
 use Rattle.ckpt_store.specs.declared.fault.StoreFault.TheVariants as fault
 use Rattle.kahn_program.specs.declared.failure.Failure.{Failure}
-use Rattle.kahn_program.specs.declared.failure.Failure.TheVariants.{Line, Whole, NotText, Unreadable, Approximation, NoMemory, Other}
+use Rattle.kahn_program.specs.declared.failure.Failure.TheVariants.{Line, Whole, NotText, Unreadable, Approximation}
+use Rattle.kahn_program.specs.declared.failure.Failure.TheVariants.{NoMemory, Other}
 
 -- an approximation up to the n-th has too long a history, or memory is missing
 abbrev pub IsApproximationFailure : Network → List (List ℤ) → ℕ → Failure → Type 0
-IsApproximationFailure net inputs n failure = ((failure ≡ Approximation 19) × HasLongHistory net inputs n) ⊎ (failure ≡ NoMemory)
+IsApproximationFailure net inputs n failure =
+    ((failure ≡ Approximation 19) × HasLongHistory net inputs n) ⊎ (failure ≡ NoMemory)
 
 -- a refusal of a store, by its number
 abbrev pub store_failure : StoreFault → Failure

@@ -1,5 +1,6 @@
 -- What a run of a network releases, and its report.
-use Rattle.std.specs.Prelude.{◌≡◌, ◌⊎◌, ◌≤◌, ◌||◌, is_some, ◌↔◌, ℕ, Bool, true, false, IsTrue, if◌then◌else◌, nat_le, ℤ, List, Option, Some, None, IfSome, length, map, take, slice_get}
+use Rattle.std.specs.Prelude.{◌≡◌, ◌⊎◌, ◌≤◌, ◌||◌, is_some, ◌↔◌, ℕ, Bool, true, false, IsTrue, if◌then◌else◌, nat_le, ℤ}
+use Rattle.std.specs.Prelude.{List, Option, Some, None, IfSome, length, map, take, slice_get}
 use Rattle.std.specs.List.{list_all}
 use Rattle.std.specs.Io.KnownBytes.{Appends}
 use Rattle.kahn_net.specs.Streams.{history_of, IsPrefix}
@@ -23,16 +24,21 @@ released_streams net stations = map (λ (channel : ℕ). released_of channel sta
 
 -- each stream is a prefix of its output's history in the n-th approximation
 abbrev pub AreWithin : Network → List (List ℤ) → List (List ℤ) → ℕ → Type 0
-AreWithin net inputs streams n = (j channel : ℕ) (items : List ℤ) → slice_get (output_channels 0 net.channels) j ≡ Some channel → slice_get streams j ≡ Some items
+AreWithin net inputs streams n =
+    (j channel : ℕ) (items : List ℤ) → slice_get (output_channels 0 net.channels) j ≡ Some channel
+    → slice_get streams j ≡ Some items
     → IsPrefix items (history_of (approximation net inputs n) channel)
 
 -- each stream is its output's whole history there
 abbrev pub AreAll : Network → List (List ℤ) → List (List ℤ) → ℕ → Type 0
-AreAll net inputs streams n = (j channel : ℕ) (items : List ℤ) → slice_get (output_channels 0 net.channels) j ≡ Some channel → slice_get streams j ≡ Some items
+AreAll net inputs streams n =
+    (j channel : ℕ) (items : List ℤ) → slice_get (output_channels 0 net.channels) j ≡ Some channel
+    → slice_get streams j ≡ Some items
     → items ≡ history_of (approximation net inputs n) channel
 
--- A run's streams, one for each output in order: prefixes of the histories in one approximation on these inputs; and where the run is
--- complete, whole in one with which the approximations come to rest, which is the network's least solution.
+-- A run's streams, one for each output in order: prefixes of the histories in one approximation on these inputs; and
+-- where the run is complete, whole in one with which the approximations come to rest, which is the network's least
+-- solution.
 pub record IsRun (net : Network) (inputs streams : List (List ℤ)) (complete : Bool) : Type 0 where
   pub count : length streams ≡ length (output_channels 0 net.channels)
   pub prefix : ∥ ((n : ℕ) × AreWithin net inputs streams n) ∥₁
@@ -41,7 +47,8 @@ pub record IsRun (net : Network) (inputs streams : List (List ℤ)) (complete : 
 -- Where the streams of a run are cut: at so many items, where that was asked for and each has them.
 abbrev pub cut_at : Option ℕ → List (List ℤ) → Option ℕ
 cut_at None released = None
-cut_at (Some items) released = if list_all (λ (stream : List ℤ). nat_le items (length stream)) released then Some items else None
+cut_at (Some items) released =
+    if list_all (λ (stream : List ℤ). nat_le items (length stream)) released then Some items else None
 
 -- what is printed of a stream, and whether the run is told to be complete: a run whose streams are cut isn't
 abbrev pub first_items : Option ℕ → List ℤ → List ℤ
@@ -54,46 +61,61 @@ is_whole (Some items) complete = false
 
 -- what is written of a run that released these streams
 abbrev pub run_text : Net → Option ℕ → List (List ℤ) → Bool → List ℕ
-run_text net cut released complete = report_text net.program.channels.items net.channel_names.items (map (first_items cut) released) (is_whole cut complete)
+run_text net cut released complete =
+    report_text net.program.channels.items net.channel_names.items (map (first_items cut) released)
+    (is_whole cut complete)
 
 -- a run is over: nothing is left to do, the rounds are over, or each of these outputs has the items that are asked for
 abbrev pub is_over : List ℕ → ℕ → Option ℕ → WorldView → Bool
 is_over outputs rounds items now =
-    are_quiet now || (nat_le rounds now.round || is_some (cut_at items (map (λ (channel : ℕ). released_of channel now.stations) outputs)))
+    are_quiet now ||
+    (nat_le rounds now.round || is_some
+    (cut_at items (map (λ (channel : ℕ). released_of channel now.stations) outputs)))
 
--- The world at the end of a run: turn by turn it came from the first one, until the run was over, or so many turns were taken that nobody waits
--- for them.
-pub record IsLast (net : Network) (inputs : List (List ℤ)) (rounds : ℕ) (items : Option ℕ) (now : WorldView) : Type 0 where
-  pub turns : ℕ
-  pub came : CameTo (is_over (output_channels 0 net.channels) rounds items) (node_count net) turns (first_world net inputs) now
-  pub over : (is_over (output_channels 0 net.channels) rounds items now ≡ true) ⊎ (MAX_TURNS ≤ turns)
+-- The world at the end of a run: turn by turn it came from the first one, until the run was over, or so many turns were
+-- taken that nobody waits for them.
+pub record IsLast (net : Network) (inputs : List (List ℤ)) (rounds : ℕ) (items : Option ℕ) (now : WorldView) : Type 0
+  where
+    pub turns : ℕ
+    pub came : CameTo (is_over (output_channels 0 net.channels) rounds items) (node_count net) turns
+        (first_world net inputs) now
+    pub over : (is_over (output_channels 0 net.channels) rounds items now ≡ true) ⊎ (MAX_TURNS ≤ turns)
 
--- A text is the report of a run of this network on these inputs, and tells whether it is complete: of what has left in the world at its end.
--- Where so many items of each output were asked for, and each has them, the first ones of each are printed, and the run is partial.
+-- A text is the report of a run of this network on these inputs, and tells whether it is complete: of what has left in
+-- the world at its end. Where so many items of each output were asked for, and each has them, the first ones of each
+-- are printed, and the run is partial.
 abbrev pub IsReport : Net → ℕ → Option ℕ → List (List ℤ) → List ℕ → Bool → Type 0
 IsReport net rounds items inputs text told =
     ∥ ((now : WorldView) × IsLast (network_of net.program) inputs rounds items now
     × IsRun (network_of net.program) inputs (released_streams (network_of net.program) now.stations) (are_quiet now)
     × (told ≡ is_whole (cut_at items (released_streams (network_of net.program) now.stations)) (are_quiet now))
-    × (text ≡ run_text net (cut_at items (released_streams (network_of net.program) now.stations)) (released_streams (network_of net.program) now.stations) (are_quiet now))) ∥₁
+    × (text ≡ run_text net (cut_at items (released_streams (network_of net.program) now.stations))
+    (released_streams (network_of net.program) now.stations) (are_quiet now))) ∥₁
 
--- A text is the report of the n-th approximation on these inputs: each output's whole history there. It tells `complete` exactly where that
--- approximation is a solution.
+-- A text is the report of the n-th approximation on these inputs: each output's whole history there. It tells
+-- `complete` exactly where that approximation is a solution.
 pub record IsApproximated (net : Net) (inputs : List (List ℤ)) (n : ℕ) (text : List ℕ) (told : Bool) : Type 0 where
   pub text_is : text ≡ report_text net.program.channels.items net.channel_names.items
-      (map (λ (channel : ℕ). history_of (approximation (network_of net.program) inputs n) channel) (output_channels 0 net.program.channels.items)) told
-  pub solution : IsTrue told ↔ IsSolution (network_of net.program) inputs (approximation (network_of net.program) inputs n)
+      (map (λ (channel : ℕ). history_of (approximation (network_of net.program) inputs n) channel)
+      (output_channels 0 net.program.channels.items)) told
+  pub solution : IsTrue told
+      ↔ IsSolution (network_of net.program) inputs (approximation (network_of net.program) inputs n)
 
 -- a text is the report that is asked for: of an approximation, or of a run, cut at so many items
 abbrev pub IsReportOf : Option ℕ → ℕ → Option ℕ → Net → List (List ℤ) → List ℕ → Bool → Type 0
 IsReportOf (Some n) rounds items net inputs text told = IsApproximated net inputs n text told
 IsReportOf None rounds items net inputs text told = IsReport net rounds items inputs text told
 
--- The same of the network that a reader with these bytes describes, on the inputs that another gives, where the bytes are known.
+-- The same of the network that a reader with these bytes describes, on the inputs that another gives, where the bytes
+-- are known.
 abbrev pub IsReported : Option ℕ → ℕ → Option ℕ → Option (List ℕ) → Option (List ℕ) → List ℕ → Bool → Type 0
 IsReported approx rounds items net_bytes input_bytes text told =
-    ∥ ((net : Net) × (inputs : List (List ℤ)) × IfSome net_bytes (λ bytes. IsNetOf bytes net) × IfSome input_bytes (λ bytes. AreInputsOf bytes net inputs) × IsReportOf approx rounds items net inputs text told) ∥₁
+    ∥ ((net : Net) × (inputs : List (List ℤ)) × IfSome net_bytes (λ bytes. IsNetOf bytes net)
+    × IfSome input_bytes (λ bytes. AreInputsOf bytes net inputs)
+    × IsReportOf approx rounds items net inputs text told) ∥₁
 
 -- and such a text was written
-abbrev pub HasWritten : Option ℕ → ℕ → Option ℕ → Option (List ℕ) → Option (List ℕ) → Option (List ℕ) → Option (List ℕ) → Bool → Type 0
-HasWritten approx rounds items net_bytes input_bytes before after told = ∥ ((text : List ℕ) × IsReported approx rounds items net_bytes input_bytes text told × Appends before after text) ∥₁
+abbrev pub HasWritten : Option ℕ → ℕ → Option ℕ → Option (List ℕ) → Option (List ℕ) → Option (List ℕ) → Option (List ℕ)
+    → Bool → Type 0
+HasWritten approx rounds items net_bytes input_bytes before after told =
+    ∥ ((text : List ℕ) × IsReported approx rounds items net_bytes input_bytes text told × Appends before after text) ∥₁

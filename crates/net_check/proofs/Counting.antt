@@ -1,15 +1,19 @@
 -- Units counted, and passing, statement by statement.
-use Rattle.std.proofs.Common.{◌≡◌, ◌∙◌, sym, ap, refl, ℕ, ◌+◌, ◌<◌, List, drop, get_or, length, Bool, true, false, ◌||◌, ◌&&◌, Option, Some, None, MatchOption, arith}
+use Rattle.std.proofs.Common.{◌≡◌, ◌∙◌, sym, ap, refl, ℕ, ◌+◌, ◌<◌, List, drop, get_or, length, Bool, true, false, ◌||◌}
+use Rattle.std.proofs.Common.{◌&&◌, Option, Some, None, MatchOption, arith}
 use Rattle.std.proofs.lemmas.List.{at_drop_more}
 use Rattle.net_text.specs.Trees.{BlockTree, NothingTree, block_tree, row_block, then_tree}
 use Rattle.net_text.specs.declared.tree.StatementText.{StatementText, Get, Assign, Put, Stop, If'}
 use Rattle.net_check.specs.Texts.{block_units_text, is_passing_text}
 
 -- the statement at hand, and those after it
-tree_at : (ts : List StatementText) (i : ℕ) (t : StatementText) → i < length ts → t ≡ get_or ts i t → block_tree (drop i ts) ≡ then_tree t (block_tree (drop (i + 1) ts))
-tree_at ts i t lt e = at_drop_more block_tree ts i t lt ∙ ap (λ (x : StatementText). then_tree x (block_tree (drop (i + 1) ts))) (sym e)
+tree_at : (ts : List StatementText) (i : ℕ) (t : StatementText) → i < length ts → t ≡ get_or ts i t
+    → block_tree (drop i ts) ≡ then_tree t (block_tree (drop (i + 1) ts))
+tree_at ts i t lt e =
+    at_drop_more block_tree ts i t lt ∙ ap (λ (x : StatementText). then_tree x (block_tree (drop (i + 1) ts))) (sym e)
 
-then_units : (t : StatementText) (rest : BlockTree) → block_units_text (then_tree t rest) ≡ block_units_text (then_tree t NothingTree) + block_units_text rest
+then_units : (t : StatementText) (rest : BlockTree)
+    → block_units_text (then_tree t rest) ≡ block_units_text (then_tree t NothingTree) + block_units_text rest
 then_units (Get v c) rest = omega arith
 then_units (Assign v e) rest = omega arith
 then_units (Put e c) rest = omega arith
@@ -24,16 +28,21 @@ then_costs (Put e c) = omega arith
 then_costs Stop = omega arith
 then_costs (If' test p first q second) = omega arith
 
-pub units_at : (ts : List StatementText) (i : ℕ) (t : StatementText) → i < length ts → t ≡ get_or ts i t → block_units_text (block_tree (drop i ts)) ≡ block_units_text (then_tree t NothingTree) + block_units_text (block_tree (drop (i + 1) ts))
+pub units_at : (ts : List StatementText) (i : ℕ) (t : StatementText) → i < length ts → t ≡ get_or ts i t
+    → block_units_text (block_tree (drop i ts))
+    ≡ block_units_text (then_tree t NothingTree) + block_units_text (block_tree (drop (i + 1) ts))
 units_at ts i t lt e = ap block_units_text (tree_at ts i t lt e) ∙ then_units t (block_tree (drop (i + 1) ts))
 
 -- too many before the last are too many
-pub none_left : (r : Option ℕ) (left whole : ℕ) → r ≡ None → left < whole → MatchOption r (left < whole) (λ (x : ℕ). x + whole ≡ left)
+pub none_left : (r : Option ℕ) (left whole : ℕ) → r ≡ None → left < whole
+    → MatchOption r (left < whole) (λ (x : ℕ). x + whole ≡ left)
 none_left None left whole e h = h
 none_left (Some x) left whole e h = absurd (cc)
 
 -- counted on from what is left after the units before
-pub counted_on : (r : Option ℕ) (left rest before after whole : ℕ) → rest + before ≡ left → whole ≡ before + after → MatchOption r (rest < after) (λ (x : ℕ). x + after ≡ rest) → MatchOption r (left < whole) (λ (x : ℕ). x + whole ≡ left)
+pub counted_on : (r : Option ℕ) (left rest before after whole : ℕ) → rest + before ≡ left → whole ≡ before + after
+    → MatchOption r (rest < after) (λ (x : ℕ). x + after ≡ rest)
+    → MatchOption r (left < whole) (λ (x : ℕ). x + whole ≡ left)
 counted_on None left rest before after whole h k m = omega arith
 counted_on (Some x) left rest before after whole h k m = omega arith
 
@@ -41,18 +50,29 @@ or_twice : (a b : Bool) → a || b ≡ (a || false) || b
 or_twice true b = refl
 or_twice false b = refl
 
-then_passes : (t : StatementText) (rest : BlockTree) → is_passing_text (then_tree t rest) ≡ is_passing_text (then_tree t NothingTree) || is_passing_text rest
+then_passes : (t : StatementText) (rest : BlockTree)
+    → is_passing_text (then_tree t rest) ≡ is_passing_text (then_tree t NothingTree) || is_passing_text rest
 then_passes (Get v c) rest = refl
 then_passes (Assign v e) rest = refl
 then_passes (Put e c) rest = refl
 then_passes Stop rest = refl
-then_passes (If' test p first q second) rest = or_twice (is_passing_text (row_block first) && is_passing_text (row_block second)) (is_passing_text rest)
+then_passes (If' test p first q second) rest =
+    or_twice (is_passing_text (row_block first) && is_passing_text (row_block second)) (is_passing_text rest)
 
-pub passes_at : (ts : List StatementText) (i : ℕ) (t : StatementText) → i < length ts → t ≡ get_or ts i t → is_passing_text (block_tree (drop i ts)) ≡ is_passing_text (then_tree t NothingTree) || is_passing_text (block_tree (drop (i + 1) ts))
+pub passes_at : (ts : List StatementText) (i : ℕ) (t : StatementText) → i < length ts → t ≡ get_or ts i t
+    → is_passing_text (block_tree (drop i ts))
+    ≡ is_passing_text (then_tree t NothingTree) || is_passing_text (block_tree (drop (i + 1) ts))
 passes_at ts i t lt e = ap is_passing_text (tree_at ts i t lt e) ∙ then_passes t (block_tree (drop (i + 1) ts))
 
-pub passes_here : (ts : List StatementText) (i : ℕ) (t : StatementText) → i < length ts → t ≡ get_or ts i t → is_passing_text (block_tree (drop i ts)) ≡ is_passing_text (block_tree ts) → true ≡ is_passing_text (then_tree t NothingTree) → true ≡ is_passing_text (block_tree ts)
-passes_here ts i t lt e same here = ap (λ (b : Bool). b || is_passing_text (block_tree (drop (i + 1) ts))) here ∙ sym (passes_at ts i t lt e) ∙ same
+pub passes_here : (ts : List StatementText) (i : ℕ) (t : StatementText) → i < length ts → t ≡ get_or ts i t
+    → is_passing_text (block_tree (drop i ts)) ≡ is_passing_text (block_tree ts)
+    → true ≡ is_passing_text (then_tree t NothingTree) → true ≡ is_passing_text (block_tree ts)
+passes_here ts i t lt e same here =
+    ap (λ (b : Bool). b || is_passing_text (block_tree (drop (i + 1) ts))) here ∙ sym (passes_at ts i t lt e) ∙ same
 
-pub passes_later : (ts : List StatementText) (i : ℕ) (t : StatementText) → i < length ts → t ≡ get_or ts i t → is_passing_text (block_tree (drop i ts)) ≡ is_passing_text (block_tree ts) → false ≡ is_passing_text (then_tree t NothingTree) → is_passing_text (block_tree (drop (i + 1) ts)) ≡ is_passing_text (block_tree ts)
-passes_later ts i t lt e same here = ap (λ (b : Bool). b || is_passing_text (block_tree (drop (i + 1) ts))) here ∙ sym (passes_at ts i t lt e) ∙ same
+pub passes_later : (ts : List StatementText) (i : ℕ) (t : StatementText) → i < length ts → t ≡ get_or ts i t
+    → is_passing_text (block_tree (drop i ts)) ≡ is_passing_text (block_tree ts)
+    → false ≡ is_passing_text (then_tree t NothingTree)
+    → is_passing_text (block_tree (drop (i + 1) ts)) ≡ is_passing_text (block_tree ts)
+passes_later ts i t lt e same here =
+    ap (λ (b : Bool). b || is_passing_text (block_tree (drop (i + 1) ts))) here ∙ sym (passes_at ts i t lt e) ∙ same

@@ -1,10 +1,12 @@
 -- Ifs of the text, and what they are resolved to.
-use Rattle.std.proofs.Common.{◌≡◌, ◌∙◌, ℕ, suc, ◌+◌, List, ◌++◌, [], sym, ap, subst, refl, Bool, true, false, ◌||◌, ◌&&◌, Vec, Global, rules}
+use Rattle.std.proofs.Common.{◌≡◌, ◌∙◌, ℕ, suc, ◌+◌, List, ◌++◌, [], sym, ap, subst, refl, Bool, true, false, ◌||◌}
+use Rattle.std.proofs.Common.{◌&&◌, Vec, Global, rules}
 use mathlib.Core.Former.{Count}
 use Rattle.net_text.specs.Names.{NameTree}
 use Rattle.net_text.specs.Trees.{BlockTree, NothingTree, IfTree, block_tree, expr_tree, row_block, then_tree}
 use Rattle.net_text.specs.declared.tree.ExprText.{ExprText}
-use Rattle.net_text.specs.declared.tree.StatementText.{StatementText, Row_of-StatementText, end_of-StatementText, more_of-StatementText, items-the_row-StatementText, the_lemmas}
+use Rattle.net_text.specs.declared.tree.StatementText.{StatementText, Row_of-StatementText, end_of-StatementText}
+use Rattle.net_text.specs.declared.tree.StatementText.{more_of-StatementText, items-the_row-StatementText, the_lemmas}
 use Rattle.net_text.specs.declared.tree.StatementText.TheViews as text
 use Rattle.kahn_net.specs.declared.program.Expr.{Expr}
 use Rattle.kahn_net.specs.declared.program.Statement.{Statement}
@@ -18,24 +20,32 @@ use Rattle.net_check.specs.UseLaws.{has_first, has_second}
 use Rattle.net_check.specs.Uses.{block_uses, expr_uses}
 use Rattle.net_check.proofs.Using.{Within, within_left}
 
-row_statements : {n : Count} (row : Row_of-StatementText n) → row_block row ≡ block_tree (items-the_row-StatementText n row)
+row_statements : {n : Count} (row : Row_of-StatementText n)
+    → row_block row ≡ block_tree (items-the_row-StatementText n row)
 row_statements end_of-StatementText = refl
 row_statements (more_of-StatementText s rest) = ap (then_tree s) (row_statements rest)
 
-if_tree : (test : ExprText) (first second : Vec StatementText Global) (rest : BlockTree) → then_tree (text.If test first second) rest ≡ IfTree (expr_tree test) (block_tree first.items) (block_tree second.items) rest
+if_tree : (test : ExprText) (first second : Vec StatementText Global) (rest : BlockTree)
+    → then_tree (text.If test first second) rest
+    ≡ IfTree (expr_tree test) (block_tree first.items) (block_tree second.items) rest
 if_tree test first second rest = search (rules, the_lemmas, row_statements)
 
 -- the tree of a statement that code finds to be an if, whose blocks code reads as these lists
-pub tree_is_if : (t : StatementText) (test : ExprText) (first second : Vec StatementText Global) (ones others : List StatementText) → t ≡ text.If test first second → ones ≡ first.items → others ≡ second.items
+pub tree_is_if : (t : StatementText) (test : ExprText) (first second : Vec StatementText Global)
+    (ones others : List StatementText) → t ≡ text.If test first second → ones ≡ first.items → others ≡ second.items
     → then_tree t NothingTree ≡ IfTree (expr_tree test) (block_tree ones) (block_tree others) NothingTree
 tree_is_if t test first second ones others h k l =
     ap (λ (s : StatementText). then_tree s NothingTree) h ∙ if_tree test first second NothingTree
-    ∙ ap (λ (ts : List StatementText). IfTree (expr_tree test) (block_tree ts) (block_tree second.items) NothingTree) (sym k)
+    ∙ ap (λ (ts : List StatementText). IfTree (expr_tree test) (block_tree ts) (block_tree second.items) NothingTree)
+    (sym k)
     ∙ ap (λ (ts : List StatementText). IfTree (expr_tree test) (block_tree ones) (block_tree ts) NothingTree) (sym l)
 
 -- its units
-pub if_units : (t : StatementText) (test : ExprText) (first second : Vec StatementText Global) (ones others : List StatementText) → t ≡ text.If test first second → ones ≡ first.items → others ≡ second.items
-    → block_units_text (then_tree t NothingTree) ≡ suc (expr_units_text (expr_tree test) + (block_units_text (block_tree ones) + (block_units_text (block_tree others) + 0)))
+pub if_units : (t : StatementText) (test : ExprText) (first second : Vec StatementText Global)
+    (ones others : List StatementText) → t ≡ text.If test first second → ones ≡ first.items → others ≡ second.items
+    → block_units_text (then_tree t NothingTree)
+    ≡ suc (expr_units_text (expr_tree test)
+    + (block_units_text (block_tree ones) + (block_units_text (block_tree others) + 0)))
 if_units t test first second ones others h k l = ap block_units_text (tree_is_if t test first second ones others h k l)
 
 -- whether it passes
@@ -43,39 +53,75 @@ or_none : (b : Bool) → b || false ≡ b
 or_none true = refl
 or_none false = refl
 
-pub if_passes : (t : StatementText) (test : ExprText) (first second : Vec StatementText Global) (ones others : List StatementText) → t ≡ text.If test first second → ones ≡ first.items → others ≡ second.items
-    → is_passing_text (then_tree t NothingTree) ≡ is_passing_text (block_tree ones) && is_passing_text (block_tree others)
-if_passes t test first second ones others h k l = ap is_passing_text (tree_is_if t test first second ones others h k l) ∙ or_none (is_passing_text (block_tree ones) && is_passing_text (block_tree others))
+pub if_passes : (t : StatementText) (test : ExprText) (first second : Vec StatementText Global)
+    (ones others : List StatementText) → t ≡ text.If test first second → ones ≡ first.items → others ≡ second.items
+    → is_passing_text (then_tree t NothingTree)
+    ≡ is_passing_text (block_tree ones) && is_passing_text (block_tree others)
+if_passes t test first second ones others h k l =
+    ap is_passing_text (tree_is_if t test first second ones others h k l)
+    ∙ or_none (is_passing_text (block_tree ones) && is_passing_text (block_tree others))
 
 -- what its test and its blocks use
-pub within_test : (t : StatementText) (test : ExprText) (first second : Vec StatementText Global) → t ≡ text.If test first second → Within (expr_uses (expr_tree test)) (block_uses (then_tree t NothingTree))
+pub within_test : (t : StatementText) (test : ExprText) (first second : Vec StatementText Global)
+    → t ≡ text.If test first second → Within (expr_uses (expr_tree test)) (block_uses (then_tree t NothingTree))
 within_test t test first second h =
-    subst (λ (b : BlockTree). Within (expr_uses (expr_tree test)) (block_uses b)) (sym (tree_is_if t test first second first.items second.items h refl refl))
-    (within_left (expr_uses (expr_tree test)) (block_uses (block_tree first.items) ++ (block_uses (block_tree second.items) ++ [])))
+    subst (λ (b : BlockTree). Within (expr_uses (expr_tree test)) (block_uses b))
+    (sym (tree_is_if t test first second first.items second.items h refl refl))
+    (within_left (expr_uses (expr_tree test))
+    (block_uses (block_tree first.items) ++ (block_uses (block_tree second.items) ++ [])))
 
-pub within_first : (t : StatementText) (test : ExprText) (first second : Vec StatementText Global) (ones : List StatementText) → t ≡ text.If test first second → ones ≡ first.items → Within (block_uses (block_tree ones)) (block_uses (then_tree t NothingTree))
+pub within_first : (t : StatementText) (test : ExprText) (first second : Vec StatementText Global)
+    (ones : List StatementText) → t ≡ text.If test first second → ones ≡ first.items
+    → Within (block_uses (block_tree ones)) (block_uses (then_tree t NothingTree))
 within_first t test first second ones h k =
-    subst (λ (b : BlockTree). Within (block_uses (block_tree ones)) (block_uses b)) (sym (tree_is_if t test first second ones second.items h k refl))
-    record { all = has_first (expr_uses (expr_tree test)) (block_uses (block_tree ones)) (block_uses (block_tree second.items)) [] }
+    subst (λ (b : BlockTree). Within (block_uses (block_tree ones)) (block_uses b))
+    (sym (tree_is_if t test first second ones second.items h k refl))
+    record {
+      all =
+          has_first (expr_uses (expr_tree test)) (block_uses (block_tree ones)) (block_uses (block_tree second.items))
+          [];
+    }
 
-pub within_second : (t : StatementText) (test : ExprText) (first second : Vec StatementText Global) (others : List StatementText) → t ≡ text.If test first second → others ≡ second.items → Within (block_uses (block_tree others)) (block_uses (then_tree t NothingTree))
+pub within_second : (t : StatementText) (test : ExprText) (first second : Vec StatementText Global)
+    (others : List StatementText) → t ≡ text.If test first second → others ≡ second.items
+    → Within (block_uses (block_tree others)) (block_uses (then_tree t NothingTree))
 within_second t test first second others h l =
-    subst (λ (b : BlockTree). Within (block_uses (block_tree others)) (block_uses b)) (sym (tree_is_if t test first second first.items others h refl l))
-    record { all = has_second (expr_uses (expr_tree test)) (block_uses (block_tree first.items)) (block_uses (block_tree others)) [] }
+    subst (λ (b : BlockTree). Within (block_uses (block_tree others)) (block_uses b))
+    (sym (tree_is_if t test first second first.items others h refl l))
+    record {
+      all =
+          has_second (expr_uses (expr_tree test)) (block_uses (block_tree first.items)) (block_uses (block_tree others))
+          [];
+    }
 
 -- an if is resolved to an if
-pub if_resolves : (cs vs : List NameTree) (t : StatementText) (test : ExprText) (first second : Vec StatementText Global) (ones others : List StatementText) (e : Expr) (one other : Vec Statement Global) → t ≡ text.If test first second → ones ≡ first.items → others ≡ second.items
-    → ResolvesExpr vs (expr_tree test) (tree_of e) → ResolvesBlock cs vs (block_tree ones) (block_of one.items) → ResolvesBlock cs vs (block_tree others) (block_of other.items) → ResolvesBlock cs vs (then_tree t NothingTree) (then_of (view.If e one other) Nothing)
+pub if_resolves : (cs vs : List NameTree) (t : StatementText) (test : ExprText)
+    (first second : Vec StatementText Global) (ones others : List StatementText) (e : Expr)
+    (one other : Vec Statement Global) → t ≡ text.If test first second → ones ≡ first.items → others ≡ second.items
+    → ResolvesExpr vs (expr_tree test) (tree_of e) → ResolvesBlock cs vs (block_tree ones) (block_of one.items)
+    → ResolvesBlock cs vs (block_tree others) (block_of other.items)
+    → ResolvesBlock cs vs (then_tree t NothingTree) (then_of (view.If e one other) Nothing)
 if_resolves cs vs t test first second ones others e one other h k l a b c =
-    subst (λ (x : BlockTree). ResolvesBlock cs vs x (then_of (view.If e one other) Nothing)) (sym (tree_is_if t test first second ones others h k l))
-    (subst (λ (x : Block). ResolvesBlock cs vs (IfTree (expr_tree test) (block_tree ones) (block_tree others) NothingTree) x) (sym (if_of e one other Nothing)) (a, b, c, tt))
+    subst (λ (x : BlockTree). ResolvesBlock cs vs x (then_of (view.If e one other) Nothing))
+    (sym (tree_is_if t test first second ones others h k l))
+    (subst (λ (x : Block). ResolvesBlock cs vs
+    (IfTree (expr_tree test) (block_tree ones) (block_tree others) NothingTree) x)
+    (sym (if_of e one other Nothing)) (a, b, c, tt))
 
 -- the channels that it uses are those of its blocks
 or_none_last : (a b : Bool) → a || (b || false) ≡ a || b
 or_none_last a b = ap (λ (x : Bool). a || x) (or_none b)
 
-pub if_puts : (c : ℕ) (e : Expr) (one other : Vec Statement Global) → block_puts c (then_of (view.If e one other) Nothing) ≡ block_puts c (block_of one.items) || block_puts c (block_of other.items)
-if_puts c e one other = ap (block_puts c) (if_of e one other Nothing) ∙ or_none_last (block_puts c (block_of one.items)) (block_puts c (block_of other.items))
+pub if_puts : (c : ℕ) (e : Expr) (one other : Vec Statement Global)
+    → block_puts c (then_of (view.If e one other) Nothing)
+    ≡ block_puts c (block_of one.items) || block_puts c (block_of other.items)
+if_puts c e one other =
+    ap (block_puts c) (if_of e one other Nothing)
+    ∙ or_none_last (block_puts c (block_of one.items)) (block_puts c (block_of other.items))
 
-pub if_gets : (c : ℕ) (e : Expr) (one other : Vec Statement Global) → block_gets c (then_of (view.If e one other) Nothing) ≡ block_gets c (block_of one.items) || block_gets c (block_of other.items)
-if_gets c e one other = ap (block_gets c) (if_of e one other Nothing) ∙ or_none_last (block_gets c (block_of one.items)) (block_gets c (block_of other.items))
+pub if_gets : (c : ℕ) (e : Expr) (one other : Vec Statement Global)
+    → block_gets c (then_of (view.If e one other) Nothing)
+    ≡ block_gets c (block_of one.items) || block_gets c (block_of other.items)
+if_gets c e one other =
+    ap (block_gets c) (if_of e one other Nothing)
+    ∙ or_none_last (block_gets c (block_of one.items)) (block_gets c (block_of other.items))

@@ -1,9 +1,12 @@
--- When lists of items are those that the lines of an inputs text give to a network, and what is wrong with lines that are refused.
+-- When lists of items are those that the lines of an inputs text give to a network, and what is wrong with lines that
+-- are refused.
 use Rattle.std.specs.Prelude.{◌≡◌, ◌≢◌, ℕ, ℤ, ◌<◌, ◌≤◌, List, [], map, length, slice_get, Some}
 use Rattle.net_text.specs.Names.{NameTree}
 use Rattle.net_text.specs.Trees.{InputTree}
 use Rattle.net_check.specs.declared.fault.NetFault.{NetFault}
-use Rattle.net_check.specs.declared.fault.NetFault.TheVariants.{NoMemory, TwiceNamed, UnknownName, TwoProducers, TwoConsumers, LoopWithoutGet, Limit, NoProducer, NoConsumer, MissingInput}
+use Rattle.net_check.specs.declared.fault.NetFault.TheVariants.{NoMemory, TwiceNamed, UnknownName, TwoProducers}
+use Rattle.net_check.specs.declared.fault.NetFault.TheVariants.{TwoConsumers, LoopWithoutGet, Limit, NoProducer}
+use Rattle.net_check.specs.declared.fault.NetFault.TheVariants.{NoConsumer, MissingInput}
 use Rattle.kahn_net.specs.declared.program.Channel.{Channel}
 use Rattle.kahn_net.specs.declared.program.Port.TheVariants.{Outside}
 use Rattle.kahn_net.specs.Syntax.{Network}
@@ -36,15 +39,17 @@ pub record IsNamedIn (names : List NameTree) (lines : List InputTree) (c : ℕ) 
   pub reads : Reads names c line.name.text
 
 -- the lists that the lines give to a network whose channels have these names, a list for each channel
-pub record Binds (names : List NameTree) (net : Network) (lines : List InputTree) (inputs : List (List ℤ)) : Type 0 where
-  pub count : length inputs ≡ length net.channels
-  -- each line names an input, which has exactly its items
-  pub given : (i : ℕ) (line : InputTree) → slice_get lines i ≡ Some line → IsGiven names net inputs line
-  -- each input is named by a line, and by no two
-  pub named : (c : ℕ) → IsInput net c → IsNamedIn names lines c
-  pub once : AllDifferent (line_names lines)
-  -- a channel that is no input has no items
-  pub elsewhere : (c : ℕ) (channel : Channel) (items : List ℤ) → slice_get net.channels c ≡ Some channel → slice_get inputs c ≡ Some items → channel.producer ≢ Outside → items ≡ []
+pub record Binds (names : List NameTree) (net : Network) (lines : List InputTree) (inputs : List (List ℤ)) : Type 0
+  where
+    pub count : length inputs ≡ length net.channels
+    -- each line names an input, which has exactly its items
+    pub given : (i : ℕ) (line : InputTree) → slice_get lines i ≡ Some line → IsGiven names net inputs line
+    -- each input is named by a line, and by no two
+    pub named : (c : ℕ) → IsInput net c → IsNamedIn names lines c
+    pub once : AllDifferent (line_names lines)
+    -- a channel that is no input has no items
+    pub elsewhere : (c : ℕ) (channel : Channel) (items : List ℤ) → slice_get net.channels c ≡ Some channel
+        → slice_get inputs c ≡ Some items → channel.producer ≢ Outside → items ≡ []
 
 -- 11: a line that names no input
 pub record HasNoInput (names : List NameTree) (net : Network) (lines : List InputTree) (at : ℕ) : Type 0 where

@@ -5,7 +5,9 @@ use Rattle.net_text.specs.declared.tree.ChannelText.{ChannelText}
 use Rattle.net_text.specs.declared.tree.Role.{Role}
 use Rattle.net_text.specs.declared.tree.Role.TheVariants.{Input, Output}
 use Rattle.net_check.specs.declared.fault.NetFault.{NetFault}
-use Rattle.net_check.specs.declared.fault.NetFault.TheVariants.{NoMemory, TwiceNamed, UnknownName, TwoProducers, TwoConsumers, LoopWithoutGet, Limit, NoProducer, NoConsumer, MissingInput}
+use Rattle.net_check.specs.declared.fault.NetFault.TheVariants.{NoMemory, TwiceNamed, UnknownName, TwoProducers}
+use Rattle.net_check.specs.declared.fault.NetFault.TheVariants.{TwoConsumers, LoopWithoutGet, Limit, NoProducer}
+use Rattle.net_check.specs.declared.fault.NetFault.TheVariants.{NoConsumer, MissingInput}
 use Rattle.kahn_net.specs.declared.program.Port.{Port}
 use Rattle.kahn_net.specs.declared.program.Port.TheVariants.{Outside, Process}
 use Rattle.kahn_net.specs.Syntax.{Code}
@@ -35,30 +37,39 @@ pub record Takes (p c : ℕ) (old new : List Port) : Type 0 where
   pub after : new ≡ slice_set old c (Process p)
 
 -- process p takes this end of the channels that it uses so, none of which stands outside there
-pub record Claims (channels : List ChannelText) (role : Role) (p : ℕ) (uses : ℕ → Bool) (old new : List Port) : Type 0 where
-  pub count : length new ≡ length old
-  pub claimed : (c : ℕ) → IsTrue (uses c) → slice_get new c ≡ Some (Process p)
-  pub kept : (c : ℕ) → uses c ≡ false → slice_get new c ≡ slice_get old c
-  pub free : (c : ℕ) (port : Port) → IsTrue (uses c) → slice_get old c ≡ Some port → IsFree p port
-  pub allowed : (c : ℕ) (channel : ChannelText) → IsTrue (uses c) → slice_get channels c ≡ Some channel → channel.role ≢ role
+pub record Claims (channels : List ChannelText) (role : Role) (p : ℕ) (uses : ℕ → Bool) (old new : List Port) : Type 0
+  where
+    pub count : length new ≡ length old
+    pub claimed : (c : ℕ) → IsTrue (uses c) → slice_get new c ≡ Some (Process p)
+    pub kept : (c : ℕ) → uses c ≡ false → slice_get new c ≡ slice_get old c
+    pub free : (c : ℕ) (port : Port) → IsTrue (uses c) → slice_get old c ≡ Some port → IsFree p port
+    pub allowed : (c : ℕ) (channel : ChannelText) → IsTrue (uses c) → slice_get channels c ≡ Some channel
+        → channel.role ≢ role
 
 -- at each end stands the one process of these that uses the channel so
-pub record Joined (channels : List ChannelText) (role : Role) (uses : ℕ → Code → Bool) (codes : List Code) (ports : List Port) : Type 0 where
+pub record Joined (channels : List ChannelText) (role : Role) (uses : ℕ → Code → Bool) (codes : List Code)
+    (ports : List Port) : Type 0 where
   pub count : length ports ≡ length channels
-  pub there : (c q : ℕ) (code : Code) → slice_get codes q ≡ Some code → IsTrue (uses c code) → slice_get ports c ≡ Some (Process q)
-  pub back : (c q : ℕ) → slice_get ports c ≡ Some (Process q) → (code : Code) × (slice_get codes q ≡ Some code) × IsTrue (uses c code)
-  pub allowed : (c q : ℕ) (channel : ChannelText) → slice_get ports c ≡ Some (Process q) → slice_get channels c ≡ Some channel → channel.role ≢ role
+  pub there : (c q : ℕ) (code : Code) → slice_get codes q ≡ Some code → IsTrue (uses c code)
+      → slice_get ports c ≡ Some (Process q)
+  pub back : (c q : ℕ) → slice_get ports c ≡ Some (Process q)
+      → (code : Code) × (slice_get codes q ≡ Some code) × IsTrue (uses c code)
+  pub allowed : (c q : ℕ) (channel : ChannelText) → slice_get ports c ≡ Some (Process q)
+      → slice_get channels c ≡ Some channel → channel.role ≢ role
 
 -- these processes of a text are resolved to these codes, and so the ends of the channels are joined
-pub record AreResolved (channels : List ChannelText) (processes : List ProcessTree) (codes : List Code) (producers consumers : List Port) : Type 0 where
+pub record AreResolved (channels : List ChannelText) (processes : List ProcessTree) (codes : List Code)
+    (producers consumers : List Port) : Type 0 where
   pub count : length codes ≡ length processes
-  pub codes_of : (p : ℕ) (process : ProcessTree) (code : Code) → slice_get processes p ≡ Some process → slice_get codes p ≡ Some code → ResolvesProcess (channel_names channels) process code
+  pub codes_of : (p : ℕ) (process : ProcessTree) (code : Code) → slice_get processes p ≡ Some process
+      → slice_get codes p ≡ Some code → ResolvesProcess (channel_names channels) process code
   pub producers_of : Joined channels Input code_puts codes producers
   pub consumers_of : Joined channels Output code_gets codes consumers
 
 -- each text with these channels and processes has the fault
 abbrev pub FaultOfText : List ChannelText → List ProcessTree → NetFault → Type 0
-FaultOfText channels processes fault = (text : List DeclarationTree) → channels_of text ≡ channels → processes_of text ≡ processes → HasFault text fault
+FaultOfText channels processes fault =
+    (text : List DeclarationTree) → channels_of text ≡ channels → processes_of text ≡ processes → HasFault text fault
 
 -- one of these uses names nothing
 pub record IsUnknown (channels variables : List NameTree) (uses : List Use) (line : ℕ) : Type 0 where
@@ -69,15 +80,23 @@ pub record IsUnknown (channels variables : List NameTree) (uses : List Use) (lin
 
 -- one of these uses is of a channel whose end stands outside, or is another process's
 pub data IsRefused : List ChannelText → Role → (NameTree → Use) → ℕ → List Port → List Use → ℕ → Type 0 where
-  stands_outside : {channels : List ChannelText} {role : Role} {use' : NameTree → Use} {p : ℕ} {ports : List Port} {uses : List Use} {line : ℕ} (name : NameTree) (c : ℕ) (channel : ChannelText) → Has uses (use' name) → name.line ≡ line → slice_get channels c ≡ Some channel → channel.name.text ≡ name.text → channel.role ≡ role → IsRefused channels role use' p ports uses line
-  is_taken : {channels : List ChannelText} {role : Role} {use' : NameTree → Use} {p : ℕ} {ports : List Port} {uses : List Use} {line : ℕ} (name : NameTree) (c : ℕ) → Has uses (use' name) → name.line ≡ line → Reads (channel_names channels) c name.text → IsTaken p c ports → IsRefused channels role use' p ports uses line
+  stands_outside : {channels : List ChannelText} {role : Role} {use' : NameTree → Use} {p : ℕ} {ports : List Port}
+      {uses : List Use} {line : ℕ} (name : NameTree) (c : ℕ) (channel : ChannelText) → Has uses (use' name)
+      → name.line ≡ line → slice_get channels c ≡ Some channel → channel.name.text ≡ name.text → channel.role ≡ role
+      → IsRefused channels role use' p ports uses line
+  is_taken : {channels : List ChannelText} {role : Role} {use' : NameTree → Use} {p : ℕ} {ports : List Port}
+      {uses : List Use} {line : ℕ} (name : NameTree) (c : ℕ) → Has uses (use' name) → name.line ≡ line
+      → Reads (channel_names channels) c name.text → IsTaken p c ports → IsRefused channels role use' p ports uses line
 
 -- process p, with these variables, uses something so that this is a fault
 abbrev pub UseFault : List ChannelText → List NameTree → ℕ → List Port → List Port → List Use → NetFault → Type 0
 UseFault channels variables p producers consumers uses NoMemory = Unit {0}
-UseFault channels variables p producers consumers uses (UnknownName line) = IsUnknown (channel_names channels) variables uses line
-UseFault channels variables p producers consumers uses (TwoProducers line) = IsRefused channels Input PutOn p producers uses line
-UseFault channels variables p producers consumers uses (TwoConsumers line) = IsRefused channels Output GetFrom p consumers uses line
+UseFault channels variables p producers consumers uses (UnknownName line) =
+    IsUnknown (channel_names channels) variables uses line
+UseFault channels variables p producers consumers uses (TwoProducers line) =
+    IsRefused channels Input PutOn p producers uses line
+UseFault channels variables p producers consumers uses (TwoConsumers line) =
+    IsRefused channels Output GetFrom p consumers uses line
 UseFault channels variables p producers consumers uses (TwiceNamed line) = ⊥
 UseFault channels variables p producers consumers uses (LoopWithoutGet line) = ⊥
 UseFault channels variables p producers consumers uses (Limit line) = ⊥

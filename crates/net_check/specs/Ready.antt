@@ -4,9 +4,11 @@ use Rattle.net_text.specs.Trees.{LoopTree, ProcessTree, DeclarationTree}
 use Rattle.net_check.specs.Texts.{is_passing_text, process_units_text}
 use Rattle.net_text.specs.declared.tree.ChannelText.{ChannelText}
 use Rattle.net_check.specs.declared.fault.NetFault.{NetFault}
-use Rattle.net_check.specs.Resolution.{AllDifferent, channels_of, processes_of, channel_names, process_names, variable_names}
+use Rattle.net_check.specs.Resolution.{AllDifferent, channels_of, processes_of, channel_names, process_names}
+use Rattle.net_check.specs.Resolution.{variable_names}
 use Rattle.net_check.specs.NetFaults.{HasFault}
-use Rattle.kahn_net.specs.declared.limits.TheConstants.{MAX_CHANNELS, MAX_NODES, MAX_PROCESSES, MAX_UNITS, MAX_VARIABLES}
+use Rattle.kahn_net.specs.declared.limits.TheConstants.{MAX_CHANNELS, MAX_NODES, MAX_PROCESSES, MAX_UNITS}
+use Rattle.kahn_net.specs.declared.limits.TheConstants.{MAX_VARIABLES}
 
 -- a process on a node up to 15 with at most 64 variables, all different
 pub record IsReady (process : ProcessTree) : Type 0 where
@@ -29,15 +31,20 @@ pub record AreDeclared (channels : List ChannelText) (processes : List ProcessTr
 
 -- each text whose channels begin so has the fault
 abbrev pub FaultAtChannel : List ChannelText → ChannelText → NetFault → Type 0
-FaultAtChannel front channel fault = (text : List DeclarationTree) (more : List ChannelText) → channels_of text ≡ front ++ channel ∷ more → HasFault text fault
+FaultAtChannel front channel fault =
+    (text : List DeclarationTree) (more : List ChannelText) → channels_of text ≡ front ++ channel ∷ more
+    → HasFault text fault
 
 -- each text whose processes begin so has the fault
 abbrev pub FaultAtProcess : List ProcessTree → ProcessTree → NetFault → Type 0
-FaultAtProcess front process fault = (text : List DeclarationTree) (more : List ProcessTree) → processes_of text ≡ front ++ process ∷ more → HasFault text fault
+FaultAtProcess front process fault =
+    (text : List DeclarationTree) (more : List ProcessTree) → processes_of text ≡ front ++ process ∷ more
+    → HasFault text fault
 
 -- each text that has this process has the fault
 abbrev pub FaultOfProcess : ProcessTree → NetFault → Type 0
-FaultOfProcess process fault = (text : List DeclarationTree) (p : ℕ) → slice_get (processes_of text) p ≡ Some process → HasFault text fault
+FaultOfProcess process fault =
+    (text : List DeclarationTree) (p : ℕ) → slice_get (processes_of text) p ≡ Some process → HasFault text fault
 
 -- each text with these processes has the fault
 abbrev pub FaultOfProcesses : List ProcessTree → NetFault → Type 0

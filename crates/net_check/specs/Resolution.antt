@@ -1,13 +1,16 @@
 -- When a network is the resolution of a text: each name replaced by a number, in order of declaration, from 0.
 use Rattle.std.specs.Prelude.{◌≡◌, ◌↔◌, ℕ, ℤ, List, [], ◌∷◌, map, length, slice_get, Option, Some, None}
 use Rattle.net_text.specs.Names.{NameTree}
-use Rattle.net_text.specs.Trees.{ExprTree, LiteralTree, VariableTree, MinusTree, ChainTree, LinksTree, NoLinksTree, LinkThenTree, BlockTree, NothingTree, GetTree, AssignTree, PutTree, StopTree, IfTree, LoopTree, ProcessTree, DeclarationTree, ChannelTree, ProcessDeclared}
+use Rattle.net_text.specs.Trees.{ExprTree, LiteralTree, VariableTree, MinusTree, ChainTree, LinksTree, NoLinksTree}
+use Rattle.net_text.specs.Trees.{LinkThenTree, BlockTree, NothingTree, GetTree, AssignTree, PutTree, StopTree, IfTree}
+use Rattle.net_text.specs.Trees.{LoopTree, ProcessTree, DeclarationTree, ChannelTree, ProcessDeclared}
 use Rattle.net_text.specs.declared.tree.ChannelText.{ChannelText}
 use Rattle.net_text.specs.declared.tree.VariableText.{VariableText}
 use Rattle.net_text.specs.declared.tree.Role.TheVariants.{Input, Output}
 use Rattle.kahn_net.specs.declared.program.Channel.{Channel}
 use Rattle.kahn_net.specs.declared.program.Port.TheVariants.{Outside}
-use Rattle.kahn_net.specs.Syntax.{Tree, Number, Name, Minus, Chain, Links, NoLinks, LinkThen, Block, Nothing, GetThen, AssignThen, PutThen, StopThen, IfThen, Code, Network}
+use Rattle.kahn_net.specs.Syntax.{Tree, Number, Name, Minus, Chain, Links, NoLinks, LinkThen, Block, Nothing, GetThen}
+use Rattle.kahn_net.specs.Syntax.{AssignThen, PutThen, StopThen, IfThen, Code, Network}
 
 -- the channels that a text declares, in order
 abbrev pub channels_of : List DeclarationTree → List ChannelText
@@ -48,23 +51,30 @@ abbrev mutual
   ResolvesExpr variables (LiteralTree n) (Number m) = n ≡ m
   ResolvesExpr variables (VariableTree name) (Name x) = Reads variables x name.text
   ResolvesExpr variables (MinusTree a) (Minus b) = ResolvesExpr variables a b
-  ResolvesExpr variables (ChainTree a links) (Chain b more) = ResolvesExpr variables a b × ResolvesLinks variables links more
+  ResolvesExpr variables (ChainTree a links) (Chain b more) =
+      ResolvesExpr variables a b × ResolvesLinks variables links more
   ResolvesExpr variables _ _ = ⊥
 
   pub ResolvesLinks : List NameTree → LinksTree → Links → Type 0
   ResolvesLinks variables NoLinksTree NoLinks = Unit {0}
-  ResolvesLinks variables (LinkThenTree o a rest) (LinkThen p b more) = (o ≡ p) × ResolvesExpr variables a b × ResolvesLinks variables rest more
+  ResolvesLinks variables (LinkThenTree o a rest) (LinkThen p b more) =
+      (o ≡ p) × ResolvesExpr variables a b × ResolvesLinks variables rest more
   ResolvesLinks variables _ _ = ⊥
 
--- statement by statement, and in an if block by block; a channel stands for the name that its number has among the channels
+-- statement by statement, and in an if block by block; a channel stands for the name that its number has among the
+-- channels
 abbrev pub ResolvesBlock : List NameTree → List NameTree → BlockTree → Block → Type 0
 ResolvesBlock channels variables NothingTree Nothing = Unit {0}
-ResolvesBlock channels variables (GetTree v c rest) (GetThen x k more) = Reads variables x v.text × Reads channels k c.text × ResolvesBlock channels variables rest more
-ResolvesBlock channels variables (AssignTree v e rest) (AssignThen x t more) = Reads variables x v.text × ResolvesExpr variables e t × ResolvesBlock channels variables rest more
-ResolvesBlock channels variables (PutTree e c rest) (PutThen t k more) = ResolvesExpr variables e t × Reads channels k c.text × ResolvesBlock channels variables rest more
+ResolvesBlock channels variables (GetTree v c rest) (GetThen x k more) =
+    Reads variables x v.text × Reads channels k c.text × ResolvesBlock channels variables rest more
+ResolvesBlock channels variables (AssignTree v e rest) (AssignThen x t more) =
+    Reads variables x v.text × ResolvesExpr variables e t × ResolvesBlock channels variables rest more
+ResolvesBlock channels variables (PutTree e c rest) (PutThen t k more) =
+    ResolvesExpr variables e t × Reads channels k c.text × ResolvesBlock channels variables rest more
 ResolvesBlock channels variables (StopTree rest) (StopThen more) = ResolvesBlock channels variables rest more
 ResolvesBlock channels variables (IfTree e first second rest) (IfThen t one other more) =
-    ResolvesExpr variables e t × ResolvesBlock channels variables first one × ResolvesBlock channels variables second other × ResolvesBlock channels variables rest more
+    ResolvesExpr variables e t × ResolvesBlock channels variables first one
+    × ResolvesBlock channels variables second other × ResolvesBlock channels variables rest more
 ResolvesBlock channels variables _ _ = ⊥
 
 abbrev pub ResolvesLoop : List NameTree → List NameTree → Option LoopTree → Option Block → Type 0
@@ -85,10 +95,14 @@ pub record Resolves (text : List DeclarationTree) (channels processes : List Nam
   pub processes_named : processes ≡ process_names (processes_of text)
   pub channels_differ : AllDifferent channels
   pub processes_differ : AllDifferent processes
-  pub variables_differ : (p : ℕ) (process : ProcessTree) → slice_get (processes_of text) p ≡ Some process → AllDifferent (variable_names process.variables)
+  pub variables_differ : (p : ℕ) (process : ProcessTree) → slice_get (processes_of text) p ≡ Some process
+      → AllDifferent (variable_names process.variables)
   pub channel_count : length net.channels ≡ length channels
   pub process_count : length net.codes ≡ length processes
   -- the channels whose items come from outside are the inputs, and those whose items go outside the outputs
-  pub inputs : (c : ℕ) (declared : ChannelText) (channel : Channel) → slice_get (channels_of text) c ≡ Some declared → slice_get net.channels c ≡ Some channel → (declared.role ≡ Input) ↔ (channel.producer ≡ Outside)
-  pub outputs : (c : ℕ) (declared : ChannelText) (channel : Channel) → slice_get (channels_of text) c ≡ Some declared → slice_get net.channels c ≡ Some channel → (declared.role ≡ Output) ↔ (channel.consumer ≡ Outside)
-  pub codes : (p : ℕ) (process : ProcessTree) (code : Code) → slice_get (processes_of text) p ≡ Some process → slice_get net.codes p ≡ Some code → ResolvesProcess channels process code
+  pub inputs : (c : ℕ) (declared : ChannelText) (channel : Channel) → slice_get (channels_of text) c ≡ Some declared
+      → slice_get net.channels c ≡ Some channel → (declared.role ≡ Input) ↔ (channel.producer ≡ Outside)
+  pub outputs : (c : ℕ) (declared : ChannelText) (channel : Channel) → slice_get (channels_of text) c ≡ Some declared
+      → slice_get net.channels c ≡ Some channel → (declared.role ≡ Output) ↔ (channel.consumer ≡ Outside)
+  pub codes : (p : ℕ) (process : ProcessTree) (code : Code) → slice_get (processes_of text) p ≡ Some process
+      → slice_get net.codes p ≡ Some code → ResolvesProcess channels process code

@@ -1,17 +1,27 @@
--- Laws of resolution: what the statements of a text use, the statements of its network use, by number, and the other way.
-use Rattle.std.proofs.Common.{◌≡◌, ◌∙◌, ap, subst, ℕ, List, [], ◌∷◌, ◌⊎◌, inl, inr, refl, Bool, true, false, ◌||◌, ◌&&◌, eqb, IsTrue, ◌+◌, ◌<◌, suc, zero, length, nat_lt, Option, Some, None, arith}
+-- Laws of resolution: what the statements of a text use, the statements of its network use, by number, and the other
+-- way.
+use Rattle.std.proofs.Common.{◌≡◌, ◌∙◌, ap, subst, ℕ, List, [], ◌∷◌, ◌⊎◌, inl, inr, refl, Bool, true, false, ◌||◌, ◌&&◌}
+use Rattle.std.proofs.Common.{eqb, IsTrue, ◌+◌, ◌<◌, suc, zero, length, nat_lt, Option, Some, None, arith}
 use Rattle.std.proofs.lemmas.Bool.{false≢true, eq-eqb}
 use Rattle.std.proofs.lemmas.Bool.Decides.{nat_tests}
 use Rattle.net_text.specs.Names.{NameTree}
-use Rattle.net_text.specs.Trees.{ExprTree, LiteralTree, VariableTree, MinusTree, ChainTree, LinksTree, NoLinksTree, LinkThenTree, BlockTree, NothingTree, GetTree, AssignTree, PutTree, StopTree, IfTree, LoopTree, DeclarationTree, ProcessTree}
+use Rattle.net_text.specs.Trees.{ExprTree, LiteralTree, VariableTree, MinusTree, ChainTree, LinksTree, NoLinksTree}
+use Rattle.net_text.specs.Trees.{LinkThenTree, BlockTree, NothingTree, GetTree, AssignTree, PutTree, StopTree, IfTree}
+use Rattle.net_text.specs.Trees.{LoopTree, DeclarationTree, ProcessTree}
 use Rattle.net_text.specs.declared.tree.ChannelText.{ChannelText}
 use Rattle.std.proofs.lemmas.List.{length-map}
-use Rattle.kahn_net.specs.Syntax.{Tree, Number, Name, Minus, Chain, Links, NoLinks, LinkThen, Block, Nothing, GetThen, AssignThen, PutThen, StopThen, IfThen, Code, Network}
-use Rattle.net_check.specs.Resolution.{Reads, Resolves, channels_of, processes_of, ResolvesExpr, ResolvesLinks, ResolvesBlock, ResolvesLoop, ResolvesProcess}
-use Rattle.kahn_net.specs.Valid.{block_gets, block_puts, body_gets, body_puts, code_gets, code_puts, expr_units, links_units, block_units, body_units, is_passing, expr_within, links_within, block_within, body_within}
-use Rattle.net_check.specs.Texts.{expr_units_text, links_units_text, block_units_text, loop_units_text, process_units_text, is_passing_text}
+use Rattle.kahn_net.specs.Syntax.{Tree, Number, Name, Minus, Chain, Links, NoLinks, LinkThen, Block, Nothing, GetThen}
+use Rattle.kahn_net.specs.Syntax.{AssignThen, PutThen, StopThen, IfThen, Code, Network}
+use Rattle.net_check.specs.Resolution.{Reads, Resolves, channels_of, processes_of, ResolvesExpr, ResolvesLinks}
+use Rattle.net_check.specs.Resolution.{ResolvesBlock, ResolvesLoop, ResolvesProcess}
+use Rattle.kahn_net.specs.Valid.{block_gets, block_puts, body_gets, body_puts, code_gets, code_puts, expr_units}
+use Rattle.kahn_net.specs.Valid.{links_units, block_units, body_units, is_passing, expr_within, links_within}
+use Rattle.kahn_net.specs.Valid.{block_within, body_within}
+use Rattle.net_check.specs.Texts.{expr_units_text, links_units_text, block_units_text, loop_units_text}
+use Rattle.net_check.specs.Texts.{process_units_text, is_passing_text}
 use Rattle.net_check.specs.Uses.{Use, GetFrom, PutOn, expr_uses, block_uses, loop_uses, process_uses, Has}
-use Rattle.net_check.specs.UseLaws.{has_left, has_right, has_cases, has_first, has_second, has_after, by_test, by_first, by_second, by_rest, if_cases, expr_no_put, expr_no_get}
+use Rattle.net_check.specs.UseLaws.{has_left, has_right, has_cases, has_first, has_second, has_after, by_test, by_first}
+use Rattle.net_check.specs.UseLaws.{by_second, by_rest, if_cases, expr_no_put, expr_no_get}
 
 same_number : (c d : ℕ) → IsTrue (eqb c d) → c ≡ d
 same_number c d h = grind (arith, nat_tests)
@@ -41,57 +51,93 @@ pub record Numbered (names : List NameTree) (name : NameTree) (test : ℕ → Bo
   pub used : IsTrue (test c)
 
 -- the same among more uses
-named_more : (names : List NameTree) (few many : List Use) (use' : NameTree → Use) (c : ℕ) → ((u : Use) → Has few u → Has many u) → Named names few use' c → Named names many use' c
+named_more : (names : List NameTree) (few many : List Use) (use' : NameTree → Use) (c : ℕ)
+    → ((u : Use) → Has few u → Has many u) → Named names few use' c → Named names many use' c
 named_more names few many use' c more n = record { name = n.name; used = more (use' n.name) n.used; reads = n.reads }
 
 -- the same where a channel that is used so is used otherwise too
-numbered_more : (names : List NameTree) (name : NameTree) (test test' : ℕ → Bool) → ((c : ℕ) → IsTrue (test c) → IsTrue (test' c)) → Numbered names name test → Numbered names name test'
+numbered_more : (names : List NameTree) (name : NameTree) (test test' : ℕ → Bool)
+    → ((c : ℕ) → IsTrue (test c) → IsTrue (test' c)) → Numbered names name test → Numbered names name test'
 numbered_more names name test test' more n = record { c = n.c; reads = n.reads; used = more n.c n.used }
 
 -- what is put on by number is put on by name
-pub block_put_named : (cs vs : List NameTree) (tree : BlockTree) (block : Block) (c : ℕ) → ResolvesBlock cs vs tree block → IsTrue (block_puts c block) → Named cs (block_uses tree) PutOn c
+pub block_put_named : (cs vs : List NameTree) (tree : BlockTree) (block : Block) (c : ℕ)
+    → ResolvesBlock cs vs tree block → IsTrue (block_puts c block) → Named cs (block_uses tree) PutOn c
 block_put_named cs vs NothingTree Nothing c r h = absurd (false≢true h)
-block_put_named cs vs (GetTree v n rest) (GetThen x d b) c r h = named_more cs (block_uses rest) _ PutOn c (λ u k. inr (inr k)) (block_put_named cs vs rest b c r.2 h)
-block_put_named cs vs (AssignTree v e rest) (AssignThen x t b) c r h = named_more cs (block_uses rest) _ PutOn c (λ u k. inr (has_right (expr_uses e) (block_uses rest) u k)) (block_put_named cs vs rest b c r.2 h)
+block_put_named cs vs (GetTree v n rest) (GetThen x d b) c r h =
+    named_more cs (block_uses rest) _ PutOn c (λ u k. inr (inr k)) (block_put_named cs vs rest b c r.2 h)
+block_put_named cs vs (AssignTree v e rest) (AssignThen x t b) c r h =
+    named_more cs (block_uses rest) _ PutOn c (λ u k. inr (has_right (expr_uses e) (block_uses rest) u k))
+    (block_put_named cs vs rest b c r.2 h)
 block_put_named cs vs (PutTree e n rest) (PutThen t d b) c r h = elim (or_cases (eqb d c) (block_puts c b) h) [
-  | inl k ↦ record { name = n; used = has_right (expr_uses e) (PutOn n ∷ block_uses rest) (PutOn n) (inl refl); reads = subst (λ (i : ℕ). Reads cs i n.text) (same_number d c k) r.1 }
-  | inr k ↦ named_more cs (block_uses rest) _ PutOn c (λ u m. has_right (expr_uses e) (PutOn n ∷ block_uses rest) u (inr m)) (block_put_named cs vs rest b c r.2 k)
+  | inl k ↦ record {
+    name = n;
+    used = has_right (expr_uses e) (PutOn n ∷ block_uses rest) (PutOn n) (inl refl);
+    reads =
+        subst (λ (i : ℕ). Reads cs i n.text) (same_number d c k) r.1;
+  }
+  | inr k ↦ named_more cs (block_uses rest) _ PutOn c
+      (λ u m. has_right (expr_uses e) (PutOn n ∷ block_uses rest) u (inr m)) (block_put_named cs vs rest b c r.2 k)
 ]
 block_put_named cs vs (StopTree rest) (StopThen b) c r h = block_put_named cs vs rest b c r h
-block_put_named cs vs (IfTree e first second rest) (IfThen t one other b) c r h = elim (or_cases (block_puts c one) (block_puts c other || block_puts c b) h) [
-  | inl k ↦ named_more cs (block_uses first) _ PutOn c (has_first (expr_uses e) (block_uses first) (block_uses second) (block_uses rest)) (block_put_named cs vs first one c r.1 k)
-  | inr k ↦ elim (or_cases (block_puts c other) (block_puts c b) k) [
-    | inl m ↦ named_more cs (block_uses second) _ PutOn c (has_second (expr_uses e) (block_uses first) (block_uses second) (block_uses rest)) (block_put_named cs vs second other c r.2 m)
-    | inr m ↦ named_more cs (block_uses rest) _ PutOn c (has_after (expr_uses e) (block_uses first) (block_uses second) (block_uses rest)) (block_put_named cs vs rest b c r.3 m)
-  ]
-]
+block_put_named cs vs (IfTree e first second rest) (IfThen t one other b) c r h =
+    elim (or_cases (block_puts c one) (block_puts c other || block_puts c b) h) [
+      | inl k ↦ named_more cs (block_uses first) _ PutOn c
+          (has_first (expr_uses e) (block_uses first) (block_uses second) (block_uses rest))
+          (block_put_named cs vs first one c r.1 k)
+      | inr k ↦ elim (or_cases (block_puts c other) (block_puts c b) k) [
+        | inl m ↦ named_more cs (block_uses second) _ PutOn c
+            (has_second (expr_uses e) (block_uses first) (block_uses second) (block_uses rest))
+            (block_put_named cs vs second other c r.2 m)
+        | inr m ↦ named_more cs (block_uses rest) _ PutOn c
+            (has_after (expr_uses e) (block_uses first) (block_uses second) (block_uses rest))
+            (block_put_named cs vs rest b c r.3 m)
+      ]
+    ]
 block_put_named cs vs _ _ c r h = absurd r
 
 -- what is got from by number is got from by name
-pub block_get_named : (cs vs : List NameTree) (tree : BlockTree) (block : Block) (c : ℕ) → ResolvesBlock cs vs tree block → IsTrue (block_gets c block) → Named cs (block_uses tree) GetFrom c
+pub block_get_named : (cs vs : List NameTree) (tree : BlockTree) (block : Block) (c : ℕ)
+    → ResolvesBlock cs vs tree block → IsTrue (block_gets c block) → Named cs (block_uses tree) GetFrom c
 block_get_named cs vs NothingTree Nothing c r h = absurd (false≢true h)
 block_get_named cs vs (GetTree v n rest) (GetThen x d b) c r h = elim (or_cases (eqb d c) (block_gets c b) h) [
-  | inl k ↦ record { name = n; used = inr (inl refl); reads = subst (λ (i : ℕ). Reads cs i n.text) (same_number d c k) r.1 }
+  | inl k ↦ record
+      { name = n; used = inr (inl refl); reads = subst (λ (i : ℕ). Reads cs i n.text) (same_number d c k) r.1 }
   | inr k ↦ named_more cs (block_uses rest) _ GetFrom c (λ u m. inr (inr m)) (block_get_named cs vs rest b c r.2 k)
 ]
-block_get_named cs vs (AssignTree v e rest) (AssignThen x t b) c r h = named_more cs (block_uses rest) _ GetFrom c (λ u k. inr (has_right (expr_uses e) (block_uses rest) u k)) (block_get_named cs vs rest b c r.2 h)
-block_get_named cs vs (PutTree e n rest) (PutThen t d b) c r h = named_more cs (block_uses rest) _ GetFrom c (λ u k. has_right (expr_uses e) (PutOn n ∷ block_uses rest) u (inr k)) (block_get_named cs vs rest b c r.2 h)
+block_get_named cs vs (AssignTree v e rest) (AssignThen x t b) c r h =
+    named_more cs (block_uses rest) _ GetFrom c (λ u k. inr (has_right (expr_uses e) (block_uses rest) u k))
+    (block_get_named cs vs rest b c r.2 h)
+block_get_named cs vs (PutTree e n rest) (PutThen t d b) c r h =
+    named_more cs (block_uses rest) _ GetFrom c (λ u k. has_right (expr_uses e) (PutOn n ∷ block_uses rest) u (inr k))
+    (block_get_named cs vs rest b c r.2 h)
 block_get_named cs vs (StopTree rest) (StopThen b) c r h = block_get_named cs vs rest b c r h
-block_get_named cs vs (IfTree e first second rest) (IfThen t one other b) c r h = elim (or_cases (block_gets c one) (block_gets c other || block_gets c b) h) [
-  | inl k ↦ named_more cs (block_uses first) _ GetFrom c (has_first (expr_uses e) (block_uses first) (block_uses second) (block_uses rest)) (block_get_named cs vs first one c r.1 k)
-  | inr k ↦ elim (or_cases (block_gets c other) (block_gets c b) k) [
-    | inl m ↦ named_more cs (block_uses second) _ GetFrom c (has_second (expr_uses e) (block_uses first) (block_uses second) (block_uses rest)) (block_get_named cs vs second other c r.2 m)
-    | inr m ↦ named_more cs (block_uses rest) _ GetFrom c (has_after (expr_uses e) (block_uses first) (block_uses second) (block_uses rest)) (block_get_named cs vs rest b c r.3 m)
-  ]
-]
+block_get_named cs vs (IfTree e first second rest) (IfThen t one other b) c r h =
+    elim (or_cases (block_gets c one) (block_gets c other || block_gets c b) h) [
+      | inl k ↦ named_more cs (block_uses first) _ GetFrom c
+          (has_first (expr_uses e) (block_uses first) (block_uses second) (block_uses rest))
+          (block_get_named cs vs first one c r.1 k)
+      | inr k ↦ elim (or_cases (block_gets c other) (block_gets c b) k) [
+        | inl m ↦ named_more cs (block_uses second) _ GetFrom c
+            (has_second (expr_uses e) (block_uses first) (block_uses second) (block_uses rest))
+            (block_get_named cs vs second other c r.2 m)
+        | inr m ↦ named_more cs (block_uses rest) _ GetFrom c
+            (has_after (expr_uses e) (block_uses first) (block_uses second) (block_uses rest))
+            (block_get_named cs vs rest b c r.3 m)
+      ]
+    ]
 block_get_named cs vs _ _ c r h = absurd r
 
 -- what is put on by name is put on by number
-pub block_put_numbered : (cs vs : List NameTree) (tree : BlockTree) (block : Block) (name : NameTree) → ResolvesBlock cs vs tree block → Has (block_uses tree) (PutOn name) → Numbered cs name (λ c. block_puts c block)
+pub block_put_numbered : (cs vs : List NameTree) (tree : BlockTree) (block : Block) (name : NameTree)
+    → ResolvesBlock cs vs tree block → Has (block_uses tree) (PutOn name) → Numbered cs name (λ c. block_puts c block)
 block_put_numbered cs vs NothingTree Nothing name r h = absurd h
 block_put_numbered cs vs (GetTree v n rest) (GetThen x d b) name r h = elim h [
   | inl e ↦ absurd (cc)
-  | inr k ↦ elim k [ inl e ↦ absurd (cc) | inr m ↦ numbered_more cs name _ _ (λ c u. u) (block_put_numbered cs vs rest b name r.2 m) ]
+  | inr k ↦ elim k [
+    | inl e ↦ absurd (cc)
+    | inr m ↦ numbered_more cs name _ _ (λ c u. u) (block_put_numbered cs vs rest b name r.2 m)
+  ]
 ]
 block_put_numbered cs vs (AssignTree v e rest) (AssignThen x t b) name r h = elim h [
   | inl e' ↦ absurd (cc)
@@ -100,30 +146,53 @@ block_put_numbered cs vs (AssignTree v e rest) (AssignThen x t b) name r h = eli
     | inr m ↦ numbered_more cs name _ _ (λ c u. u) (block_put_numbered cs vs rest b name r.2 m)
   ]
 ]
-block_put_numbered cs vs (PutTree e n rest) (PutThen t d b) name r h = elim (has_cases (expr_uses e) (PutOn n ∷ block_uses rest) (PutOn name) h) [
-  | inl m ↦ absurd (expr_no_put e name m)
-  | inr m ↦ elim m [
-    | inl e' ↦ let k : n ≡ name = cc in record { c = d; reads = subst (λ (z : NameTree). Reads cs d z.text) k r.1; used = or_left (eqb d d) (block_puts d b) (eq-eqb d d refl) }
-    | inr k ↦ numbered_more cs name (λ c. block_puts c b) _ (λ c u. or_right (eqb d c) (block_puts c b) u) (block_put_numbered cs vs rest b name r.2 k)
-  ]
-]
-block_put_numbered cs vs (StopTree rest) (StopThen b) name r h = numbered_more cs name _ _ (λ c u. u) (block_put_numbered cs vs rest b name r h)
-block_put_numbered cs vs (IfTree e first second rest) (IfThen t one other b) name r h = elim (if_cases (expr_uses e) (block_uses first) (block_uses second) (block_uses rest) (PutOn name) h) [
-  | by_test k ↦ absurd (expr_no_put e name k)
-  | by_first k ↦ numbered_more cs name (λ c. block_puts c one) _ (λ c u. or_left (block_puts c one) _ u) (block_put_numbered cs vs first one name r.1 k)
-  | by_second k ↦ numbered_more cs name (λ c. block_puts c other) _ (λ c u. or_right (block_puts c one) _ (or_left (block_puts c other) _ u)) (block_put_numbered cs vs second other name r.2 k)
-  | by_rest k ↦ numbered_more cs name (λ c. block_puts c b) _ (λ c u. or_right (block_puts c one) _ (or_right (block_puts c other) _ u)) (block_put_numbered cs vs rest b name r.3 k)
-]
+block_put_numbered cs vs (PutTree e n rest) (PutThen t d b) name r h =
+    elim (has_cases (expr_uses e) (PutOn n ∷ block_uses rest) (PutOn name) h) [
+      | inl m ↦ absurd (expr_no_put e name m)
+      | inr m ↦ elim m [
+        | inl e' ↦ let k : n ≡ name = cc in
+            record {
+              c = d;
+              reads = subst (λ (z : NameTree). Reads cs d z.text) k r.1;
+              used =
+                  or_left (eqb d d) (block_puts d b) (eq-eqb d d refl);
+            }
+        | inr k ↦ numbered_more cs name (λ c. block_puts c b) _ (λ c u. or_right (eqb d c) (block_puts c b) u)
+            (block_put_numbered cs vs rest b name r.2 k)
+      ]
+    ]
+block_put_numbered cs vs (StopTree rest) (StopThen b) name r h =
+    numbered_more cs name _ _ (λ c u. u) (block_put_numbered cs vs rest b name r h)
+block_put_numbered cs vs (IfTree e first second rest) (IfThen t one other b) name r h =
+    elim (if_cases (expr_uses e) (block_uses first) (block_uses second) (block_uses rest) (PutOn name) h) [
+      | by_test k ↦ absurd (expr_no_put e name k)
+      | by_first k ↦ numbered_more cs name (λ c. block_puts c one) _ (λ c u. or_left (block_puts c one) _ u)
+          (block_put_numbered cs vs first one name r.1 k)
+      | by_second k ↦ numbered_more cs name (λ c. block_puts c other)
+          _ (λ c u. or_right (block_puts c one) _ (or_left (block_puts c other) _ u))
+          (block_put_numbered cs vs second other name r.2 k)
+      | by_rest k ↦ numbered_more cs name (λ c. block_puts c b)
+          _ (λ c u. or_right (block_puts c one) _ (or_right (block_puts c other) _ u))
+          (block_put_numbered cs vs rest b name r.3 k)
+    ]
 block_put_numbered cs vs _ _ name r h = absurd r
 
 -- what is got from by name is got from by number
-pub block_get_numbered : (cs vs : List NameTree) (tree : BlockTree) (block : Block) (name : NameTree) → ResolvesBlock cs vs tree block → Has (block_uses tree) (GetFrom name) → Numbered cs name (λ c. block_gets c block)
+pub block_get_numbered : (cs vs : List NameTree) (tree : BlockTree) (block : Block) (name : NameTree)
+    → ResolvesBlock cs vs tree block → Has (block_uses tree) (GetFrom name) → Numbered cs name (λ c. block_gets c block)
 block_get_numbered cs vs NothingTree Nothing name r h = absurd h
 block_get_numbered cs vs (GetTree v n rest) (GetThen x d b) name r h = elim h [
   | inl e ↦ absurd (cc)
   | inr m ↦ elim m [
-    | inl e' ↦ let k : n ≡ name = cc in record { c = d; reads = subst (λ (z : NameTree). Reads cs d z.text) k r.1; used = or_left (eqb d d) (block_gets d b) (eq-eqb d d refl) }
-    | inr k ↦ numbered_more cs name (λ c. block_gets c b) _ (λ c u. or_right (eqb d c) (block_gets c b) u) (block_get_numbered cs vs rest b name r.2 k)
+    | inl e' ↦ let k : n ≡ name = cc in
+        record {
+          c = d;
+          reads = subst (λ (z : NameTree). Reads cs d z.text) k r.1;
+          used =
+              or_left (eqb d d) (block_gets d b) (eq-eqb d d refl);
+        }
+    | inr k ↦ numbered_more cs name (λ c. block_gets c b) _ (λ c u. or_right (eqb d c) (block_gets c b) u)
+        (block_get_numbered cs vs rest b name r.2 k)
   ]
 ]
 block_get_numbered cs vs (AssignTree v e rest) (AssignThen x t b) name r h = elim h [
@@ -133,87 +202,167 @@ block_get_numbered cs vs (AssignTree v e rest) (AssignThen x t b) name r h = eli
     | inr m ↦ numbered_more cs name _ _ (λ c u. u) (block_get_numbered cs vs rest b name r.2 m)
   ]
 ]
-block_get_numbered cs vs (PutTree e n rest) (PutThen t d b) name r h = elim (has_cases (expr_uses e) (PutOn n ∷ block_uses rest) (GetFrom name) h) [
-  | inl m ↦ absurd (expr_no_get e name m)
-  | inr m ↦ elim m [ inl e' ↦ absurd (cc) | inr k ↦ numbered_more cs name _ _ (λ c u. u) (block_get_numbered cs vs rest b name r.2 k) ]
-]
-block_get_numbered cs vs (StopTree rest) (StopThen b) name r h = numbered_more cs name _ _ (λ c u. u) (block_get_numbered cs vs rest b name r h)
-block_get_numbered cs vs (IfTree e first second rest) (IfThen t one other b) name r h = elim (if_cases (expr_uses e) (block_uses first) (block_uses second) (block_uses rest) (GetFrom name) h) [
-  | by_test k ↦ absurd (expr_no_get e name k)
-  | by_first k ↦ numbered_more cs name (λ c. block_gets c one) _ (λ c u. or_left (block_gets c one) _ u) (block_get_numbered cs vs first one name r.1 k)
-  | by_second k ↦ numbered_more cs name (λ c. block_gets c other) _ (λ c u. or_right (block_gets c one) _ (or_left (block_gets c other) _ u)) (block_get_numbered cs vs second other name r.2 k)
-  | by_rest k ↦ numbered_more cs name (λ c. block_gets c b) _ (λ c u. or_right (block_gets c one) _ (or_right (block_gets c other) _ u)) (block_get_numbered cs vs rest b name r.3 k)
-]
+block_get_numbered cs vs (PutTree e n rest) (PutThen t d b) name r h =
+    elim (has_cases (expr_uses e) (PutOn n ∷ block_uses rest) (GetFrom name) h) [
+      | inl m ↦ absurd (expr_no_get e name m)
+      | inr m ↦ elim m [
+        | inl e' ↦ absurd (cc)
+        | inr k ↦ numbered_more cs name _ _ (λ c u. u)
+            (block_get_numbered cs vs rest b name r.2 k)
+      ]
+    ]
+block_get_numbered cs vs (StopTree rest) (StopThen b) name r h =
+    numbered_more cs name _ _ (λ c u. u) (block_get_numbered cs vs rest b name r h)
+block_get_numbered cs vs (IfTree e first second rest) (IfThen t one other b) name r h =
+    elim (if_cases (expr_uses e) (block_uses first) (block_uses second) (block_uses rest) (GetFrom name) h) [
+      | by_test k ↦ absurd (expr_no_get e name k)
+      | by_first k ↦ numbered_more cs name (λ c. block_gets c one) _ (λ c u. or_left (block_gets c one) _ u)
+          (block_get_numbered cs vs first one name r.1 k)
+      | by_second k ↦ numbered_more cs name (λ c. block_gets c other)
+          _ (λ c u. or_right (block_gets c one) _ (or_left (block_gets c other) _ u))
+          (block_get_numbered cs vs second other name r.2 k)
+      | by_rest k ↦ numbered_more cs name (λ c. block_gets c b)
+          _ (λ c u. or_right (block_gets c one) _ (or_right (block_gets c other) _ u))
+          (block_get_numbered cs vs rest b name r.3 k)
+    ]
 block_get_numbered cs vs _ _ name r h = absurd r
 
-loop_put_named : (cs vs : List NameTree) (repeated : Option LoopTree) (body : Option Block) (c : ℕ) → ResolvesLoop cs vs repeated body → IsTrue (body_puts c body) → Named cs (loop_uses repeated) PutOn c
+loop_put_named : (cs vs : List NameTree) (repeated : Option LoopTree) (body : Option Block) (c : ℕ)
+    → ResolvesLoop cs vs repeated body → IsTrue (body_puts c body) → Named cs (loop_uses repeated) PutOn c
 loop_put_named cs vs None None c r h = absurd (false≢true h)
 loop_put_named cs vs None (Some b) c r h = absurd r
 loop_put_named cs vs (Some l) None c r h = absurd r
 loop_put_named cs vs (Some l) (Some b) c r h = block_put_named cs vs l.body b c r h
 
-loop_get_named : (cs vs : List NameTree) (repeated : Option LoopTree) (body : Option Block) (c : ℕ) → ResolvesLoop cs vs repeated body → IsTrue (body_gets c body) → Named cs (loop_uses repeated) GetFrom c
+loop_get_named : (cs vs : List NameTree) (repeated : Option LoopTree) (body : Option Block) (c : ℕ)
+    → ResolvesLoop cs vs repeated body → IsTrue (body_gets c body) → Named cs (loop_uses repeated) GetFrom c
 loop_get_named cs vs None None c r h = absurd (false≢true h)
 loop_get_named cs vs None (Some b) c r h = absurd r
 loop_get_named cs vs (Some l) None c r h = absurd r
 loop_get_named cs vs (Some l) (Some b) c r h = block_get_named cs vs l.body b c r h
 
-loop_put_numbered : (cs vs : List NameTree) (repeated : Option LoopTree) (body : Option Block) (name : NameTree) → ResolvesLoop cs vs repeated body → Has (loop_uses repeated) (PutOn name) → Numbered cs name (λ c. body_puts c body)
+loop_put_numbered : (cs vs : List NameTree) (repeated : Option LoopTree) (body : Option Block) (name : NameTree)
+    → ResolvesLoop cs vs repeated body → Has (loop_uses repeated) (PutOn name)
+    → Numbered cs name (λ c. body_puts c body)
 loop_put_numbered cs vs None None name r h = absurd h
 loop_put_numbered cs vs None (Some b) name r h = absurd r
 loop_put_numbered cs vs (Some l) None name r h = absurd r
 loop_put_numbered cs vs (Some l) (Some b) name r h = block_put_numbered cs vs l.body b name r h
 
-loop_get_numbered : (cs vs : List NameTree) (repeated : Option LoopTree) (body : Option Block) (name : NameTree) → ResolvesLoop cs vs repeated body → Has (loop_uses repeated) (GetFrom name) → Numbered cs name (λ c. body_gets c body)
+loop_get_numbered : (cs vs : List NameTree) (repeated : Option LoopTree) (body : Option Block) (name : NameTree)
+    → ResolvesLoop cs vs repeated body → Has (loop_uses repeated) (GetFrom name)
+    → Numbered cs name (λ c. body_gets c body)
 loop_get_numbered cs vs None None name r h = absurd h
 loop_get_numbered cs vs None (Some b) name r h = absurd r
 loop_get_numbered cs vs (Some l) None name r h = absurd r
 loop_get_numbered cs vs (Some l) (Some b) name r h = block_get_numbered cs vs l.body b name r h
 
 -- the same of a process
-pub put_named : (cs : List NameTree) (process : ProcessTree) (code : Code) (c : ℕ) → ResolvesProcess cs process code → IsTrue (code_puts c code) → Named cs (process_uses process) PutOn c
+pub put_named : (cs : List NameTree) (process : ProcessTree) (code : Code) (c : ℕ) → ResolvesProcess cs process code
+    → IsTrue (code_puts c code) → Named cs (process_uses process) PutOn c
 put_named cs process code c r h = elim (or_cases (block_puts c code.prelude) (body_puts c code.body) h) [
-  | inl k ↦ let n = block_put_named cs _ process.prelude code.prelude c r.prelude k in record { name = n.name; used = has_left (block_uses process.prelude) (loop_uses process.repeated) (PutOn n.name) n.used; reads = n.reads }
-  | inr k ↦ let n = loop_put_named cs _ process.repeated code.body c r.body k in record { name = n.name; used = has_right (block_uses process.prelude) (loop_uses process.repeated) (PutOn n.name) n.used; reads = n.reads }
+  | inl k ↦ let n = block_put_named cs _ process.prelude code.prelude c r.prelude k in
+      record {
+        name = n.name;
+        used =
+            has_left (block_uses process.prelude) (loop_uses process.repeated) (PutOn n.name) n.used;
+        reads = n.reads;
+      }
+  | inr k ↦ let n = loop_put_named cs _ process.repeated code.body c r.body k in
+      record {
+        name = n.name;
+        used =
+            has_right (block_uses process.prelude) (loop_uses process.repeated) (PutOn n.name) n.used;
+        reads = n.reads;
+      }
 ]
 
-pub get_named : (cs : List NameTree) (process : ProcessTree) (code : Code) (c : ℕ) → ResolvesProcess cs process code → IsTrue (code_gets c code) → Named cs (process_uses process) GetFrom c
+pub get_named : (cs : List NameTree) (process : ProcessTree) (code : Code) (c : ℕ) → ResolvesProcess cs process code
+    → IsTrue (code_gets c code) → Named cs (process_uses process) GetFrom c
 get_named cs process code c r h = elim (or_cases (block_gets c code.prelude) (body_gets c code.body) h) [
-  | inl k ↦ let n = block_get_named cs _ process.prelude code.prelude c r.prelude k in record { name = n.name; used = has_left (block_uses process.prelude) (loop_uses process.repeated) (GetFrom n.name) n.used; reads = n.reads }
-  | inr k ↦ let n = loop_get_named cs _ process.repeated code.body c r.body k in record { name = n.name; used = has_right (block_uses process.prelude) (loop_uses process.repeated) (GetFrom n.name) n.used; reads = n.reads }
+  | inl k ↦ let n = block_get_named cs _ process.prelude code.prelude c r.prelude k in
+      record {
+        name = n.name;
+        used =
+            has_left (block_uses process.prelude) (loop_uses process.repeated) (GetFrom n.name) n.used;
+        reads = n.reads;
+      }
+  | inr k ↦ let n = loop_get_named cs _ process.repeated code.body c r.body k in
+      record {
+        name = n.name;
+        used =
+            has_right (block_uses process.prelude) (loop_uses process.repeated) (GetFrom n.name) n.used;
+        reads = n.reads;
+      }
 ]
 
-pub put_numbered : (cs : List NameTree) (process : ProcessTree) (code : Code) (name : NameTree) → ResolvesProcess cs process code → Has (process_uses process) (PutOn name) → Numbered cs name (λ c. code_puts c code)
-put_numbered cs process code name r h = elim (has_cases (block_uses process.prelude) (loop_uses process.repeated) (PutOn name) h) [
-  | inl k ↦ let n = block_put_numbered cs _ process.prelude code.prelude name r.prelude k in record { c = n.c; reads = n.reads; used = or_left (block_puts n.c code.prelude) (body_puts n.c code.body) n.used }
-  | inr k ↦ let n = loop_put_numbered cs _ process.repeated code.body name r.body k in record { c = n.c; reads = n.reads; used = or_right (block_puts n.c code.prelude) (body_puts n.c code.body) n.used }
-]
+pub put_numbered : (cs : List NameTree) (process : ProcessTree) (code : Code) (name : NameTree)
+    → ResolvesProcess cs process code → Has (process_uses process) (PutOn name)
+    → Numbered cs name (λ c. code_puts c code)
+put_numbered cs process code name r h =
+    elim (has_cases (block_uses process.prelude) (loop_uses process.repeated) (PutOn name) h) [
+      | inl k ↦ let n = block_put_numbered cs _ process.prelude code.prelude name r.prelude k in
+          record {
+            c = n.c;
+            reads = n.reads;
+            used =
+                or_left (block_puts n.c code.prelude) (body_puts n.c code.body) n.used;
+          }
+      | inr k ↦ let n = loop_put_numbered cs _ process.repeated code.body name r.body k in
+          record {
+            c = n.c;
+            reads = n.reads;
+            used = or_right (block_puts n.c code.prelude) (body_puts n.c code.body) n.used;
+          }
+    ]
 
-pub get_numbered : (cs : List NameTree) (process : ProcessTree) (code : Code) (name : NameTree) → ResolvesProcess cs process code → Has (process_uses process) (GetFrom name) → Numbered cs name (λ c. code_gets c code)
-get_numbered cs process code name r h = elim (has_cases (block_uses process.prelude) (loop_uses process.repeated) (GetFrom name) h) [
-  | inl k ↦ let n = block_get_numbered cs _ process.prelude code.prelude name r.prelude k in record { c = n.c; reads = n.reads; used = or_left (block_gets n.c code.prelude) (body_gets n.c code.body) n.used }
-  | inr k ↦ let n = loop_get_numbered cs _ process.repeated code.body name r.body k in record { c = n.c; reads = n.reads; used = or_right (block_gets n.c code.prelude) (body_gets n.c code.body) n.used }
-]
+pub get_numbered : (cs : List NameTree) (process : ProcessTree) (code : Code) (name : NameTree)
+    → ResolvesProcess cs process code → Has (process_uses process) (GetFrom name)
+    → Numbered cs name (λ c. code_gets c code)
+get_numbered cs process code name r h =
+    elim (has_cases (block_uses process.prelude) (loop_uses process.repeated) (GetFrom name) h) [
+      | inl k ↦ let n = block_get_numbered cs _ process.prelude code.prelude name r.prelude k in
+          record {
+            c = n.c;
+            reads = n.reads;
+            used =
+                or_left (block_gets n.c code.prelude) (body_gets n.c code.body) n.used;
+          }
+      | inr k ↦ let n = loop_get_numbered cs _ process.repeated code.body name r.body k in
+          record {
+            c = n.c;
+            reads = n.reads;
+            used = or_right (block_gets n.c code.prelude) (body_gets n.c code.body) n.used;
+          }
+    ]
 
 -- a text and its network have as many units
 mutual
-  pub expr_units_kept : (vs : List NameTree) (e : ExprTree) (t : Tree) → ResolvesExpr vs e t → expr_units t ≡ expr_units_text e
+  pub expr_units_kept : (vs : List NameTree) (e : ExprTree) (t : Tree) → ResolvesExpr vs e t
+      → expr_units t ≡ expr_units_text e
   expr_units_kept vs (LiteralTree n) (Number m) r = refl
   expr_units_kept vs (VariableTree v) (Name x) r = refl
   expr_units_kept vs (MinusTree a) (Minus b) r = ap suc (expr_units_kept vs a b r)
-  expr_units_kept vs (ChainTree a links) (Chain b more) r = let h = expr_units_kept vs a b r.0 in let k = links_units_kept vs links more r.1 in cc
+  expr_units_kept vs (ChainTree a links) (Chain b more) r = let h = expr_units_kept vs a b r.0 in let k =
+      links_units_kept vs links more r.1 in cc
   expr_units_kept vs _ _ r = absurd r
 
-  links_units_kept : (vs : List NameTree) (links : LinksTree) (more : Links) → ResolvesLinks vs links more → links_units more ≡ links_units_text links
+  links_units_kept : (vs : List NameTree) (links : LinksTree) (more : Links) → ResolvesLinks vs links more
+      → links_units more ≡ links_units_text links
   links_units_kept vs NoLinksTree NoLinks r = refl
-  links_units_kept vs (LinkThenTree o a rest) (LinkThen p b more) r = let h = expr_units_kept vs a b r.1 in let k = links_units_kept vs rest more r.2 in cc
+  links_units_kept vs (LinkThenTree o a rest) (LinkThen p b more) r = let h = expr_units_kept vs a b r.1 in let k =
+      links_units_kept vs rest more r.2 in cc
   links_units_kept vs _ _ r = absurd r
 
-pub block_units_kept : (cs vs : List NameTree) (tree : BlockTree) (block : Block) → ResolvesBlock cs vs tree block → (block_units block ≡ block_units_text tree) × (is_passing block ≡ is_passing_text tree)
+pub block_units_kept : (cs vs : List NameTree) (tree : BlockTree) (block : Block) → ResolvesBlock cs vs tree block
+    → (block_units block ≡ block_units_text tree) × (is_passing block ≡ is_passing_text tree)
 block_units_kept cs vs NothingTree Nothing r = (refl, refl)
-block_units_kept cs vs (GetTree v n rest) (GetThen x d b) r = let k = block_units_kept cs vs rest b r.2 in (ap suc k.0, refl)
-block_units_kept cs vs (AssignTree v e rest) (AssignThen x t b) r = let k = block_units_kept cs vs rest b r.2 in let h = expr_units_kept vs e t r.1 in let i = k.0 in (cc, k.1)
-block_units_kept cs vs (PutTree e n rest) (PutThen t d b) r = let k = block_units_kept cs vs rest b r.2 in let h = expr_units_kept vs e t r.0 in let i = k.0 in (cc, k.1)
+block_units_kept cs vs (GetTree v n rest) (GetThen x d b) r = let k = block_units_kept cs vs rest b r.2 in
+    (ap suc k.0, refl)
+block_units_kept cs vs (AssignTree v e rest) (AssignThen x t b) r = let k = block_units_kept cs vs rest b r.2 in
+    let h = expr_units_kept vs e t r.1 in let i = k.0 in (cc, k.1)
+block_units_kept cs vs (PutTree e n rest) (PutThen t d b) r = let k = block_units_kept cs vs rest b r.2 in let h =
+    expr_units_kept vs e t r.0 in let i = k.0 in (cc, k.1)
 block_units_kept cs vs (StopTree rest) (StopThen b) r = let k = block_units_kept cs vs rest b r in (ap suc k.0, refl)
 block_units_kept cs vs (IfTree e first second rest) (IfThen t one other b) r =
     let h = expr_units_kept vs e t r.0 in
@@ -228,27 +377,36 @@ block_units_kept cs vs (IfTree e first second rest) (IfThen t one other b) r =
     let m'' = m.1 in (cc, cc)
 block_units_kept cs vs _ _ r = absurd r
 
-loop_units_kept : (cs vs : List NameTree) (repeated : Option LoopTree) (body : Option Block) → ResolvesLoop cs vs repeated body → body_units body ≡ loop_units_text repeated
+loop_units_kept : (cs vs : List NameTree) (repeated : Option LoopTree) (body : Option Block)
+    → ResolvesLoop cs vs repeated body → body_units body ≡ loop_units_text repeated
 loop_units_kept cs vs None None r = refl
 loop_units_kept cs vs None (Some b) r = absurd r
 loop_units_kept cs vs (Some l) None r = absurd r
 loop_units_kept cs vs (Some l) (Some b) r = (block_units_kept cs vs l.body b r).0
 
-pub units_kept : (cs : List NameTree) (process : ProcessTree) (code : Code) → ResolvesProcess cs process code → block_units code.prelude + body_units code.body ≡ process_units_text process
-units_kept cs process code r = let h = (block_units_kept cs _ process.prelude code.prelude r.prelude).0 in let k = loop_units_kept cs _ process.repeated code.body r.body in cc
+pub units_kept : (cs : List NameTree) (process : ProcessTree) (code : Code) → ResolvesProcess cs process code
+    → block_units code.prelude + body_units code.body ≡ process_units_text process
+units_kept cs process code r = let h = (block_units_kept cs _ process.prelude code.prelude r.prelude).0 in let k =
+    loop_units_kept cs _ process.repeated code.body r.body in cc
 
 -- a loop of the text is a loop of the network, and passes as it does
-pub passes_kept : (cs vs : List NameTree) (repeated : Option LoopTree) (code_body : Option Block) (body : Block) → ResolvesLoop cs vs repeated code_body → code_body ≡ Some body → (l : LoopTree) × (repeated ≡ Some l) × (is_passing body ≡ is_passing_text l.body)
+pub passes_kept : (cs vs : List NameTree) (repeated : Option LoopTree) (code_body : Option Block) (body : Block)
+    → ResolvesLoop cs vs repeated code_body → code_body ≡ Some body
+    → (l : LoopTree) × (repeated ≡ Some l) × (is_passing body ≡ is_passing_text l.body)
 passes_kept cs vs None None body r e = absurd (cc)
 passes_kept cs vs None (Some b) body r e = absurd r
 passes_kept cs vs (Some l) None body r e = absurd r
-passes_kept cs vs (Some l) (Some b) body r e = let k : body ≡ b = cc in (l, refl, ap is_passing k ∙ (block_units_kept cs vs l.body b r).1)
+passes_kept cs vs (Some l) (Some b) body r e = let k : body ≡ b = cc in
+    (l, refl, ap is_passing k ∙ (block_units_kept cs vs l.body b r).1)
 
-pub passes_kept_text : (cs vs : List NameTree) (repeated : Option LoopTree) (code_body : Option Block) (l : LoopTree) → ResolvesLoop cs vs repeated code_body → repeated ≡ Some l → (body : Block) × (code_body ≡ Some body) × (is_passing body ≡ is_passing_text l.body)
+pub passes_kept_text : (cs vs : List NameTree) (repeated : Option LoopTree) (code_body : Option Block) (l : LoopTree)
+    → ResolvesLoop cs vs repeated code_body → repeated ≡ Some l
+    → (body : Block) × (code_body ≡ Some body) × (is_passing body ≡ is_passing_text l.body)
 passes_kept_text cs vs None None l r e = absurd (cc)
 passes_kept_text cs vs None (Some b) l r e = absurd r
 passes_kept_text cs vs (Some m) None l r e = absurd r
-passes_kept_text cs vs (Some m) (Some b) l r e = let k : m ≡ l = cc in (b, refl, (block_units_kept cs vs m.body b r).1 ∙ ap (λ (z : LoopTree). is_passing_text z.body) k)
+passes_kept_text cs vs (Some m) (Some b) l r e = let k : m ≡ l = cc in
+    (b, refl, (block_units_kept cs vs m.body b r).1 ∙ ap (λ (z : LoopTree). is_passing_text z.body) k)
 
 -- numbers stay within the names
 pub reads_below : (names : List NameTree) (i : ℕ) (t : List ℕ) → Reads names i t → i < length names
@@ -264,23 +422,38 @@ and_true true b h k = k
 and_true false b h k = absurd (false≢true h)
 
 mutual
-  expr_kept_within : (vs : List NameTree) (e : ExprTree) (t : Tree) → ResolvesExpr vs e t → IsTrue (expr_within (length vs) t)
+  expr_kept_within : (vs : List NameTree) (e : ExprTree) (t : Tree) → ResolvesExpr vs e t
+      → IsTrue (expr_within (length vs) t)
   expr_kept_within vs (LiteralTree n) (Number m) r = refl
   expr_kept_within vs (VariableTree v) (Name x) r = below_test x (length vs) (reads_below vs x v.text r)
   expr_kept_within vs (MinusTree a) (Minus b) r = expr_kept_within vs a b r
-  expr_kept_within vs (ChainTree a links) (Chain b more) r = and_true (expr_within (length vs) b) (links_within (length vs) more) (expr_kept_within vs a b r.0) (links_kept_within vs links more r.1)
+  expr_kept_within vs (ChainTree a links) (Chain b more) r =
+      and_true (expr_within (length vs) b) (links_within (length vs) more) (expr_kept_within vs a b r.0)
+      (links_kept_within vs links more r.1)
   expr_kept_within vs _ _ r = absurd r
 
-  links_kept_within : (vs : List NameTree) (links : LinksTree) (more : Links) → ResolvesLinks vs links more → IsTrue (links_within (length vs) more)
+  links_kept_within : (vs : List NameTree) (links : LinksTree) (more : Links) → ResolvesLinks vs links more
+      → IsTrue (links_within (length vs) more)
   links_kept_within vs NoLinksTree NoLinks r = refl
-  links_kept_within vs (LinkThenTree o a rest) (LinkThen p b more) r = and_true (expr_within (length vs) b) (links_within (length vs) more) (expr_kept_within vs a b r.1) (links_kept_within vs rest more r.2)
+  links_kept_within vs (LinkThenTree o a rest) (LinkThen p b more) r =
+      and_true (expr_within (length vs) b) (links_within (length vs) more) (expr_kept_within vs a b r.1)
+      (links_kept_within vs rest more r.2)
   links_kept_within vs _ _ r = absurd r
 
-pub block_kept_within : (cs vs : List NameTree) (tree : BlockTree) (block : Block) → ResolvesBlock cs vs tree block → IsTrue (block_within (length vs) (length cs) block)
+pub block_kept_within : (cs vs : List NameTree) (tree : BlockTree) (block : Block) → ResolvesBlock cs vs tree block
+    → IsTrue (block_within (length vs) (length cs) block)
 block_kept_within cs vs NothingTree Nothing r = refl
-block_kept_within cs vs (GetTree v n rest) (GetThen x d b) r = and_true (nat_lt x (length vs)) _ (below_test x (length vs) (reads_below vs x v.text r.0)) (and_true (nat_lt d (length cs)) _ (below_test d (length cs) (reads_below cs d n.text r.1)) (block_kept_within cs vs rest b r.2))
-block_kept_within cs vs (AssignTree v e rest) (AssignThen x t b) r = and_true (nat_lt x (length vs)) _ (below_test x (length vs) (reads_below vs x v.text r.0)) (and_true (expr_within (length vs) t) _ (expr_kept_within vs e t r.1) (block_kept_within cs vs rest b r.2))
-block_kept_within cs vs (PutTree e n rest) (PutThen t d b) r = and_true (expr_within (length vs) t) _ (expr_kept_within vs e t r.0) (and_true (nat_lt d (length cs)) _ (below_test d (length cs) (reads_below cs d n.text r.1)) (block_kept_within cs vs rest b r.2))
+block_kept_within cs vs (GetTree v n rest) (GetThen x d b) r =
+    and_true (nat_lt x (length vs)) _ (below_test x (length vs) (reads_below vs x v.text r.0))
+    (and_true (nat_lt d (length cs)) _ (below_test d (length cs) (reads_below cs d n.text r.1))
+    (block_kept_within cs vs rest b r.2))
+block_kept_within cs vs (AssignTree v e rest) (AssignThen x t b) r =
+    and_true (nat_lt x (length vs)) _ (below_test x (length vs) (reads_below vs x v.text r.0))
+    (and_true (expr_within (length vs) t) _ (expr_kept_within vs e t r.1) (block_kept_within cs vs rest b r.2))
+block_kept_within cs vs (PutTree e n rest) (PutThen t d b) r =
+    and_true (expr_within (length vs) t) _ (expr_kept_within vs e t r.0)
+    (and_true (nat_lt d (length cs)) _ (below_test d (length cs) (reads_below cs d n.text r.1))
+    (block_kept_within cs vs rest b r.2))
 block_kept_within cs vs (StopTree rest) (StopThen b) r = block_kept_within cs vs rest b r
 block_kept_within cs vs (IfTree e first second rest) (IfThen t one other b) r =
     and_true (expr_within (length vs) t) _ (expr_kept_within vs e t r.0)
@@ -289,15 +462,20 @@ block_kept_within cs vs (IfTree e first second rest) (IfThen t one other b) r =
     (block_kept_within cs vs rest b r.3)))
 block_kept_within cs vs _ _ r = absurd r
 
-pub loop_kept_within : (cs vs : List NameTree) (repeated : Option LoopTree) (body : Option Block) → ResolvesLoop cs vs repeated body → IsTrue (body_within (length vs) (length cs) body)
+pub loop_kept_within : (cs vs : List NameTree) (repeated : Option LoopTree) (body : Option Block)
+    → ResolvesLoop cs vs repeated body → IsTrue (body_within (length vs) (length cs) body)
 loop_kept_within cs vs None None r = refl
 loop_kept_within cs vs None (Some b) r = absurd r
 loop_kept_within cs vs (Some l) None r = absurd r
 loop_kept_within cs vs (Some l) (Some b) r = block_kept_within cs vs l.body b r
 
 -- as many channels and processes as the text declares
-pub channels_counted : (text : List DeclarationTree) (channels processes : List NameTree) (net : Network) → Resolves text channels processes net → length net.channels ≡ length (channels_of text)
-channels_counted text channels processes net r = r.channel_count ∙ ap length r.channels_named ∙ length-map (channels_of text) (λ (c : ChannelText). c.name)
+pub channels_counted : (text : List DeclarationTree) (channels processes : List NameTree) (net : Network)
+    → Resolves text channels processes net → length net.channels ≡ length (channels_of text)
+channels_counted text channels processes net r =
+    r.channel_count ∙ ap length r.channels_named ∙ length-map (channels_of text) (λ (c : ChannelText). c.name)
 
-pub processes_counted : (text : List DeclarationTree) (channels processes : List NameTree) (net : Network) → Resolves text channels processes net → length net.codes ≡ length (processes_of text)
-processes_counted text channels processes net r = r.process_count ∙ ap length r.processes_named ∙ length-map (processes_of text) (λ (p : ProcessTree). p.name)
+pub processes_counted : (text : List DeclarationTree) (channels processes : List NameTree) (net : Network)
+    → Resolves text channels processes net → length net.codes ≡ length (processes_of text)
+processes_counted text channels processes net r =
+    r.process_count ∙ ap length r.processes_named ∙ length-map (processes_of text) (λ (p : ProcessTree). p.name)

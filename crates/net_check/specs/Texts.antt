@@ -1,6 +1,9 @@
--- The units of a text's statements, and whether they pass, counted over the text as over the network that it is resolved to.
+-- The units of a text's statements, and whether they pass, counted over the text as over the network that it is
+-- resolved to.
 use Rattle.std.specs.Prelude.{ℕ, suc, ◌+◌, Bool, true, false, ◌&&◌, ◌||◌, Option, Some, None}
-use Rattle.net_text.specs.Trees.{ExprTree, LiteralTree, VariableTree, MinusTree, ChainTree, LinksTree, NoLinksTree, LinkThenTree, BlockTree, NothingTree, GetTree, AssignTree, PutTree, StopTree, IfTree, LoopTree, ProcessTree}
+use Rattle.net_text.specs.Trees.{ExprTree, LiteralTree, VariableTree, MinusTree, ChainTree, LinksTree, NoLinksTree}
+use Rattle.net_text.specs.Trees.{LinkThenTree, BlockTree, NothingTree, GetTree, AssignTree, PutTree, StopTree, IfTree}
+use Rattle.net_text.specs.Trees.{LoopTree, ProcessTree}
 
 -- each literal, each variable in an expression, each operator and each minus of one value is one unit
 abbrev mutual
@@ -21,7 +24,8 @@ block_units_text (GetTree v c rest) = suc (block_units_text rest)
 block_units_text (AssignTree v e rest) = suc (expr_units_text e + block_units_text rest)
 block_units_text (PutTree e c rest) = suc (expr_units_text e + block_units_text rest)
 block_units_text (StopTree rest) = suc (block_units_text rest)
-block_units_text (IfTree test first second rest) = suc (expr_units_text test + (block_units_text first + (block_units_text second + block_units_text rest)))
+block_units_text (IfTree test first second rest) =
+    suc (expr_units_text test + (block_units_text first + (block_units_text second + block_units_text rest)))
 
 abbrev pub loop_units_text : Option LoopTree → ℕ
 loop_units_text None = 0
@@ -37,4 +41,5 @@ is_passing_text (GetTree v c rest) = true
 is_passing_text (AssignTree v e rest) = is_passing_text rest
 is_passing_text (PutTree e c rest) = is_passing_text rest
 is_passing_text (StopTree rest) = true
-is_passing_text (IfTree test first second rest) = (is_passing_text first && is_passing_text second) || is_passing_text rest
+is_passing_text (IfTree test first second rest) =
+    (is_passing_text first && is_passing_text second) || is_passing_text rest

@@ -1,7 +1,9 @@
 -- What the statements of a text use, in order of the text.
 use Rattle.std.specs.Prelude.{◌≡◌, List, [], ◌∷◌, ◌++◌, Option, Some, None, ◌⊎◌}
 use Rattle.net_text.specs.Names.{NameTree}
-use Rattle.net_text.specs.Trees.{ExprTree, LiteralTree, VariableTree, MinusTree, ChainTree, LinksTree, NoLinksTree, LinkThenTree, BlockTree, NothingTree, GetTree, AssignTree, PutTree, StopTree, IfTree, LoopTree, ProcessTree}
+use Rattle.net_text.specs.Trees.{ExprTree, LiteralTree, VariableTree, MinusTree, ChainTree, LinksTree, NoLinksTree}
+use Rattle.net_text.specs.Trees.{LinkThenTree, BlockTree, NothingTree, GetTree, AssignTree, PutTree, StopTree, IfTree}
+use Rattle.net_text.specs.Trees.{LoopTree, ProcessTree}
 
 -- a variable that is read or written, a channel from which an item is got, a channel on which one is put
 pub data Use : Type 0 where
@@ -26,7 +28,8 @@ block_uses (GetTree variable channel rest) = OfVariable variable ∷ GetFrom cha
 block_uses (AssignTree variable value rest) = OfVariable variable ∷ (expr_uses value ++ block_uses rest)
 block_uses (PutTree value channel rest) = expr_uses value ++ (PutOn channel ∷ block_uses rest)
 block_uses (StopTree rest) = block_uses rest
-block_uses (IfTree test first second rest) = expr_uses test ++ (block_uses first ++ (block_uses second ++ block_uses rest))
+block_uses (IfTree test first second rest) =
+    expr_uses test ++ (block_uses first ++ (block_uses second ++ block_uses rest))
 
 abbrev pub loop_uses : Option LoopTree → List Use
 loop_uses None = []

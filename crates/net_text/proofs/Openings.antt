@@ -1,8 +1,11 @@
 -- Readers of what nests, as the parser goes through them: a symbol that opens, and what stands behind it.
-use Rattle.std.proofs.Common.{◌≡◌, ℕ, zero, suc, ◌-◌, Bool, true, false, cond, List, [], ◌∷◌, Ok, Err, refl, sym, ◌∙◌, sub-one}
+use Rattle.std.proofs.Common.{◌≡◌, ℕ, zero, suc, ◌-◌, Bool, true, false, cond, List, [], ◌∷◌, Ok, Err, refl, sym, ◌∙◌}
+use Rattle.std.proofs.Common.{sub-one}
 use Rattle.net_text.specs.Trees.{MinusTree}
 use Rattle.net_text.specs.Tokens.{Lexeme}
-use Rattle.net_text.specs.Reading.{Read, Reader, has_symbol, begins, pair_at, as_at, symbol_at, unopened_at, opening_at, atom_at, expr_of, factor_of, factor_at, parenthesised_at, minus_at, expr_at, statement_at, statements_at, block_at}
+use Rattle.net_text.specs.Reading.{Read, Reader, has_symbol, begins, pair_at, as_at, symbol_at, unopened_at, opening_at}
+use Rattle.net_text.specs.Reading.{atom_at, expr_of, factor_of, factor_at, parenthesised_at, minus_at, expr_at}
+use Rattle.net_text.specs.Reading.{statement_at, statements_at, block_at}
 use Rattle.net_text.proofs.Laws.{cond_true, cond_false}
 use Rattle.net_text.specs.declared.parser.Stuck.TheVariants.{At, TooDeep}
 use Rattle.net_text.specs.declared.token.Symbol.{Symbol}
@@ -10,11 +13,14 @@ use Rattle.net_text.specs.declared.token.Symbol.TheVariants as symbol
 use Rattle.net_text.specs.Results.{◌>>=◌}
 
 -- what can't be opened is all the same
-stuck_same : {B : Type 0} (next : Unit {0} × List Lexeme → Read B) (b : Bool) (line : ℕ) → (let left : Read B = cond b (Err (TooDeep line)) (Err (At line)) in left ≡ (cond {A = Read (Unit {0})} b (Err (TooDeep line)) (Err (At line)) >>= next))
+stuck_same : {B : Type 0} (next : Unit {0} × List Lexeme → Read B) (b : Bool) (line : ℕ)
+    → (let left : Read B = cond b (Err (TooDeep line)) (Err (At line)) in
+    left ≡ (cond {A = Read (Unit {0})} b (Err (TooDeep line)) (Err (At line)) >>= next))
 stuck_same next true line = refl
 stuck_same next false line = refl
 
-unopened_same : (B : Type 0) (s : Symbol) (next : Unit {0} × List Lexeme → Read B) (ts : List Lexeme) → unopened_at {A = B} s ts ≡ (unopened_at {A = Unit {0}} s ts >>= next)
+unopened_same : (B : Type 0) (s : Symbol) (next : Unit {0} × List Lexeme → Read B) (ts : List Lexeme)
+    → unopened_at {A = B} s ts ≡ (unopened_at {A = Unit {0}} s ts >>= next)
 unfolding unopened_at
 unopened_same B s next [] = refl
 unopened_same B s next (t ∷ ts) = stuck_same next (has_symbol s t.kind) t.line
@@ -28,26 +34,40 @@ seen_so view o = o >>= λ x. Ok (view x.0, x.1)
 abbrev behind : {A B : Type 0} → (Unit {0} × A → B) → Reader A → Unit {0} × List Lexeme → Read B
 behind view value a = seen_so view (with_opening value (Ok a))
 
-seen_assoc : {A B : Type 0} (view : Unit {0} × A → B) (value : Reader A) (o : Read (Unit {0})) → seen_so view (with_opening value o) ≡ (o >>= behind view value)
+seen_assoc : {A B : Type 0} (view : Unit {0} × A → B) (value : Reader A) (o : Read (Unit {0}))
+    → seen_so view (with_opening value o) ≡ (o >>= behind view value)
 seen_assoc view value (Ok x) = refl
 seen_assoc view value (Err s) = refl
 
-pub unopened_steps : {A B : Type 0} (s : Symbol) (view : Unit {0} × A → B) (value : Reader A) (ts : List Lexeme) → unopened_at {A = B} s ts ≡ as_at view (pair_at (unopened_at s) value) ts
-unopened_steps {A} {B} s view value ts = unopened_same B s (behind view value) ts ∙ sym (seen_assoc view value (unopened_at s ts))
+pub unopened_steps : {A B : Type 0} (s : Symbol) (view : Unit {0} × A → B) (value : Reader A) (ts : List Lexeme)
+    → unopened_at {A = B} s ts ≡ as_at view (pair_at (unopened_at s) value) ts
+unopened_steps {A} {B} s view value ts =
+    unopened_same B s (behind view value) ts ∙ sym (seen_assoc view value (unopened_at s ts))
 
-pub parenthesised_steps : (left : ℕ) (ts : List Lexeme) → parenthesised_at left ts ≡ as_at (λ x. x.1.0) (pair_at (opening_at symbol.LeftParenthesis left) (pair_at (expr_at (left - 1)) (symbol_at symbol.RightParenthesis))) ts
+pub parenthesised_steps : (left : ℕ) (ts : List Lexeme)
+    → parenthesised_at left ts
+    ≡ as_at (λ x. x.1.0)
+    (pair_at (opening_at symbol.LeftParenthesis left)
+    (pair_at (expr_at (left - 1)) (symbol_at symbol.RightParenthesis))) ts
 unfolding parenthesised_at expr_at
-parenthesised_steps zero ts = unopened_steps symbol.LeftParenthesis (λ x. x.1.0) (pair_at (expr_of (factor_at (0 - 1))) (symbol_at symbol.RightParenthesis)) ts
+parenthesised_steps zero ts =
+    unopened_steps symbol.LeftParenthesis (λ x. x.1.0)
+    (pair_at (expr_of (factor_at (0 - 1))) (symbol_at symbol.RightParenthesis)) ts
 parenthesised_steps (suc left) ts = rw sub-one refl
 
-pub minus_steps : (left : ℕ) (ts : List Lexeme) → minus_at left ts ≡ as_at (λ x. MinusTree x.1) (pair_at (opening_at symbol.Minus left) (factor_at (left - 1))) ts
+pub minus_steps : (left : ℕ) (ts : List Lexeme)
+    → minus_at left ts ≡ as_at (λ x. MinusTree x.1) (pair_at (opening_at symbol.Minus left) (factor_at (left - 1))) ts
 unfolding minus_at
 minus_steps zero ts = unopened_steps symbol.Minus (λ x. MinusTree x.1) (factor_at (0 - 1)) ts
 minus_steps (suc left) ts = rw sub-one refl
 
-pub block_steps : (left : ℕ) (ts : List Lexeme) → block_at left ts ≡ as_at (λ x. x.1.0) (pair_at (opening_at symbol.LeftBrace left) (pair_at (statements_at (left - 1)) (symbol_at symbol.RightBrace))) ts
+pub block_steps : (left : ℕ) (ts : List Lexeme)
+    → block_at left ts
+    ≡ as_at (λ x. x.1.0)
+    (pair_at (opening_at symbol.LeftBrace left) (pair_at (statements_at (left - 1)) (symbol_at symbol.RightBrace))) ts
 unfolding block_at statements_at statement_at
-block_steps zero ts = unopened_steps symbol.LeftBrace (λ x. x.1.0) (pair_at (statements_at (0 - 1)) (symbol_at symbol.RightBrace)) ts
+block_steps zero ts =
+    unopened_steps symbol.LeftBrace (λ x. x.1.0) (pair_at (statements_at (0 - 1)) (symbol_at symbol.RightBrace)) ts
 block_steps (suc left) ts = rw sub-one refl
 
 factor_is : (left : ℕ) (ts : List Lexeme) → factor_at left ts ≡ factor_of (parenthesised_at left) (minus_at left) ts
@@ -55,11 +75,18 @@ unfolding factor_at parenthesised_at minus_at
 factor_is zero ts = refl
 factor_is (suc left) ts = refl
 
-pub factor_parenthesised : (left : ℕ) (ts : List Lexeme) → begins (has_symbol symbol.LeftParenthesis) ts ≡ true → factor_at left ts ≡ parenthesised_at left ts
+pub factor_parenthesised : (left : ℕ) (ts : List Lexeme) → begins (has_symbol symbol.LeftParenthesis) ts ≡ true
+    → factor_at left ts ≡ parenthesised_at left ts
 factor_parenthesised left ts h = factor_is left ts ∙ cond_true (begins (has_symbol symbol.LeftParenthesis) ts) _ _ h
 
-pub factor_minus : (left : ℕ) (ts : List Lexeme) → begins (has_symbol symbol.LeftParenthesis) ts ≡ false → begins (has_symbol symbol.Minus) ts ≡ true → factor_at left ts ≡ minus_at left ts
-factor_minus left ts h k = factor_is left ts ∙ cond_false (begins (has_symbol symbol.LeftParenthesis) ts) _ _ h ∙ cond_true (begins (has_symbol symbol.Minus) ts) _ _ k
+pub factor_minus : (left : ℕ) (ts : List Lexeme) → begins (has_symbol symbol.LeftParenthesis) ts ≡ false
+    → begins (has_symbol symbol.Minus) ts ≡ true → factor_at left ts ≡ minus_at left ts
+factor_minus left ts h k =
+    factor_is left ts ∙ cond_false (begins (has_symbol symbol.LeftParenthesis) ts) _ _ h
+    ∙ cond_true (begins (has_symbol symbol.Minus) ts) _ _ k
 
-pub factor_atom : (left : ℕ) (ts : List Lexeme) → begins (has_symbol symbol.LeftParenthesis) ts ≡ false → begins (has_symbol symbol.Minus) ts ≡ false → factor_at left ts ≡ atom_at ts
-factor_atom left ts h k = factor_is left ts ∙ cond_false (begins (has_symbol symbol.LeftParenthesis) ts) _ _ h ∙ cond_false (begins (has_symbol symbol.Minus) ts) _ _ k
+pub factor_atom : (left : ℕ) (ts : List Lexeme) → begins (has_symbol symbol.LeftParenthesis) ts ≡ false
+    → begins (has_symbol symbol.Minus) ts ≡ false → factor_at left ts ≡ atom_at ts
+factor_atom left ts h k =
+    factor_is left ts ∙ cond_false (begins (has_symbol symbol.LeftParenthesis) ts) _ _ h
+    ∙ cond_false (begins (has_symbol symbol.Minus) ts) _ _ k

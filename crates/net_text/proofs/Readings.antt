@@ -1,12 +1,16 @@
 -- A text has one reading.
-use Rattle.std.proofs.Common.{◌≡◌, ℕ, suc, ◌+◌, ◌^◌, ◌<◌, ◌≤◌, Bool, true, false, cond, List, [], ◌∷◌, ◌++◌, length, take, drop, get_or, Option, Some, None, ap, sym, refl, ◌∙◌, subst, arith, length-take, length-drop, inl, inr}
+use Rattle.std.proofs.Common.{◌≡◌, ℕ, suc, ◌+◌, ◌^◌, ◌<◌, ◌≤◌, Bool, true, false, cond, List, [], ◌∷◌, ◌++◌, length}
+use Rattle.std.proofs.Common.{take, drop, get_or, Option, Some, None, ap, sym, refl, ◌∙◌, subst, arith, length-take}
+use Rattle.std.proofs.Common.{length-drop, inl, inr}
 use Rattle.std.specs.Prelude.{◌==◌}
 use Rattle.std.specs.Str.{bytes_eq}
 use Rattle.net_text.specs.Numbers.{is_numeral, numeral_value}
 use Rattle.net_text.specs.Spellings.{keyword_spelling, symbol_spelling, is_word, IsLexeme, IsLongest, Spells}
 use Rattle.net_text.proofs.Steps.{lexeme_line}
-use Rattle.net_text.specs.Tokens.{line_at, is_white, after_gap_in, Lexeme, IsTokenFrom, AreTokensTo, EndsAt, IsBadAt, IsBadFrom, StopsAt}
-use Rattle.net_text.proofs.Lexemes.{digit_bounds, starts_bounds, first_of_word, first_of_numeral, first_of_symbol, lexeme_some}
+use Rattle.net_text.specs.Tokens.{line_at, is_white, after_gap_in, Lexeme, IsTokenFrom, AreTokensTo, EndsAt, IsBadAt}
+use Rattle.net_text.specs.Tokens.{IsBadFrom, StopsAt}
+use Rattle.net_text.proofs.Lexemes.{digit_bounds, starts_bounds, first_of_word, first_of_numeral, first_of_symbol}
+use Rattle.net_text.proofs.Lexemes.{lexeme_some}
 use Rattle.net_text.specs.declared.lexer.End.{End}
 use Rattle.net_text.specs.declared.lexer.End.TheVariants as end
 use Rattle.net_text.specs.declared.fault.TextFault.{TextFault}
@@ -20,12 +24,18 @@ use Rattle.net_text.specs.declared.token.TokenKind.TheVariants as kind
 use Rattle.net_text.specs.declared.limits.TheConstants.{MAX_NAME_BYTES}
 
 -- one more token
-pub tokens_push : (text : List ℕ) (place : ℕ) (ts : List Lexeme) (last : ℕ) (t : Lexeme) → AreTokensTo text place ts last → IsTokenFrom text last t → AreTokensTo text place (ts ++ t ∷ []) (t.start + length t.text)
+pub tokens_push : (text : List ℕ) (place : ℕ) (ts : List Lexeme) (last : ℕ) (t : Lexeme)
+    → AreTokensTo text place ts last → IsTokenFrom text last t
+    → AreTokensTo text place (ts ++ t ∷ []) (t.start + length t.text)
 tokens_push text place [] last t e token = (subst (λ (p : ℕ). IsTokenFrom text p t) (sym e) token, refl)
-tokens_push text place (u ∷ ts) last t read token = (read.0, tokens_push text (u.start + length u.text) ts last t read.1 token)
+tokens_push text place (u ∷ ts) last t read token =
+    (read.0, tokens_push text (u.start + length u.text) ts last t read.1 token)
 
 keywords : List Keyword
-keywords = keyword.Kahn ∷ keyword.Input ∷ keyword.Chan ∷ keyword.Output ∷ keyword.Process ∷ keyword.On ∷ keyword.Var ∷ keyword.Loop ∷ keyword.Get ∷ keyword.Put ∷ keyword.To ∷ keyword.If ∷ keyword.Else ∷ keyword.Stop ∷ keyword.Repeat ∷ keyword.Div ∷ keyword.Mod ∷ []
+keywords =
+    keyword.Kahn ∷ keyword.Input ∷ keyword.Chan ∷ keyword.Output ∷ keyword.Process ∷ keyword.On ∷ keyword.Var
+    ∷ keyword.Loop ∷ keyword.Get ∷ keyword.Put ∷ keyword.To ∷ keyword.If ∷ keyword.Else ∷ keyword.Stop ∷ keyword.Repeat
+    ∷ keyword.Div ∷ keyword.Mod ∷ []
 
 -- the first of these keywords that is spelled so
 spelled_among : List Keyword → List ℕ → Option Keyword
@@ -54,10 +64,14 @@ keyword_back keyword.Div = refl
 keyword_back keyword.Mod = refl
 
 pub one_keyword : (v w : Keyword) → keyword_spelling v ≡ keyword_spelling w → v ≡ w
-one_keyword v w e = let both : Some v ≡ Some w = sym (keyword_back v) ∙ ap (spelled_among keywords) e ∙ keyword_back w in cc
+one_keyword v w e = let both : Some v ≡ Some w =
+    sym (keyword_back v) ∙ ap (spelled_among keywords) e ∙ keyword_back w in cc
 
 symbols : List Symbol
-symbols = symbol.Semicolon ∷ symbol.LeftBrace ∷ symbol.RightBrace ∷ symbol.LeftParenthesis ∷ symbol.RightParenthesis ∷ symbol.Assign ∷ symbol.Equal ∷ symbol.NotEqual ∷ symbol.Less ∷ symbol.LessOrEqual ∷ symbol.Greater ∷ symbol.GreaterOrEqual ∷ symbol.Plus ∷ symbol.Minus ∷ symbol.Star ∷ []
+symbols =
+    symbol.Semicolon ∷ symbol.LeftBrace ∷ symbol.RightBrace ∷ symbol.LeftParenthesis ∷ symbol.RightParenthesis
+    ∷ symbol.Assign ∷ symbol.Equal ∷ symbol.NotEqual ∷ symbol.Less ∷ symbol.LessOrEqual ∷ symbol.Greater
+    ∷ symbol.GreaterOrEqual ∷ symbol.Plus ∷ symbol.Minus ∷ symbol.Star ∷ []
 
 symbol_among : List Symbol → List ℕ → Option Symbol
 symbol_among [] bs = None
@@ -146,7 +160,8 @@ one_kind (kind.Symbol s) (kind.Word w) bs h g = absurd (word_no_symbol bs s (key
 one_kind (kind.Symbol s) (kind.Symbol t) bs h g = ap kind.Symbol (one_symbol s t (sym h ∙ g))
 
 pub one_place : (text : List ℕ) (p q : ℕ) → p ≤ length text → q ≤ length text → drop p text ≡ drop q text → p ≡ q
-one_place text p q h k e = let a = length-drop p text in let b = length-drop q text in let c = ap length e in omega arith
+one_place text p q h k e = let a = length-drop p text in let b = length-drop q text in let c = ap length e in
+    omega arith
 
 pub longest_within : (front bytes : List ℕ) → IsLongest front bytes → length front ≤ length bytes
 longest_within front bytes l = let e = ap length l.front_of in let t = length-take (length front) bytes in omega arith
@@ -161,7 +176,8 @@ one_longest_front a b bytes h g =
 pub one_token : (text : List ℕ) (place : ℕ) (t u : Lexeme) → IsTokenFrom text place t → IsTokenFrom text place u → t ≡ u
 one_token text place t u h g =
     let start : t.start ≡ u.start = one_place text t.start u.start h.within g.within (h.after ∙ sym g.after) in
-    let longest : IsLongest t.text (drop u.start text) = subst (λ (p : ℕ). IsLongest t.text (drop p text)) start h.longest in
+    let longest : IsLongest t.text (drop u.start text) =
+    subst (λ (p : ℕ). IsLongest t.text (drop p text)) start h.longest in
     let same : t.text ≡ u.text = one_longest_front t.text u.text (drop u.start text) longest g.longest in
     let kinds : t.kind ≡ u.kind = one_kind t.kind u.kind u.text (subst (Spells t.kind) same h.spelled) g.spelled in
     let lines : t.line ≡ u.line = h.line_is ∙ ap (line_at text) start ∙ sym g.line_is in
@@ -176,7 +192,8 @@ token_no_end text place t h e =
     omega arith
 
 pub bad_no_end : (text : List ℕ) (place : ℕ) (fault : TextFault) → IsBadFrom text place fault → EndsAt text place → ⊥
-bad_no_end text place fault h e = let none = ap length (h.after ∙ e) in let l = length-drop h.start text in let lt = h.within in omega arith
+bad_no_end text place fault h e = let none = ap length (h.after ∙ e) in let l = length-drop h.start text in let lt =
+    h.within in omega arith
 
 -- nor is what stands there bad
 spelled_no_numeral : (k : TokenKind) (bs : List ℕ) → Spells k bs → is_numeral bs ≡ true → 2 ^ 63 ≤ numeral_value bs → ⊥
@@ -191,10 +208,12 @@ spelled_no_word (kind.Number n) bs h word long = word_no_numeral bs word h.0
 spelled_no_word (kind.Word w) bs h word long = let e = ap length h in let le = (keyword_is_word w).1 in omega arith
 spelled_no_word (kind.Symbol s) bs h word long = word_no_symbol bs s word h
 
-token_no_bad_at : (text : List ℕ) (place start : ℕ) (t : Lexeme) (fault : TextFault) → IsTokenFrom text place t → t.start ≡ start → IsBadAt text start fault → ⊥
+token_no_bad_at : (text : List ℕ) (place start : ℕ) (t : Lexeme) (fault : TextFault) → IsTokenFrom text place t
+    → t.start ≡ start → IsBadAt text start fault → ⊥
 token_no_bad_at text place start t (BadToken line) h e bad =
     let longest : IsLongest t.text (drop start text) = subst (λ (p : ℕ). IsLongest t.text (drop p text)) e h.longest in
-    bad.1 (length t.text) (longest_within t.text (drop start text) longest) (subst IsLexeme longest.front_of longest.lexeme)
+    bad.1 (length t.text) (longest_within t.text (drop start text) longest)
+    (subst IsLexeme longest.front_of longest.lexeme)
 token_no_bad_at text place start t (NumberRange line) h e bad =
     let longest : IsLongest t.text (drop start text) = subst (λ (p : ℕ). IsLongest t.text (drop p text)) e h.longest in
     let same : t.text ≡ bad.1.0 = one_longest_front t.text bad.1.0 (drop start text) longest bad.1.1 in
@@ -206,27 +225,39 @@ token_no_bad_at text place start t (TooLong line) h e bad =
 token_no_bad_at text place start t NoMemory h e bad = bad
 token_no_bad_at text place start t (Unexpected line) h e bad = bad
 
-pub token_no_bad : (text : List ℕ) (place : ℕ) (t : Lexeme) (fault : TextFault) → IsTokenFrom text place t → IsBadFrom text place fault → ⊥
+pub token_no_bad : (text : List ℕ) (place : ℕ) (t : Lexeme) (fault : TextFault) → IsTokenFrom text place t
+    → IsBadFrom text place fault → ⊥
 token_no_bad text place t fault h bad =
-    token_no_bad_at text place bad.start t fault h (let lt = bad.within in one_place text t.start bad.start h.within (omega arith) (h.after ∙ sym bad.after)) bad.bad
+    token_no_bad_at text place bad.start t fault h
+    (let lt = bad.within in one_place text t.start bad.start h.within (omega arith) (h.after ∙ sym bad.after))
+    bad.bad
 
 -- where a token stands nothing else stops the reading
-token_no_stop : (text : List ℕ) (place : ℕ) (t : Lexeme) (stop : End) → IsTokenFrom text place t → StopsAt text place stop → ⊥
+token_no_stop : (text : List ℕ) (place : ℕ) (t : Lexeme) (stop : End) → IsTokenFrom text place t
+    → StopsAt text place stop → ⊥
 token_no_stop text place t (end.Text line) h stops = token_no_end text place t h stops.0
 token_no_stop text place t (end.Bad fault) h stops = token_no_bad text place t fault h stops
 
-end_stops : (text : List ℕ) (place : ℕ) (stop : End) → EndsAt text place → StopsAt text place stop → stop ≡ end.Text (line_at text (length text))
+end_stops : (text : List ℕ) (place : ℕ) (stop : End) → EndsAt text place → StopsAt text place stop
+    → stop ≡ end.Text (line_at text (length text))
 end_stops text place (end.Text line) h stops = ap end.Text stops.1
 end_stops text place (end.Bad fault) h stops = absurd (bad_no_end text place fault stops h)
 
 -- the tokens of a text that can be read whole are those that are read, and its end stops the reading
-pub one_reading : (text : List ℕ) (place : ℕ) (ts us : List Lexeme) (p q : ℕ) (stop : End) → AreTokensTo text place ts p → EndsAt text p → AreTokensTo text place us q → StopsAt text q stop → (ts ≡ us) × (stop ≡ end.Text (line_at text (length text)))
-one_reading text place [] [] p q stop h ends g stops = (refl, end_stops text p stop ends (subst (λ (r : ℕ). StopsAt text r stop) (sym g ∙ h) stops))
-one_reading text place [] (u ∷ us) p q stop h ends g stops = absurd (token_no_end text place u g.0 (subst (EndsAt text) (sym h) ends))
-one_reading text place (t ∷ ts) [] p q stop h ends g stops = absurd (token_no_stop text place t stop h.0 (subst (λ (r : ℕ). StopsAt text r stop) (sym g) stops))
+pub one_reading : (text : List ℕ) (place : ℕ) (ts us : List Lexeme) (p q : ℕ) (stop : End)
+    → AreTokensTo text place ts p → EndsAt text p → AreTokensTo text place us q → StopsAt text q stop
+    → (ts ≡ us) × (stop ≡ end.Text (line_at text (length text)))
+one_reading text place [] [] p q stop h ends g stops =
+    (refl, end_stops text p stop ends (subst (λ (r : ℕ). StopsAt text r stop) (sym g ∙ h) stops))
+one_reading text place [] (u ∷ us) p q stop h ends g stops =
+    absurd (token_no_end text place u g.0 (subst (EndsAt text) (sym h) ends))
+one_reading text place (t ∷ ts) [] p q stop h ends g stops =
+    absurd (token_no_stop text place t stop h.0 (subst (λ (r : ℕ). StopsAt text r stop) (sym g) stops))
 one_reading text place (t ∷ ts) (u ∷ us) p q stop h ends g stops =
     let same : t ≡ u = one_token text place t u h.0 g.0 in
-    let rest = one_reading text (u.start + length u.text) ts us p q stop (subst (λ (x : Lexeme). AreTokensTo text (x.start + length x.text) ts p) same h.1) ends g.1 stops in
+    let rest =
+    one_reading text (u.start + length u.text) ts us p q stop
+    (subst (λ (x : Lexeme). AreTokensTo text (x.start + length x.text) ts p) same h.1) ends g.1 stops in
     (λ i. same i ∷ rest.0 i, rest.1)
 
 -- over a token: the text goes on after it, on its line, and nearer to its end
@@ -249,10 +280,13 @@ after_gap_shorter true (b ∷ bs) =
 after_gap_shorter false (b ∷ bs) =
     let h = after_gap_shorter true bs in
     let k = after_gap_shorter false bs in
-    let inner = pick_shorter (is_white b) (after_gap_in false bs) (b ∷ bs) (suc (length bs)) (omega arith) (omega arith) in
-    pick_shorter (b == 35) (after_gap_in true bs) (cond (is_white b) (after_gap_in false bs) (b ∷ bs)) (suc (length bs)) (omega arith) inner
+    let inner =
+    pick_shorter (is_white b) (after_gap_in false bs) (b ∷ bs) (suc (length bs)) (omega arith) (omega arith) in
+    pick_shorter (b == 35) (after_gap_in true bs) (cond (is_white b) (after_gap_in false bs) (b ∷ bs))
+    (suc (length bs)) (omega arith) inner
 
-pub token_step : (text : List ℕ) (place : ℕ) (t : Lexeme) → place ≤ length text → IsTokenFrom text place t → IsStep text place t
+pub token_step : (text : List ℕ) (place : ℕ) (t : Lexeme) → place ≤ length text → IsTokenFrom text place t
+    → IsStep text place t
 token_step text place t le h =
     let some = lexeme_some t.text h.longest.lexeme in
     let within = longest_within t.text (drop t.start text) h.longest in
@@ -263,6 +297,8 @@ token_step text place t le h =
     let start = h.within in
     record {
       within = omega arith;
-      line_is = h.line_is ∙ sym (lexeme_line text t.start (length t.text) (subst IsLexeme h.longest.front_of h.longest.lexeme));
+      line_is =
+          h.line_is
+          ∙ sym (lexeme_line text t.start (length t.text) (subst IsLexeme h.longest.front_of h.longest.lexeme));
       nearer = omega arith;
     }

@@ -1,16 +1,38 @@
 -- Each reader of the grammar keeps the law for its rule.
-use Rattle.std.proofs.Common.{◌≡◌, ℕ, zero, suc, ◌⊎◌, inl, inr, Bool, true, false, cond, List, [], ◌∷◌, ◌++◌, Option, Some, None, Ok, Err, pos, neg_ℤ, refl, sym, ap, subst, ◌∙◌}
+use Rattle.std.proofs.Common.{◌≡◌, ℕ, zero, suc, ◌⊎◌, inl, inr, Bool, true, false, cond, List, [], ◌∷◌, ◌++◌, Option}
+use Rattle.std.proofs.Common.{Some, None, Ok, Err, pos, neg_ℤ, refl, sym, ap, subst, ◌∙◌}
 use Rattle.std.specs.Prelude.{◌==◌}
 use Rattle.std.proofs.lemmas.Slice.Eq.{bytes_eq-Decides}
 use Rattle.std.proofs.lemmas.Bool.{eqb-true, eq-eqb}
 use Rattle.net_text.specs.Names.{NameTree}
 use Rattle.net_text.specs.Spellings.{keyword_spelling, symbol_spelling}
-use Rattle.net_text.specs.Trees.{ExprTree, LiteralTree, VariableTree, MinusTree, LinkTree, BlockTree, NothingTree, GetTree, AssignTree, PutTree, StopTree, IfTree, LoopTree, DeclarationTree, ChannelTree, ProcessDeclared}
+use Rattle.net_text.specs.Trees.{ExprTree, LiteralTree, VariableTree, MinusTree, LinkTree, BlockTree, NothingTree}
+use Rattle.net_text.specs.Trees.{GetTree, AssignTree, PutTree, StopTree, IfTree, LoopTree, DeclarationTree, ChannelTree}
+use Rattle.net_text.specs.Trees.{ProcessDeclared}
 use Rattle.net_text.specs.Tokens.{Lexeme}
-use Rattle.net_text.specs.Grammar.{Extent, Whole, Begun, Rule, ◌>>◌, ◌or◌, IsWhere, IsNothing, IsAwaited, IsOne, IsEach, IsAtMostOne, IsWordOn, IsWord, IsSymbol, IsName, IsNumberOn, IsNumber, operator_symbol, level_of, IsOperator, chain_of, IsLink, IsChain, IsTermOf, IsSumOf, IsExprOf, IsAtom, IsParenthesised, IsMinus, IsFactor, IsExpr, IsGet, IsAssign, IsPut, IsStop, IsElse, IsIf, IsStatements, IsBlock, IsPositive, IsNegative, IsInitial, IsVariable, IsLoop, IsHead, IsProcess, first_word, IsChannel, IsDeclaration, IsEdition, IsText}
-use Rattle.net_text.specs.Reading.{Read, Reader, has_word, has_symbol, is_name, operator_of, is_level, if_level, operator_in, has_operator, pair_at, as_at, either_at, at_most_one_at, word_on_at, word_at, symbol_at, name_at, number_in, number_at, picked, operator_at, atom_in, atom_at, link_of, chain_at, expr_of, parenthesised_of, minus_of, factor_of, factor_at, link_at, expr_at, got_at, assigned_at, named_tree, named_at, put_at, stop_at, else_of, if_of, statement_of, starts_statement, append_block, joined, statements_of, braced_of, block_at, statement_at, statements_at, amount_at, value_at, initial_at, variable_tree, variable_at, variables_at, loop_text, loop_at, HeadTree, head_made, head_at, process_made, process_at, channel_made, channel_at, declaration_at, starts_declaration, declarations_at, if_edition, edition_number_at, edition_at, text_at}
+use Rattle.net_text.specs.Grammar.{Extent, Whole, Begun, Rule, ◌>>◌, ◌or◌, IsWhere, IsNothing, IsAwaited, IsOne, IsEach}
+use Rattle.net_text.specs.Grammar.{IsAtMostOne, IsWordOn, IsWord, IsSymbol, IsName, IsNumberOn, IsNumber}
+use Rattle.net_text.specs.Grammar.{operator_symbol, level_of, IsOperator, chain_of, IsLink, IsChain, IsTermOf, IsSumOf}
+use Rattle.net_text.specs.Grammar.{IsExprOf, IsAtom, IsParenthesised, IsMinus, IsFactor, IsExpr, IsGet, IsAssign, IsPut}
+use Rattle.net_text.specs.Grammar.{IsStop, IsElse, IsIf, IsStatements, IsBlock, IsPositive, IsNegative, IsInitial}
+use Rattle.net_text.specs.Grammar.{IsVariable, IsLoop, IsHead, IsProcess, first_word, IsChannel, IsDeclaration}
+use Rattle.net_text.specs.Grammar.{IsEdition, IsText}
+use Rattle.net_text.specs.Reading.{Read, Reader, has_word, has_symbol, is_name, operator_of, is_level, if_level}
+use Rattle.net_text.specs.Reading.{operator_in, has_operator, pair_at, as_at, either_at, at_most_one_at, word_on_at}
+use Rattle.net_text.specs.Reading.{word_at, symbol_at, name_at, number_in, number_at, picked, operator_at, atom_in}
+use Rattle.net_text.specs.Reading.{atom_at, link_of, chain_at, expr_of, parenthesised_of, minus_of, factor_of}
+use Rattle.net_text.specs.Reading.{factor_at, link_at, expr_at, got_at, assigned_at, named_tree, named_at, put_at}
+use Rattle.net_text.specs.Reading.{stop_at, else_of, if_of, statement_of, starts_statement, append_block, joined}
+use Rattle.net_text.specs.Reading.{statements_of, braced_of, block_at, statement_at, statements_at, amount_at, value_at}
+use Rattle.net_text.specs.Reading.{initial_at, variable_tree, variable_at, variables_at, loop_text, loop_at, HeadTree}
+use Rattle.net_text.specs.Reading.{head_made, head_at, process_made, process_at, channel_made, channel_at}
+use Rattle.net_text.specs.Reading.{declaration_at, starts_declaration, declarations_at, if_edition, edition_number_at}
+use Rattle.net_text.specs.Reading.{edition_at, text_at}
 use Rattle.net_text.proofs.Readings.{one_keyword, one_symbol}
-use Rattle.net_text.proofs.Laws.{Class, AWord, ASymbol, AName, ANumber, IsOf, Tests, Reads, never, cond_true, cond_false, one_reads, pair_starts, pair_empty, pair_continues, many_continues, either_continues, pair_reads, either_reads, nothing_reads, as_reads, IsImage, image_reads, ruled_reads, seen_by, IsOpening, unopened_reads, each_reads}
+use Rattle.net_text.proofs.Laws.{Class, AWord, ASymbol, AName, ANumber, IsOf, Tests, Reads, never, cond_true}
+use Rattle.net_text.proofs.Laws.{cond_false, one_reads, pair_starts, pair_empty, pair_continues, many_continues}
+use Rattle.net_text.proofs.Laws.{either_continues, pair_reads, either_reads, nothing_reads, as_reads, IsImage}
+use Rattle.net_text.proofs.Laws.{image_reads, ruled_reads, seen_by, IsOpening, unopened_reads, each_reads}
 use Rattle.net_text.specs.declared.parser.Level.{Level}
 use Rattle.net_text.specs.declared.parser.Level.TheVariants.{Product, Sum, Comparison}
 use Rattle.net_text.specs.declared.parser.Stuck.TheVariants.{At, AtEnd}
@@ -21,7 +43,8 @@ use Rattle.net_text.specs.declared.token.Symbol.TheVariants as symbol
 use Rattle.net_text.specs.declared.token.TokenKind.{TokenKind}
 use Rattle.net_text.specs.declared.token.TokenKind.TheVariants as kind
 use Rattle.kahn_net.specs.declared.program.Operator.{Operator}
-use Rattle.kahn_net.specs.declared.program.Operator.TheVariants.{Add, Subtract, Multiply, Equal, NotEqual, Less, LessOrEqual, Greater, GreaterOrEqual}
+use Rattle.kahn_net.specs.declared.program.Operator.TheVariants.{Add, Subtract, Multiply, Equal, NotEqual, Less}
+use Rattle.kahn_net.specs.declared.program.Operator.TheVariants.{LessOrEqual, Greater, GreaterOrEqual}
 use Rattle.net_text.specs.declared.tree.Role.{Role}
 use Rattle.net_text.specs.declared.tree.Role.TheVariants.{Input, Inner, Output}
 use Rattle.net_text.specs.declared.tree.ChannelText.{ChannelText}
@@ -31,13 +54,15 @@ use Rattle.net_text.specs.Results.{◌>>=◌}
 -- ---- tokens
 
 has_word_is : (w : Keyword) (k : TokenKind) → has_word w k ≡ true → k ≡ kind.Word w
-has_word_is w (kind.Word v) h = ap kind.Word (one_keyword v w ((bytes_eq-Decides (keyword_spelling v) (keyword_spelling w)).0 h))
+has_word_is w (kind.Word v) h =
+    ap kind.Word (one_keyword v w ((bytes_eq-Decides (keyword_spelling v) (keyword_spelling w)).0 h))
 has_word_is w (kind.Symbol s) h = absurd cc
 has_word_is w (kind.Number n) h = absurd cc
 has_word_is w kind.Name h = absurd cc
 
 has_symbol_is : (s : Symbol) (k : TokenKind) → has_symbol s k ≡ true → k ≡ kind.Symbol s
-has_symbol_is s (kind.Symbol t) h = ap kind.Symbol (one_symbol t s ((bytes_eq-Decides (symbol_spelling t) (symbol_spelling s)).0 h))
+has_symbol_is s (kind.Symbol t) h =
+    ap kind.Symbol (one_symbol t s ((bytes_eq-Decides (symbol_spelling t) (symbol_spelling s)).0 h))
 has_symbol_is s (kind.Word w) h = absurd cc
 has_symbol_is s (kind.Number n) h = absurd cc
 has_symbol_is s kind.Name h = absurd cc
@@ -55,27 +80,33 @@ has_symbol_at : (s : Symbol) (k : TokenKind) → k ≡ kind.Symbol s → has_sym
 has_symbol_at s k e = ap (has_symbol s) e ∙ (bytes_eq-Decides (symbol_spelling s) (symbol_spelling s)).1 refl
 
 -- a token whose kind passes a test, and what it says
-record IsTested {A : Type 0} (test : TokenKind → Bool) (value : Lexeme → A) (Is : A → Lexeme → Type 0) (starts : List Class) (read : Reader A) : Type 0 where
+record IsTested {A : Type 0} (test : TokenKind → Bool) (value : Lexeme → A) (Is : A → Lexeme → Type 0)
+    (starts : List Class) (read : Reader A) : Type 0 where
   pub ended : read [] ≡ Err AtEnd
   pub gives : (t : Lexeme) (ts : List Lexeme) → read (t ∷ ts) ≡ cond (test t.kind) (Ok (value t, ts)) (Err (At t.line))
   pub is : (t : Lexeme) → test t.kind ≡ true → Is (value t) t
   pub only : (x : A) (t : Lexeme) → Is x t → (test t.kind ≡ true) × (x ≡ value t)
   pub class : (x : A) (t : Lexeme) → Is x t → IsOf starts t.kind
 
-tested_reads : {A : Type 0} {test : TokenKind → Bool} {value : Lexeme → A} {Is : A → Lexeme → Type 0} {starts : List Class} {read : Reader A} → A → IsTested test value Is starts read → Reads (λ x. IsOne (Is x)) starts false never read read
+tested_reads : {A : Type 0} {test : TokenKind → Bool} {value : Lexeme → A} {Is : A → Lexeme → Type 0}
+    {starts : List Class} {read : Reader A} → A → IsTested test value Is starts read
+    → Reads (λ x. IsOne (Is x)) starts false never read read
 tested_reads {A} {test} {value} {Is} {starts} {read} some h =
     one_reads Is starts read some h.ended
     (λ x t ts is.
     let found = h.only x t is in
-    h.gives t ts ∙ cond_true (test t.kind) (Ok (value t, ts)) (Err (At t.line)) found.0 ∙ ap (λ (y : A). let o : Read A = Ok (y, ts) in o) (sym found.1))
+    h.gives t ts ∙ cond_true (test t.kind) (Ok (value t, ts)) (Err (At t.line)) found.0
+    ∙ ap (λ (y : A). let o : Read A = Ok (y, ts) in o) (sym found.1))
     (λ t. at_test t (test t.kind) refl)
     h.class
   where
-    at_test : (t : Lexeme) (b : Bool) → test t.kind ≡ b → ((x : A) × Is x t) ⊎ ((ts : List Lexeme) → read (t ∷ ts) ≡ Err (At t.line))
+    at_test : (t : Lexeme) (b : Bool) → test t.kind ≡ b
+        → ((x : A) × Is x t) ⊎ ((ts : List Lexeme) → read (t ∷ ts) ≡ Err (At t.line))
     at_test t true e = inl (value t, h.is t e)
     at_test t false e = inr (λ ts. h.gives t ts ∙ cond_false (test t.kind) (Ok (value t, ts)) (Err (At t.line)) e)
 
-pub word_on_reads : (w : Keyword) → Reads (λ line. IsWordOn w line) (AWord w ∷ []) false never (word_on_at w) (word_on_at w)
+pub word_on_reads : (w : Keyword)
+    → Reads (λ line. IsWordOn w line) (AWord w ∷ []) false never (word_on_at w) (word_on_at w)
 unfolding word_on_at
 word_on_reads w =
     tested_reads {test = has_word w} {value = λ t. t.line} 1
@@ -99,7 +130,8 @@ word_reads w =
       class = λ x t is. inl is;
     })
 
-pub symbol_reads : (s : Symbol) → Reads (λ (u : Unit {0}). IsSymbol s) (ASymbol s ∷ []) false never (symbol_at s) (symbol_at s)
+pub symbol_reads : (s : Symbol)
+    → Reads (λ (u : Unit {0}). IsSymbol s) (ASymbol s ∷ []) false never (symbol_at s) (symbol_at s)
 unfolding symbol_at
 symbol_reads s =
     tested_reads {test = has_symbol s} {value = λ t. tt} tt
@@ -127,7 +159,9 @@ name_reads =
     })
 
 -- a token by its kind
-number_token : (t : Lexeme) (k : TokenKind) → t.kind ≡ k → ((x : NodeText) × ((t.kind ≡ kind.Number x.number) × (x.line ≡ t.line))) ⊎ ((ts : List Lexeme) → number_in k t.line ts ≡ Err (At t.line))
+number_token : (t : Lexeme) (k : TokenKind) → t.kind ≡ k
+    → ((x : NodeText) × ((t.kind ≡ kind.Number x.number) × (x.line ≡ t.line)))
+    ⊎ ((ts : List Lexeme) → number_in k t.line ts ≡ Err (At t.line))
 number_token t (kind.Number n) e = inl (record { number = n; line = t.line }, (e, refl))
 number_token t (kind.Word w) e = inr (λ ts. refl)
 number_token t (kind.Symbol s) e = inr (λ ts. refl)
@@ -136,8 +170,10 @@ number_token t kind.Name e = inr (λ ts. refl)
 pub number_reads : Reads (λ (n : NodeText). IsNumberOn n.number n.line) (ANumber ∷ []) false never number_at number_at
 unfolding number_at
 number_reads =
-    one_reads (λ (x : NodeText) t. (t.kind ≡ kind.Number x.number) × (x.line ≡ t.line)) (ANumber ∷ []) number_at (record { number = 0; line = 1 }) refl
-    (λ x t ts is. ap (λ (k : TokenKind). number_in k t.line ts) is.0 ∙ ap (λ (line : ℕ). let o : Read NodeText = Ok (record { number = x.number; line = line }, ts) in o) (sym is.1))
+    one_reads (λ (x : NodeText) t. (t.kind ≡ kind.Number x.number) × (x.line ≡ t.line)) (ANumber ∷ []) number_at
+    (record { number = 0; line = 1 }) refl
+    (λ x t ts is. ap (λ (k : TokenKind). number_in k t.line ts) is.0
+    ∙ ap (λ (line : ℕ). let o : Read NodeText = Ok (record { number = x.number; line = line }, ts) in o) (sym is.1))
     (λ t. number_token t t.kind refl)
     (λ x t is. inl (x.number, is.0))
 
@@ -153,24 +189,34 @@ amount_reads =
     })
 
 edition_token : (edition : ℕ) (t : Lexeme) (k : TokenKind) → t.kind ≡ k
-    → ((u : Unit {0}) × (t.kind ≡ kind.Number edition)) ⊎ ((ts : List Lexeme) → (number_in k t.line ts >>= λ number. if_edition edition number.0 number.1) ≡ Err (At t.line))
+    → ((u : Unit {0}) × (t.kind ≡ kind.Number edition))
+    ⊎ ((ts : List Lexeme)
+    → (number_in k t.line ts >>= λ number. if_edition edition number.0 number.1) ≡ Err (At t.line))
 edition_token edition t (kind.Number n) e = at_value (n == edition) refl
   where
-    at_value : (b : Bool) → (n == edition) ≡ b → ((u : Unit {0}) × (t.kind ≡ kind.Number edition)) ⊎ ((ts : List Lexeme) → cond {A = Read (Unit {0})} (n == edition) (Ok (tt, ts)) (Err (At t.line)) ≡ Err (At t.line))
+    at_value : (b : Bool) → (n == edition) ≡ b
+        → ((u : Unit {0}) × (t.kind ≡ kind.Number edition))
+        ⊎ ((ts : List Lexeme)
+        → cond {A = Read (Unit {0})} (n == edition) (Ok (tt, ts)) (Err (At t.line)) ≡ Err (At t.line))
     at_value true h = inl (tt, e ∙ ap kind.Number (eqb-true n edition h))
     at_value false h = inr (λ ts. cond_false (n == edition) (Ok (tt, ts)) (Err (At t.line)) h)
 edition_token edition t (kind.Word w) e = inr (λ ts. refl)
 edition_token edition t (kind.Symbol s) e = inr (λ ts. refl)
 edition_token edition t kind.Name e = inr (λ ts. refl)
 
-edition_passes : (edition : ℕ) (t : Lexeme) (ts : List Lexeme) → (number_in (kind.Number edition) t.line ts >>= λ number. if_edition edition number.0 number.1) ≡ Ok (tt, ts)
-edition_passes edition t ts = cond_true (edition == edition) (Ok (tt, ts)) (Err (At t.line)) (eq-eqb edition edition refl)
+edition_passes : (edition : ℕ) (t : Lexeme) (ts : List Lexeme)
+    → (number_in (kind.Number edition) t.line ts >>= λ number. if_edition edition number.0 number.1) ≡ Ok (tt, ts)
+edition_passes edition t ts =
+    cond_true (edition == edition) (Ok (tt, ts)) (Err (At t.line)) (eq-eqb edition edition refl)
 
-pub edition_number_reads : (edition : ℕ) → Reads (λ (u : Unit {0}). IsNumber edition) (ANumber ∷ []) false never (edition_number_at edition) (edition_number_at edition)
+pub edition_number_reads : (edition : ℕ)
+    → Reads (λ (u : Unit {0}). IsNumber edition) (ANumber ∷ []) false never (edition_number_at edition)
+    (edition_number_at edition)
 unfolding edition_number_at number_at
 edition_number_reads edition =
     one_reads (λ (u : Unit {0}) t. t.kind ≡ kind.Number edition) (ANumber ∷ []) (edition_number_at edition) tt refl
-    (λ x t ts is. ap (λ (k : TokenKind). number_in k t.line ts >>= λ number. if_edition edition number.0 number.1) is ∙ edition_passes edition t ts)
+    (λ x t ts is. ap (λ (k : TokenKind). number_in k t.line ts >>= λ number. if_edition edition number.0 number.1) is
+    ∙ edition_passes edition t ts)
     (λ t. edition_token edition t t.kind refl)
     (λ x t is. inl (edition, is))
 
@@ -179,7 +225,9 @@ edition_number_reads edition =
 abbrev pub operators : Level → List Class
 operators Product = ASymbol symbol.Star ∷ []
 operators Sum = ASymbol symbol.Plus ∷ ASymbol symbol.Minus ∷ []
-operators Comparison = ASymbol symbol.Equal ∷ ASymbol symbol.NotEqual ∷ ASymbol symbol.Less ∷ ASymbol symbol.LessOrEqual ∷ ASymbol symbol.Greater ∷ ASymbol symbol.GreaterOrEqual ∷ []
+operators Comparison =
+    ASymbol symbol.Equal ∷ ASymbol symbol.NotEqual ∷ ASymbol symbol.Less ∷ ASymbol symbol.LessOrEqual
+    ∷ ASymbol symbol.Greater ∷ ASymbol symbol.GreaterOrEqual ∷ []
 
 operator_is : (o : Operator) → operator_of (operator_symbol o) ≡ Some o
 operator_is Add = refl
@@ -225,7 +273,8 @@ level_is Product = refl
 level_is Sum = refl
 level_is Comparison = refl
 
-operator_class : (level : Level) (o : Operator) (k : TokenKind) → k ≡ kind.Symbol (operator_symbol o) → level_of o ≡ level → IsOf (operators level) k
+operator_class : (level : Level) (o : Operator) (k : TokenKind) → k ≡ kind.Symbol (operator_symbol o)
+    → level_of o ≡ level → IsOf (operators level) k
 operator_class Product Multiply k e h = inl e
 operator_class Sum Add k e h = inl e
 operator_class Sum Subtract k e h = inr (inl e)
@@ -255,58 +304,86 @@ operator_class Comparison Add k e h = absurd cc
 operator_class Comparison Subtract k e h = absurd cc
 
 -- the operator that was found, if any
-found_operator : (level : Level) (t : Lexeme) (s : Symbol) → t.kind ≡ kind.Symbol s → (found : Option Operator) → operator_of s ≡ found
-    → ((o : Operator) × ((t.kind ≡ kind.Symbol (operator_symbol o)) × (level_of o ≡ level))) ⊎ ((ts : List Lexeme) → picked (if_level level found) t.line ts ≡ Err (At t.line))
+found_operator : (level : Level) (t : Lexeme) (s : Symbol) → t.kind ≡ kind.Symbol s → (found : Option Operator)
+    → operator_of s ≡ found
+    → ((o : Operator) × ((t.kind ≡ kind.Symbol (operator_symbol o)) × (level_of o ≡ level)))
+    ⊎ ((ts : List Lexeme) → picked (if_level level found) t.line ts ≡ Err (At t.line))
 found_operator level t s e None h = inr (λ ts. refl)
 found_operator level t s e (Some o) h = at_level (is_level (level_of o) level) refl
   where
     at_level : (b : Bool) → is_level (level_of o) level ≡ b
-        → ((p : Operator) × ((t.kind ≡ kind.Symbol (operator_symbol p)) × (level_of p ≡ level))) ⊎ ((ts : List Lexeme) → picked (cond (is_level (level_of o) level) (Some o) None) t.line ts ≡ Err (At t.line))
+        → ((p : Operator) × ((t.kind ≡ kind.Symbol (operator_symbol p)) × (level_of p ≡ level)))
+        ⊎ ((ts : List Lexeme)
+        → picked (cond (is_level (level_of o) level) (Some o) None) t.line ts ≡ Err (At t.line))
     at_level true f = inl (o, (e ∙ ap kind.Symbol (symbol_is s o h), level_same (level_of o) level f))
-    at_level false f = inr (λ ts. ap (λ (p : Option Operator). picked p t.line ts) (cond_false (is_level (level_of o) level) (Some o) None f))
+    at_level false f =
+        inr (λ ts. ap (λ (p : Option Operator). picked p t.line ts)
+        (cond_false (is_level (level_of o) level) (Some o) None f))
 
 operator_token : (level : Level) (t : Lexeme) (k : TokenKind) → t.kind ≡ k
-    → ((o : Operator) × ((t.kind ≡ kind.Symbol (operator_symbol o)) × (level_of o ≡ level))) ⊎ ((ts : List Lexeme) → picked (operator_in level k) t.line ts ≡ Err (At t.line))
+    → ((o : Operator) × ((t.kind ≡ kind.Symbol (operator_symbol o)) × (level_of o ≡ level)))
+    ⊎ ((ts : List Lexeme) → picked (operator_in level k) t.line ts ≡ Err (At t.line))
 operator_token level t (kind.Symbol s) e = found_operator level t s e (operator_of s) refl
 operator_token level t (kind.Word w) e = inr (λ ts. refl)
 operator_token level t (kind.Number n) e = inr (λ ts. refl)
 operator_token level t kind.Name e = inr (λ ts. refl)
 
-operator_found : (level : Level) (o : Operator) → level_of o ≡ level → operator_in level (kind.Symbol (operator_symbol o)) ≡ Some o
+operator_found : (level : Level) (o : Operator) → level_of o ≡ level
+    → operator_in level (kind.Symbol (operator_symbol o)) ≡ Some o
 operator_found level o h =
-    ap (if_level level) (operator_is o) ∙ cond_true (is_level (level_of o) level) (Some o) None (ap (λ (l : Level). is_level l level) h ∙ level_is level)
+    ap (if_level level) (operator_is o)
+    ∙ cond_true (is_level (level_of o) level) (Some o) None
+    (ap (λ (l : Level). is_level l level) h ∙ level_is level)
 
 abbrev pub some_operator : Level → Operator
 some_operator Product = Multiply
 some_operator Sum = Add
 some_operator Comparison = Equal
 
-pub operator_reads : (level : Level) → Reads (λ o. IsOperator level o) (operators level) false never (operator_at level) (operator_at level)
+pub operator_reads : (level : Level)
+    → Reads (λ o. IsOperator level o) (operators level) false never (operator_at level) (operator_at level)
 unfolding operator_at
 operator_reads level =
-    one_reads (λ o t. (t.kind ≡ kind.Symbol (operator_symbol o)) × (level_of o ≡ level)) (operators level) (operator_at level) (some_operator level) refl
-    (λ o t ts is. ap (λ (p : Option Operator). picked p t.line ts) (ap (operator_in level) is.0 ∙ operator_found level o is.1))
+    one_reads (λ o t. (t.kind ≡ kind.Symbol (operator_symbol o)) × (level_of o ≡ level)) (operators level)
+    (operator_at level) (some_operator level) refl
+    (λ o t ts is. ap (λ (p : Option Operator). picked p t.line ts)
+    (ap (operator_in level) is.0 ∙ operator_found level o is.1))
     (λ t. operator_token level t t.kind refl)
     (λ o t is. operator_class level o t.kind is.0 is.1)
 
 -- ---- expressions
 
 atom_token : (t : Lexeme) (k : TokenKind) → t.kind ≡ k
-    → ((e : ExprTree) × (((n : ℕ) × (e ≡ LiteralTree (pos n)) × (t.kind ≡ kind.Number n)) ⊎ ((name : NameTree) × (e ≡ VariableTree name) × (t.kind ≡ kind.Name) × (name ≡ record { text = t.text; line = t.line }))))
+    → ((e : ExprTree)
+    × (((n : ℕ) × (e ≡ LiteralTree (pos n)) × (t.kind ≡ kind.Number n))
+    ⊎ ((name : NameTree) × (e ≡ VariableTree name) × (t.kind ≡ kind.Name)
+    × (name ≡ record { text = t.text; line = t.line }))))
     ⊎ ((ts : List Lexeme) → atom_in k t ts ≡ Err (At t.line))
 atom_token t (kind.Number n) e = inl (LiteralTree (pos n), inl (n, refl, e))
-atom_token t kind.Name e = inl (VariableTree (record { text = t.text; line = t.line }), inr (record { text = t.text; line = t.line }, refl, e, refl))
+atom_token t kind.Name e =
+    inl (
+      VariableTree (record { text = t.text; line = t.line }),
+      inr
+          (record { text = t.text; line = t.line }, refl, e, refl),
+    )
 atom_token t (kind.Word w) e = inr (λ ts. refl)
 atom_token t (kind.Symbol s) e = inr (λ ts. refl)
 
 AtomIs : ExprTree → Lexeme → Type 0
-AtomIs e t = ((n : ℕ) × (e ≡ LiteralTree (pos n)) × (t.kind ≡ kind.Number n)) ⊎ ((name : NameTree) × (e ≡ VariableTree name) × (t.kind ≡ kind.Name) × (name ≡ record { text = t.text; line = t.line }))
+AtomIs e t =
+    ((n : ℕ) × (e ≡ LiteralTree (pos n)) × (t.kind ≡ kind.Number n))
+    ⊎ ((name : NameTree) × (e ≡ VariableTree name) × (t.kind ≡ kind.Name)
+    × (name ≡ record { text = t.text; line = t.line }))
 
 atom_passes : (e : ExprTree) (t : Lexeme) (ts : List Lexeme) → AtomIs e t → atom_in t.kind t ts ≡ Ok (e, ts)
 unfolding AtomIs
-atom_passes e t ts (inl n) = ap (λ (k : TokenKind). atom_in k t ts) n.2 ∙ ap (λ (x : ExprTree). let o : Read ExprTree = Ok (x, ts) in o) (sym n.1)
+atom_passes e t ts (inl n) =
+    ap (λ (k : TokenKind). atom_in k t ts) n.2
+    ∙ ap (λ (x : ExprTree). let o : Read ExprTree = Ok (x, ts) in o) (sym n.1)
 atom_passes e t ts (inr name) =
-    ap (λ (k : TokenKind). atom_in k t ts) name.2 ∙ ap (λ (x : NameTree). let o : Read ExprTree = Ok (VariableTree x, ts) in o) (sym name.3) ∙ ap (λ (x : ExprTree). let o : Read ExprTree = Ok (x, ts) in o) (sym name.1)
+    ap (λ (k : TokenKind). atom_in k t ts) name.2
+    ∙ ap (λ (x : NameTree). let o : Read ExprTree = Ok (VariableTree x, ts) in o) (sym name.3)
+    ∙ ap (λ (x : ExprTree). let o : Read ExprTree = Ok (x, ts) in o) (sym name.1)
 
 atom_class : (e : ExprTree) (t : Lexeme) → AtomIs e t → IsOf (ANumber ∷ AName ∷ []) t.kind
 unfolding AtomIs
@@ -331,7 +408,8 @@ pub atom_reads : Reads (λ e. IsAtom e) (ANumber ∷ AName ∷ []) false never a
 unfolding atom_at AtomIs
 atom_reads =
     ruled_reads
-    (one_reads AtomIs (ANumber ∷ AName ∷ []) atom_at (LiteralTree (pos 0)) refl (λ e t ts is. atom_passes e t ts is) (λ t. atom_token t t.kind refl) atom_class)
+    (one_reads AtomIs (ANumber ∷ AName ∷ []) atom_at (LiteralTree (pos 0)) refl (λ e t ts is. atom_passes e t ts is)
+    (λ t. atom_token t t.kind refl) atom_class)
     (record {
       whole = λ e l is. atom_whole e is.0 l is.1 is.2;
       begun = λ e l is. (LiteralTree (pos 0), inl (0, refl, is));
@@ -347,23 +425,30 @@ never_tests (AName ∷ cs) = (refl, never_tests cs)
 never_tests (ANumber ∷ cs) = (λ n. refl, never_tests cs)
 
 -- a part with which nothing goes on, and then another
-then_reads : {A B : Type 0} {P : A → Rule} {Q : B → Rule} {s s' : List Class} {e e' : Bool} {c' : TokenKind → Bool} {r d : Reader A} {r' d' : Reader B} → Reads P s e never r d → Reads Q s' e' c' r' d'
-    → Reads (λ (x : A × B). P x.0 >> Q x.1) (pair_starts e s s') (pair_empty e e') (pair_continues e' never c') (pair_at r r') (pair_at d d')
+then_reads : {A B : Type 0} {P : A → Rule} {Q : B → Rule} {s s' : List Class} {e e' : Bool} {c' : TokenKind → Bool}
+    {r d : Reader A} {r' d' : Reader B} → Reads P s e never r d → Reads Q s' e' c' r' d'
+    → Reads (λ (x : A × B). P x.0 >> Q x.1) (pair_starts e s s') (pair_empty e e') (pair_continues e' never c')
+    (pair_at r r') (pair_at d d')
 then_reads {A} {B} {P} {Q} {s} {s'} h k = pair_reads h k (never_tests s')
 
 -- a link, and a chain of links
-pub link_reads : {P : ExprTree → Rule} {s : List Class} {c : TokenKind → Bool} {r d : Reader ExprTree} (level : Level) → Reads P s false c r d → Reads (λ link. IsLink level P link) (operators level) false c (link_of level r) (link_of level d)
+pub link_reads : {P : ExprTree → Rule} {s : List Class} {c : TokenKind → Bool} {r d : Reader ExprTree} (level : Level)
+    → Reads P s false c r d
+    → Reads (λ link. IsLink level P link) (operators level) false c (link_of level r) (link_of level d)
 link_reads {P} {s} {c} {r} {d} level h =
     as_reads (λ x. record { operator = x.0; value = x.1 }) (pair_reads (operator_reads level) h (never_tests s))
-    (seen_by (λ x. record { operator = x.0; value = x.1 }) (λ z. (z.operator, z.value)) (λ x extent l is. is) (λ z extent l is. is) (λ z. refl))
+    (seen_by (λ x. record { operator = x.0; value = x.1 }) (λ z. (z.operator, z.value)) (λ x extent l is. is)
+    (λ z extent l is. is) (λ z. refl))
 
 abbrev pub chain_continues : Level → (TokenKind → Bool) → TokenKind → Bool
 chain_continues level c = pair_continues true c (many_continues (has_operator level) c)
 
-pub chain_reads : {P : ExprTree → Rule} {s : List Class} {c : TokenKind → Bool} {r d : Reader ExprTree} (level : Level) → Reads P s false c r d → Tests (has_operator level) true (operators level) → Tests c false (operators level)
+pub chain_reads : {P : ExprTree → Rule} {s : List Class} {c : TokenKind → Bool} {r d : Reader ExprTree} (level : Level)
+    → Reads P s false c r d → Tests (has_operator level) true (operators level) → Tests c false (operators level)
     → Reads (λ e. IsChain level P e) s false (chain_continues level c) (chain_at level r) (chain_at level d)
 chain_reads {P} level h starts apart =
-    as_reads (λ x. chain_of x.0 x.1) (pair_reads h (each_reads (has_operator level) (link_reads level h) starts apart) apart)
+    as_reads (λ x. chain_of x.0 x.1)
+    (pair_reads h (each_reads (has_operator level) (link_reads level h) starts apart) apart)
     (record {
       whole = λ x l is. (x.0, x.1, refl, is);
       begun = λ x l is. (chain_of x.0 x.1, (x.0, x.1, refl, is));
@@ -374,17 +459,21 @@ chain_reads {P} level h starts apart =
 abbrev pub SingletonOr : {A : Type 0} → (A → Rule) → List A → Rule
 SingletonOr P xs = IsImage (λ x. x ∷ []) P xs or IsWhere (xs ≡ []) IsNothing
 
-pub single_whole : {A : Type 0} (P : A → Rule) (xs : List A) (extent : Extent) (l : List Lexeme) → SingletonOr P xs extent l → IsAtMostOne P xs extent l
+pub single_whole : {A : Type 0} (P : A → Rule) (xs : List A) (extent : Extent) (l : List Lexeme)
+    → SingletonOr P xs extent l → IsAtMostOne P xs extent l
 single_whole P xs extent l (inl one) = subst (λ (ys : List _). IsAtMostOne P ys extent l) (sym one.1) one.2
 single_whole P xs extent l (inr none) = subst (λ (ys : List _). IsAtMostOne P ys extent l) (sym none.0) none.1
 
-pub single_back : {A : Type 0} (P : A → Rule) (xs : List A) (extent : Extent) (l : List Lexeme) → IsAtMostOne P xs extent l → SingletonOr P xs extent l
+pub single_back : {A : Type 0} (P : A → Rule) (xs : List A) (extent : Extent) (l : List Lexeme)
+    → IsAtMostOne P xs extent l → SingletonOr P xs extent l
 single_back P [] extent l is = inr (refl, is)
 single_back P (x ∷ []) extent l is = inl (x, refl, is)
 single_back P (x ∷ y ∷ xs) extent l is = absurd is.0
 
-pub at_most_one_reads : {A : Type 0} {P : A → Rule} {s : List Class} {c : TokenKind → Bool} {r d : Reader A} (test : TokenKind → Bool) → Reads P s false c r d → Tests test true s
-    → Reads (λ xs. IsAtMostOne P xs) (s ++ []) true (either_continues true test c never) (at_most_one_at test r) (at_most_one_at test d)
+pub at_most_one_reads : {A : Type 0} {P : A → Rule} {s : List Class} {c : TokenKind → Bool} {r d : Reader A}
+    (test : TokenKind → Bool) → Reads P s false c r d → Tests test true s
+    → Reads (λ xs. IsAtMostOne P xs) (s ++ []) true (either_continues true test c never) (at_most_one_at test r)
+    (at_most_one_at test d)
 at_most_one_reads {A} {P} test h starts =
     ruled_reads (either_reads test (image_reads (λ x. x ∷ []) h) (nothing_reads []) starts tt)
     (seen_by (λ xs. xs) (λ xs. xs) (single_whole P) (single_back P) (λ xs. refl))
@@ -408,12 +497,15 @@ FactorReads P r d = Reads P factor_starts false never r d
 abbrev ExprReads : (ExprTree → Rule) → Reader ExprTree → Reader ExprTree → Type 0
 ExprReads P r d = Reads P factor_starts false expr_more r d
 
-expr_of_reads : {P : ExprTree → Rule} {r d : Reader ExprTree} (edition : ℕ) → FactorReads P r d → ExprReads (λ e. IsExprOf edition P e) (expr_of r) (expr_of d)
+expr_of_reads : {P : ExprTree → Rule} {r d : Reader ExprTree} (edition : ℕ) → FactorReads P r d
+    → ExprReads (λ e. IsExprOf edition P e) (expr_of r) (expr_of d)
 expr_of_reads {P} {r} {d} edition h =
     let terms = chain_reads Product h (refl, tt) (refl, tt) in
     let sums = chain_reads Sum terms (refl, (refl, tt)) (refl, (refl, tt)) in
     as_reads (λ x. chain_of x.0 x.1)
-    (pair_reads sums (at_most_one_reads (has_operator Comparison) (link_reads Comparison sums) (refl, (refl, (refl, (refl, (refl, (refl, tt))))))) (refl, (refl, (refl, (refl, (refl, (refl, tt)))))))
+    (pair_reads sums
+    (at_most_one_reads (has_operator Comparison) (link_reads Comparison sums)
+    (refl, (refl, (refl, (refl, (refl, (refl, tt))))))) (refl, (refl, (refl, (refl, (refl, (refl, tt)))))))
     (record {
       whole = λ x l is. (x.0, x.1, refl, is);
       begun = λ x l is. (chain_of x.0 x.1, (x.0, x.1, refl, is));
@@ -422,12 +514,17 @@ expr_of_reads {P} {r} {d} edition h =
     })
 
 parenthesised_reads : {P : ExprTree → Rule} {r d : Reader ExprTree} (edition : ℕ) → FactorReads P r d
-    → Reads (λ e. IsParenthesised edition P e) (ASymbol symbol.LeftParenthesis ∷ []) false never (parenthesised_of r) (parenthesised_of d)
+    → Reads (λ e. IsParenthesised edition P e) (ASymbol symbol.LeftParenthesis ∷ []) false never (parenthesised_of r)
+    (parenthesised_of d)
 parenthesised_reads edition h =
-    as_reads (λ x. x.1.0) (pair_reads (symbol_reads symbol.LeftParenthesis) (pair_reads (expr_of_reads edition h) (symbol_reads symbol.RightParenthesis) (refl, tt)) (refl, (refl, (λ n. refl, (refl, tt)))))
+    as_reads (λ x. x.1.0)
+    (pair_reads (symbol_reads symbol.LeftParenthesis)
+    (pair_reads (expr_of_reads edition h) (symbol_reads symbol.RightParenthesis) (refl, tt))
+    (refl, (refl, (λ n. refl, (refl, tt)))))
     (seen_by (λ x. x.1.0) (λ z. (tt, (z, tt))) (λ x extent l is. is) (λ z extent l is. is) (λ z. refl))
 
-minus_reads : {P : ExprTree → Rule} {r d : Reader ExprTree} → FactorReads P r d → Reads (λ e. IsMinus P e) (ASymbol symbol.Minus ∷ []) false never (minus_of r) (minus_of d)
+minus_reads : {P : ExprTree → Rule} {r d : Reader ExprTree} → FactorReads P r d
+    → Reads (λ e. IsMinus P e) (ASymbol symbol.Minus ∷ []) false never (minus_of r) (minus_of d)
 minus_reads h =
     as_reads (λ x. MinusTree x.1) (pair_reads (symbol_reads symbol.Minus) h (refl, (refl, (λ n. refl, (refl, tt)))))
     (record {
@@ -437,17 +534,23 @@ minus_reads h =
       back_begun = λ z l is. ((tt, is.0), is.2);
     })
 
-factor_of_reads : {P Q : ExprTree → Rule} {r d r' d' : Reader ExprTree} → Reads P (ASymbol symbol.LeftParenthesis ∷ []) false never r d → Reads Q (ASymbol symbol.Minus ∷ []) false never r' d'
+factor_of_reads : {P Q : ExprTree → Rule} {r d r' d' : Reader ExprTree}
+    → Reads P (ASymbol symbol.LeftParenthesis ∷ []) false never r d
+    → Reads Q (ASymbol symbol.Minus ∷ []) false never r' d'
     → FactorReads (λ e. P e or Q e or IsAtom e) (factor_of r r') (factor_of d d')
 factor_of_reads h k =
-    either_reads (has_symbol symbol.LeftParenthesis) h (either_reads (has_symbol symbol.Minus) k atom_reads (refl, tt) (λ n. refl, (refl, tt))) (refl, tt) (refl, (λ n. refl, (refl, tt)))
+    either_reads (has_symbol symbol.LeftParenthesis) h
+    (either_reads (has_symbol symbol.Minus) k atom_reads (refl, tt) (λ n. refl, (refl, tt))) (refl, tt)
+    (refl, (λ n. refl, (refl, tt)))
 
 -- what is behind a symbol that opens is wanting at the end
-opening_fails : {A B : Type 0} (s : Symbol) (view : Unit {0} × A → B) (r : Reader A) → r [] ≡ Err AtEnd → IsOpening s (as_at view (pair_at (symbol_at s) r))
+opening_fails : {A B : Type 0} (s : Symbol) (view : Unit {0} × A → B) (r : Reader A) → r [] ≡ Err AtEnd
+    → IsOpening s (as_at view (pair_at (symbol_at s) r))
 unfolding symbol_at
 opening_fails {A} {B} s view r none = record {
   ended = refl;
-  opens = λ t h. ap seen (ap (with_value r) (cond_true (has_symbol s t.kind) (Ok (tt, [])) (Err (At t.line)) h)) ∙ ap (λ (o : Read A). seen (behind o)) none;
+  opens = λ t h. ap seen (ap (with_value r) (cond_true (has_symbol s t.kind) (Ok (tt, [])) (Err (At t.line)) h))
+      ∙ ap (λ (o : Read A). seen (behind o)) none;
   fails = λ t h. ap seen (ap (with_value r) (cond_false (has_symbol s t.kind) (Ok (tt, [])) (Err (At t.line)) h));
 }
   where
@@ -460,25 +563,32 @@ opening_fails {A} {B} s view r none = record {
     seen : Read (Unit {0} × A) → Read B
     seen o = o >>= λ x. Ok (view x.0, x.1)
 
-factor_zero_back : (edition : ℕ) (e : ExprTree) (l : List Lexeme) → (IsAwaited or IsAwaited or IsAtom e) Whole l → IsFactor edition zero e Whole l
+factor_zero_back : (edition : ℕ) (e : ExprTree) (l : List Lexeme) → (IsAwaited or IsAwaited or IsAtom e) Whole l
+    → IsFactor edition zero e Whole l
 unfolding IsFactor
 factor_zero_back edition e l (inl none) = absurd none
 factor_zero_back edition e l (inr (inl none)) = absurd none
 factor_zero_back edition e l (inr (inr is)) = is
 
-factor_zero_begun : (edition : ℕ) (e : ExprTree) (l : List Lexeme) → (IsAwaited or IsAwaited or IsAtom e) Begun l → (z : ExprTree) × IsFactor edition zero z Begun l
+factor_zero_begun : (edition : ℕ) (e : ExprTree) (l : List Lexeme) → (IsAwaited or IsAwaited or IsAtom e) Begun l
+    → (z : ExprTree) × IsFactor edition zero z Begun l
 unfolding IsFactor
 factor_zero_begun edition e l (inl none) = (LiteralTree (pos 0), inl (0, refl, none))
 factor_zero_begun edition e l (inr (inl none)) = (LiteralTree (pos 0), inl (0, refl, none))
 factor_zero_begun edition e l (inr (inr is)) = (e, is)
 
-pub factor_reads : (edition left : ℕ) → FactorReads (λ e. IsFactor edition left e) (factor_at left) (factor_at (suc left))
+pub factor_reads : (edition left : ℕ)
+    → FactorReads (λ e. IsFactor edition left e) (factor_at left) (factor_at (suc left))
 unfolding IsFactor factor_at atom_at
 factor_reads edition zero =
     ruled_reads
     (factor_of_reads
-    (unopened_reads (LiteralTree (pos 0)) (ASymbol symbol.LeftParenthesis ∷ []) symbol.LeftParenthesis (parenthesised_of (factor_at zero)) (opening_fails symbol.LeftParenthesis (λ x. x.1.0) (pair_at (expr_of (factor_at zero)) (symbol_at symbol.RightParenthesis)) refl))
-    (unopened_reads (LiteralTree (pos 0)) (ASymbol symbol.Minus ∷ []) symbol.Minus (minus_of (factor_at zero)) (opening_fails symbol.Minus (λ x. MinusTree x.1) (factor_at zero) refl)))
+    (unopened_reads (LiteralTree (pos 0)) (ASymbol symbol.LeftParenthesis ∷ []) symbol.LeftParenthesis
+    (parenthesised_of (factor_at zero))
+    (opening_fails symbol.LeftParenthesis (λ x. x.1.0)
+    (pair_at (expr_of (factor_at zero)) (symbol_at symbol.RightParenthesis)) refl))
+    (unopened_reads (LiteralTree (pos 0)) (ASymbol symbol.Minus ∷ []) symbol.Minus (minus_of (factor_at zero))
+    (opening_fails symbol.Minus (λ x. MinusTree x.1) (factor_at zero) refl)))
     (record {
       whole = factor_zero_back edition;
       begun = factor_zero_begun edition;
@@ -500,11 +610,16 @@ LinkMore Sum = term_more
 LinkMore Comparison = sum_more
 
 -- a link of any level
-pub link_at_reads : (level : Level) (left : ℕ) → Reads (LinkRule level (IsFactor 1 left)) (operators level) false (LinkMore level) (link_at level left) (link_at level (suc left))
+pub link_at_reads : (level : Level) (left : ℕ)
+    → Reads (LinkRule level (IsFactor 1 left)) (operators level) false (LinkMore level) (link_at level left)
+    (link_at level (suc left))
 unfolding link_at
 link_at_reads Product left = link_reads Product (factor_reads 1 left)
 link_at_reads Sum left = link_reads Sum (chain_reads Product (factor_reads 1 left) (refl, tt) (refl, tt))
-link_at_reads Comparison left = link_reads Comparison (chain_reads Sum (chain_reads Product (factor_reads 1 left) (refl, tt) (refl, tt)) (refl, (refl, tt)) (refl, (refl, tt)))
+link_at_reads Comparison left =
+    link_reads Comparison
+    (chain_reads Sum (chain_reads Product (factor_reads 1 left) (refl, tt) (refl, tt)) (refl, (refl, tt))
+    (refl, (refl, tt)))
 
 pub expr_reads : (edition left : ℕ) → ExprReads (λ e. IsExpr edition left e) (expr_at left) (expr_at (suc left))
 unfolding expr_at
@@ -512,13 +627,16 @@ expr_reads edition left = expr_of_reads edition (factor_reads edition left)
 
 -- ---- statements
 
-got_reads : Reads (λ channel. IsWord keyword.Get >> IsName channel >> IsSymbol symbol.Semicolon) (AWord keyword.Get ∷ []) false never got_at got_at
+got_reads : Reads (λ channel. IsWord keyword.Get >> IsName channel >> IsSymbol symbol.Semicolon)
+    (AWord keyword.Get ∷ []) false never got_at got_at
 unfolding got_at
 got_reads =
     as_reads (λ x. x.1.0) (then_reads (word_reads keyword.Get) (then_reads name_reads (symbol_reads symbol.Semicolon)))
     (seen_by (λ x. x.1.0) (λ z. (tt, (z, tt))) (λ x extent l is. is) (λ z extent l is. is) (λ z. refl))
 
-assigned_reads : (edition left : ℕ) → Reads (λ e. IsExpr edition left e >> IsSymbol symbol.Semicolon) factor_starts false never (assigned_at left) (assigned_at (suc left))
+assigned_reads : (edition left : ℕ)
+    → Reads (λ e. IsExpr edition left e >> IsSymbol symbol.Semicolon) factor_starts false never (assigned_at left)
+    (assigned_at (suc left))
 unfolding assigned_at
 assigned_reads edition left =
     as_reads (λ x. x.0) (pair_reads (expr_reads edition left) (symbol_reads symbol.Semicolon) (refl, tt))
@@ -531,28 +649,37 @@ IsGiven edition left (inr value) = IsExpr edition left value >> IsSymbol symbol.
 
 abbrev pub GivenEither : ℕ → ℕ → NameTree ⊎ ExprTree → Rule
 GivenEither edition left g =
-    IsImage inl (λ channel. IsWord keyword.Get >> IsName channel >> IsSymbol symbol.Semicolon) g or IsImage inr (λ e. IsExpr edition left e >> IsSymbol symbol.Semicolon) g
+    IsImage inl (λ channel. IsWord keyword.Get >> IsName channel >> IsSymbol symbol.Semicolon) g or IsImage inr
+    (λ e. IsExpr edition left e >> IsSymbol symbol.Semicolon) g
 
-pub given_there : (edition left : ℕ) (g : NameTree ⊎ ExprTree) (extent : Extent) (l : List Lexeme) → GivenEither edition left g extent l → IsGiven edition left g extent l
-given_there edition left g extent l (inl is) = subst (λ (h : NameTree ⊎ ExprTree). IsGiven edition left h extent l) (sym is.1) is.2
-given_there edition left g extent l (inr is) = subst (λ (h : NameTree ⊎ ExprTree). IsGiven edition left h extent l) (sym is.1) is.2
+pub given_there : (edition left : ℕ) (g : NameTree ⊎ ExprTree) (extent : Extent) (l : List Lexeme)
+    → GivenEither edition left g extent l → IsGiven edition left g extent l
+given_there edition left g extent l (inl is) =
+    subst (λ (h : NameTree ⊎ ExprTree). IsGiven edition left h extent l) (sym is.1) is.2
+given_there edition left g extent l (inr is) =
+    subst (λ (h : NameTree ⊎ ExprTree). IsGiven edition left h extent l) (sym is.1) is.2
 
-pub given_back : (edition left : ℕ) (g : NameTree ⊎ ExprTree) (extent : Extent) (l : List Lexeme) → IsGiven edition left g extent l → GivenEither edition left g extent l
+pub given_back : (edition left : ℕ) (g : NameTree ⊎ ExprTree) (extent : Extent) (l : List Lexeme)
+    → IsGiven edition left g extent l → GivenEither edition left g extent l
 given_back edition left (inl channel) extent l is = inl (channel, refl, is)
 given_back edition left (inr value) extent l is = inr (value, refl, is)
 
 given_reads : (edition left : ℕ)
-    → Reads (λ g. IsGiven edition left g) (AWord keyword.Get ∷ factor_starts) false never (either_at (has_word keyword.Get) (as_at inl got_at) (as_at inr (assigned_at left)))
+    → Reads (λ g. IsGiven edition left g) (AWord keyword.Get ∷ factor_starts) false never
+    (either_at (has_word keyword.Get) (as_at inl got_at) (as_at inr (assigned_at left)))
     (either_at (has_word keyword.Get) (as_at inl got_at) (as_at inr (assigned_at (suc left))))
 given_reads edition left =
-    ruled_reads (either_reads (has_word keyword.Get) (image_reads inl got_reads) (image_reads inr (assigned_reads edition left)) (refl, tt) (refl, (refl, (λ n. refl, (refl, tt)))))
+    ruled_reads
+    (either_reads (has_word keyword.Get) (image_reads inl got_reads)
+    (image_reads inr (assigned_reads edition left)) (refl, tt) (refl, (refl, (λ n. refl, (refl, tt)))))
     (seen_by (λ g. g) (λ g. g) (given_there edition left) (given_back edition left) (λ g. refl))
 
 -- a statement alone that begins with a name
 abbrev pub IsNamed : ℕ → ℕ → BlockTree → Rule
 IsNamed edition left NothingTree = IsWhere ⊥ IsNothing
 IsNamed edition left (GetTree variable channel rest) = IsWhere (rest ≡ NothingTree) (IsGet variable channel)
-IsNamed edition left (AssignTree variable value rest) = IsWhere (rest ≡ NothingTree) (IsAssign edition left variable value)
+IsNamed edition left (AssignTree variable value rest) =
+    IsWhere (rest ≡ NothingTree) (IsAssign edition left variable value)
 IsNamed edition left (PutTree value channel rest) = IsWhere ⊥ IsNothing
 IsNamed edition left (StopTree rest) = IsWhere ⊥ IsNothing
 IsNamed edition left (IfTree test first second rest) = IsWhere ⊥ IsNothing
@@ -560,23 +687,31 @@ IsNamed edition left (IfTree test first second rest) = IsWhere ⊥ IsNothing
 abbrev pub NamedParts : ℕ → ℕ → NameTree × (Unit {0} × (NameTree ⊎ ExprTree)) → Rule
 NamedParts edition left x = IsName x.0 >> IsSymbol symbol.Assign >> IsGiven edition left x.1.1
 
-pub named_there : (edition left : ℕ) (variable : NameTree) (g : NameTree ⊎ ExprTree) (extent : Extent) (l : List Lexeme) → NamedParts edition left (variable, (tt, g)) extent l → IsNamed edition left (named_tree variable g) extent l
+pub named_there : (edition left : ℕ) (variable : NameTree) (g : NameTree ⊎ ExprTree) (extent : Extent)
+    (l : List Lexeme) → NamedParts edition left (variable, (tt, g)) extent l
+    → IsNamed edition left (named_tree variable g) extent l
 named_there edition left variable (inl channel) extent l is = (refl, is)
 named_there edition left variable (inr value) extent l is = (refl, is)
 
-pub named_back : (edition left : ℕ) (z : BlockTree) (extent : Extent) (l : List Lexeme) → IsNamed edition left z extent l
-    → (x : NameTree × (Unit {0} × (NameTree ⊎ ExprTree))) × (z ≡ named_tree x.0 x.1.1) × NamedParts edition left x extent l
+pub named_back : (edition left : ℕ) (z : BlockTree) (extent : Extent) (l : List Lexeme)
+    → IsNamed edition left z extent l
+    → (x : NameTree × (Unit {0} × (NameTree ⊎ ExprTree))) × (z ≡ named_tree x.0 x.1.1)
+    × NamedParts edition left x extent l
 named_back edition left NothingTree extent l is = absurd is.0
-named_back edition left (GetTree variable channel rest) extent l is = ((variable, (tt, inl channel)), ap (GetTree variable channel) is.0, is.1)
-named_back edition left (AssignTree variable value rest) extent l is = ((variable, (tt, inr value)), ap (AssignTree variable value) is.0, is.1)
+named_back edition left (GetTree variable channel rest) extent l is =
+    ((variable, (tt, inl channel)), ap (GetTree variable channel) is.0, is.1)
+named_back edition left (AssignTree variable value rest) extent l is =
+    ((variable, (tt, inr value)), ap (AssignTree variable value) is.0, is.1)
 named_back edition left (PutTree value channel rest) extent l is = absurd is.0
 named_back edition left (StopTree rest) extent l is = absurd is.0
 named_back edition left (IfTree test first second rest) extent l is = absurd is.0
 
-named_reads : (edition left : ℕ) → Reads (λ z. IsNamed edition left z) (AName ∷ []) false never (named_at left) (named_at (suc left))
+named_reads : (edition left : ℕ)
+    → Reads (λ z. IsNamed edition left z) (AName ∷ []) false never (named_at left) (named_at (suc left))
 unfolding named_at
 named_reads edition left =
-    as_reads (λ x. named_tree x.0 x.1.1) (then_reads name_reads (then_reads (symbol_reads symbol.Assign) (given_reads edition left)))
+    as_reads (λ x. named_tree x.0 x.1.1)
+    (then_reads name_reads (then_reads (symbol_reads symbol.Assign) (given_reads edition left)))
     (record {
       whole = λ x l is. named_there edition left x.0 x.1.1 Whole l is;
       begun = λ x l is. (named_tree x.0 x.1.1, named_there edition left x.0 x.1.1 Begun l is);
@@ -590,12 +725,15 @@ PutParts edition left x = IsPut edition left x.1.0 x.1.1.1.0
 abbrev pub put_made : Unit {0} × (ExprTree × (Unit {0} × (NameTree × Unit {0}))) → BlockTree
 put_made x = PutTree x.1.0 x.1.1.1.0 NothingTree
 
-put_reads : (edition left : ℕ) → Reads (IsImage put_made (PutParts edition left)) (AWord keyword.Put ∷ []) false never (put_at left) (put_at (suc left))
+put_reads : (edition left : ℕ)
+    → Reads (IsImage put_made (PutParts edition left)) (AWord keyword.Put ∷ []) false never (put_at left)
+    (put_at (suc left))
 unfolding put_at
 put_reads edition left =
     image_reads put_made
     (then_reads (word_reads keyword.Put)
-    (pair_reads (expr_reads edition left) (then_reads (word_reads keyword.To) (then_reads name_reads (symbol_reads symbol.Semicolon))) (refl, tt)))
+    (pair_reads (expr_reads edition left)
+    (then_reads (word_reads keyword.To) (then_reads name_reads (symbol_reads symbol.Semicolon))) (refl, tt)))
 
 abbrev pub stop_made : Unit {0} × Unit {0} → BlockTree
 stop_made x = StopTree NothingTree
@@ -611,10 +749,12 @@ BlockReads P r d = Reads P (ASymbol symbol.LeftBrace ∷ []) false never r d
 abbrev else_more : TokenKind → Bool
 else_more = either_continues true (has_word keyword.Else) never never
 
-else_reads : {P : BlockTree → Rule} {r d : Reader BlockTree} → BlockReads P r d → Reads (λ z. IsElse z (P z)) (AWord keyword.Else ∷ []) true else_more (else_of r) (else_of d)
+else_reads : {P : BlockTree → Rule} {r d : Reader BlockTree} → BlockReads P r d
+    → Reads (λ z. IsElse z (P z)) (AWord keyword.Else ∷ []) true else_more (else_of r) (else_of d)
 else_reads h =
     either_reads (has_word keyword.Else)
-    (as_reads (λ x. x.1) (then_reads (word_reads keyword.Else) h) (seen_by (λ x. x.1) (λ z. (tt, z)) (λ x extent l is. is) (λ z extent l is. is) (λ z. refl)))
+    (as_reads (λ x. x.1) (then_reads (word_reads keyword.Else) h)
+    (seen_by (λ x. x.1) (λ z. (tt, z)) (λ x extent l is. is) (λ z extent l is. is) (λ z. refl)))
     (nothing_reads NothingTree) (refl, tt) tt
 
 abbrev pub IfParts : ℕ → ℕ → (BlockTree → Rule) → Unit {0} × (ExprTree × (BlockTree × BlockTree)) → Rule
@@ -624,24 +764,32 @@ abbrev pub if_parts : Unit {0} × (ExprTree × (BlockTree × BlockTree)) → Blo
 if_parts x = IfTree x.1.0 x.1.1.0 x.1.1.1 NothingTree
 
 if_reads : {P : BlockTree → Rule} {r d : Reader BlockTree} (edition left : ℕ) → BlockReads P r d
-    → Reads (IsImage if_parts (IfParts edition left P)) (AWord keyword.If ∷ []) false (pair_continues true never else_more) (if_of (expr_at left) r) (if_of (expr_at (suc left)) d)
+    → Reads (IsImage if_parts (IfParts edition left P)) (AWord keyword.If ∷ []) false
+    (pair_continues true never else_more) (if_of (expr_at left) r) (if_of (expr_at (suc left)) d)
 if_reads edition left h =
-    image_reads if_parts (then_reads (word_reads keyword.If) (pair_reads (expr_reads edition left) (then_reads h (else_reads h)) (refl, tt)))
+    image_reads if_parts
+    (then_reads (word_reads keyword.If)
+    (pair_reads (expr_reads edition left) (then_reads h (else_reads h)) (refl, tt)))
 
 -- a statement alone
 unfoldable pub IsSingle : ℕ → ℕ → BlockTree → Rule
 IsSingle edition left NothingTree = IsWhere ⊥ IsNothing
 IsSingle edition left (GetTree variable channel rest) = IsWhere (rest ≡ NothingTree) (IsGet variable channel)
-IsSingle edition left (AssignTree variable value rest) = IsWhere (rest ≡ NothingTree) (IsAssign edition left variable value)
+IsSingle edition left (AssignTree variable value rest) =
+    IsWhere (rest ≡ NothingTree) (IsAssign edition left variable value)
 IsSingle edition left (PutTree value channel rest) = IsWhere (rest ≡ NothingTree) (IsPut edition left value channel)
 IsSingle edition left (StopTree rest) = IsWhere (rest ≡ NothingTree) IsStop
-IsSingle edition left (IfTree test first second rest) = IsWhere (rest ≡ NothingTree) (IsIf edition left test (IsBlock edition left first) second (IsBlock edition left second))
+IsSingle edition left (IfTree test first second rest) =
+    IsWhere (rest ≡ NothingTree)
+    (IsIf edition left test (IsBlock edition left first) second (IsBlock edition left second))
 
 abbrev pub SingleEither : ℕ → ℕ → BlockTree → Rule
 SingleEither edition left z =
-    IsNamed edition left z or IsImage put_made (PutParts edition left) z or IsImage stop_made (λ x. IsStop) z or IsImage if_parts (IfParts edition left (λ b. IsBlock edition left b)) z
+    IsNamed edition left z or IsImage put_made (PutParts edition left) z or IsImage stop_made (λ x. IsStop) z or
+    IsImage if_parts (IfParts edition left (λ b. IsBlock edition left b)) z
 
-named_single : (edition left : ℕ) (z : BlockTree) (extent : Extent) (l : List Lexeme) → IsNamed edition left z extent l → IsSingle edition left z extent l
+named_single : (edition left : ℕ) (z : BlockTree) (extent : Extent) (l : List Lexeme) → IsNamed edition left z extent l
+    → IsSingle edition left z extent l
 unfolding IsSingle
 named_single edition left NothingTree extent l is = is
 named_single edition left (GetTree variable channel rest) extent l is = is
@@ -650,21 +798,28 @@ named_single edition left (PutTree value channel rest) extent l is = absurd is.0
 named_single edition left (StopTree rest) extent l is = absurd is.0
 named_single edition left (IfTree test first second rest) extent l is = absurd is.0
 
-pub single_there : (edition left : ℕ) (z : BlockTree) (extent : Extent) (l : List Lexeme) → SingleEither edition left z extent l → IsSingle edition left z extent l
+pub single_there : (edition left : ℕ) (z : BlockTree) (extent : Extent) (l : List Lexeme)
+    → SingleEither edition left z extent l → IsSingle edition left z extent l
 unfolding IsSingle
 single_there edition left z extent l (inl is) = named_single edition left z extent l is
-single_there edition left z extent l (inr (inl is)) = subst (λ (b : BlockTree). IsSingle edition left b extent l) (sym is.1) (refl, is.2)
-single_there edition left z extent l (inr (inr (inl is))) = subst (λ (b : BlockTree). IsSingle edition left b extent l) (sym is.1) (refl, is.2)
-single_there edition left z extent l (inr (inr (inr is))) = subst (λ (b : BlockTree). IsSingle edition left b extent l) (sym is.1) (refl, is.2)
+single_there edition left z extent l (inr (inl is)) =
+    subst (λ (b : BlockTree). IsSingle edition left b extent l) (sym is.1) (refl, is.2)
+single_there edition left z extent l (inr (inr (inl is))) =
+    subst (λ (b : BlockTree). IsSingle edition left b extent l) (sym is.1) (refl, is.2)
+single_there edition left z extent l (inr (inr (inr is))) =
+    subst (λ (b : BlockTree). IsSingle edition left b extent l) (sym is.1) (refl, is.2)
 
-pub single_from : (edition left : ℕ) (z : BlockTree) (extent : Extent) (l : List Lexeme) → IsSingle edition left z extent l → SingleEither edition left z extent l
+pub single_from : (edition left : ℕ) (z : BlockTree) (extent : Extent) (l : List Lexeme)
+    → IsSingle edition left z extent l → SingleEither edition left z extent l
 unfolding IsSingle
 single_from edition left NothingTree extent l is = inl is
 single_from edition left (GetTree variable channel rest) extent l is = inl is
 single_from edition left (AssignTree variable value rest) extent l is = inl is
-single_from edition left (PutTree value channel rest) extent l is = inr (inl ((tt, (value, (tt, (channel, tt)))), ap (PutTree value channel) is.0, is.1))
+single_from edition left (PutTree value channel rest) extent l is =
+    inr (inl ((tt, (value, (tt, (channel, tt)))), ap (PutTree value channel) is.0, is.1))
 single_from edition left (StopTree rest) extent l is = inr (inr (inl ((tt, tt), ap StopTree is.0, is.1)))
-single_from edition left (IfTree test first second rest) extent l is = inr (inr (inr ((tt, (test, (first, second))), ap (IfTree test first second) is.0, is.1)))
+single_from edition left (IfTree test first second rest) extent l is =
+    inr (inr (inr ((tt, (test, (first, second))), ap (IfTree test first second) is.0, is.1)))
 
 abbrev statement_starts : List Class
 statement_starts = AName ∷ AWord keyword.Put ∷ AWord keyword.Stop ∷ AWord keyword.If ∷ []
@@ -673,27 +828,34 @@ abbrev statement_more : TokenKind → Bool
 statement_more = pair_continues true never else_more
 
 statement_of_reads : {r d : Reader BlockTree} (edition left : ℕ) → BlockReads (λ b. IsBlock edition left b) r d
-    → Reads (λ z. IsSingle edition left z) statement_starts false statement_more (statement_of left r) (statement_of (suc left) d)
+    → Reads (λ z. IsSingle edition left z) statement_starts false statement_more (statement_of left r)
+    (statement_of (suc left) d)
 statement_of_reads edition left h =
     ruled_reads
     (either_reads is_name (named_reads edition left)
-    (either_reads (has_word keyword.Put) (put_reads edition left) (either_reads (has_word keyword.Stop) stop_reads (if_reads edition left h) (refl, tt) (refl, tt)) (refl, tt) (refl, (refl, tt))) (refl, tt)
+    (either_reads (has_word keyword.Put) (put_reads edition left)
+    (either_reads (has_word keyword.Stop) stop_reads (if_reads edition left h) (refl, tt) (refl, tt)) (refl, tt)
+    (refl, (refl, tt))) (refl, tt)
     (refl, (refl, (refl, tt))))
     (seen_by (λ z. z) (λ z. z) (single_there edition left) (single_from edition left) (λ z. refl))
 
 -- one part and another, each for a like one
-then_map : (P P' Q Q' : Rule) → ((extent : Extent) (l : List Lexeme) → P extent l → P' extent l) → ((extent : Extent) (l : List Lexeme) → Q extent l → Q' extent l) → (extent : Extent) (l : List Lexeme) → (P >> Q) extent l → (P' >> Q') extent l
+then_map : (P P' Q Q' : Rule) → ((extent : Extent) (l : List Lexeme) → P extent l → P' extent l)
+    → ((extent : Extent) (l : List Lexeme) → Q extent l → Q' extent l) → (extent : Extent) (l : List Lexeme)
+    → (P >> Q) extent l → (P' >> Q') extent l
 then_map P P' Q Q' f g Whole l (a, b, parts, p, q) = (a, b, parts, f Whole a p, g Whole b q)
 then_map P P' Q Q' f g Begun l (inl p) = inl (f Begun l p)
 then_map P P' Q Q' f g Begun l (inr (a, b, parts, p, q)) = inr (a, b, parts, f Whole a p, g Begun b q)
 
 -- a fact about the first part
-where_out : (fact : Type 0) (P Q : Rule) (extent : Extent) (l : List Lexeme) → (IsWhere fact P >> Q) extent l → fact × (P >> Q) extent l
+where_out : (fact : Type 0) (P Q : Rule) (extent : Extent) (l : List Lexeme) → (IsWhere fact P >> Q) extent l
+    → fact × (P >> Q) extent l
 where_out fact P Q Whole l (a, b, parts, p, q) = (p.0, (a, b, parts, p.1, q))
 where_out fact P Q Begun l (inl p) = (p.0, inl p.1)
 where_out fact P Q Begun l (inr (a, b, parts, p, q)) = (p.0, inr (a, b, parts, p.1, q))
 
-where_in : (fact : Type 0) (P Q Q' : Rule) → fact → ((extent : Extent) (l : List Lexeme) → Q extent l → Q' extent l) → (extent : Extent) (l : List Lexeme) → (P >> Q) extent l → (IsWhere fact P >> Q') extent l
+where_in : (fact : Type 0) (P Q Q' : Rule) → fact → ((extent : Extent) (l : List Lexeme) → Q extent l → Q' extent l)
+    → (extent : Extent) (l : List Lexeme) → (P >> Q) extent l → (IsWhere fact P >> Q') extent l
 where_in fact P Q Q' h g extent l is = then_map P (IsWhere fact P) Q Q' (λ x k p. (h, p)) g extent l is
 
 -- the statements of a block, each alone
@@ -714,68 +876,103 @@ singles_joined (PutTree value channel rest) = ap (PutTree value channel) (single
 singles_joined (StopTree rest) = ap StopTree (singles_joined rest)
 singles_joined (IfTree test first second rest) = ap (IfTree test first second) (singles_joined rest)
 
-pub singles_back : (edition left : ℕ) (block : BlockTree) (extent : Extent) (l : List Lexeme) → IsStatements edition left block extent l → IsEach (IsSingle edition left) (singles_of block) extent l
+pub singles_back : (edition left : ℕ) (block : BlockTree) (extent : Extent) (l : List Lexeme)
+    → IsStatements edition left block extent l → IsEach (IsSingle edition left) (singles_of block) extent l
 unfolding IsStatements IsSingle singles_of
 singles_back edition left NothingTree extent l is = is
-singles_back edition left (GetTree variable channel rest) extent l is = where_in _ (IsGet variable channel) (IsStatements edition left rest) _ refl (singles_back edition left rest) extent l is
-singles_back edition left (AssignTree variable value rest) extent l is = where_in _ (IsAssign edition left variable value) (IsStatements edition left rest) _ refl (singles_back edition left rest) extent l is
-singles_back edition left (PutTree value channel rest) extent l is = where_in _ (IsPut edition left value channel) (IsStatements edition left rest) _ refl (singles_back edition left rest) extent l is
-singles_back edition left (StopTree rest) extent l is = where_in _ IsStop (IsStatements edition left rest) _ refl (singles_back edition left rest) extent l is
+singles_back edition left (GetTree variable channel rest) extent l is =
+    where_in _ (IsGet variable channel) (IsStatements edition left rest) _ refl (singles_back edition left rest) extent
+    l is
+singles_back edition left (AssignTree variable value rest) extent l is =
+    where_in _ (IsAssign edition left variable value) (IsStatements edition left rest) _ refl
+    (singles_back edition left rest) extent l is
+singles_back edition left (PutTree value channel rest) extent l is =
+    where_in _ (IsPut edition left value channel) (IsStatements edition left rest) _ refl
+    (singles_back edition left rest) extent l is
+singles_back edition left (StopTree rest) extent l is =
+    where_in _ IsStop (IsStatements edition left rest) _ refl (singles_back edition left rest) extent l is
 singles_back edition left (IfTree test first second rest) extent l is =
-    where_in _ (IsIf edition left test (IsBlock edition left first) second (IsBlock edition left second)) (IsStatements edition left rest) _ refl (singles_back edition left rest) extent l is
+    where_in _ (IsIf edition left test (IsBlock edition left first) second (IsBlock edition left second))
+    (IsStatements edition left rest) _ refl (singles_back edition left rest) extent l is
 
 -- statements one after another are a block
-then_rest : (edition left : ℕ) (P : Rule) (rest : BlockTree) (blocks : List BlockTree) → ((extent : Extent) (l : List Lexeme) → IsEach (IsSingle edition left) blocks extent l → IsStatements edition left (joined blocks) extent l)
-    → (extent : Extent) (l : List Lexeme) → (IsWhere (rest ≡ NothingTree) P >> IsEach (IsSingle edition left) blocks) extent l → (P >> IsStatements edition left (append_block rest (joined blocks))) extent l
+then_rest : (edition left : ℕ) (P : Rule) (rest : BlockTree) (blocks : List BlockTree)
+    → ((extent : Extent) (l : List Lexeme) → IsEach (IsSingle edition left) blocks extent l
+    → IsStatements edition left (joined blocks) extent l)
+    → (extent : Extent) (l : List Lexeme)
+    → (IsWhere (rest ≡ NothingTree) P >> IsEach (IsSingle edition left) blocks) extent l
+    → (P >> IsStatements edition left (append_block rest (joined blocks))) extent l
 then_rest edition left P rest blocks more extent l is =
     let out = where_out (rest ≡ NothingTree) P (IsEach (IsSingle edition left) blocks) extent l is in
     subst (λ (r : BlockTree). (P >> IsStatements edition left (append_block r (joined blocks))) extent l) (sym out.0)
-    (then_map P P (IsEach (IsSingle edition left) blocks) (IsStatements edition left (joined blocks)) (λ x k p. p) more extent l out.1)
+    (then_map P P (IsEach (IsSingle edition left) blocks) (IsStatements edition left (joined blocks)) (λ x k p. p) more
+    extent l out.1)
 
-pub singles_there : (edition left : ℕ) (blocks : List BlockTree) (extent : Extent) (l : List Lexeme) → IsEach (IsSingle edition left) blocks extent l → IsStatements edition left (joined blocks) extent l
+pub singles_there : (edition left : ℕ) (blocks : List BlockTree) (extent : Extent) (l : List Lexeme)
+    → IsEach (IsSingle edition left) blocks extent l → IsStatements edition left (joined blocks) extent l
 unfolding IsStatements IsSingle
 singles_there edition left [] extent l is = is
-singles_there edition left (NothingTree ∷ blocks) extent l is = absurd (where_out ⊥ IsNothing (IsEach (IsSingle edition left) blocks) extent l is).0
-singles_there edition left (GetTree variable channel rest ∷ blocks) extent l is = then_rest edition left (IsGet variable channel) rest blocks (singles_there edition left blocks) extent l is
-singles_there edition left (AssignTree variable value rest ∷ blocks) extent l is = then_rest edition left (IsAssign edition left variable value) rest blocks (singles_there edition left blocks) extent l is
-singles_there edition left (PutTree value channel rest ∷ blocks) extent l is = then_rest edition left (IsPut edition left value channel) rest blocks (singles_there edition left blocks) extent l is
-singles_there edition left (StopTree rest ∷ blocks) extent l is = then_rest edition left IsStop rest blocks (singles_there edition left blocks) extent l is
+singles_there edition left (NothingTree ∷ blocks) extent l is =
+    absurd (where_out ⊥ IsNothing (IsEach (IsSingle edition left) blocks) extent l is).0
+singles_there edition left (GetTree variable channel rest ∷ blocks) extent l is =
+    then_rest edition left (IsGet variable channel) rest blocks (singles_there edition left blocks) extent l is
+singles_there edition left (AssignTree variable value rest ∷ blocks) extent l is =
+    then_rest edition left (IsAssign edition left variable value) rest blocks (singles_there edition left blocks)
+    extent l is
+singles_there edition left (PutTree value channel rest ∷ blocks) extent l is =
+    then_rest edition left (IsPut edition left value channel) rest blocks (singles_there edition left blocks) extent l
+    is
+singles_there edition left (StopTree rest ∷ blocks) extent l is =
+    then_rest edition left IsStop rest blocks (singles_there edition left blocks) extent l is
 singles_there edition left (IfTree test first second rest ∷ blocks) extent l is =
-    then_rest edition left (IsIf edition left test (IsBlock edition left first) second (IsBlock edition left second)) rest blocks (singles_there edition left blocks) extent l is
+    then_rest edition left (IsIf edition left test (IsBlock edition left first) second (IsBlock edition left second))
+    rest blocks (singles_there edition left blocks) extent l is
 
 abbrev statements_more : TokenKind → Bool
 statements_more = many_continues starts_statement statement_more
 
-statements_of_reads : {r d : Reader BlockTree} (edition left : ℕ) → Reads (λ z. IsSingle edition left z) statement_starts false statement_more r d
+statements_of_reads : {r d : Reader BlockTree} (edition left : ℕ)
+    → Reads (λ z. IsSingle edition left z) statement_starts false statement_more r d
     → Reads (λ z. IsStatements edition left z) statement_starts true statements_more (statements_of r) (statements_of d)
 statements_of_reads edition left h =
-    as_reads joined (each_reads starts_statement h (refl, (refl, (refl, (refl, tt)))) (refl, (refl, (refl, (refl, tt)))))
+    as_reads joined
+    (each_reads starts_statement h (refl, (refl, (refl, (refl, tt)))) (refl, (refl, (refl, (refl, tt)))))
     (seen_by joined singles_of (singles_there edition left) (singles_back edition left) singles_joined)
 
 braced_reads : {P : BlockTree → Rule} {r d : Reader BlockTree} → Reads P statement_starts true statements_more r d
     → BlockReads (λ z. IsSymbol symbol.LeftBrace >> P z >> IsSymbol symbol.RightBrace) (braced_of r) (braced_of d)
 braced_reads h =
-    as_reads (λ x. x.1.0) (then_reads (symbol_reads symbol.LeftBrace) (pair_reads h (symbol_reads symbol.RightBrace) (refl, tt)))
+    as_reads (λ x. x.1.0)
+    (then_reads (symbol_reads symbol.LeftBrace) (pair_reads h (symbol_reads symbol.RightBrace) (refl, tt)))
     (seen_by (λ x. x.1.0) (λ z. (tt, (z, tt))) (λ x extent l is. is) (λ z extent l is. is) (λ z. refl))
 
 pub block_reads : (edition left : ℕ) → BlockReads (λ b. IsBlock edition left b) (block_at left) (block_at (suc left))
 unfolding block_at symbol_at
 block_reads edition zero =
-    unopened_reads NothingTree (ASymbol symbol.LeftBrace ∷ []) symbol.LeftBrace (braced_of (statements_of (statement_of zero (block_at zero))))
-    (opening_fails symbol.LeftBrace (λ x. x.1.0) (pair_at (statements_of (statement_of zero (block_at zero))) (symbol_at symbol.RightBrace)) refl)
-block_reads edition (suc left) = braced_reads (statements_of_reads edition left (statement_of_reads edition left (block_reads edition left)))
+    unopened_reads NothingTree (ASymbol symbol.LeftBrace ∷ []) symbol.LeftBrace
+    (braced_of (statements_of (statement_of zero (block_at zero))))
+    (opening_fails symbol.LeftBrace (λ x. x.1.0)
+    (pair_at (statements_of (statement_of zero (block_at zero))) (symbol_at symbol.RightBrace)) refl)
+block_reads edition (suc left) =
+    braced_reads (statements_of_reads edition left (statement_of_reads edition left (block_reads edition left)))
 
-pub statement_reads : (edition left : ℕ) → Reads (λ z. IsSingle edition left z) statement_starts false statement_more (statement_at left) (statement_at (suc left))
+pub statement_reads : (edition left : ℕ)
+    → Reads (λ z. IsSingle edition left z) statement_starts false statement_more (statement_at left)
+    (statement_at (suc left))
 unfolding statement_at
 statement_reads edition left = statement_of_reads edition left (block_reads edition left)
 
-pub statements_reads : (edition left : ℕ) → Reads (λ z. IsStatements edition left z) statement_starts true statements_more (statements_at left) (statements_at (suc left))
+pub statements_reads : (edition left : ℕ)
+    → Reads (λ z. IsStatements edition left z) statement_starts true statements_more (statements_at left)
+    (statements_at (suc left))
 unfolding statements_at
 statements_reads edition left = statements_of_reads edition left (statement_reads edition left)
 
 -- ---- declarations
 
-negative_reads : Reads (λ v. IsNegative v) (ASymbol symbol.Minus ∷ []) false never (as_at (λ x. neg_ℤ (pos x.1)) (pair_at (symbol_at symbol.Minus) amount_at)) (as_at (λ x. neg_ℤ (pos x.1)) (pair_at (symbol_at symbol.Minus) amount_at))
+negative_reads : Reads (λ v. IsNegative v) (ASymbol symbol.Minus ∷ []) false never
+    (as_at (λ x. neg_ℤ (pos x.1)) (pair_at (symbol_at symbol.Minus) amount_at))
+    (as_at (λ x. neg_ℤ (pos x.1)) (pair_at (symbol_at symbol.Minus) amount_at))
 negative_reads =
     as_reads (λ x. neg_ℤ (pos x.1)) (then_reads (symbol_reads symbol.Minus) amount_reads)
     (record {
@@ -785,71 +982,112 @@ negative_reads =
       back_begun = λ z l is. ((tt, is.0), is.2);
     })
 
-value_reads : Reads (λ v. IsNegative v or IsPositive v) (ASymbol symbol.Minus ∷ ANumber ∷ []) false never value_at value_at
+value_reads : Reads (λ v. IsNegative v or IsPositive v) (ASymbol symbol.Minus ∷ ANumber ∷ []) false never value_at
+    value_at
 unfolding value_at
-value_reads = either_reads (has_symbol symbol.Minus) negative_reads (image_reads pos amount_reads) (refl, tt) (λ n. refl, tt)
+value_reads =
+    either_reads (has_symbol symbol.Minus) negative_reads (image_reads pos amount_reads) (refl, tt) (λ n. refl, tt)
 
-initial_reads : Reads (λ v. IsInitial v) (ASymbol symbol.Assign ∷ []) true (either_continues true (has_symbol symbol.Assign) never never) initial_at initial_at
+initial_reads : Reads (λ v. IsInitial v) (ASymbol symbol.Assign ∷ []) true
+    (either_continues true (has_symbol symbol.Assign) never never) initial_at initial_at
 unfolding initial_at
 initial_reads =
     either_reads (has_symbol symbol.Assign)
-    (as_reads (λ x. x.1) (then_reads (symbol_reads symbol.Assign) value_reads) (seen_by (λ x. x.1) (λ z. (tt, z)) (λ x extent l is. is) (λ z extent l is. is) (λ z. refl)))
+    (as_reads (λ x. x.1) (then_reads (symbol_reads symbol.Assign) value_reads)
+    (seen_by (λ x. x.1) (λ z. (tt, z)) (λ x extent l is. is) (λ z extent l is. is) (λ z. refl)))
     (nothing_reads (pos 0)) (refl, tt) tt
 
 pub variable_reads : Reads (λ v. IsVariable v) (AWord keyword.Var ∷ []) false never variable_at variable_at
 unfolding variable_at
 variable_reads =
-    as_reads variable_tree (then_reads (word_on_reads keyword.Var) (then_reads name_reads (pair_reads initial_reads (symbol_reads symbol.Semicolon) (refl, tt))))
-    (seen_by variable_tree (λ v. (v.line, (v.name, (v.initial, tt)))) (λ x extent l is. is) (λ z extent l is. is) (λ z. refl))
+    as_reads variable_tree
+    (then_reads (word_on_reads keyword.Var)
+    (then_reads name_reads (pair_reads initial_reads (symbol_reads symbol.Semicolon) (refl, tt))))
+    (seen_by variable_tree (λ v. (v.line, (v.name, (v.initial, tt)))) (λ x extent l is. is) (λ z extent l is. is)
+    (λ z. refl))
 
-variables_reads : Reads (λ vs. IsEach IsVariable vs) (AWord keyword.Var ∷ []) true (many_continues (has_word keyword.Var) never) variables_at variables_at
+variables_reads : Reads (λ vs. IsEach IsVariable vs) (AWord keyword.Var ∷ []) true
+    (many_continues (has_word keyword.Var) never) variables_at variables_at
 unfolding variables_at
 variables_reads = each_reads (has_word keyword.Var) variable_reads (refl, tt) (refl, tt)
 
 abbrev pub LoopEither : ℕ → ℕ → Option LoopTree → Rule
-LoopEither edition left o = IsImage loop_text (λ x. IsWordOn keyword.Loop x.0 >> IsBlock edition left x.1) o or IsWhere (o ≡ None) IsNothing
+LoopEither edition left o =
+    IsImage loop_text (λ x. IsWordOn keyword.Loop x.0 >> IsBlock edition left x.1) o or IsWhere (o ≡ None) IsNothing
 
-pub loop_there : (edition left : ℕ) (o : Option LoopTree) (extent : Extent) (l : List Lexeme) → LoopEither edition left o extent l → IsLoop edition left o extent l
-loop_there edition left o extent l (inl is) = subst (λ (p : Option LoopTree). IsLoop edition left p extent l) (sym is.1) is.2
-loop_there edition left o extent l (inr is) = subst (λ (p : Option LoopTree). IsLoop edition left p extent l) (sym is.0) is.1
+pub loop_there : (edition left : ℕ) (o : Option LoopTree) (extent : Extent) (l : List Lexeme)
+    → LoopEither edition left o extent l → IsLoop edition left o extent l
+loop_there edition left o extent l (inl is) =
+    subst (λ (p : Option LoopTree). IsLoop edition left p extent l) (sym is.1) is.2
+loop_there edition left o extent l (inr is) =
+    subst (λ (p : Option LoopTree). IsLoop edition left p extent l) (sym is.0) is.1
 
-pub loop_back : (edition left : ℕ) (o : Option LoopTree) (extent : Extent) (l : List Lexeme) → IsLoop edition left o extent l → LoopEither edition left o extent l
+pub loop_back : (edition left : ℕ) (o : Option LoopTree) (extent : Extent) (l : List Lexeme)
+    → IsLoop edition left o extent l → LoopEither edition left o extent l
 loop_back edition left None extent l is = inr (refl, is)
 loop_back edition left (Some p) extent l is = inl ((p.line, p.body), refl, is)
 
-loop_reads : (edition left : ℕ) → Reads (λ o. IsLoop edition left o) (AWord keyword.Loop ∷ []) true (either_continues true (has_word keyword.Loop) never never) (loop_at left) (loop_at (suc left))
+loop_reads : (edition left : ℕ)
+    → Reads (λ o. IsLoop edition left o) (AWord keyword.Loop ∷ []) true
+    (either_continues true (has_word keyword.Loop) never never) (loop_at left) (loop_at (suc left))
 unfolding loop_at
 loop_reads edition left =
-    ruled_reads (either_reads (has_word keyword.Loop) (image_reads loop_text (then_reads (word_on_reads keyword.Loop) (block_reads edition left))) (nothing_reads None) (refl, tt) tt)
+    ruled_reads
+    (either_reads (has_word keyword.Loop)
+    (image_reads loop_text (then_reads (word_on_reads keyword.Loop) (block_reads edition left)))
+    (nothing_reads None) (refl, tt) tt)
     (seen_by (λ o. o) (λ o. o) (loop_there edition left) (loop_back edition left) (λ o. refl))
 
-head_reads : Reads (λ (h : HeadTree). IsHead h.line h.name h.node) (AWord keyword.Process ∷ []) false never head_at head_at
+head_reads : Reads (λ (h : HeadTree). IsHead h.line h.name h.node) (AWord keyword.Process ∷ []) false never head_at
+    head_at
 unfolding head_at
 head_reads =
     as_reads head_made
     (then_reads (word_on_reads keyword.Process)
-    (then_reads name_reads (then_reads (word_reads keyword.On) (then_reads number_reads (symbol_reads symbol.LeftBrace)))))
-    (seen_by head_made (λ h. (h.line, (h.name, (tt, (h.node, tt))))) (λ x extent l is. is) (λ z extent l is. is) (λ z. refl))
+    (then_reads name_reads
+    (then_reads (word_reads keyword.On) (then_reads number_reads (symbol_reads symbol.LeftBrace)))))
+    (seen_by head_made (λ h. (h.line, (h.name, (tt, (h.node, tt))))) (λ x extent l is. is) (λ z extent l is. is)
+    (λ z. refl))
 
-pub process_reads : (edition left : ℕ) → Reads (λ p. IsProcess edition left p) (AWord keyword.Process ∷ []) false never (process_at left) (process_at (suc left))
+pub process_reads : (edition left : ℕ)
+    → Reads (λ p. IsProcess edition left p) (AWord keyword.Process ∷ []) false never (process_at left)
+    (process_at (suc left))
 unfolding process_at
 process_reads edition left =
     as_reads process_made
     (then_reads head_reads
-    (pair_reads variables_reads (pair_reads (statements_reads edition left) (pair_reads (loop_reads edition left) (symbol_reads symbol.RightBrace) (refl, tt)) (refl, (refl, tt))) (refl, (refl, (refl, (refl, (refl, (refl, tt))))))))
-    (seen_by process_made (λ p. (record { line = p.line; name = p.name; node = p.node }, (p.variables, (p.prelude, (p.repeated, tt))))) (λ x extent l is. is) (λ z extent l is. is) (λ z. refl))
+    (pair_reads variables_reads
+    (pair_reads (statements_reads edition left)
+    (pair_reads (loop_reads edition left) (symbol_reads symbol.RightBrace) (refl, tt)) (refl, (refl, tt)))
+    (refl, (refl, (refl, (refl, (refl, (refl, tt))))))))
+    (seen_by process_made
+    (λ p. (record { line = p.line; name = p.name; node = p.node }, (p.variables, (p.prelude, (p.repeated, tt)))))
+    (λ x extent l is. is) (λ z extent l is. is) (λ z. refl))
 
-pub channel_parts : (role : Role) (z : ChannelText) (extent : Extent) (l : List Lexeme) → IsWhere (z.role ≡ role) (IsChannel z) extent l → (IsWordOn (first_word role) z.line >> IsName z.name >> IsSymbol symbol.Semicolon) extent l
-channel_parts role z extent l is = subst (λ (r : Role). (IsWordOn (first_word r) z.line >> IsName z.name >> IsSymbol symbol.Semicolon) extent l) is.0 is.1
+pub channel_parts : (role : Role) (z : ChannelText) (extent : Extent) (l : List Lexeme)
+    → IsWhere (z.role ≡ role) (IsChannel z) extent l
+    → (IsWordOn (first_word role) z.line >> IsName z.name >> IsSymbol symbol.Semicolon) extent l
+channel_parts role z extent l is =
+    subst (λ (r : Role). (IsWordOn (first_word r) z.line >> IsName z.name >> IsSymbol symbol.Semicolon) extent l) is.0
+    is.1
 
-channel_reads : (role : Role) → Reads (λ (c : ChannelText). IsWhere (c.role ≡ role) (IsChannel c)) (AWord (first_word role) ∷ []) false never (channel_at role) (channel_at role)
+channel_reads : (role : Role)
+    → Reads (λ (c : ChannelText). IsWhere (c.role ≡ role) (IsChannel c)) (AWord (first_word role) ∷ []) false never
+    (channel_at role) (channel_at role)
 unfolding channel_at
 channel_reads role =
-    as_reads (channel_made role) (then_reads (word_on_reads (first_word role)) (then_reads name_reads (symbol_reads symbol.Semicolon)))
+    as_reads (channel_made role)
+    (then_reads (word_on_reads (first_word role)) (then_reads name_reads (symbol_reads symbol.Semicolon)))
     (record {
       whole = λ x l is. (refl, is);
       begun = λ x l is. (channel_made role x, (refl, is));
-      back = λ z l is. ((z.line, (z.name, tt)), ap (λ (r : Role). channel_made r (z.line, (z.name, tt))) is.0, channel_parts role z Whole l is);
+      back = λ z l
+          is. (
+            (z.line, (z.name, tt)),
+            ap (λ (r : Role). channel_made r (z.line, (z.name, tt))) is.0,
+            channel_parts
+                role z Whole l is,
+          );
       back_begun = λ z l is. ((z.line, (z.name, tt)), channel_parts role z Begun l is);
     })
 
@@ -857,33 +1095,45 @@ abbrev pub ChannelOf : Role → DeclarationTree → Rule
 ChannelOf role = IsImage ChannelTree (λ c. IsWhere (c.role ≡ role) (IsChannel c))
 
 abbrev pub DeclarationEither : ℕ → ℕ → DeclarationTree → Rule
-DeclarationEither edition left d = IsImage ProcessDeclared (λ p. IsProcess edition left p) d or ChannelOf Input d or ChannelOf Output d or ChannelOf Inner d
+DeclarationEither edition left d =
+    IsImage ProcessDeclared (λ p. IsProcess edition left p) d or ChannelOf Input d or ChannelOf Output d or ChannelOf
+    Inner d
 
-pub declaration_there : (edition left : ℕ) (d : DeclarationTree) (extent : Extent) (l : List Lexeme) → DeclarationEither edition left d extent l → IsDeclaration edition left d extent l
-declaration_there edition left d extent l (inl is) = subst (λ (t : DeclarationTree). IsDeclaration edition left t extent l) (sym is.1) is.2
-declaration_there edition left d extent l (inr (inl is)) = subst (λ (t : DeclarationTree). IsDeclaration edition left t extent l) (sym is.1) is.2.1
-declaration_there edition left d extent l (inr (inr (inl is))) = subst (λ (t : DeclarationTree). IsDeclaration edition left t extent l) (sym is.1) is.2.1
-declaration_there edition left d extent l (inr (inr (inr is))) = subst (λ (t : DeclarationTree). IsDeclaration edition left t extent l) (sym is.1) is.2.1
+pub declaration_there : (edition left : ℕ) (d : DeclarationTree) (extent : Extent) (l : List Lexeme)
+    → DeclarationEither edition left d extent l → IsDeclaration edition left d extent l
+declaration_there edition left d extent l (inl is) =
+    subst (λ (t : DeclarationTree). IsDeclaration edition left t extent l) (sym is.1) is.2
+declaration_there edition left d extent l (inr (inl is)) =
+    subst (λ (t : DeclarationTree). IsDeclaration edition left t extent l) (sym is.1) is.2.1
+declaration_there edition left d extent l (inr (inr (inl is))) =
+    subst (λ (t : DeclarationTree). IsDeclaration edition left t extent l) (sym is.1) is.2.1
+declaration_there edition left d extent l (inr (inr (inr is))) =
+    subst (λ (t : DeclarationTree). IsDeclaration edition left t extent l) (sym is.1) is.2.1
 
-channel_back : (edition left : ℕ) (c : ChannelText) (role : Role) (extent : Extent) (l : List Lexeme) → c.role ≡ role → IsChannel c extent l → DeclarationEither edition left (ChannelTree c) extent l
+channel_back : (edition left : ℕ) (c : ChannelText) (role : Role) (extent : Extent) (l : List Lexeme) → c.role ≡ role
+    → IsChannel c extent l → DeclarationEither edition left (ChannelTree c) extent l
 channel_back edition left c Input extent l e is = inr (inl (c, refl, (e, is)))
 channel_back edition left c Output extent l e is = inr (inr (inl (c, refl, (e, is))))
 channel_back edition left c Inner extent l e is = inr (inr (inr (c, refl, (e, is))))
 
-pub declaration_back : (edition left : ℕ) (d : DeclarationTree) (extent : Extent) (l : List Lexeme) → IsDeclaration edition left d extent l → DeclarationEither edition left d extent l
+pub declaration_back : (edition left : ℕ) (d : DeclarationTree) (extent : Extent) (l : List Lexeme)
+    → IsDeclaration edition left d extent l → DeclarationEither edition left d extent l
 declaration_back edition left (ChannelTree c) extent l is = channel_back edition left c c.role extent l refl is
 declaration_back edition left (ProcessDeclared p) extent l is = inl (p, refl, is)
 
 abbrev declaration_starts : List Class
 declaration_starts = AWord keyword.Process ∷ AWord keyword.Input ∷ AWord keyword.Output ∷ AWord keyword.Chan ∷ []
 
-pub declaration_reads : (edition left : ℕ) → Reads (λ d. IsDeclaration edition left d) declaration_starts false never (declaration_at left) (declaration_at (suc left))
+pub declaration_reads : (edition left : ℕ)
+    → Reads (λ d. IsDeclaration edition left d) declaration_starts false never (declaration_at left)
+    (declaration_at (suc left))
 unfolding declaration_at
 declaration_reads edition left =
     ruled_reads
     (either_reads (has_word keyword.Process) (image_reads ProcessDeclared (process_reads edition left))
     (either_reads (has_word keyword.Input) (image_reads ChannelTree (channel_reads Input))
-    (either_reads (has_word keyword.Output) (image_reads ChannelTree (channel_reads Output)) (image_reads ChannelTree (channel_reads Inner)) (refl, tt) (refl, tt)) (refl, tt) (refl, (refl, tt))) (refl, tt)
+    (either_reads (has_word keyword.Output) (image_reads ChannelTree (channel_reads Output))
+    (image_reads ChannelTree (channel_reads Inner)) (refl, tt) (refl, tt)) (refl, tt) (refl, (refl, tt))) (refl, tt)
     (refl, (refl, (refl, tt))))
     (seen_by (λ d. d) (λ d. d) (declaration_there edition left) (declaration_back edition left) (λ d. refl))
 
@@ -892,30 +1142,44 @@ declaration_reads edition left =
 abbrev pub text_more : TokenKind → Bool
 text_more = many_continues starts_declaration never
 
-declarations_reads : (edition left : ℕ) → Reads (λ ds. IsEach (IsDeclaration edition left) ds) declaration_starts true text_more (declarations_at left) (declarations_at (suc left))
+declarations_reads : (edition left : ℕ)
+    → Reads (λ ds. IsEach (IsDeclaration edition left) ds) declaration_starts true text_more (declarations_at left)
+    (declarations_at (suc left))
 unfolding declarations_at
-declarations_reads edition left = each_reads starts_declaration (declaration_reads edition left) (refl, (refl, (refl, (refl, tt)))) (refl, (refl, (refl, (refl, tt))))
+declarations_reads edition left =
+    each_reads starts_declaration (declaration_reads edition left) (refl, (refl, (refl, (refl, tt))))
+    (refl, (refl, (refl, (refl, tt))))
 
-edition_reads : (edition : ℕ) → Reads (λ (u : Unit {0}). IsEdition edition) (AWord keyword.Kahn ∷ []) false never (edition_at edition) (edition_at edition)
+edition_reads : (edition : ℕ)
+    → Reads (λ (u : Unit {0}). IsEdition edition) (AWord keyword.Kahn ∷ []) false never (edition_at edition)
+    (edition_at edition)
 unfolding edition_at
 edition_reads edition =
-    as_reads (λ x. tt) (then_reads (word_reads keyword.Kahn) (then_reads (edition_number_reads edition) (symbol_reads symbol.Semicolon)))
+    as_reads (λ x. tt)
+    (then_reads (word_reads keyword.Kahn)
+    (then_reads (edition_number_reads edition) (symbol_reads symbol.Semicolon)))
     (seen_by (λ x. tt) (λ u. (tt, (tt, tt))) (λ x extent l is. is) (λ z extent l is. is) (λ z. refl))
 
-pub text_reads : (left : ℕ) → Reads (λ ds. IsText 1 left ds) (AWord keyword.Kahn ∷ []) false (pair_continues true never text_more) (text_at left) (text_at (suc left))
+pub text_reads : (left : ℕ)
+    → Reads (λ ds. IsText 1 left ds) (AWord keyword.Kahn ∷ []) false (pair_continues true never text_more)
+    (text_at left) (text_at (suc left))
 unfolding text_at IsText
 text_reads left =
     as_reads (λ x. x.1) (then_reads (edition_reads 1) (declarations_reads 1 left))
     (seen_by (λ x. x.1) (λ z. (tt, z)) (λ x extent l is. is) (λ z extent l is. is) (λ z. refl))
 
 -- a whole text begins a longer one
-pub text_goes_on : (left : ℕ) (ds : List DeclarationTree) (ts : List Lexeme) → IsText 1 left ds Whole ts → (more : List DeclarationTree) × IsText 1 left more Begun ts
+pub text_goes_on : (left : ℕ) (ds : List DeclarationTree) (ts : List Lexeme) → IsText 1 left ds Whole ts
+    → (more : List DeclarationTree) × IsText 1 left more Begun ts
 unfolding IsText
 text_goes_on left ds ts is = (ds ++ next_one ∷ [], inr (is.0, is.1, is.2, is.3, each_goes_on ds is.1 is.4))
   where
     next_one : DeclarationTree
     next_one = (declaration_reads 1 left).some
 
-    each_goes_on : (xs : List DeclarationTree) (l : List Lexeme) → IsEach (IsDeclaration 1 left) xs Whole l → IsEach (IsDeclaration 1 left) (xs ++ next_one ∷ []) Begun l
-    each_goes_on [] l none = inl (subst (λ (k : List Lexeme). IsDeclaration 1 left next_one Begun k) (sym none) (declaration_reads 1 left).from_nothing)
+    each_goes_on : (xs : List DeclarationTree) (l : List Lexeme) → IsEach (IsDeclaration 1 left) xs Whole l
+        → IsEach (IsDeclaration 1 left) (xs ++ next_one ∷ []) Begun l
+    each_goes_on [] l none =
+        inl (subst (λ (k : List Lexeme). IsDeclaration 1 left next_one Begun k) (sym none)
+        (declaration_reads 1 left).from_nothing)
     each_goes_on (x ∷ xs) l each = inr (each.0, each.1, each.2, each.3, each_goes_on xs each.1 each.4)

@@ -12,12 +12,16 @@
 --     term    = factor { "*" factor }
 --     factor  = "-" factor | NUMBER | NAME | "(" expr ")"
 --
--- A rule says which tokens are a part of the text, whole, and which are the beginning of one: those that stand so far, whatever may follow.
--- A rule that another edition may change takes the edition, and one in which something may nest how many more may be opened: blocks, parentheses and
--- minus signs. The braces of a process and the minus of a variable's first value are none of these. A minus is open through its factor.
-use Rattle.std.specs.Prelude.{◌≡◌, ◌⊎◌, ℕ, zero, suc, ◌≤◌, List, [], ◌∷◌, ◌++◌, length, Option, Some, None, ℤ, pos, neg_ℤ}
+-- A rule says which tokens are a part of the text, whole, and which are the beginning of one: those that stand so far,
+-- whatever may follow. A rule that another edition may change takes the edition, and one in which something may nest
+-- how many more may be opened: blocks, parentheses and minus signs. The braces of a process and the minus of a
+-- variable's first value are none of these. A minus is open through its factor.
+use Rattle.std.specs.Prelude.{◌≡◌, ◌⊎◌, ℕ, zero, suc, ◌≤◌, List, [], ◌∷◌, ◌++◌, length, Option, Some, None, ℤ, pos}
+use Rattle.std.specs.Prelude.{neg_ℤ}
 use Rattle.net_text.specs.Names.{NameTree}
-use Rattle.net_text.specs.Trees.{ExprTree, LiteralTree, VariableTree, MinusTree, ChainTree, LinkTree, links_tree, BlockTree, NothingTree, GetTree, AssignTree, PutTree, StopTree, IfTree, LoopTree, ProcessTree, DeclarationTree, ChannelTree, ProcessDeclared}
+use Rattle.net_text.specs.Trees.{ExprTree, LiteralTree, VariableTree, MinusTree, ChainTree, LinkTree, links_tree}
+use Rattle.net_text.specs.Trees.{BlockTree, NothingTree, GetTree, AssignTree, PutTree, StopTree, IfTree, LoopTree}
+use Rattle.net_text.specs.Trees.{ProcessTree, DeclarationTree, ChannelTree, ProcessDeclared}
 use Rattle.net_text.specs.Tokens.{Lexeme, AreTokens}
 use Rattle.net_text.specs.declared.token.Keyword.{Keyword}
 use Rattle.net_text.specs.declared.token.Keyword.TheVariants as keyword
@@ -25,7 +29,8 @@ use Rattle.net_text.specs.declared.token.Symbol.{Symbol}
 use Rattle.net_text.specs.declared.token.Symbol.TheVariants as symbol
 use Rattle.net_text.specs.declared.token.TokenKind.TheVariants as kind
 use Rattle.kahn_net.specs.declared.program.Operator.{Operator}
-use Rattle.kahn_net.specs.declared.program.Operator.TheVariants.{Add, Subtract, Multiply, Equal, NotEqual, Less, LessOrEqual, Greater, GreaterOrEqual}
+use Rattle.kahn_net.specs.declared.program.Operator.TheVariants.{Add, Subtract, Multiply, Equal, NotEqual, Less}
+use Rattle.kahn_net.specs.declared.program.Operator.TheVariants.{LessOrEqual, Greater, GreaterOrEqual}
 use Rattle.net_text.specs.declared.parser.Level.{Level}
 use Rattle.net_text.specs.declared.parser.Level.TheVariants.{Product, Sum, Comparison}
 use Rattle.net_text.specs.declared.tree.Role.{Role}
@@ -149,7 +154,9 @@ IsLink level P link = IsOperator level link.operator >> P link.value
 
 -- values and operators of one level between them
 abbrev pub IsChain : Level → (ExprTree → Rule) → ExprTree → Rule
-IsChain level P e extent ts = (first : ExprTree) × (links : List LinkTree) × (e ≡ chain_of first links) × (P first >> IsEach (IsLink level P) links) extent ts
+IsChain level P e extent ts =
+    (first : ExprTree) × (links : List LinkTree) × (e ≡ chain_of first links)
+    × (P first >> IsEach (IsLink level P) links) extent ts
 
 -- term = factor { "*" factor }
 abbrev pub IsTermOf : ℕ → (ExprTree → Rule) → ExprTree → Rule
@@ -177,16 +184,19 @@ IsAtom e = IsLiteral e or IsUse e
 
 -- "(" expr ")", in which the factors are these
 abbrev pub IsParenthesised : ℕ → (ExprTree → Rule) → ExprTree → Rule
-IsParenthesised edition IsFactor e = IsSymbol symbol.LeftParenthesis >> IsExprOf edition IsFactor e >> IsSymbol symbol.RightParenthesis
+IsParenthesised edition IsFactor e =
+    IsSymbol symbol.LeftParenthesis >> IsExprOf edition IsFactor e >> IsSymbol symbol.RightParenthesis
 
 -- "-" factor
 abbrev pub IsMinus : (ExprTree → Rule) → ExprTree → Rule
-IsMinus IsFactor e extent ts = (value : ExprTree) × (e ≡ MinusTree value) × (IsSymbol symbol.Minus >> IsFactor value) extent ts
+IsMinus IsFactor e extent ts =
+    (value : ExprTree) × (e ≡ MinusTree value) × (IsSymbol symbol.Minus >> IsFactor value) extent ts
 
 -- factor = "-" factor | NUMBER | NAME | "(" expr ")"
 unfoldable pub IsFactor : ℕ → ℕ → ExprTree → Rule
 IsFactor edition zero e = IsAtom e
-IsFactor edition (suc left) e = IsParenthesised edition (IsFactor edition left) e or IsMinus (IsFactor edition left) e or IsAtom e
+IsFactor edition (suc left) e =
+    IsParenthesised edition (IsFactor edition left) e or IsMinus (IsFactor edition left) e or IsAtom e
 
 abbrev pub IsExpr : ℕ → ℕ → ExprTree → Rule
 IsExpr edition left = IsExprOf edition (IsFactor edition left)
@@ -200,15 +210,18 @@ IsBlockOf (suc left) AreStatements = IsSymbol symbol.LeftBrace >> AreStatements 
 
 -- NAME "=" "get" NAME ";"
 abbrev pub IsGet : NameTree → NameTree → Rule
-IsGet variable channel = IsName variable >> IsSymbol symbol.Assign >> IsWord keyword.Get >> IsName channel >> IsSymbol symbol.Semicolon
+IsGet variable channel =
+    IsName variable >> IsSymbol symbol.Assign >> IsWord keyword.Get >> IsName channel >> IsSymbol symbol.Semicolon
 
 -- NAME "=" expr ";"
 abbrev pub IsAssign : ℕ → ℕ → NameTree → ExprTree → Rule
-IsAssign edition left variable value = IsName variable >> IsSymbol symbol.Assign >> IsExpr edition left value >> IsSymbol symbol.Semicolon
+IsAssign edition left variable value =
+    IsName variable >> IsSymbol symbol.Assign >> IsExpr edition left value >> IsSymbol symbol.Semicolon
 
 -- "put" expr "to" NAME ";"
 abbrev pub IsPut : ℕ → ℕ → ExprTree → NameTree → Rule
-IsPut edition left value channel = IsWord keyword.Put >> IsExpr edition left value >> IsWord keyword.To >> IsName channel >> IsSymbol symbol.Semicolon
+IsPut edition left value channel =
+    IsWord keyword.Put >> IsExpr edition left value >> IsWord keyword.To >> IsName channel >> IsSymbol symbol.Semicolon
 
 -- "stop" ";"
 abbrev pub IsStop : Rule
@@ -220,17 +233,21 @@ IsElse second IsSecond = IsWord keyword.Else >> IsSecond or IsWhere (second ≡ 
 
 -- "if" expr block [ "else" block ]
 abbrev pub IsIf : ℕ → ℕ → ExprTree → Rule → BlockTree → Rule → Rule
-IsIf edition left test IsFirst second IsSecond = IsWord keyword.If >> IsExpr edition left test >> IsFirst >> IsElse second IsSecond
+IsIf edition left test IsFirst second IsSecond =
+    IsWord keyword.If >> IsExpr edition left test >> IsFirst >> IsElse second IsSecond
 
 -- { stmt }
 unfoldable pub IsStatements : ℕ → ℕ → BlockTree → Rule
 IsStatements edition left NothingTree = IsNothing
 IsStatements edition left (GetTree variable channel rest) = IsGet variable channel >> IsStatements edition left rest
-IsStatements edition left (AssignTree variable value rest) = IsAssign edition left variable value >> IsStatements edition left rest
-IsStatements edition left (PutTree value channel rest) = IsPut edition left value channel >> IsStatements edition left rest
+IsStatements edition left (AssignTree variable value rest) =
+    IsAssign edition left variable value >> IsStatements edition left rest
+IsStatements edition left (PutTree value channel rest) =
+    IsPut edition left value channel >> IsStatements edition left rest
 IsStatements edition left (StopTree rest) = IsStop >> IsStatements edition left rest
 IsStatements edition left (IfTree test first second rest) =
-    IsIf edition left test (IsBlockOf left (λ inside. IsStatements edition inside first)) second (IsBlockOf left (λ inside. IsStatements edition inside second))
+    IsIf edition left test (IsBlockOf left (λ inside. IsStatements edition inside first)) second
+    (IsBlockOf left (λ inside. IsStatements edition inside second))
     >> IsStatements edition left rest
 
 abbrev pub IsBlock : ℕ → ℕ → BlockTree → Rule
@@ -260,13 +277,16 @@ IsLoop edition left (Some l) = IsWordOn keyword.Loop l.line >> IsBlock edition l
 
 -- "process" NAME "on" NUMBER "{"
 abbrev pub IsHead : ℕ → NameTree → NodeText → Rule
-IsHead line name node = IsWordOn keyword.Process line >> IsName name >> IsWord keyword.On >> IsNumberOn node.number node.line >> IsSymbol symbol.LeftBrace
+IsHead line name node =
+    IsWordOn keyword.Process line >> IsName name >> IsWord keyword.On >> IsNumberOn node.number node.line >> IsSymbol
+    symbol.LeftBrace
 
 -- process = "process" NAME "on" NUMBER "{" { var } { stmt } [ "loop" block ] "}"
 abbrev pub IsProcess : ℕ → ℕ → ProcessTree → Rule
 IsProcess edition left p =
     IsHead p.line p.name p.node
-    >> IsEach IsVariable p.variables >> IsStatements edition left p.prelude >> IsLoop edition left p.repeated >> IsSymbol symbol.RightBrace
+    >> IsEach IsVariable p.variables >> IsStatements edition left p.prelude >> IsLoop edition left p.repeated >>
+    IsSymbol symbol.RightBrace
 
 -- the declaration of a channel, by its first word
 abbrev pub first_word : Role → Keyword

@@ -1,5 +1,6 @@
 -- The lines of an inputs text. Lines end at line feeds; of each, one trailing carriage return is left out.
-use Rattle.std.specs.Prelude.{◌≡◌, ◌⊎◌, ℕ, suc, ◌^◌, ◌<◌, ◌≤◌, Bool, false, ◌==◌, List, [], ◌∷◌, ◌++◌, length, IsTrue, All, ℤ, pos, neg_ℤ, map}
+use Rattle.std.specs.Prelude.{◌≡◌, ◌⊎◌, ℕ, suc, ◌^◌, ◌<◌, ◌≤◌, Bool, false, ◌==◌, List, [], ◌∷◌, ◌++◌, length, IsTrue}
+use Rattle.std.specs.Prelude.{All, ℤ, pos, neg_ℤ, map}
 use Rattle.std.specs.List.{list_all, slice_split}
 use Rattle.std.specs.Str.Lines.{strip_carriage_return}
 use Rattle.std.specs.Char.{is_ascii_digit}
@@ -29,12 +30,15 @@ IsBlank line = IsTrue (list_all is_space line) ⊎ IsTrue (is_comment line)
 abbrev pub IsItem : List ℕ → ℤ → Type 0
 IsItem bytes v =
     (IsTrue (is_numeral bytes) × (numeral_value bytes < 2 ^ 63) × (v ≡ pos (numeral_value bytes)))
-    ⊎ ((digits : List ℕ) × (bytes ≡ 45 ∷ digits) × IsTrue (is_numeral digits) × (numeral_value digits ≤ 2 ^ 63) × (v ≡ neg_ℤ (pos (numeral_value digits))))
+    ⊎ ((digits : List ℕ) × (bytes ≡ 45 ∷ digits) × IsTrue (is_numeral digits) × (numeral_value digits ≤ 2 ^ 63)
+    × (v ≡ neg_ℤ (pos (numeral_value digits))))
 
 -- items, each after one or more spaces, and then spaces or nothing
 abbrev pub IsItems : List ℤ → List ℕ → Type 0
 IsItems [] bytes = IsTrue (list_all is_space bytes)
-IsItems (v ∷ vs) bytes = (gap : List ℕ) × (item : List ℕ) × (rest : List ℕ) × (bytes ≡ gap ++ (item ++ rest)) × (0 < length gap) × IsTrue (list_all is_space gap) × IsItem item v × IsItems vs rest
+IsItems (v ∷ vs) bytes =
+    (gap : List ℕ) × (item : List ℕ) × (rest : List ℕ) × (bytes ≡ gap ++ (item ++ rest)) × (0 < length gap)
+    × IsTrue (list_all is_space gap) × IsItem item v × IsItems vs rest
 
 -- a name of at most 64 bytes, a colon and items
 pub record IsEntry (number : ℕ) (line : List ℕ) (e : InputTree) : Type 0 where
@@ -50,7 +54,8 @@ abbrev pub AreEntries : ℕ → List (List ℕ) → List InputTree → Type 0
 AreEntries number [] es = es ≡ []
 AreEntries number (line ∷ lines) es =
     (IsBlank line × AreEntries (suc number) lines es)
-    ⊎ ((e : InputTree) × (others : List InputTree) × (es ≡ e ∷ others) × IsEntry number line e × AreEntries (suc number) lines others)
+    ⊎ ((e : InputTree) × (others : List InputTree) × (es ≡ e ∷ others) × IsEntry number line e
+    × AreEntries (suc number) lines others)
 
 -- a text of these entries
 pub record IsInputsText (text : List ℕ) (es : List InputTree) : Type 0 where
@@ -82,7 +87,9 @@ ends_in_digit (b ∷ (c ∷ bs)) = ends_in_digit (c ∷ bs)
 
 -- the byte is one more digit of an item, behind the colon
 abbrev pub IsMoreDigits : List ℕ → ℕ → Type 0
-IsMoreDigits front byte = IsTrue (is_ascii_digit byte) × ((name : List ℕ) × (items : List ℕ) × (front ≡ name ++ 58 ∷ items) × IsTrue (ends_in_digit items))
+IsMoreDigits front byte =
+    IsTrue (is_ascii_digit byte)
+    × ((name : List ℕ) × (items : List ℕ) × (front ≡ name ++ 58 ∷ items) × IsTrue (ends_in_digit items))
 
 -- the byte is one more of a name
 abbrev pub IsMoreName : List ℕ → ℕ → Type 0
@@ -109,7 +116,8 @@ pub record EndsInMinus (line : List ℕ) : Type 0 where
 -- any other byte can't stand at its place, or the line ends behind a minus
 abbrev pub IsBadAtByte : List ℕ → Type 0
 IsBadAtByte line =
-    ((front : List ℕ) × (byte : ℕ) × IsStuck line front byte × (IsMoreDigits front byte → ⊥) × (IsMoreName front byte → ⊥))
+    ((front : List ℕ) × (byte : ℕ) × IsStuck line front byte × (IsMoreDigits front byte → ⊥)
+    × (IsMoreName front byte → ⊥))
     ⊎ EndsInMinus line
 
 -- the first line that isn't right, and what is wrong with it, in a text that isn't over-long

@@ -1,5 +1,7 @@
 -- A reader of the lines of an inputs text: it goes from the left, and ends at the first fault.
-use Rattle.std.specs.Prelude.{◌≡◌, ℕ, zero, suc, ◌+◌, ◌^◌, Bool, true, false, ◌==◌, if◌then◌else◌, List, [], ◌∷◌, length, take, drop, slice_index, Option, Some, None, Result, Ok, Err, ℤ, pos, neg_ℤ, nat_lt, nat_le, ◌||◌}
+use Rattle.std.specs.Prelude.{◌≡◌, ℕ, zero, suc, ◌+◌, ◌^◌, Bool, true, false, ◌==◌, if◌then◌else◌, List, [], ◌∷◌}
+use Rattle.std.specs.Prelude.{length, take, drop, slice_index, Option, Some, None, Result, Ok, Err, ℤ, pos, neg_ℤ}
+use Rattle.std.specs.Prelude.{nat_lt, nat_le, ◌||◌}
 use Rattle.std.specs.Char.{is_ascii_digit}
 use Rattle.net_text.specs.Numbers.{numeral_value}
 use Rattle.net_text.specs.Spellings.{starts_word, continues_word}
@@ -11,7 +13,8 @@ use Rattle.net_text.specs.declared.fault.TextFault.TheVariants.{NoMemory, BadTok
 use Rattle.net_text.specs.declared.limits.TheConstants.{MAX_NAME_BYTES}
 use Rattle.net_text.specs.Results.{◌>>=◌}
 
--- A call that failed by this fault did as its reader does, which fails by the same one; for want of memory a reader never fails.
+-- A call that failed by this fault did as its reader does, which fails by the same one; for want of memory a reader
+-- never fails.
 abbrev pub Fails : {Y : Type 0} → TextFault → Result Y TextFault → Type 0
 Fails NoMemory read = Unit {0}
 Fails (BadToken line) read = read ≡ Err (BadToken line)
@@ -44,7 +47,8 @@ item_in line minus sign digits bytes =
     else (signed minus (numeral_value (take digits (drop sign bytes))) line >>= λ v. Ok (v, drop (sign + digits) bytes))
 
 unfoldable pub item_at : ℕ → List ℕ → Result (ℤ × List ℕ) TextFault
-item_at line bytes = item_in line (slice_index bytes 0 == 45) (sign_len bytes) (run is_ascii_digit (drop (sign_len bytes) bytes)) bytes
+item_at line bytes =
+    item_in line (slice_index bytes 0 == 45) (sign_len bytes) (run is_ascii_digit (drop (sign_len bytes) bytes)) bytes
 
 -- so many items at the most
 abbrev pub items_from : ℕ → ℕ → List ℕ → Result (List ℤ) TextFault
@@ -52,7 +56,8 @@ items_from line zero bytes = Ok []
 items_from line (suc n) bytes =
     if run is_space bytes == length bytes then Ok []
     else (if run is_space bytes == 0 then Err (BadToken line)
-    else (item_at line (drop (run is_space bytes) bytes) >>= λ first. items_from line n first.1 >>= λ others. Ok (first.0 ∷ others)))
+    else (item_at line (drop (run is_space bytes) bytes) >>= λ first. items_from line n first.1 >>= λ others. Ok
+    (first.0 ∷ others)))
 
 unfoldable pub items_at : ℕ → List ℕ → Result (List ℤ) TextFault
 items_at line bytes = items_from line (suc (length bytes)) bytes
@@ -63,18 +68,22 @@ after_name line n bytes =
     if nat_lt MAX_NAME_BYTES n then Err (TooLong line)
     else (if n == length bytes then Err (Unexpected line)
     else (if slice_index bytes n == 58
-    then (items_at line (drop (suc n) bytes) >>= λ items. Ok (record { name = record { text = take n bytes; line = line }; items = items }))
+    then (items_at line (drop (suc n) bytes) >>= λ items. Ok
+    (record { name = record { text = take n bytes; line = line }; items = items }))
     else Err (BadToken line)))
 
 unfoldable pub entry_at : ℕ → List ℕ → Result InputTree TextFault
-entry_at line bytes = if starts_word (slice_index bytes 0) then after_name line (run continues_word bytes) bytes else Err (BadToken line)
+entry_at line bytes =
+    if starts_word (slice_index bytes 0) then after_name line (run continues_word bytes) bytes else Err (BadToken line)
 
 abbrev pub entry_tree : Option InputLine → Option InputTree
 entry_tree None = None
 entry_tree (Some l) = Some (input_tree l)
 
 unfoldable pub line_at : ℕ → List ℕ → Result (Option InputTree) TextFault
-line_at line bytes = if (run is_space bytes == length bytes) || is_comment bytes then Ok None else (entry_at line bytes >>= λ e. Ok (Some e))
+line_at line bytes =
+    if (run is_space bytes == length bytes) || is_comment bytes then Ok None else
+    (entry_at line bytes >>= λ e. Ok (Some e))
 
 -- before the others, if there is one
 abbrev pub with_entry : Option InputTree → List InputTree → List InputTree
@@ -83,4 +92,5 @@ with_entry (Some e) others = e ∷ others
 
 unfoldable pub lines_at : ℕ → List (List ℕ) → Result (List InputTree) TextFault
 lines_at number [] = Ok []
-lines_at number (line ∷ lines) = line_at number line >>= λ e. lines_at (suc number) lines >>= λ others. Ok (with_entry e others)
+lines_at number (line ∷ lines) =
+    line_at number line >>= λ e. lines_at (suc number) lines >>= λ others. Ok (with_entry e others)

@@ -1,11 +1,15 @@
--- Reading tokens from left to right, as the parser does: the value that is read and the tokens after it, or where the tokens can't go on.
--- The grammar itself stands in Grammar; these are its readers, which the parser's private functions cite. Where something may nest they take how many more may be opened.
-use Rattle.std.specs.Prelude.{◌≡◌, ◌⊎◌, ℕ, zero, suc, Bool, true, false, ◌||◌, if◌then◌else◌, ◌==◌, List, [], ◌∷◌, length, Option, Some, None, Result, Ok, Err, ℤ, pos, neg_ℤ}
+-- Reading tokens from left to right, as the parser does: the value that is read and the tokens after it, or where the
+-- tokens can't go on. The grammar itself stands in Grammar; these are its readers, which the parser's private functions
+-- cite. Where something may nest they take how many more may be opened.
+use Rattle.std.specs.Prelude.{◌≡◌, ◌⊎◌, ℕ, zero, suc, Bool, true, false, ◌||◌, if◌then◌else◌, ◌==◌, List, [], ◌∷◌}
+use Rattle.std.specs.Prelude.{length, Option, Some, None, Result, Ok, Err, ℤ, pos, neg_ℤ}
 use Rattle.std.proofs.Common.{inl, inr}
 use Rattle.std.specs.Str.{bytes_eq}
 use Rattle.net_text.specs.Names.{NameTree}
 use Rattle.net_text.specs.Spellings.{keyword_spelling, symbol_spelling}
-use Rattle.net_text.specs.Trees.{ExprTree, LiteralTree, VariableTree, MinusTree, LinkTree, BlockTree, NothingTree, GetTree, AssignTree, PutTree, StopTree, IfTree, LoopTree, ProcessTree, DeclarationTree, ChannelTree, ProcessDeclared}
+use Rattle.net_text.specs.Trees.{ExprTree, LiteralTree, VariableTree, MinusTree, LinkTree, BlockTree, NothingTree}
+use Rattle.net_text.specs.Trees.{GetTree, AssignTree, PutTree, StopTree, IfTree, LoopTree, ProcessTree, DeclarationTree}
+use Rattle.net_text.specs.Trees.{ChannelTree, ProcessDeclared}
 use Rattle.net_text.specs.Tokens.{Lexeme}
 use Rattle.net_text.specs.Grammar.{chain_of, first_word, level_of}
 use Rattle.net_text.specs.declared.parser.Head.{Head}
@@ -26,7 +30,8 @@ use Rattle.net_text.specs.declared.token.Symbol.TheVariants as symbol
 use Rattle.net_text.specs.declared.token.TokenKind.{TokenKind}
 use Rattle.net_text.specs.declared.token.TokenKind.TheVariants as kind
 use Rattle.kahn_net.specs.declared.program.Operator.{Operator}
-use Rattle.kahn_net.specs.declared.program.Operator.TheVariants.{Add, Subtract, Multiply, Equal, NotEqual, Less, LessOrEqual, Greater, GreaterOrEqual}
+use Rattle.kahn_net.specs.declared.program.Operator.TheVariants.{Add, Subtract, Multiply, Equal, NotEqual, Less}
+use Rattle.kahn_net.specs.declared.program.Operator.TheVariants.{LessOrEqual, Greater, GreaterOrEqual}
 use Rattle.net_text.specs.declared.tree.Role.{Role}
 use Rattle.net_text.specs.declared.tree.Role.TheVariants.{Input, Inner, Output}
 use Rattle.net_text.specs.declared.tree.ChannelText.{ChannelText}
@@ -141,7 +146,9 @@ nothing_at x ts = Ok (x, ts)
 -- one after another, as long as the next begins; so many at the most
 abbrev pub many : {A : Type 0} → (TokenKind → Bool) → Reader A → ℕ → Reader (List A)
 many starts item zero ts = Ok ([], ts)
-many starts item (suc n) ts = if begins starts ts then (item ts >>= λ first. many starts item n first.1 >>= λ others. Ok (first.0 ∷ others.0, others.1)) else Ok ([], ts)
+many starts item (suc n) ts =
+    if begins starts ts then
+    (item ts >>= λ first. many starts item n first.1 >>= λ others. Ok (first.0 ∷ others.0, others.1)) else Ok ([], ts)
 
 abbrev pub each_at : {A : Type 0} → (TokenKind → Bool) → Reader A → Reader (List A)
 each_at starts item ts = many starts item (length ts) ts
@@ -232,17 +239,21 @@ operand_of factor Comparison = chain_at Sum (chain_at Product factor)
 abbrev pub expr_of : Reader ExprTree → Reader ExprTree
 expr_of factor =
     as_at (λ x. chain_of x.0 x.1)
-    (pair_at (operand_of factor Comparison) (at_most_one_at (has_operator Comparison) (link_of Comparison (operand_of factor Comparison))))
+    (pair_at (operand_of factor Comparison)
+    (at_most_one_at (has_operator Comparison) (link_of Comparison (operand_of factor Comparison))))
 
 abbrev pub parenthesised_of : Reader ExprTree → Reader ExprTree
-parenthesised_of factor = as_at (λ x. x.1.0) (pair_at (symbol_at symbol.LeftParenthesis) (pair_at (expr_of factor) (symbol_at symbol.RightParenthesis)))
+parenthesised_of factor =
+    as_at (λ x. x.1.0)
+    (pair_at (symbol_at symbol.LeftParenthesis) (pair_at (expr_of factor) (symbol_at symbol.RightParenthesis)))
 
 abbrev pub minus_of : Reader ExprTree → Reader ExprTree
 minus_of factor = as_at (λ x. MinusTree x.1) (pair_at (symbol_at symbol.Minus) factor)
 
 -- a factor, by what it is behind a ( and behind a -
 abbrev pub factor_of : Reader ExprTree → Reader ExprTree → Reader ExprTree
-factor_of parenthesised minus = either_at (has_symbol symbol.LeftParenthesis) parenthesised (either_at (has_symbol symbol.Minus) minus atom_at)
+factor_of parenthesised minus =
+    either_at (has_symbol symbol.LeftParenthesis) parenthesised (either_at (has_symbol symbol.Minus) minus atom_at)
 
 unfoldable pub factor_at : ℕ → Reader ExprTree
 factor_at zero = factor_of (unopened_at symbol.LeftParenthesis) (unopened_at symbol.Minus)
@@ -286,27 +297,35 @@ named_tree variable (inr value) = AssignTree variable value NothingTree
 unfoldable pub named_at : ℕ → Reader BlockTree
 named_at left =
     as_at (λ x. named_tree x.0 x.1.1)
-    (pair_at name_at (pair_at (symbol_at symbol.Assign) (either_at (has_word keyword.Get) (as_at inl got_at) (as_at inr (assigned_at left)))))
+    (pair_at name_at
+    (pair_at (symbol_at symbol.Assign)
+    (either_at (has_word keyword.Get) (as_at inl got_at) (as_at inr (assigned_at left)))))
 
 unfoldable pub put_at : ℕ → Reader BlockTree
 put_at left =
     as_at (λ x. PutTree x.1.0 x.1.1.1.0 NothingTree)
-    (pair_at (word_at keyword.Put) (pair_at (expr_at left) (pair_at (word_at keyword.To) (pair_at name_at (symbol_at symbol.Semicolon)))))
+    (pair_at (word_at keyword.Put)
+    (pair_at (expr_at left) (pair_at (word_at keyword.To) (pair_at name_at (symbol_at symbol.Semicolon)))))
 
 unfoldable pub stop_at : Reader BlockTree
 stop_at = as_at (λ x. StopTree NothingTree) (pair_at (word_at keyword.Stop) (symbol_at symbol.Semicolon))
 
 -- what stands behind else, by the reader of a block
 abbrev pub else_of : Reader BlockTree → Reader BlockTree
-else_of block = either_at (has_word keyword.Else) (as_at (λ x. x.1) (pair_at (word_at keyword.Else) block)) (nothing_at NothingTree)
+else_of block =
+    either_at (has_word keyword.Else) (as_at (λ x. x.1) (pair_at (word_at keyword.Else) block)) (nothing_at NothingTree)
 
 abbrev pub if_of : Reader ExprTree → Reader BlockTree → Reader BlockTree
-if_of test block = as_at (λ x. IfTree x.1.0 x.1.1.0 x.1.1.1 NothingTree) (pair_at (word_at keyword.If) (pair_at test (pair_at block (else_of block))))
+if_of test block =
+    as_at (λ x. IfTree x.1.0 x.1.1.0 x.1.1.1 NothingTree)
+    (pair_at (word_at keyword.If) (pair_at test (pair_at block (else_of block))))
 
 -- a statement, by the reader of a block, where so many more may be opened
 abbrev pub statement_of : ℕ → Reader BlockTree → Reader BlockTree
 statement_of left block =
-    either_at is_name (named_at left) (either_at (has_word keyword.Put) (put_at left) (either_at (has_word keyword.Stop) stop_at (if_of (expr_at left) block)))
+    either_at is_name (named_at left)
+    (either_at (has_word keyword.Put) (put_at left)
+    (either_at (has_word keyword.Stop) stop_at (if_of (expr_at left) block)))
 
 abbrev pub starts_statement : TokenKind → Bool
 starts_statement k = is_name k || (has_word keyword.Put k || (has_word keyword.Stop k || has_word keyword.If k))
@@ -328,7 +347,8 @@ abbrev pub statements_of : Reader BlockTree → Reader BlockTree
 statements_of statement = as_at joined (each_at starts_statement statement)
 
 abbrev pub braced_of : Reader BlockTree → Reader BlockTree
-braced_of statements = as_at (λ x. x.1.0) (pair_at (symbol_at symbol.LeftBrace) (pair_at statements (symbol_at symbol.RightBrace)))
+braced_of statements =
+    as_at (λ x. x.1.0) (pair_at (symbol_at symbol.LeftBrace) (pair_at statements (symbol_at symbol.RightBrace)))
 
 unfoldable pub block_at : ℕ → Reader BlockTree
 block_at zero = unopened_at symbol.LeftBrace
@@ -354,16 +374,22 @@ amount_at = as_at (λ n. n.number) number_at
 
 -- what follows the = of a variable's first value
 unfoldable pub value_at : Reader ℤ
-value_at = either_at (has_symbol symbol.Minus) (as_at (λ x. neg_ℤ (pos x.1)) (pair_at (symbol_at symbol.Minus) amount_at)) (as_at pos amount_at)
+value_at =
+    either_at (has_symbol symbol.Minus) (as_at (λ x. neg_ℤ (pos x.1)) (pair_at (symbol_at symbol.Minus) amount_at))
+    (as_at pos amount_at)
 
 unfoldable pub initial_at : Reader ℤ
-initial_at = either_at (has_symbol symbol.Assign) (as_at (λ x. x.1) (pair_at (symbol_at symbol.Assign) value_at)) (nothing_at (pos 0))
+initial_at =
+    either_at (has_symbol symbol.Assign) (as_at (λ x. x.1) (pair_at (symbol_at symbol.Assign) value_at))
+    (nothing_at (pos 0))
 
 abbrev pub variable_tree : ℕ × (NameTree × (ℤ × Unit {0})) → VariableText
 variable_tree x = record { name = x.1.0; initial = x.1.1.0; line = x.0 }
 
 unfoldable pub variable_at : Reader VariableText
-variable_at = as_at variable_tree (pair_at (word_on_at keyword.Var) (pair_at name_at (pair_at initial_at (symbol_at symbol.Semicolon))))
+variable_at =
+    as_at variable_tree
+    (pair_at (word_on_at keyword.Var) (pair_at name_at (pair_at initial_at (symbol_at symbol.Semicolon))))
 
 unfoldable pub variables_at : Reader (List VariableText)
 variables_at = each_at (has_word keyword.Var) variable_at
@@ -372,7 +398,9 @@ abbrev pub loop_text : ℕ × BlockTree → Option LoopTree
 loop_text x = Some (record { body = x.1; line = x.0 })
 
 unfoldable pub loop_at : ℕ → Reader (Option LoopTree)
-loop_at left = either_at (has_word keyword.Loop) (as_at loop_text (pair_at (word_on_at keyword.Loop) (block_at left))) (nothing_at None)
+loop_at left =
+    either_at (has_word keyword.Loop) (as_at loop_text (pair_at (word_on_at keyword.Loop) (block_at left)))
+    (nothing_at None)
 
 -- the head of a process: its line, its name and its node, up to the brace
 pub record HeadTree : Type 0 where
@@ -387,28 +415,46 @@ abbrev pub head_made : ℕ × (NameTree × (Unit {0} × (NodeText × Unit {0})))
 head_made x = record { line = x.0; name = x.1.0; node = x.1.1.1.0 }
 
 unfoldable pub head_at : Reader HeadTree
-head_at = as_at head_made (pair_at (word_on_at keyword.Process) (pair_at name_at (pair_at (word_at keyword.On) (pair_at number_at (symbol_at symbol.LeftBrace)))))
+head_at =
+    as_at head_made
+    (pair_at (word_on_at keyword.Process)
+    (pair_at name_at (pair_at (word_at keyword.On) (pair_at number_at (symbol_at symbol.LeftBrace)))))
 
 abbrev pub process_made : HeadTree × (List VariableText × (BlockTree × (Option LoopTree × Unit {0}))) → ProcessTree
-process_made x = record { name = x.0.name; node = x.0.node; variables = x.1.0; prelude = x.1.1.0; repeated = x.1.1.1.0; line = x.0.line }
+process_made x =
+    record {
+      name = x.0.name;
+      node = x.0.node;
+      variables = x.1.0;
+      prelude = x.1.1.0;
+      repeated = x.1.1.1.0;
+      line =
+          x.0.line;
+    }
 
 unfoldable pub process_at : ℕ → Reader ProcessTree
-process_at left = as_at process_made (pair_at head_at (pair_at variables_at (pair_at (statements_at left) (pair_at (loop_at left) (symbol_at symbol.RightBrace)))))
+process_at left =
+    as_at process_made
+    (pair_at head_at
+    (pair_at variables_at (pair_at (statements_at left) (pair_at (loop_at left) (symbol_at symbol.RightBrace)))))
 
 abbrev pub channel_made : Role → ℕ × (NameTree × Unit {0}) → ChannelText
 channel_made role x = record { role = role; name = x.1.0; line = x.0 }
 
 unfoldable pub channel_at : Role → Reader ChannelText
-channel_at role = as_at (channel_made role) (pair_at (word_on_at (first_word role)) (pair_at name_at (symbol_at symbol.Semicolon)))
+channel_at role =
+    as_at (channel_made role) (pair_at (word_on_at (first_word role)) (pair_at name_at (symbol_at symbol.Semicolon)))
 
 unfoldable pub declaration_at : ℕ → Reader DeclarationTree
 declaration_at left =
     either_at (has_word keyword.Process) (as_at ProcessDeclared (process_at left))
     (either_at (has_word keyword.Input) (as_at ChannelTree (channel_at Input))
-    (either_at (has_word keyword.Output) (as_at ChannelTree (channel_at Output)) (as_at ChannelTree (channel_at Inner))))
+    (either_at (has_word keyword.Output) (as_at ChannelTree (channel_at Output))
+    (as_at ChannelTree (channel_at Inner))))
 
 abbrev pub starts_declaration : TokenKind → Bool
-starts_declaration k = has_word keyword.Process k || (has_word keyword.Input k || (has_word keyword.Output k || has_word keyword.Chan k))
+starts_declaration k =
+    has_word keyword.Process k || (has_word keyword.Input k || (has_word keyword.Output k || has_word keyword.Chan k))
 
 unfoldable pub declarations_at : ℕ → Reader (List DeclarationTree)
 declarations_at left = each_at starts_declaration (declaration_at left)
@@ -421,7 +467,8 @@ unfoldable pub edition_number_at : ℕ → Reader (Unit {0})
 edition_number_at edition ts = number_at ts >>= λ number. if_edition edition number.0 number.1
 
 unfoldable pub edition_at : ℕ → Reader (Unit {0})
-edition_at edition = as_at (λ x. tt) (pair_at (word_at keyword.Kahn) (pair_at (edition_number_at edition) (symbol_at symbol.Semicolon)))
+edition_at edition =
+    as_at (λ x. tt) (pair_at (word_at keyword.Kahn) (pair_at (edition_number_at edition) (symbol_at symbol.Semicolon)))
 
 unfoldable pub text_at : ℕ → Reader (List DeclarationTree)
 text_at left = as_at (λ x. x.1) (pair_at (edition_at 1) (declarations_at left))

@@ -1,5 +1,6 @@
 -- How tokens are spelled.
-use Rattle.std.specs.Prelude.{◌≡◌, ◌≢◌, ◌⊎◌, ℕ, ◌<◌, ◌≤◌, Bool, true, false, ◌&&◌, ◌||◌, ◌==◌, List, [], ◌∷◌, length, take, IsTrue, codes, nat_lt, ◌^◌}
+use Rattle.std.specs.Prelude.{◌≡◌, ◌≢◌, ◌⊎◌, ℕ, ◌<◌, ◌≤◌, Bool, true, false, ◌&&◌, ◌||◌, ◌==◌, List, [], ◌∷◌, length}
+use Rattle.std.specs.Prelude.{take, IsTrue, codes, nat_lt, ◌^◌}
 use Rattle.std.specs.List.{list_all}
 use Rattle.std.specs.Char.{is_ascii_alphabetic, is_ascii_digit}
 use Rattle.net_text.specs.Numbers.{is_numeral, numeral_value, IsInRange}
@@ -83,7 +84,8 @@ is_kept (kind.Symbol s) = true
 
 -- These bytes are a token of this kind. A name has at most 64 bytes, a number fits the signed 64 bits.
 abbrev pub Spells : TokenKind → List ℕ → Type 0
-Spells kind.Name bytes = IsTrue (is_word bytes) × ((w : Keyword) → bytes ≢ keyword_spelling w) × (length bytes ≤ MAX_NAME_BYTES)
+Spells kind.Name bytes =
+    IsTrue (is_word bytes) × ((w : Keyword) → bytes ≢ keyword_spelling w) × (length bytes ≤ MAX_NAME_BYTES)
 Spells (kind.Number n) bytes = IsTrue (is_numeral bytes) × (n ≡ numeral_value bytes) × IsInRange n
 Spells (kind.Word w) bytes = bytes ≡ keyword_spelling w
 Spells (kind.Symbol s) bytes = bytes ≡ symbol_spelling s

@@ -17,7 +17,8 @@ abbrev pub IsRefusedBy : {X : Type 0} → TextFault → Result X TextFault → T
 IsRefusedBy fault (Ok x) = fault ≡ NoMemory
 IsRefusedBy fault (Err other) = (fault ≡ NoMemory) ⊎ ((other ≡ NoMemory) ⊎ (other ≡ fault))
 
--- These are the tokens of a text up to a place, and with them some text within the limits begins. It may want a block that is one too many.
+-- These are the tokens of a text up to a place, and with them some text within the limits begins. It may want a block
+-- that is one too many.
 pub record BeginsTo (text : List ℕ) (ts : List Lexeme) (place : ℕ) : Type 0 where
   pub read : AreTokensTo text 0 ts place
   pub begins : Begins 1 MAX_NESTING ts
@@ -49,17 +50,21 @@ pub record IsCutShort (text : List ℕ) (ts : List Lexeme) (place line : ℕ) : 
 
 -- some text within the limits begins with the tokens up to a place, where this comes next
 abbrev pub BeginsBefore : List ℕ → (List Lexeme → ℕ → Type 0) → Type 0
-BeginsBefore text Comes = (length text ≤ MAX_TEXT_BYTES) × ((ts : List Lexeme) × (place : ℕ) × BeginsTo text ts place × Comes ts place)
+BeginsBefore text Comes =
+    (length text ≤ MAX_TEXT_BYTES) × ((ts : List Lexeme) × (place : ℕ) × BeginsTo text ts place × Comes ts place)
 
 abbrev pub IsBadNext : List ℕ → TextFault → Type 0
 IsBadNext text fault = BeginsBefore text (λ ts place. IsBadFrom text place fault)
 
--- Why a text isn't read: the first token at which no text can go on is bad, or opens one more than may be open, or stands where it can't; or the text is over-long.
+-- Why a text isn't read: the first token at which no text can go on is bad, or opens one more than may be open, or
+-- stands where it can't; or the text is over-long.
 abbrev pub IsParseFault : List ℕ → TextFault → Type 0
 IsParseFault text (BadToken line) = IsBadNext text (BadToken line)
 IsParseFault text (NumberRange line) = IsBadNext text (NumberRange line)
 IsParseFault text (TooLong line) =
-    ((MAX_TEXT_BYTES < length text) × (line ≡ 1)) ⊎ (IsBadNext text (TooLong line) ⊎ BeginsBefore text (λ ts place. IsOneTooDeep text ts place line))
+    ((MAX_TEXT_BYTES < length text) × (line ≡ 1))
+    ⊎ (IsBadNext text (TooLong line) ⊎ BeginsBefore text (λ ts place. IsOneTooDeep text ts place line))
 IsParseFault text (Unexpected line) =
-    ((tree : List DeclarationTree) → IsTextOf tree text → ⊥) × BeginsBefore text (λ ts place. IsStrayToken text ts place line ⊎ IsCutShort text ts place line)
+    ((tree : List DeclarationTree) → IsTextOf tree text → ⊥)
+    × BeginsBefore text (λ ts place. IsStrayToken text ts place line ⊎ IsCutShort text ts place line)
 IsParseFault text NoMemory = Unit {0}

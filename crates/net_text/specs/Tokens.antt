@@ -1,5 +1,7 @@
--- The tokens of a text: between them stand white space and comments, and each is the longest that can stand at its place.
-use Rattle.std.specs.Prelude.{◌≡◌, ◌⊎◌, ℕ, suc, ◌+◌, ◌^◌, ◌<◌, ◌≤◌, Bool, true, false, ◌||◌, ◌==◌, if◌then◌else◌, List, [], ◌∷◌, length, take, drop, count_by, IsTrue, map}
+-- The tokens of a text: between them stand white space and comments, and each is the longest that can stand at its
+-- place.
+use Rattle.std.specs.Prelude.{◌≡◌, ◌⊎◌, ℕ, suc, ◌+◌, ◌^◌, ◌<◌, ◌≤◌, Bool, true, false, ◌||◌, ◌==◌, if◌then◌else◌, List}
+use Rattle.std.specs.Prelude.{[], ◌∷◌, length, take, drop, count_by, IsTrue, map}
 use Rattle.net_text.specs.Numbers.{is_numeral, numeral_value}
 use Rattle.net_text.specs.Spellings.{IsLexeme, IsLongest, Spells, is_word}
 use Rattle.net_text.specs.declared.fault.TextFault.{TextFault}
@@ -22,7 +24,8 @@ is_white b = (b == 32) || ((b == 9) || ((b == 13) || (b == 10)))
 abbrev pub after_gap_in : Bool → List ℕ → List ℕ
 after_gap_in in_comment [] = []
 after_gap_in true (b ∷ bs) = if b == 10 then after_gap_in false bs else after_gap_in true bs
-after_gap_in false (b ∷ bs) = if b == 35 then after_gap_in true bs else (if is_white b then after_gap_in false bs else b ∷ bs)
+after_gap_in false (b ∷ bs) =
+    if b == 35 then after_gap_in true bs else (if is_white b then after_gap_in false bs else b ∷ bs)
 
 -- what is left after white space and comments; a comment goes from a # to the end of its line
 abbrev pub after_gap : List ℕ → List ℕ
@@ -73,11 +76,17 @@ pub record AreTokens (text : List ℕ) (ts : List Lexeme) : Type 0 where
 -- at this place, where a token should begin, stands none
 abbrev pub IsBadAt : List ℕ → ℕ → TextFault → Type 0
 -- no front is a token
-IsBadAt text start (BadToken line) = (line ≡ line_at text start) × ((n : ℕ) → n ≤ length (drop start text) → IsLexeme (take n (drop start text)) → ⊥)
+IsBadAt text start (BadToken line) =
+    (line ≡ line_at text start) × ((n : ℕ) → n ≤ length (drop start text) → IsLexeme (take n (drop start text)) → ⊥)
 -- a numeral past the range of the signed 64 bits
-IsBadAt text start (NumberRange line) = (line ≡ line_at text start) × ((front : List ℕ) × IsLongest front (drop start text) × IsTrue (is_numeral front) × (2 ^ 63 ≤ numeral_value front))
+IsBadAt text start (NumberRange line) =
+    (line ≡ line_at text start)
+    × ((front : List ℕ) × IsLongest front (drop start text) × IsTrue (is_numeral front)
+    × (2 ^ 63 ≤ numeral_value front))
 -- a name of more than 64 bytes
-IsBadAt text start (TooLong line) = (line ≡ line_at text start) × ((front : List ℕ) × IsLongest front (drop start text) × IsTrue (is_word front) × (MAX_NAME_BYTES < length front))
+IsBadAt text start (TooLong line) =
+    (line ≡ line_at text start)
+    × ((front : List ℕ) × IsLongest front (drop start text) × IsTrue (is_word front) × (MAX_NAME_BYTES < length front))
 IsBadAt text start NoMemory = ⊥
 IsBadAt text start (Unexpected line) = ⊥
 
@@ -108,7 +117,8 @@ pub record AreTokensBefore (text : List ℕ) (ts : List Lexeme) (fault : TextFau
 abbrev pub IsFirstFault : List ℕ → TextFault → Type 0
 IsFirstFault text fault = (length text ≤ MAX_TEXT_BYTES) × ((ts : List Lexeme) × AreTokensBefore text ts fault)
 
--- Why a text has no tokens: it is over-long, or these are its tokens before the first that is bad. Of want of memory the text says nothing.
+-- Why a text has no tokens: it is over-long, or these are its tokens before the first that is bad. Of want of memory
+-- the text says nothing.
 abbrev pub IsTokensFault : List ℕ → TextFault → Type 0
 IsTokensFault text NoMemory = Unit {0}
 IsTokensFault text (BadToken line) = IsFirstFault text (BadToken line)

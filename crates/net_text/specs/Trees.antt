@@ -1,10 +1,13 @@
--- The tree of a network's text without the pointers of its boxes and vectors: two texts that read alike, line by line, are equal here.
+-- The tree of a network's text without the pointers of its boxes and vectors: two texts that read alike, line by line,
+-- are equal here.
 use Rattle.std.specs.Prelude.{ℕ, ℤ, List, [], ◌∷◌, map, Option, Some, None}
 use Rattle.net_text.specs.Names.{NameTree}
 use Rattle.kahn_net.specs.declared.program.Operator.{Operator}
-use Rattle.net_text.specs.declared.tree.ExprText.{ExprText, Literal, Variable, Negate', Chain', Row_of-LinkText, end_of-LinkText, more_of-LinkText}
+use Rattle.net_text.specs.declared.tree.ExprText.{ExprText, Literal, Variable, Negate', Chain', Row_of-LinkText}
+use Rattle.net_text.specs.declared.tree.ExprText.{end_of-LinkText, more_of-LinkText}
 use Rattle.net_text.specs.declared.tree.LinkText.{LinkText}
-use Rattle.net_text.specs.declared.tree.StatementText.{StatementText, Get, Assign, Put, Stop, If', Row_of-StatementText, end_of-StatementText, more_of-StatementText}
+use Rattle.net_text.specs.declared.tree.StatementText.{StatementText, Get, Assign, Put, Stop, If', Row_of-StatementText}
+use Rattle.net_text.specs.declared.tree.StatementText.{end_of-StatementText, more_of-StatementText}
 use Rattle.net_text.specs.declared.tree.ChannelText.{ChannelText}
 use Rattle.net_text.specs.declared.tree.VariableText.{VariableText}
 use Rattle.net_text.specs.declared.tree.NodeText.{NodeText}
@@ -83,7 +86,8 @@ abbrev mutual
   then_tree (Assign variable value) rest = AssignTree variable (expr_tree value) rest
   then_tree (Put value channel) rest = PutTree (expr_tree value) channel rest
   then_tree Stop rest = StopTree rest
-  then_tree (If' test shape first shape' second) rest = IfTree (expr_tree test) (row_block first) (row_block second) rest
+  then_tree (If' test shape first shape' second) rest =
+      IfTree (expr_tree test) (row_block first) (row_block second) rest
 
   pub row_block : {m : _} → Row_of-StatementText m → BlockTree
   row_block end_of-StatementText = NothingTree
@@ -101,7 +105,16 @@ repeated_tree None = None
 repeated_tree (Some l) = Some (loop_tree l)
 
 abbrev pub process_tree : ProcessText → ProcessTree
-process_tree p = record { name = p.name; node = p.node; variables = p.variables.items; prelude = block_tree p.prelude.items; repeated = repeated_tree p.repeated; line = p.line }
+process_tree p =
+    record {
+      name = p.name;
+      node = p.node;
+      variables = p.variables.items;
+      prelude =
+          block_tree p.prelude.items;
+      repeated = repeated_tree p.repeated;
+      line = p.line;
+    }
 
 abbrev pub declaration_tree : Declaration → DeclarationTree
 declaration_tree (Channel c) = ChannelTree c

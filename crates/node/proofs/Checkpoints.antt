@@ -1,5 +1,6 @@
 -- From a put that a store did, or refused, to what came of the event.
-use Rattle.std.proofs.Common.{◌≡◌, ◌⊎◌, inl, inr, ⊎_elim, ℕ, ◌<◌, ◌≤◌, Bool, true, false, List, length, Option, Some, None, Result, Ok, Err, refl, sym, ◌∙◌, ap, subst}
+use Rattle.std.proofs.Common.{◌≡◌, ◌⊎◌, inl, inr, ⊎_elim, ℕ, ◌<◌, ◌≤◌, Bool, true, false, List, length, Option, Some}
+use Rattle.std.proofs.Common.{None, Result, Ok, Err, refl, sym, ◌∙◌, ap, subst}
 use Rattle.std.specs.Prelude.{IsTrue, IsErrOf, OnOk, OnErr, IfOk, IfErr, IsSome}
 use Rattle.sector_disk.specs.Clock.{Only}
 use Rattle.gate_cell.specs.declared.cell.StableCell.{Ghosts as CellWords}
@@ -20,16 +21,21 @@ use Rattle.node.specs.StoredView.{HasRecord, LeavesDevice, LeavesNext, IsCrashed
 use Rattle.node.specs.declared.state.NodeState.{NodeState}
 use Rattle.protocol.specs.declared.outcome.Outcome.{Outcome}
 use Rattle.node.specs.Putting.{IsPutEvent}
-use Rattle.node.proofs.Records.{settled_ready, one_of_both, then_crashed, change_fits, change_refusals, change_moments, change_done, change_refused}
+use Rattle.node.proofs.Records.{settled_ready, one_of_both, then_crashed, change_fits, change_refusals, change_moments}
+use Rattle.node.proofs.Records.{change_done, change_refused}
 
 -- What an event that puts this record comes to.
-pub record Ends {C : Type 0} {words : CellWords C} (next : RecordView) (restart : ℕ) (old new : Store C words) (before after : NodeState) (put : Result (Unit {0}) StoreFault) : Type 0 where
+pub record Ends {C : Type 0} {words : CellWords C} (next : RecordView) (restart : ℕ) (old new : Store C words)
+    (before after : NodeState) (put : Result (Unit {0}) StoreFault) : Type 0 where
   pub moments : LeavesNext next old new
   pub refusals : IfErr put IsOfPut
   pub settled : Only (Some (words.value (cell_in new))) (words.may_leave (cell_in new))
   pub stored : OnOk put ((record_in new ≡ next) × IsSome (known_in new) × (after ≡ before))
-  pub refused : OnErr put (has_failed put ≡ false → (record_in new ≡ record_in old) × IsSome (known_in new) × (after ≡ before))
-  pub failed : IsTrue (has_failed put) → ((record_in new ≡ record_in old) ⊎ (record_in new ≡ next)) × ((kept : RecordView) → node_view kept after ≡ crashed restart (node_view kept before))
+  pub refused : OnErr put
+      (has_failed put ≡ false → (record_in new ≡ record_in old) × IsSome (known_in new) × (after ≡ before))
+  pub failed : IsTrue (has_failed put)
+      → ((record_in new ≡ record_in old) ⊎ (record_in new ≡ next))
+      × ((kept : RecordView) → node_view kept after ≡ crashed restart (node_view kept before))
   pub fits : IsLengthTold (fits_in (words.capacity (cell_in old)) next) put
   pub failures : HasFailures (words.failure_count (cell_in old)) (words.failure_count (cell_in new)) put
   pub same_setup : LeavesDevice old new
@@ -42,13 +48,18 @@ not_device : (put : Result (Unit {0}) StoreFault) → has_failed put ≡ false �
 not_device put test e = let both : has_failed (Err fault.Device) ≡ false = ap has_failed (sym e) ∙ test in cc
 
 module _ {C : Type 0} (words : CellWords C)
-    (includes_now : (cell : C) (t : ℕ) (left : Option (List ℕ)) → t ≤ words.moment cell → words.may_leave cell left → words.left_since cell t left)
+    (includes_now : (cell : C) (t : ℕ) (left : Option (List ℕ)) → t ≤ words.moment cell → words.may_leave cell left
+    → words.left_since cell t left)
     (may_stay : (cell : C) → words.may_leave cell (Some (words.value cell)))
     (ready_settled : (cell : C) → IsTrue (words.is_ready cell) → Only (Some (words.value cell)) (words.may_leave cell))
-    (cause : RecordView → Option StoreFault) (change : RecordView → RecordView) (old mid new : Store C words) (put : Result (Unit {0}) StoreFault) (some : IsSome (known_in old)) (fine : cause (record_in old) ≡ None)
-    (changes : Changes cause change old mid put) (only : Only (Some (words.value (cell_in old))) (words.may_leave (cell_in old))) (restart : ℕ) (before after : NodeState) where
+    (cause : RecordView → Option StoreFault) (change : RecordView → RecordView) (old mid new : Store C words)
+    (put : Result (Unit {0}) StoreFault) (some : IsSome (known_in old)) (fine : cause (record_in old) ≡ None)
+    (changes : Changes cause change old mid put)
+    (only : Only (Some (words.value (cell_in old))) (words.may_leave (cell_in old))) (restart : ℕ)
+    (before after : NodeState) where
   pub ended : (has_failed put ≡ false → (new ≡ mid) × (after ≡ before))
-      → (IsTrue (has_failed put) → IsCrashed mid new × ((kept : RecordView) → node_view kept after ≡ crashed restart (node_view kept before)))
+      → (IsTrue (has_failed put)
+      → IsCrashed mid new × ((kept : RecordView) → node_view kept after ≡ crashed restart (node_view kept before)))
       → Ends (change (record_in old)) restart old new before after put
   ended stays crash = record {
     moments = moments;
@@ -56,39 +67,69 @@ module _ {C : Type 0} (words : CellWords C)
     settled = settled;
     stored = stored put refl;
     refused = refused put refl;
-    failed = λ test. (one_of_both words includes_now may_stay ready_settled (change (record_in old)) old new only moments, (crash test).1);
+    failed =
+        λ test. (
+          one_of_both words includes_now may_stay ready_settled (change (record_in old)) old new only moments,
+          (crash test).1,
+        );
     fits = change_fits words includes_now may_stay ready_settled cause change old mid put some fine changes;
-    failures = subst (λ (n : ℕ). HasFailures (words.failure_count (cell_in old)) n put) (sym (after_crash (λ (s : Store C words). words.failure_count (cell_in s)) (λ test. (crash test).0.failures))) changes.failures;
-    same_setup = by_test (has_failed put) (λ test. subst (λ (s : Store C words). LeavesDevice old s) (sym (stays test).0) changes.same_setup)
-        (λ test. setup_then words.capacity words.armed words.call_count (cell_in old) (cell_in mid) (cell_in new) changes.same_setup (crash test).0.same_setup);
+    failures =
+        subst (λ (n : ℕ). HasFailures (words.failure_count (cell_in old)) n put)
+        (sym (after_crash (λ (s : Store C words). words.failure_count (cell_in s)) (λ test. (crash test).0.failures)))
+        changes.failures;
+    same_setup =
+        by_test (has_failed put)
+        (λ test. subst (λ (s : Store C words). LeavesDevice old s) (sym (stays test).0) changes.same_setup)
+        (λ test. setup_then words.capacity words.armed words.call_count (cell_in old) (cell_in mid) (cell_in new)
+        changes.same_setup (crash test).0.same_setup);
   }
     where
       -- what a crash leaves alone is as after the put
-      after_crash : {A : Type 0} (of : Store C words → A) → (IsTrue (has_failed put) → of new ≡ of mid) → of new ≡ of mid
+      after_crash : {A : Type 0} (of : Store C words → A) → (IsTrue (has_failed put) → of new ≡ of mid)
+          → of new ≡ of mid
       after_crash of down = by_test (has_failed put) (λ test. ap of (stays test).0) down
 
       run : LeavesNext (change (record_in old)) old mid
       run = change_moments words includes_now may_stay ready_settled cause change old mid put some fine changes
 
       moments : LeavesNext (change (record_in old)) old new
-      moments = by_test (has_failed put) (λ test. subst (λ (s : Store C words). LeavesNext (change (record_in old)) old s) (sym (stays test).0) run)
-          (λ test. then_crashed words includes_now may_stay ready_settled (change (record_in old)) old mid new run (crash test).0.any_moment)
+      moments =
+          by_test (has_failed put)
+          (λ test. subst (λ (s : Store C words). LeavesNext (change (record_in old)) old s) (sym (stays test).0) run)
+          (λ test. then_crashed words includes_now may_stay ready_settled (change (record_in old)) old mid new run
+          (crash test).0.any_moment)
 
-      stored : (p : Result (Unit {0}) StoreFault) → put ≡ p → OnOk p ((record_in new ≡ change (record_in old)) × IsSome (known_in new) × (after ≡ before))
+      stored : (p : Result (Unit {0}) StoreFault) → put ≡ p
+          → OnOk p ((record_in new ≡ change (record_in old)) × IsSome (known_in new) × (after ≡ before))
       stored (Ok x) is =
-          let done = subst (λ (p : Result (Unit {0}) StoreFault). OnOk p ((record_in mid ≡ change (record_in old)) × IsSome (known_in mid))) is
+          let done =
+          subst (λ (p : Result (Unit {0}) StoreFault). OnOk p
+          ((record_in mid ≡ change (record_in old)) × IsSome (known_in mid))) is
           (change_done words includes_now may_stay ready_settled cause change old mid put some fine changes) in
-          let same = stays (ap has_failed is) in
-          (subst (λ (s : Store C words). record_in s ≡ change (record_in old)) (sym same.0) done.0, subst (λ (s : Store C words). IsSome (known_in s)) (sym same.0) done.1, same.1)
+          let same = stays (ap has_failed is) in (
+            subst (λ (s : Store C words). record_in s ≡ change (record_in old)) (sym same.0) done.0,
+            subst
+                (λ (s : Store C words). IsSome (known_in s)) (sym same.0) done.1,
+            same.1,
+          )
       stored (Err e) is = tt
 
-      refused : (p : Result (Unit {0}) StoreFault) → put ≡ p → OnErr p (has_failed p ≡ false → (record_in new ≡ record_in old) × IsSome (known_in new) × (after ≡ before))
+      refused : (p : Result (Unit {0}) StoreFault) → put ≡ p
+          → OnErr p (has_failed p ≡ false → (record_in new ≡ record_in old) × IsSome (known_in new) × (after ≡ before))
       refused (Ok x) is = tt
       refused (Err e) is = λ test. (
           let same = stays (ap has_failed is ∙ test) in
-          let kept = subst (λ (p : Result (Unit {0}) StoreFault). OnErr p (¬ (IsErrOf p fault.Device) → (record_in mid ≡ record_in old) × IsSome (known_in mid) × (cell_in mid ≡ cell_in old))) is
-          (change_refused words includes_now may_stay ready_settled cause change old mid put some fine changes) (not_device (Err e) test) in
-          (subst (λ (s : Store C words). record_in s ≡ record_in old) (sym same.0) kept.0, subst (λ (s : Store C words). IsSome (known_in s)) (sym same.0) kept.1, same.1))
+          let kept =
+          subst (λ (p : Result (Unit {0}) StoreFault). OnErr p
+          (¬ (IsErrOf p fault.Device)
+          → (record_in mid ≡ record_in old) × IsSome (known_in mid) × (cell_in mid ≡ cell_in old))) is
+          (change_refused words includes_now may_stay ready_settled cause change old mid put some fine changes)
+          (not_device (Err e) test) in (
+            subst (λ (s : Store C words). record_in s ≡ record_in old) (sym same.0) kept.0,
+            subst
+                (λ (s : Store C words). IsSome (known_in s)) (sym same.0) kept.1,
+            same.1,
+          ))
 
       ready : has_failed put ≡ false → IsSome (known_in new)
       ready test = at put refl
@@ -98,24 +139,29 @@ module _ {C : Type 0} (words : CellWords C)
           at (Err e) is = (refused (Err e) is (ap has_failed (sym is) ∙ test)).1
 
       settled : Only (Some (words.value (cell_in new))) (words.may_leave (cell_in new))
-      settled = by_test (has_failed put) (λ test. settled_ready words includes_now may_stay ready_settled new (ready test)) (λ test. (crash test).0.settled)
+      settled =
+          by_test (has_failed put) (λ test. settled_ready words includes_now may_stay ready_settled new (ready test))
+          (λ test. (crash test).0.settled)
 
 -- ---- what came of an event
 
-pub is_answered : (result : Option Outcome) {E : Type 0} (answer : Result Outcome E) → IsAnswer result answer → (P : Outcome → Type 0) → ((x : Outcome) → result ≡ Some x → P x) → IfOk answer P
+pub is_answered : (result : Option Outcome) {E : Type 0} (answer : Result Outcome E) → IsAnswer result answer
+    → (P : Outcome → Type 0) → ((x : Outcome) → result ≡ Some x → P x) → IfOk answer P
 is_answered None (Ok y) is P so = absurd is
 is_answered None (Err e) is P so = tt
 is_answered (Some x) (Ok y) is P so = subst P (sym is) (so x refl)
 is_answered (Some x) (Err e) is P so = absurd is
 
-is_refused : (result : Option Outcome) {E : Type 0} (answer : Result Outcome E) → IsAnswer result answer → (P : Type 0) → (result ≡ None → P) → OnErr answer P
+is_refused : (result : Option Outcome) {E : Type 0} (answer : Result Outcome E) → IsAnswer result answer → (P : Type 0)
+    → (result ≡ None → P) → OnErr answer P
 is_refused None (Ok y) is P so = absurd is
 is_refused None (Err e) is P so = so refl
 is_refused (Some x) (Ok y) is P so = tt
 is_refused (Some x) (Err e) is P so = absurd is
 
 -- by the kinds of a put's result: done, without memory, too large, or the device failed
-by_kind : (P : Result (Unit {0}) StoreFault → Type 0) → P (Ok tt) → P (Err fault.NoMemory) → P (Err fault.TooLarge) → P (Err fault.Device) → (put : Result (Unit {0}) StoreFault) → IfErr put IsOfPut → P put
+by_kind : (P : Result (Unit {0}) StoreFault → Type 0) → P (Ok tt) → P (Err fault.NoMemory) → P (Err fault.TooLarge)
+    → P (Err fault.Device) → (put : Result (Unit {0}) StoreFault) → IfErr put IsOfPut → P put
 by_kind P done memory large device (Ok x) is = done
 by_kind P done memory large device (Err fault.NoMemory) is = memory
 by_kind P done memory large device (Err fault.Device) is = device
@@ -130,105 +176,158 @@ by_kind P done memory large device (Err fault.NotHeld) is = absurd is
 by_kind P done memory large device (Err fault.Unsettled) is = absurd is
 by_kind P done memory large device (Err fault.Spent) is = absurd is
 
-module _ {C : Type 0} {words : CellWords C} (next : RecordView) (restart : ℕ) (old new : Store C words) (before after : NodeState) (put : Result (Unit {0}) StoreFault) (ends : Ends next restart old new before after put) where
-  abbrev was : NodeView
-  was = node_view (record_in old) before
+module _ {C : Type 0} {words : CellWords C} (next : RecordView) (restart : ℕ) (old new : Store C words)
+    (before after : NodeState) (put : Result (Unit {0}) StoreFault) (ends : Ends next restart old new before after put)
+  where
+    abbrev was : NodeView
+    was = node_view (record_in old) before
 
-  abbrev now : NodeView
-  now = node_view (record_in new) after
+    abbrev now : NodeView
+    now = node_view (record_in new) after
 
-  same_view : record_in new ≡ record_in old → after ≡ before → now ≡ was
-  same_view kept state = ap (λ (r : RecordView). node_view r after) kept ∙ ap (node_view (record_in old)) state
+    same_view : record_in new ≡ record_in old → after ≡ before → now ≡ was
+    same_view kept state = ap (λ (r : RecordView). node_view r after) kept ∙ ap (node_view (record_in old)) state
 
-  some_is : {x y : Outcome} → Some x ≡ Some y → x ≡ y
-  some_is is = cc
+    some_is : {x y : Outcome} → Some x ≡ Some y → x ≡ y
+    some_is is = cc
 
-  -- how it comes out, where the record may grow, or fits as the one before did
-  ends_step : (grows : Bool) → (grows ≡ false → fits_in (words.capacity (cell_in old)) next ≡ true) → (x : Outcome) → put_outcome put ≡ Some x → IsMade restart (putting grows (with_kept next was)) was x now
-  ends_step grows short =
-      by_kind (λ p. IsLengthTold (fits_in (words.capacity (cell_in old)) next) p → OnOk p ((record_in new ≡ next) × IsSome (known_in new) × (after ≡ before)) → OnErr p (has_failed p ≡ false → (record_in new ≡ record_in old) × IsSome (known_in new) × (after ≡ before))
-      → (IsTrue (has_failed p) → ((record_in new ≡ record_in old) ⊎ (record_in new ≡ next)) × ((kept : RecordView) → node_view kept after ≡ crashed restart (node_view kept before)))
-      → (x : Outcome) → put_outcome p ≡ Some x → IsMade restart (putting grows (with_kept next was)) was x now)
-      (λ fits stored refused failed x is.
-      subst (λ (y : Outcome). IsMade restart (putting grows (with_kept next was)) was y now) (some_is is) (ap (λ (r : RecordView). node_view r after) stored.0 ∙ ap (node_view next) stored.2))
-      (λ fits stored refused failed x is. absurd (cc))
-      (λ fits stored refused failed x is.
-      let same = refused refl in
-      subst (λ (y : Outcome). IsMade restart (putting grows (with_kept next was)) was y now) (some_is is) (it_grows fits, same_view same.0 same.2))
-      (λ fits stored refused failed x is.
-      let down = failed refl in
-      subst (λ (y : Outcome). IsMade restart (putting grows (with_kept next was)) was y now) (some_is is)
-      (refl, ⊎_elim (λ kept. inl (ap (λ (r : RecordView). node_view r after) kept ∙ down.1 (record_in old))) (λ kept. inr (ap (λ (r : RecordView). node_view r after) kept ∙ down.1 next)) down.0))
-      put ends.refusals ends.fits ends.stored ends.refused ends.failed
-    where
-      it_grows : fits_in (words.capacity (cell_in old)) next ≡ false → grows ≡ true
-      it_grows large = by_test grows (λ no. (let some : fits_in (words.capacity (cell_in old)) next ≡ true = short no in absurd (cc))) (λ is. is)
+    -- how it comes out, where the record may grow, or fits as the one before did
+    ends_step : (grows : Bool) → (grows ≡ false → fits_in (words.capacity (cell_in old)) next ≡ true) → (x : Outcome)
+        → put_outcome put ≡ Some x → IsMade restart (putting grows (with_kept next was)) was x now
+    ends_step grows short =
+        by_kind (λ p. IsLengthTold (fits_in (words.capacity (cell_in old)) next) p
+        → OnOk p ((record_in new ≡ next) × IsSome (known_in new) × (after ≡ before))
+        → OnErr p (has_failed p ≡ false → (record_in new ≡ record_in old) × IsSome (known_in new) × (after ≡ before))
+        → (IsTrue (has_failed p)
+        → ((record_in new ≡ record_in old) ⊎ (record_in new ≡ next))
+        × ((kept : RecordView) → node_view kept after ≡ crashed restart (node_view kept before)))
+        → (x : Outcome) → put_outcome p ≡ Some x → IsMade restart (putting grows (with_kept next was)) was x now)
+        (λ fits stored refused failed x is.
+        subst (λ (y : Outcome). IsMade restart (putting grows (with_kept next was)) was y now) (some_is is)
+        (ap (λ (r : RecordView). node_view r after) stored.0 ∙ ap (node_view next) stored.2))
+        (λ fits stored refused failed x is. absurd (cc))
+        (λ fits stored refused failed x is.
+        let same = refused refl in
+        subst (λ (y : Outcome). IsMade restart (putting grows (with_kept next was)) was y now) (some_is is)
+        (it_grows fits, same_view same.0 same.2))
+        (λ fits stored refused failed x is.
+        let down = failed refl in
+        subst (λ (y : Outcome). IsMade restart (putting grows (with_kept next was)) was y now) (some_is is) (
+          refl,
+          ⊎_elim (λ kept. inl (ap (λ (r : RecordView). node_view r after) kept ∙ down.1 (record_in old)))
+              (λ kept. inr (ap (λ (r : RecordView). node_view r after) kept ∙ down.1 next)) down.0,
+        ))
+        put ends.refusals ends.fits ends.stored ends.refused ends.failed
+      where
+        it_grows : fits_in (words.capacity (cell_in old)) next ≡ false → grows ≡ true
+        it_grows large =
+            by_test grows
+            (λ no. (let some : fits_in (words.capacity (cell_in old)) next ≡ true = short no in absurd (cc))) (λ is. is)
 
-  -- what the cell has to do with it
-  ends_put : (x : Outcome) → put_outcome put ≡ Some x → IsPut (fits_in (words.capacity (cell_in old)) next) (words.failure_count (cell_in old)) (words.failure_count (cell_in new)) x
-  ends_put =
-      by_kind (λ p. IsLengthTold (fits_in (words.capacity (cell_in old)) next) p → HasFailures (words.failure_count (cell_in old)) (words.failure_count (cell_in new)) p
-      → (x : Outcome) → put_outcome p ≡ Some x → IsPut (fits_in (words.capacity (cell_in old)) next) (words.failure_count (cell_in old)) (words.failure_count (cell_in new)) x)
-      (λ fits failures x is.
-      subst (IsPut (fits_in (words.capacity (cell_in old)) next) (words.failure_count (cell_in old)) (words.failure_count (cell_in new))) (some_is is) (fits, failures.otherwise (λ e. cc)))
-      (λ fits failures x is. absurd (cc))
-      (λ fits failures x is.
-      subst (IsPut (fits_in (words.capacity (cell_in old)) next) (words.failure_count (cell_in old)) (words.failure_count (cell_in new))) (some_is is) (fits, failures.otherwise (λ e. cc)))
-      (λ fits failures x is.
-      subst (IsPut (fits_in (words.capacity (cell_in old)) next) (words.failure_count (cell_in old)) (words.failure_count (cell_in new))) (some_is is) (fits, failures.device refl))
-      put ends.refusals ends.fits ends.failures
+    -- what the cell has to do with it
+    ends_put : (x : Outcome) → put_outcome put ≡ Some x
+        → IsPut (fits_in (words.capacity (cell_in old)) next) (words.failure_count (cell_in old))
+        (words.failure_count (cell_in new)) x
+    ends_put =
+        by_kind (λ p. IsLengthTold (fits_in (words.capacity (cell_in old)) next) p
+        → HasFailures (words.failure_count (cell_in old)) (words.failure_count (cell_in new)) p
+        → (x : Outcome) → put_outcome p ≡ Some x
+        → IsPut (fits_in (words.capacity (cell_in old)) next) (words.failure_count (cell_in old))
+        (words.failure_count (cell_in new)) x)
+        (λ fits failures x is.
+        subst (IsPut (fits_in (words.capacity (cell_in old)) next) (words.failure_count (cell_in old))
+        (words.failure_count (cell_in new))) (some_is is) (fits, failures.otherwise (λ e. cc)))
+        (λ fits failures x is. absurd (cc))
+        (λ fits failures x is.
+        subst (IsPut (fits_in (words.capacity (cell_in old)) next) (words.failure_count (cell_in old))
+        (words.failure_count (cell_in new))) (some_is is) (fits, failures.otherwise (λ e. cc)))
+        (λ fits failures x is.
+        subst (IsPut (fits_in (words.capacity (cell_in old)) next) (words.failure_count (cell_in old))
+        (words.failure_count (cell_in new))) (some_is is) (fits, failures.device refl))
+        put ends.refusals ends.fits ends.failures
 
-  -- want of memory changed nothing
-  ends_refused : put_outcome put ≡ None → (now ≡ was) × (words.failure_count (cell_in new) ≡ words.failure_count (cell_in old))
-  ends_refused =
-      by_kind (λ p. OnErr p (has_failed p ≡ false → (record_in new ≡ record_in old) × IsSome (known_in new) × (after ≡ before))
-      → HasFailures (words.failure_count (cell_in old)) (words.failure_count (cell_in new)) p → put_outcome p ≡ None → (now ≡ was) × (words.failure_count (cell_in new) ≡ words.failure_count (cell_in old)))
-      (λ refused failures is. absurd (cc))
-      (λ refused failures is. (let same = refused refl in (same_view same.0 same.2, failures.otherwise (λ e. cc))))
-      (λ refused failures is. absurd (cc))
-      (λ refused failures is. absurd (cc))
-      put ends.refusals ends.refused ends.failures
+    -- want of memory changed nothing
+    ends_refused : put_outcome put ≡ None
+        → (now ≡ was) × (words.failure_count (cell_in new) ≡ words.failure_count (cell_in old))
+    ends_refused =
+        by_kind (λ p. OnErr p
+        (has_failed p ≡ false → (record_in new ≡ record_in old) × IsSome (known_in new) × (after ≡ before))
+        → HasFailures (words.failure_count (cell_in old)) (words.failure_count (cell_in new)) p → put_outcome p ≡ None
+        → (now ≡ was) × (words.failure_count (cell_in new) ≡ words.failure_count (cell_in old)))
+        (λ refused failures is. absurd (cc))
+        (λ refused failures is. (let same = refused refl in (same_view same.0 same.2, failures.otherwise (λ e. cc))))
+        (λ refused failures is. absurd (cc))
+        (λ refused failures is. absurd (cc))
+        put ends.refusals ends.refused ends.failures
 
-  -- so all of it
-  pub ends_event : (grows : Bool) → (grows ≡ false → fits_in (words.capacity (cell_in old)) next ≡ true) → (prospect : Prospect) (round : ℕ) {E : Type 0} (answer : Result Outcome E) → prospect ≡ putting grows (with_kept next was) → restart ≡ restart_after before.armed.items (words.failed_call (cell_in new)) round
-      → IsAnswer (put_outcome put) answer → IsPutEvent prospect round was now old new answer
-  ends_event grows short prospect round answer planned later is =
-      subst (λ (p : Prospect). IsPutEvent p round was now old new answer) (sym planned) (record {
-        step = is_answered (put_outcome put) answer is (λ outcome. IsMade (restart_after before.armed.items (words.failed_call (cell_in new)) round) (putting grows (with_kept next was)) was outcome now)
-            (subst (λ (n : ℕ). (x : Outcome) → put_outcome put ≡ Some x → IsMade n (putting grows (with_kept next was)) was x now) later (ends_step grows short));
-        refused = is_refused (put_outcome put) answer is (now ≡ was) (λ none. (ends_refused none).0);
-        refused_failures = is_refused (put_outcome put) answer is (words.failure_count (cell_in new) ≡ words.failure_count (cell_in old)) (λ none. (ends_refused none).1);
-        put = is_answered (put_outcome put) answer is (IsPut (fits_in (words.capacity (cell_in old)) next) (words.failure_count (cell_in old)) (words.failure_count (cell_in new))) ends_put;
-        any_moment = ends.moments;
-        same_setup = ends.same_setup;
-      })
+    -- so all of it
+    pub ends_event : (grows : Bool) → (grows ≡ false → fits_in (words.capacity (cell_in old)) next ≡ true)
+        → (prospect : Prospect) (round : ℕ) {E : Type 0} (answer : Result Outcome E)
+        → prospect ≡ putting grows (with_kept next was)
+        → restart ≡ restart_after before.armed.items (words.failed_call (cell_in new)) round
+        → IsAnswer (put_outcome put) answer → IsPutEvent prospect round was now old new answer
+    ends_event grows short prospect round answer planned later is =
+        subst (λ (p : Prospect). IsPutEvent p round was now old new answer) (sym planned) (record {
+          step = is_answered (put_outcome put) answer is
+              (λ outcome. IsMade (restart_after before.armed.items (words.failed_call (cell_in new)) round)
+              (putting grows (with_kept next was)) was outcome now)
+              (subst (λ (n : ℕ). (x : Outcome) → put_outcome put ≡ Some x
+              → IsMade n (putting grows (with_kept next was)) was x now) later (ends_step grows short));
+          refused = is_refused (put_outcome put) answer is (now ≡ was) (λ none. (ends_refused none).0);
+          refused_failures =
+              is_refused (put_outcome put) answer is
+              (words.failure_count (cell_in new) ≡ words.failure_count (cell_in old)) (λ none. (ends_refused none).1);
+          put = is_answered (put_outcome put) answer is
+              (IsPut (fits_in (words.capacity (cell_in old)) next) (words.failure_count (cell_in old))
+              (words.failure_count (cell_in new))) ends_put;
+          any_moment = ends.moments;
+          same_setup = ends.same_setup;
+        })
 
-  -- the record, in any case
-  pub ends_either : (record_in new ≡ record_in old) ⊎ (record_in new ≡ next)
-  ends_either = at put refl
-    where
-      at : (p : Result (Unit {0}) StoreFault) → put ≡ p → (record_in new ≡ record_in old) ⊎ (record_in new ≡ next)
-      at (Ok x) is = inr (subst (λ (p : Result (Unit {0}) StoreFault). OnOk p ((record_in new ≡ next) × IsSome (known_in new) × (after ≡ before))) is ends.stored).0
-      at (Err e) is =
-          by_test (has_failed put)
-          (λ test. inl ((subst (λ (p : Result (Unit {0}) StoreFault). OnErr p (has_failed p ≡ false → (record_in new ≡ record_in old) × IsSome (known_in new) × (after ≡ before))) is ends.refused) (ap has_failed (sym is) ∙ test)).0)
-          (λ test. (ends.failed test).0)
+    -- the record, in any case
+    pub ends_either : (record_in new ≡ record_in old) ⊎ (record_in new ≡ next)
+    ends_either = at put refl
+      where
+        at : (p : Result (Unit {0}) StoreFault) → put ≡ p → (record_in new ≡ record_in old) ⊎ (record_in new ≡ next)
+        at (Ok x) is =
+            inr (subst
+            (λ (p : Result (Unit {0}) StoreFault). OnOk p
+            ((record_in new ≡ next) × IsSome (known_in new) × (after ≡ before))) is ends.stored).0
+        at (Err e) is =
+            by_test (has_failed put)
+            (λ test. inl
+            ((subst (λ (p : Result (Unit {0}) StoreFault). OnErr p
+            (has_failed p ≡ false → (record_in new ≡ record_in old) × IsSome (known_in new) × (after ≡ before))) is
+            ends.refused) (ap has_failed (sym is) ∙ test)).0)
+            (λ test. (ends.failed test).0)
 
-  is_up : is_down (mode_view after.mode) ≡ false → IsSome (known_in new)
-  is_up up = at put refl
-    where
-      at : (p : Result (Unit {0}) StoreFault) → put ≡ p → IsSome (known_in new)
-      at (Ok x) is = (subst (λ (p : Result (Unit {0}) StoreFault). OnOk p ((record_in new ≡ next) × IsSome (known_in new) × (after ≡ before))) is ends.stored).1
-      at (Err e) is =
-          by_test (has_failed put)
-          (λ test. ((subst (λ (p : Result (Unit {0}) StoreFault). OnErr p (has_failed p ≡ false → (record_in new ≡ record_in old) × IsSome (known_in new) × (after ≡ before))) is ends.refused) (ap has_failed (sym is) ∙ test)).1)
-          (λ test. (let down : is_down (mode_view after.mode) ≡ true = ap (λ (n : NodeView). is_down n.mode) ((ends.failed test).1 next) in absurd (cc)))
+    is_up : is_down (mode_view after.mode) ≡ false → IsSome (known_in new)
+    is_up up = at put refl
+      where
+        at : (p : Result (Unit {0}) StoreFault) → put ≡ p → IsSome (known_in new)
+        at (Ok x) is =
+            (subst (λ (p : Result (Unit {0}) StoreFault). OnOk p
+            ((record_in new ≡ next) × IsSome (known_in new) × (after ≡ before))) is ends.stored).1
+        at (Err e) is =
+            by_test (has_failed put)
+            (λ test. ((subst
+            (λ (p : Result (Unit {0}) StoreFault). OnErr p
+            (has_failed p ≡ false → (record_in new ≡ record_in old) × IsSome (known_in new) × (after ≡ before))) is
+            ends.refused) (ap has_failed (sym is) ∙ test)).1)
+            (λ test. (let down : is_down (mode_view after.mode) ≡ true =
+            ap (λ (n : NodeView). is_down n.mode) ((ends.failed test).1 next) in absurd (cc)))
 
-  -- what a node's type keeps
-  pub ends_kept : (number : ℕ) → HasRecord number (mode_view before.mode) old → length next.highest ≡ length (record_in old).highest → next.node ≡ (record_in old).node → HasRecord number (mode_view after.mode) new
-  ends_kept number has long node = record {
-    listed = ⊎_elim (λ same. subst (λ (r : RecordView). number < length r.highest) (sym same) has.listed) (λ same. subst (λ (r : RecordView). number < length r.highest) (sym same) (subst (λ (n : ℕ). number < n) (sym long) has.listed)) ends_either;
-    named = ⊎_elim (λ same. ap (λ (r : RecordView). r.node) same ∙ has.named) (λ same. ap (λ (r : RecordView). r.node) same ∙ (node ∙ has.named)) ends_either;
-    ready = is_up;
-    settled = ends.settled;
-  }
+    -- what a node's type keeps
+    pub ends_kept : (number : ℕ) → HasRecord number (mode_view before.mode) old
+        → length next.highest ≡ length (record_in old).highest → next.node ≡ (record_in old).node
+        → HasRecord number (mode_view after.mode) new
+    ends_kept number has long node = record {
+      listed =
+          ⊎_elim (λ same. subst (λ (r : RecordView). number < length r.highest) (sym same) has.listed)
+          (λ same. subst (λ (r : RecordView). number < length r.highest) (sym same)
+          (subst (λ (n : ℕ). number < n) (sym long) has.listed)) ends_either;
+      named = ⊎_elim (λ same. ap (λ (r : RecordView). r.node) same ∙ has.named)
+          (λ same. ap (λ (r : RecordView). r.node) same ∙ (node ∙ has.named)) ends_either;
+      ready = is_up;
+      settled = ends.settled;
+    }

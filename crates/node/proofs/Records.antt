@@ -1,5 +1,6 @@
 -- From what a store's calls say to the record that a node has.
-use Rattle.std.proofs.Common.{◌≡◌, ◌⊎◌, inl, inr, ⊎_elim, ℕ, ◌≤◌, List, Option, Some, None, Result, Ok, Err, refl, sym, ◌∙◌, ap, subst}
+use Rattle.std.proofs.Common.{◌≡◌, ◌⊎◌, inl, inr, ⊎_elim, ℕ, ◌≤◌, List, Option, Some, None, Result, Ok, Err, refl, sym}
+use Rattle.std.proofs.Common.{◌∙◌, ap, subst}
 use Rattle.std.specs.Prelude.{IsTrue, IsErrOf, OnOk, OnErr, IfErr, IsSome, option_map}
 use Rattle.std.specs.Option.{ForSome}
 use Rattle.sector_disk.specs.Clock.{Only}
@@ -31,51 +32,75 @@ module _ {C : Type 0} (words : CellWords C) where
       at (Some kept) is there = is ∙ ap (λ (r : RecordView). Some r) (sym (known_is words store kept is))
 
   -- a store that crashes keeps the record that it knows
-  pub crash_keeps : (old new : Store C words) → IsSome (known_in old) → ForSome (known_in old) (λ kept. Holds new kept) → record_in new ≡ record_in old
-  crash_keeps old new some same = spelled_is (record_in old) (words.value (cell_in new)) (same (record_in old) (some_known old some))
+  pub crash_keeps : (old new : Store C words) → IsSome (known_in old) → ForSome (known_in old) (λ kept. Holds new kept)
+      → record_in new ≡ record_in old
+  crash_keeps old new some same =
+      spelled_is (record_in old) (words.value (cell_in new)) (same (record_in old) (some_known old some))
 
-  module _ (includes_now : (cell : C) (t : ℕ) (left : Option (List ℕ)) → t ≤ words.moment cell → words.may_leave cell left → words.left_since cell t left)
+  module _ (includes_now : (cell : C) (t : ℕ) (left : Option (List ℕ)) → t ≤ words.moment cell
+      → words.may_leave cell left → words.left_since cell t left)
       (may_stay : (cell : C) → words.may_leave cell (Some (words.value cell)))
-      (ready_settled : (cell : C) → IsTrue (words.is_ready cell) → Only (Some (words.value cell)) (words.may_leave cell)) where
+      (ready_settled : (cell : C) → IsTrue (words.is_ready cell)
+      → Only (Some (words.value cell)) (words.may_leave cell)) where
     -- a ready store leaves its record alone
-    pub settled_ready : (store : Store C words) → IsSome (known_in store) → Only (Some (words.value (cell_in store))) (words.may_leave (cell_in store))
+    pub settled_ready : (store : Store C words) → IsSome (known_in store)
+        → Only (Some (words.value (cell_in store))) (words.may_leave (cell_in store))
     settled_ready store some = ready_settled (cell_in store) (store.kept.ready some)
 
     -- whatever a crash left meanwhile, the record is the old one or the next
-    pub one_of_both : (next : RecordView) (old new : Store C words) → Only (Some (words.value (cell_in old))) (words.may_leave (cell_in old)) → LeavesNext next old new
+    pub one_of_both : (next : RecordView) (old new : Store C words)
+        → Only (Some (words.value (cell_in old))) (words.may_leave (cell_in old)) → LeavesNext next old new
         → (record_in new ≡ record_in old) ⊎ (record_in new ≡ next)
     one_of_both next old new only run =
-        ⊎_elim (λ was. inl (ap record_left (only (Some (words.value (cell_in new))) was))) (λ is. inr (spelled_is next (words.value (cell_in new)) is))
-        (run.each (Some (words.value (cell_in new))) (includes_now (cell_in new) (words.moment (cell_in old)) (Some (words.value (cell_in new))) run.later (may_stay (cell_in new))))
+        ⊎_elim (λ was. inl (ap record_left (only (Some (words.value (cell_in new))) was)))
+        (λ is. inr (spelled_is next (words.value (cell_in new)) is))
+        (run.each (Some (words.value (cell_in new)))
+        (includes_now (cell_in new) (words.moment (cell_in old)) (Some (words.value (cell_in new))) run.later
+        (may_stay (cell_in new))))
 
     -- a crash behind it adds nothing
-    pub then_crashed : (next : RecordView) (old mid new : Store C words) → LeavesNext next old mid → LeavesAsBefore mid new → LeavesNext next old new
+    pub then_crashed : (next : RecordView) (old mid new : Store C words) → LeavesNext next old mid
+        → LeavesAsBefore mid new → LeavesNext next old new
     then_crashed next old mid new run crash =
-        joined words.moment words.left_since (cell_in old) (cell_in mid) (cell_in new) (λ left. words.may_leave (cell_in old) left ⊎ Spells next left) (words.may_leave (cell_in mid)) run crash
+        joined words.moment words.left_since (cell_in old) (cell_in mid) (cell_in new)
+        (λ left. words.may_leave (cell_in old) left ⊎ Spells next left) (words.may_leave (cell_in mid)) run crash
         (λ left might. run.each left (includes_now (cell_in mid) (words.moment (cell_in old)) left run.later might))
 
     -- after a look at what the cell holds
-    pub still_settled : (old new : Store C words) → Only (Some (words.value (cell_in old))) (words.may_leave (cell_in old)) → LeavesAsBefore old new → words.value (cell_in new) ≡ words.value (cell_in old)
+    pub still_settled : (old new : Store C words)
+        → Only (Some (words.value (cell_in old))) (words.may_leave (cell_in old)) → LeavesAsBefore old new
+        → words.value (cell_in new) ≡ words.value (cell_in old)
         → Only (Some (words.value (cell_in new))) (words.may_leave (cell_in new))
     still_settled old new only run same left might =
-        only left (run.each left (includes_now (cell_in new) (words.moment (cell_in old)) left run.later might)) ∙ ap (λ (bytes : List ℕ). Some bytes) (sym same)
+        only left (run.each left (includes_now (cell_in new) (words.moment (cell_in old)) left run.later might))
+        ∙ ap (λ (bytes : List ℕ). Some bytes) (sym same)
 
     pub looked : (next : RecordView) (old mid : Store C words) → LeavesAsBefore old mid → LeavesNext next old mid
     looked next old mid look =
-        weakened words.moment words.left_since (cell_in old) (cell_in mid) (λ left. words.may_leave (cell_in old) left ⊎ Spells next left) (words.may_leave (cell_in old)) look (λ left was. inl was)
+        weakened words.moment words.left_since (cell_in old) (cell_in mid)
+        (λ left. words.may_leave (cell_in old) left ⊎ Spells next left) (words.may_leave (cell_in old)) look
+        (λ left was. inl was)
 
-    pub looked_on : (old mid new : Store C words) → LeavesAsBefore old mid → LeavesAsBefore mid new → LeavesAsBefore old new
+    pub looked_on : (old mid new : Store C words) → LeavesAsBefore old mid → LeavesAsBefore mid new
+        → LeavesAsBefore old new
     looked_on old mid new look run =
-        joined words.moment words.left_since (cell_in old) (cell_in mid) (cell_in new) (words.may_leave (cell_in old)) (words.may_leave (cell_in mid)) look run
+        joined words.moment words.left_since (cell_in old) (cell_in mid) (cell_in new) (words.may_leave (cell_in old))
+        (words.may_leave (cell_in mid)) look run
         (λ left might. look.each left (includes_now (cell_in mid) (words.moment (cell_in old)) left look.later might))
 
-    pub looked_then : (next : RecordView) (old mid new : Store C words) → LeavesAsBefore old mid → LeavesNext next mid new → LeavesNext next old new
+    pub looked_then : (next : RecordView) (old mid new : Store C words) → LeavesAsBefore old mid
+        → LeavesNext next mid new → LeavesNext next old new
     looked_then next old mid new look run =
-        joined words.moment words.left_since (cell_in old) (cell_in mid) (cell_in new) (λ left. words.may_leave (cell_in old) left ⊎ Spells next left) (λ left. words.may_leave (cell_in mid) left ⊎ Spells next left)
+        joined words.moment words.left_since (cell_in old) (cell_in mid) (cell_in new)
+        (λ left. words.may_leave (cell_in old) left ⊎ Spells next left)
+        (λ left. words.may_leave (cell_in mid) left ⊎ Spells next left)
         (looked next old mid look) run
-        (λ left. ⊎_elim (λ was. inl (look.each left (includes_now (cell_in mid) (words.moment (cell_in old)) left look.later was))) (λ is. inr is))
+        (λ left. ⊎_elim
+        (λ was. inl (look.each left (includes_now (cell_in mid) (words.moment (cell_in old)) left look.later was)))
+        (λ is. inr is))
 
-    module _ (cause : RecordView → Option StoreFault) (change : RecordView → RecordView) (old mid : Store C words) (put : Result (Unit {0}) StoreFault) (some : IsSome (known_in old)) (fine : cause (record_in old) ≡ None)
+    module _ (cause : RecordView → Option StoreFault) (change : RecordView → RecordView) (old mid : Store C words)
+        (put : Result (Unit {0}) StoreFault) (some : IsSome (known_in old)) (fine : cause (record_in old) ≡ None)
         (changes : Changes cause change old mid put) where
       known : known_in old ≡ Some (record_in old)
       known = some_known old some
@@ -84,30 +109,47 @@ module _ {C : Type 0} (words : CellWords C) where
       after = ap (option_map change) known
 
       pub change_refusals : IfErr put IsOfPut
-      change_refusals = subst (λ (o : Option StoreFault). ComesFirst o put) (ap (first_refusal cause) known ∙ fine) changes.refusals
+      change_refusals =
+          subst (λ (o : Option StoreFault). ComesFirst o put) (ap (first_refusal cause) known ∙ fine) changes.refusals
 
       pub change_moments : LeavesNext (change (record_in old)) old mid
       change_moments =
-          weakened words.moment words.left_since (cell_in old) (cell_in mid) (λ left. words.may_leave (cell_in old) left ⊎ Spells (change (record_in old)) left) (λ left. words.may_leave (cell_in old) left ⊎ SpellsAny (option_map change (known_in old)) left) changes.any_moment
+          weakened words.moment words.left_since (cell_in old) (cell_in mid)
+          (λ left. words.may_leave (cell_in old) left ⊎ Spells (change (record_in old)) left)
+          (λ left. words.may_leave (cell_in old) left ⊎ SpellsAny (option_map change (known_in old)) left)
+          changes.any_moment
           (λ left. ⊎_elim (λ was. inl was) (λ is. inr (subst (λ (o : Option RecordView). SpellsAny o left) after is)))
 
       pub change_fits : IsLengthTold (fits_in (words.capacity (cell_in old)) (change (record_in old))) put
-      change_fits = subst (λ (o : Option RecordView). IsLengthTold (fits_next (words.capacity (cell_in old)) o) put) after changes.fits
+      change_fits =
+          subst (λ (o : Option RecordView). IsLengthTold (fits_next (words.capacity (cell_in old)) o) put) after
+          changes.fits
 
       -- after a put that succeeded
       pub change_done : OnOk put ((record_in mid ≡ change (record_in old)) × IsSome (known_in mid))
       change_done = at put changes.changed
         where
-          at : (put : Result (Unit {0}) StoreFault) → OnOk put (known_in mid ≡ option_map change (known_in old)) → OnOk put ((record_in mid ≡ change (record_in old)) × IsSome (known_in mid))
-          at (Ok x) is = (known_is words mid (change (record_in old)) (is ∙ after), subst (λ (o : Option RecordView). IsSome o) (sym (is ∙ after)) refl)
+          at : (put : Result (Unit {0}) StoreFault) → OnOk put (known_in mid ≡ option_map change (known_in old))
+              → OnOk put ((record_in mid ≡ change (record_in old)) × IsSome (known_in mid))
+          at (Ok x) is = (
+            known_is words mid (change (record_in old)) (is ∙ after),
+            subst (λ (o : Option RecordView). IsSome o)
+                (sym (is ∙ after)) refl,
+          )
           at (Err e) is = tt
 
       -- and after one that was refused, where the device didn't fail
-      pub change_refused : OnErr put (¬ (IsErrOf put fault.Device) → (record_in mid ≡ record_in old) × IsSome (known_in mid) × (cell_in mid ≡ cell_in old))
+      pub change_refused : OnErr put
+          (¬ (IsErrOf put fault.Device)
+          → (record_in mid ≡ record_in old) × IsSome (known_in mid) × (cell_in mid ≡ cell_in old))
       change_refused = at put changes.same_record changes.same_cell
         where
-          at : (put : Result (Unit {0}) StoreFault) → OnErr put (¬ (IsErrOf put fault.Device) → known_in mid ≡ known_in old) → OnErr put (¬ (IsErrOf put fault.Device) → cell_in mid ≡ cell_in old)
-              → OnErr put (¬ (IsErrOf put fault.Device) → (record_in mid ≡ record_in old) × IsSome (known_in mid) × (cell_in mid ≡ cell_in old))
+          at : (put : Result (Unit {0}) StoreFault)
+              → OnErr put (¬ (IsErrOf put fault.Device) → known_in mid ≡ known_in old)
+              → OnErr put (¬ (IsErrOf put fault.Device) → cell_in mid ≡ cell_in old)
+              → OnErr put
+              (¬ (IsErrOf put fault.Device)
+              → (record_in mid ≡ record_in old) × IsSome (known_in mid) × (cell_in mid ≡ cell_in old))
           at (Ok x) same_known same = tt
           at (Err e) same_known same = λ other. (
             ap (λ (c : C). record_spelled (words.value c)) (same other),

@@ -1,5 +1,6 @@
 -- What a crash and a recovery leave of a node.
-use Rattle.std.proofs.Common.{◌≡◌, ◌⊎◌, inl, inr, ⊎_elim, ℕ, ◌<◌, ◌≤◌, Bool, true, false, List, length, Option, Some, Result, Ok, Err, refl, sym, ◌∙◌, ap, subst, arith}
+use Rattle.std.proofs.Common.{◌≡◌, ◌⊎◌, inl, inr, ⊎_elim, ℕ, ◌<◌, ◌≤◌, Bool, true, false, List, length, Option, Some}
+use Rattle.std.proofs.Common.{Result, Ok, Err, refl, sym, ◌∙◌, ap, subst, arith}
 use Rattle.std.specs.Prelude.{IsErrOf, IsTrue, nat_lt}
 use Rattle.std.proofs.lemmas.Bool.{lt-ltb, ltb-true}
 use Rattle.std.specs.Option.{ForSome}
@@ -21,7 +22,8 @@ use Rattle.protocol.specs.declared.outcome.Refusal.TheVariants.{Spent}
 use Rattle.ckpt_store.specs.Spelling.{fits_in}
 use Rattle.node.specs.Putting.{IsPutEvent}
 use Rattle.protocol.specs.Node.Recovering.{recover_prospect, restored}
-use Rattle.node.specs.StoredView.{HasRecord, IsAnswer, IsCrashed, IsRaised, IsRaiseRefusal, LeavesAsBefore, LeavesDevice, LeavesNext, has_failed, put_outcome}
+use Rattle.node.specs.StoredView.{HasRecord, IsAnswer, IsCrashed, IsRaised, IsRaiseRefusal, LeavesAsBefore}
+use Rattle.node.specs.StoredView.{LeavesDevice, LeavesNext, has_failed, put_outcome}
 use Rattle.node.specs.declared.state.NodeState.{NodeState}
 use Rattle.gate_cell.specs.Setup.{setup_then}
 use Rattle.ckpt_store.specs.declared.fault.StoreFault.{StoreFault}
@@ -30,8 +32,10 @@ use Rattle.record.specs.ImageView.{ImageView}
 use Rattle.std.specs.declared.alloc.AllocError.{AllocError}
 use Rattle.node.proofs.Records.{crash_keeps, looked, looked_on, one_of_both, then_crashed}
 
-module _ {C : Type 0} (words : CellWords C) (number restart : ℕ) (old new : Store C words) (before after : NodeState) (has : HasRecord number (mode_view before.mode) old) (up : is_down (mode_view before.mode) ≡ false)
-    (same : ForSome (known_in old) (λ kept. Holds new kept)) (settled : Only (Some (words.value (cell_in new))) (words.may_leave (cell_in new)))
+module _ {C : Type 0} (words : CellWords C) (number restart : ℕ) (old new : Store C words) (before after : NodeState)
+    (has : HasRecord number (mode_view before.mode) old) (up : is_down (mode_view before.mode) ≡ false)
+    (same : ForSome (known_in old) (λ kept. Holds new kept))
+    (settled : Only (Some (words.value (cell_in new))) (words.may_leave (cell_in new)))
     (stop : (kept : RecordView) → node_view kept after ≡ crashed restart (node_view kept before)) where
   kept : record_in new ≡ record_in old
   kept = crash_keeps words old new (has.ready up) same
@@ -40,7 +44,8 @@ module _ {C : Type 0} (words : CellWords C) (number restart : ℕ) (old new : St
   crash_has = record {
     listed = subst (λ (r : RecordView). number < length r.highest) (sym kept) has.listed;
     named = ap (λ (r : RecordView). r.node) kept ∙ has.named;
-    ready = λ other. (let down : is_down (mode_view after.mode) ≡ true = ap (λ (n : NodeView). is_down n.mode) (stop (record_in new)) in absurd (cc));
+    ready = λ other. (let down : is_down (mode_view after.mode) ≡ true =
+        ap (λ (n : NodeView). is_down n.mode) (stop (record_in new)) in absurd (cc));
     settled = settled;
   }
 
@@ -48,91 +53,136 @@ module _ {C : Type 0} (words : CellWords C) (number restart : ℕ) (old new : St
   crash_step = stop (record_in new) ∙ ap (λ (r : RecordView). crashed restart (node_view r before)) kept
 
 -- what a node that is down comes to, with a next epoch and without
-pub back_planned : (node : NodeView) → is_down node.mode ≡ true → node.kept.epoch < MAX_COUNT → recover_prospect node ≡ putting false (restored node)
+pub back_planned : (node : NodeView) → is_down node.mode ≡ true → node.kept.epoch < MAX_COUNT
+    → recover_prospect node ≡ putting false (restored node)
 back_planned node down less =
-    ap (λ (b : Bool). if_due b (unless_spent true (nat_lt node.kept.epoch MAX_COUNT) (putting false (restored node)))) down ∙ ap (λ (b : Bool). unless_spent true b (putting false (restored node))) (lt-ltb node.kept.epoch MAX_COUNT less)
+    ap (λ (b : Bool). if_due b (unless_spent true (nat_lt node.kept.epoch MAX_COUNT) (putting false (restored node))))
+    down ∙ ap (λ (b : Bool). unless_spent true b (putting false (restored node)))
+    (lt-ltb node.kept.epoch MAX_COUNT less)
 
-pub back_spent : (node : NodeView) → is_down node.mode ≡ true → MAX_COUNT ≤ node.kept.epoch → recover_prospect node ≡ Exhausted true
+pub back_spent : (node : NodeView) → is_down node.mode ≡ true → MAX_COUNT ≤ node.kept.epoch
+    → recover_prospect node ≡ Exhausted true
 back_spent node down more =
-    ap (λ (b : Bool). if_due b (unless_spent true (nat_lt node.kept.epoch MAX_COUNT) (putting false (restored node)))) down ∙ ap (λ (b : Bool). unless_spent true b (putting false (restored node))) (not_less node.kept.epoch MAX_COUNT more)
+    ap (λ (b : Bool). if_due b (unless_spent true (nat_lt node.kept.epoch MAX_COUNT) (putting false (restored node))))
+    down ∙ ap (λ (b : Bool). unless_spent true b (putting false (restored node)))
+    (not_less node.kept.epoch MAX_COUNT more)
   where
     not_less : (n m : ℕ) → m ≤ n → nat_lt n m ≡ false
     not_less n m more = grind (arith, more)
 
 module _ {C : Type 0} (words : CellWords C)
-    (includes_now : (cell : C) (t : ℕ) (left : Option (List ℕ)) → t ≤ words.moment cell → words.may_leave cell left → words.left_since cell t left)
+    (includes_now : (cell : C) (t : ℕ) (left : Option (List ℕ)) → t ≤ words.moment cell → words.may_leave cell left
+    → words.left_since cell t left)
     (may_stay : (cell : C) → words.may_leave cell (Some (words.value cell)))
     (ready_settled : (cell : C) → IsTrue (words.is_ready cell) → Only (Some (words.value cell)) (words.may_leave cell))
-    (number : ℕ) (old mid new : Store C words) (before after : NodeState) (has : HasRecord number (mode_view before.mode) old) (run : LeavesNext (with_epoch (record_in old)) old mid) (crash : IsCrashed mid new)
+    (number : ℕ) (old mid new : Store C words) (before after : NodeState)
+    (has : HasRecord number (mode_view before.mode) old) (run : LeavesNext (with_epoch (record_in old)) old mid)
+    (crash : IsCrashed mid new)
     (restart : ℕ) (stop : (kept : RecordView) → node_view kept after ≡ crashed restart (node_view kept before)) where
   pub failed_moments : LeavesNext (with_epoch (record_in old)) old new
-  failed_moments = then_crashed words includes_now may_stay ready_settled (with_epoch (record_in old)) old mid new run crash.any_moment
+  failed_moments =
+      then_crashed words includes_now may_stay ready_settled (with_epoch (record_in old)) old mid new run
+      crash.any_moment
 
   either : (record_in new ≡ record_in old) ⊎ (record_in new ≡ with_epoch (record_in old))
-  either = one_of_both words includes_now may_stay ready_settled (with_epoch (record_in old)) old new has.settled failed_moments
+  either =
+      one_of_both words includes_now may_stay ready_settled (with_epoch (record_in old)) old new has.settled
+      failed_moments
 
   -- the device failed, and the node stays down
   pub failed_has : HasRecord number (mode_view after.mode) new
   failed_has = record {
-    listed = ⊎_elim (λ same. subst (λ (r : RecordView). number < length r.highest) (sym same) has.listed) (λ same. subst (λ (r : RecordView). number < length r.highest) (sym same) has.listed) either;
-    named = ⊎_elim (λ same. ap (λ (r : RecordView). r.node) same ∙ has.named) (λ same. ap (λ (r : RecordView). r.node) same ∙ has.named) either;
-    ready = λ up. (let down : is_down (mode_view after.mode) ≡ true = ap (λ (n : NodeView). is_down n.mode) (stop (record_in new)) in absurd (cc));
+    listed =
+        ⊎_elim (λ same. subst (λ (r : RecordView). number < length r.highest) (sym same) has.listed)
+        (λ same. subst (λ (r : RecordView). number < length r.highest) (sym same) has.listed) either;
+    named = ⊎_elim (λ same. ap (λ (r : RecordView). r.node) same ∙ has.named)
+        (λ same. ap (λ (r : RecordView). r.node) same ∙ has.named) either;
+    ready = λ up. (let down : is_down (mode_view after.mode) ≡ true =
+        ap (λ (n : NodeView). is_down n.mode) (stop (record_in new)) in absurd (cc));
     settled = crash.settled;
   }
 
-  pub failed_now : HasFailedAt restart (with_epoch (record_in old)) (node_view (record_in old) before) (node_view (record_in new) after)
+  pub failed_now : HasFailedAt restart (with_epoch (record_in old)) (node_view (record_in old) before)
+      (node_view (record_in new) after)
   failed_now =
       ⊎_elim (λ same. inl (ap (λ (r : RecordView). node_view r after) same ∙ stop (record_in old)))
       (λ same. inr (ap (λ (r : RecordView). node_view r after) same ∙ stop (with_epoch (record_in old)))) either
 
 -- ---- what came of a recovery, with its store
 
-module _ {C : Type 0} {words : CellWords C} (round : ℕ) (was now : NodeView) (old new : Store C words) (same : was.kept ≡ record_in old) {E : Type 0} where
+module _ {C : Type 0} {words : CellWords C} (round : ℕ) (was now : NodeView) (old new : Store C words)
+    (same : was.kept ≡ record_in old) {E : Type 0} where
   -- its device failed
-  pub lost_event : recover_prospect was ≡ putting false (restored was) → HasFailedAt (restart_after was.armed (words.failed_call (cell_in new)) round) (with_epoch was.kept) was now
-      → IsTrue (fits_in (words.capacity (cell_in old)) (with_epoch (record_in old))) → words.failure_count (cell_in old) < words.failure_count (cell_in new) → LeavesNext (with_epoch (record_in old)) old new → LeavesDevice old new
+  pub lost_event : recover_prospect was ≡ putting false (restored was)
+      → HasFailedAt (restart_after was.armed (words.failed_call (cell_in new)) round) (with_epoch was.kept) was now
+      → IsTrue (fits_in (words.capacity (cell_in old)) (with_epoch (record_in old)))
+      → words.failure_count (cell_in old) < words.failure_count (cell_in new)
+      → LeavesNext (with_epoch (record_in old)) old new → LeavesDevice old new
       → IsPutEvent (recover_prospect was) round was now old new {E = E} (Ok outcome.Failed)
-  lost_event planned lost fits failures moments setup = subst (λ (p : Prospect). IsPutEvent p round was now old new {E = E} (Ok outcome.Failed)) (sym planned) (record {
-    step = (refl, lost);
-    refused = tt;
-    refused_failures = tt;
-    put = (subst (λ (r : RecordView). IsTrue (fits_in (words.capacity (cell_in old)) (with_epoch r))) (sym same) fits, failures);
-    any_moment = subst (λ (r : RecordView). LeavesNext (with_epoch r) old new) (sym same) moments;
-    same_setup = setup;
-  })
+  lost_event planned lost fits failures moments setup =
+      subst (λ (p : Prospect). IsPutEvent p round was now old new {E = E} (Ok outcome.Failed)) (sym planned) (record {
+        step = (refl, lost);
+        refused = tt;
+        refused_failures = tt;
+        put = (
+          subst (λ (r : RecordView). IsTrue (fits_in (words.capacity (cell_in old)) (with_epoch r))) (sym same) fits,
+          failures,
+        );
+        any_moment = subst (λ (r : RecordView). LeavesNext (with_epoch r) old new) (sym same) moments;
+        same_setup = setup;
+      })
 
   -- or did so before it was seen that there is no next epoch
-  pub looked_event : recover_prospect was ≡ Exhausted true → now ≡ crashed (restart_after was.armed (words.failed_call (cell_in new)) round) was → words.failure_count (cell_in old) < words.failure_count (cell_in new)
-      → LeavesNext was.kept old new → LeavesDevice old new → IsPutEvent (recover_prospect was) round was now old new {E = E} (Ok outcome.Failed)
-  looked_event spent lost failures moments setup = subst (λ (p : Prospect). IsPutEvent p round was now old new {E = E} (Ok outcome.Failed)) (sym spent) (record {
-    step = (refl, lost);
-    refused = tt;
-    refused_failures = tt;
-    put = (refl, failures);
-    any_moment = moments;
-    same_setup = setup;
-  })
+  pub looked_event : recover_prospect was ≡ Exhausted true
+      → now ≡ crashed (restart_after was.armed (words.failed_call (cell_in new)) round) was
+      → words.failure_count (cell_in old) < words.failure_count (cell_in new)
+      → LeavesNext was.kept old new → LeavesDevice old new
+      → IsPutEvent (recover_prospect was) round was now old new {E = E} (Ok outcome.Failed)
+  looked_event spent lost failures moments setup =
+      subst (λ (p : Prospect). IsPutEvent p round was now old new {E = E} (Ok outcome.Failed)) (sym spent) (record {
+        step = (refl, lost);
+        refused = tt;
+        refused_failures = tt;
+        put = (refl, failures);
+        any_moment = moments;
+        same_setup = setup;
+      })
 
   -- there is no next epoch
-  pub last_event : recover_prospect was ≡ Exhausted true → now ≡ was → words.failure_count (cell_in new) ≡ words.failure_count (cell_in old) → LeavesNext was.kept old new → LeavesDevice old new
+  pub last_event : recover_prospect was ≡ Exhausted true → now ≡ was
+      → words.failure_count (cell_in new) ≡ words.failure_count (cell_in old) → LeavesNext was.kept old new
+      → LeavesDevice old new
       → IsPutEvent (recover_prospect was) round was now old new {E = E} (Ok (outcome.Refused Spent))
-  last_event spent stays failures moments setup = subst (λ (p : Prospect). IsPutEvent p round was now old new {E = E} (Ok (outcome.Refused Spent))) (sym spent) (record {
-    step = stays;
-    refused = tt;
-    refused_failures = tt;
-    put = failures;
-    any_moment = moments;
-    same_setup = setup;
-  })
+  last_event spent stays failures moments setup =
+      subst (λ (p : Prospect). IsPutEvent p round was now old new {E = E} (Ok (outcome.Refused Spent))) (sym spent)
+      (record {
+        step = stays;
+        refused = tt;
+        refused_failures = tt;
+        put = failures;
+        any_moment = moments;
+        same_setup = setup;
+      })
 
   -- or memory is missing
-  pub short_event : (e : E) → now ≡ was → words.failure_count (cell_in new) ≡ words.failure_count (cell_in old) → LeavesNext (next_record (recover_prospect was) was.kept) old new → LeavesDevice old new
+  pub short_event : (e : E) → now ≡ was → words.failure_count (cell_in new) ≡ words.failure_count (cell_in old)
+      → LeavesNext (next_record (recover_prospect was) was.kept) old new → LeavesDevice old new
       → IsPutEvent (recover_prospect was) round was now old new {E = E} (Err e)
-  short_event e stays failures moments setup = record { step = tt; refused = stays; refused_failures = failures; put = tt; any_moment = moments; same_setup = setup }
+  short_event e stays failures moments setup =
+      record {
+        step = tt;
+        refused = stays;
+        refused_failures = failures;
+        put = tt;
+        any_moment = moments;
+        same_setup =
+            setup;
+      }
 
 -- ---- where the record wasn't raised
 
-by_fault : (P : StoreFault → Type 0) (fits : Bool) (kept : RecordView) → fits ≡ true → P fault.NoMemory → P fault.Device → (MAX_COUNT ≤ kept.epoch → P fault.Spent) → (e : StoreFault) → IsRaiseRefusal fits kept e → P e
+by_fault : (P : StoreFault → Type 0) (fits : Bool) (kept : RecordView) → fits ≡ true → P fault.NoMemory
+    → P fault.Device → (MAX_COUNT ≤ kept.epoch → P fault.Spent) → (e : StoreFault) → IsRaiseRefusal fits kept e → P e
 by_fault P fits kept has memory device spent fault.NoMemory is = memory
 by_fault P fits kept has memory device spent fault.Device is = device
 by_fault P fits kept has memory device spent fault.TooLarge is = (let no : fits ≡ false = is.1 in absurd (cc))
@@ -147,10 +197,12 @@ by_fault P fits kept has memory device spent fault.NotHeld is = absurd is
 by_fault P fits kept has memory device spent fault.Unsettled is = absurd is
 
 module _ {C : Type 0} (words : CellWords C)
-    (includes_now : (cell : C) (t : ℕ) (left : Option (List ℕ)) → t ≤ words.moment cell → words.may_leave cell left → words.left_since cell t left)
+    (includes_now : (cell : C) (t : ℕ) (left : Option (List ℕ)) → t ≤ words.moment cell → words.may_leave cell left
+    → words.left_since cell t left)
     (may_stay : (cell : C) → words.may_leave cell (Some (words.value cell)))
     (ready_settled : (cell : C) → IsTrue (words.is_ready cell) → Only (Some (words.value cell)) (words.may_leave cell))
-    (number round : ℕ) (old mid new : Store C words) (before after : NodeState) (has : HasRecord number (mode_view before.mode) old) (down : is_down (mode_view before.mode) ≡ true)
+    (number round : ℕ) (old mid new : Store C words) (before after : NodeState)
+    (has : HasRecord number (mode_view before.mode) old) (down : is_down (mode_view before.mode) ≡ true)
     (fits : fits_in (words.capacity (cell_in old)) (with_epoch (record_in old)) ≡ true) where
   abbrev was : NodeView
   was = node_view (record_in old) before
@@ -160,44 +212,65 @@ module _ {C : Type 0} (words : CellWords C)
 
   -- what is known where this was the fault
   abbrev Known : StoreFault → Result Outcome AllocError → Type 0
-  Known e answer = IsRaised old mid (Err e) → IsAnswer (put_outcome (Err e)) answer → (has_failed (Err e) ≡ false → (new ≡ mid) × (after ≡ before))
-      → (IsTrue (has_failed (Err e)) → IsCrashed mid new × ((kept : RecordView) → node_view kept after ≡ crashed (restart_after before.armed.items (words.failed_call (cell_in new)) round) (node_view kept before)))
+  Known e answer =
+      IsRaised old mid (Err e) → IsAnswer (put_outcome (Err e)) answer
+      → (has_failed (Err e) ≡ false → (new ≡ mid) × (after ≡ before))
+      → (IsTrue (has_failed (Err e))
+      → IsCrashed mid new
+      × ((kept : RecordView)
+      → node_view kept after
+      ≡ crashed (restart_after before.armed.items (words.failed_call (cell_in new)) round) (node_view kept before)))
       → HasRecord number (mode_view after.mode) new × IsPutEvent (recover_prospect was) round was now old new answer
 
   not_device : (e : StoreFault) → has_failed (Err e) ≡ false → ¬ (IsErrOf {T = ImageView} (Err e) fault.Device)
-  not_device e other is = (let same : e ≡ fault.Device = cc in let both : has_failed (Err fault.Device) ≡ false = ap (λ (f : StoreFault). has_failed (Err f)) (sym same) ∙ other in cc)
+  not_device e other is =
+      (let same : e ≡ fault.Device = cc in let both : has_failed (Err fault.Device) ≡ false =
+      ap (λ (f : StoreFault). has_failed (Err f)) (sym same) ∙ other in cc)
 
   -- the node is as it was
-  same_now : (e : StoreFault) → has_failed (Err e) ≡ false → IsRaised old mid (Err e) → (new ≡ mid) × (after ≡ before) → now ≡ was
+  same_now : (e : StoreFault) → has_failed (Err e) ≡ false → IsRaised old mid (Err e) → (new ≡ mid) × (after ≡ before)
+      → now ≡ was
   same_now e other raised stays =
-      ap (λ (s : Store C words). node_view (record_in s) after) stays.0 ∙ (ap (λ (r : RecordView). node_view r after) (raised.same_record (not_device e other)) ∙ ap (node_view (record_in old)) stays.1)
+      ap (λ (s : Store C words). node_view (record_in s) after) stays.0
+      ∙ (ap (λ (r : RecordView). node_view r after) (raised.same_record (not_device e other))
+      ∙ ap (node_view (record_in old)) stays.1)
 
-  same_has : (e : StoreFault) → has_failed (Err e) ≡ false → IsRaised old mid (Err e) → (new ≡ mid) × (after ≡ before) → HasRecord number (mode_view after.mode) new
+  same_has : (e : StoreFault) → has_failed (Err e) ≡ false → IsRaised old mid (Err e) → (new ≡ mid) × (after ≡ before)
+      → HasRecord number (mode_view after.mode) new
   same_has e other raised stays =
       let kept = raised.same_record (not_device e other) in
-      subst (λ (s : Store C words). HasRecord number (mode_view after.mode) s) (sym stays.0) (subst (λ (s : NodeState). HasRecord number (mode_view s.mode) mid) (sym stays.1) (record {
+      subst (λ (s : Store C words). HasRecord number (mode_view after.mode) s) (sym stays.0)
+      (subst (λ (s : NodeState). HasRecord number (mode_view s.mode) mid) (sym stays.1) (record {
         listed = subst (λ (r : RecordView). number < length r.highest) (sym kept) has.listed;
         named = ap (λ (r : RecordView). r.node) kept ∙ has.named;
         ready = λ up. absurd (cc);
         settled = raised.settled (not_device e other);
       }))
 
-  same_count : (e : StoreFault) → has_failed (Err e) ≡ false → IsRaised old mid (Err e) → (new ≡ mid) × (after ≡ before) → words.failure_count (cell_in new) ≡ words.failure_count (cell_in old)
-  same_count e other raised stays = ap (λ (s : Store C words). words.failure_count (cell_in s)) stays.0 ∙ raised.failures.otherwise (not_device e other)
+  same_count : (e : StoreFault) → has_failed (Err e) ≡ false → IsRaised old mid (Err e)
+      → (new ≡ mid) × (after ≡ before) → words.failure_count (cell_in new) ≡ words.failure_count (cell_in old)
+  same_count e other raised stays =
+      ap (λ (s : Store C words). words.failure_count (cell_in s)) stays.0
+      ∙ raised.failures.otherwise (not_device e other)
 
   same_device : (e : StoreFault) → IsRaised old mid (Err e) → new ≡ mid → LeavesDevice old new
   same_device e raised same = subst (λ (s : Store C words). LeavesDevice old s) (sym same) raised.same_setup
 
-  nothing_then : (e : StoreFault) → has_failed (Err e) ≡ false → IsRaised old mid (Err e) → new ≡ mid → (next : RecordView) → LeavesNext next old new
-  nothing_then e other raised same next = looked words includes_now may_stay ready_settled next old new (subst (λ (s : Store C words). LeavesAsBefore old s) (sym same) (raised.nothing_put (not_device e other)))
+  nothing_then : (e : StoreFault) → has_failed (Err e) ≡ false → IsRaised old mid (Err e) → new ≡ mid
+      → (next : RecordView) → LeavesNext next old new
+  nothing_then e other raised same next =
+      looked words includes_now may_stay ready_settled next old new
+      (subst (λ (s : Store C words). LeavesAsBefore old s) (sym same) (raised.nothing_put (not_device e other)))
 
   no_memory : (answer : Result Outcome AllocError) → Known fault.NoMemory answer
   no_memory (Ok outcome) raised is stays failed = absurd is
   no_memory (Err e) raised is stays failed =
       let same = stays refl in (
         same_has fault.NoMemory refl raised same,
-        short_event round was now old new refl e (same_now fault.NoMemory refl raised same) (same_count fault.NoMemory refl raised same)
-            (nothing_then fault.NoMemory refl raised same.0 (next_record (recover_prospect was) was.kept)) (same_device fault.NoMemory raised same.0),
+        short_event round was now old new refl e (same_now fault.NoMemory refl raised same)
+            (same_count fault.NoMemory refl raised same)
+            (nothing_then fault.NoMemory refl raised same.0 (next_record (recover_prospect was) was.kept))
+            (same_device fault.NoMemory raised same.0),
       )
 
   no_epoch : MAX_COUNT ≤ (record_in old).epoch → (answer : Result Outcome AllocError) → Known fault.Spent answer
@@ -205,49 +278,69 @@ module _ {C : Type 0} (words : CellWords C)
   no_epoch more (Ok came) raised is stays failed =
       let same = stays refl in (
         same_has fault.Spent refl raised same,
-        subst (λ (o : Outcome). IsPutEvent (recover_prospect was) round was now old new {E = AllocError} (Ok o)) (sym is)
-            (last_event round was now old new refl (back_spent was down more) (same_now fault.Spent refl raised same) (same_count fault.Spent refl raised same) (nothing_then fault.Spent refl raised same.0 was.kept) (same_device fault.Spent raised same.0)),
+        subst (λ (o : Outcome). IsPutEvent (recover_prospect was) round was now old new {E = AllocError} (Ok o))
+            (sym is)
+            (last_event round was now old new refl (back_spent was down more) (same_now fault.Spent refl raised same)
+            (same_count fault.Spent refl raised same) (nothing_then fault.Spent refl raised same.0 was.kept)
+            (same_device fault.Spent raised same.0)),
       )
 
   no_device : (answer : Result Outcome AllocError) → Known fault.Device answer
   no_device (Err e) raised is stays failed = absurd is
   no_device (Ok came) raised is stays failed = (
-    failed_has words includes_now may_stay ready_settled number old mid new before after has raised.any_moment lost.0 restart lost.1,
-    subst (λ (o : Outcome). IsPutEvent (recover_prospect was) round was now old new {E = AllocError} (Ok o)) (sym is) (at (nat_lt (record_in old).epoch MAX_COUNT) refl),
+    failed_has words includes_now may_stay ready_settled number old mid new before after has raised.any_moment lost.0
+        restart lost.1,
+    subst (λ (o : Outcome). IsPutEvent (recover_prospect was) round was now old new {E = AllocError} (Ok o)) (sym is)
+        (at (nat_lt (record_in old).epoch MAX_COUNT) refl),
   )
     where
-      lost : IsCrashed mid new × ((kept : RecordView) → node_view kept after ≡ crashed (restart_after before.armed.items (words.failed_call (cell_in new)) round) (node_view kept before))
+      lost : IsCrashed mid new
+          × ((kept : RecordView)
+          → node_view kept after
+          ≡ crashed (restart_after before.armed.items (words.failed_call (cell_in new)) round) (node_view kept before))
       lost = failed refl
 
       restart : ℕ
       restart = restart_after before.armed.items (words.failed_call (cell_in new)) round
 
       count : words.failure_count (cell_in old) < words.failure_count (cell_in new)
-      count = subst (λ (n : ℕ). words.failure_count (cell_in old) < n) (sym lost.0.failures) (raised.failures.device refl)
+      count = subst (λ (n : ℕ). words.failure_count (cell_in old) < n) (sym lost.0.failures)
+          (raised.failures.device refl)
 
       setup : LeavesDevice old new
-      setup = setup_then words.capacity words.armed words.call_count (cell_in old) (cell_in mid) (cell_in new) raised.same_setup lost.0.same_setup
+      setup = setup_then words.capacity words.armed words.call_count (cell_in old) (cell_in mid) (cell_in new)
+          raised.same_setup lost.0.same_setup
 
       quiet : MAX_COUNT ≤ (record_in old).epoch → LeavesAsBefore old new
-      quiet more = looked_on words includes_now may_stay ready_settled old mid new (raised.held_up more) lost.0.any_moment
+      quiet more =
+          looked_on words includes_now may_stay ready_settled old mid new (raised.held_up more) lost.0.any_moment
 
       not_less : (n m : ℕ) → nat_lt n m ≡ false → m ≤ n
       not_less n m test = grind (arith, test)
 
       -- where there is no next epoch nothing was put, and the record is the old one
-      at : (b : Bool) → nat_lt (record_in old).epoch MAX_COUNT ≡ b → IsPutEvent (recover_prospect was) round was now old new {E = AllocError} (Ok outcome.Failed)
+      at : (b : Bool) → nat_lt (record_in old).epoch MAX_COUNT ≡ b
+          → IsPutEvent (recover_prospect was) round was now old new {E = AllocError} (Ok outcome.Failed)
       at true test =
           lost_event round was now old new refl (back_planned was down (ltb-true (record_in old).epoch MAX_COUNT test))
-          (failed_now words includes_now may_stay ready_settled number old mid new before after has raised.any_moment lost.0 restart lost.1) fits count
-          (failed_moments words includes_now may_stay ready_settled number old mid new before after has raised.any_moment lost.0 restart lost.1) setup
+          (failed_now words includes_now may_stay ready_settled number old mid new before after has raised.any_moment
+          lost.0 restart lost.1) fits count
+          (failed_moments words includes_now may_stay ready_settled number old mid new before after has
+          raised.any_moment lost.0 restart lost.1) setup
       at false test =
           let more = not_less (record_in old).epoch MAX_COUNT test in
           looked_event round was now old new refl (back_spent was down more)
-          (ap (λ (r : RecordView). node_view r after) (kept_so more) ∙ lost.1 (record_in old)) count (looked words includes_now may_stay ready_settled was.kept old new (quiet more)) setup
+          (ap (λ (r : RecordView). node_view r after) (kept_so more) ∙ lost.1 (record_in old)) count
+          (looked words includes_now may_stay ready_settled was.kept old new (quiet more)) setup
         where
           kept_so : MAX_COUNT ≤ (record_in old).epoch → record_in new ≡ record_in old
-          kept_so more = ⊎_elim (λ same. same) (λ same. same) (one_of_both words includes_now may_stay ready_settled (record_in old) old new has.settled (looked words includes_now may_stay ready_settled (record_in old) old new (quiet more)))
+          kept_so more =
+              ⊎_elim (λ same. same) (λ same. same)
+              (one_of_both words includes_now may_stay ready_settled (record_in old) old new has.settled
+              (looked words includes_now may_stay ready_settled (record_in old) old new (quiet more)))
 
   pub not_raised : (e : StoreFault) (answer : Result Outcome AllocError) → Known e answer
   not_raised e answer raised =
-      by_fault (λ f. Known f answer) (fits_in (words.capacity (cell_in old)) (with_epoch (record_in old))) (record_in old) fits (no_memory answer) (no_device answer) (λ more. no_epoch more answer) e raised.refused raised
+      by_fault (λ f. Known f answer) (fits_in (words.capacity (cell_in old)) (with_epoch (record_in old)))
+      (record_in old) fits (no_memory answer) (no_device answer) (λ more. no_epoch more answer) e raised.refused
+      raised

@@ -1,5 +1,6 @@
 -- A start and a decision as puts of the next record.
-use Rattle.std.proofs.Common.{◌≡◌, ℕ, ◌+◌, ◌<◌, ◌≤◌, Bool, true, false, ◌&&◌, List, [], length, Option, Some, None, Result, refl, sym, ◌∙◌, ap, subst, arith, eqb}
+use Rattle.std.proofs.Common.{◌≡◌, ℕ, ◌+◌, ◌<◌, ◌≤◌, Bool, true, false, ◌&&◌, List, [], length, Option, Some, None}
+use Rattle.std.proofs.Common.{Result, refl, sym, ◌∙◌, ap, subst, arith, eqb}
 use Rattle.std.specs.Prelude.{IsTrue, is_some, cond, nat_le, nat_lt}
 use Rattle.std.proofs.lemmas.Bool.{le-ltb, lt-ltb, eq-eqb}
 use Rattle.std.proofs.lemmas.List.{length-set}
@@ -21,7 +22,8 @@ use Rattle.protocol.specs.Node.ArmedRestarts.{restart_after}
 use Rattle.protocol.specs.declared.armed_restart.ArmedRestart.{ArmedRestart}
 use Rattle.protocol.specs.Node.NodeView.{NodeView, ModeView, Down, InDoubt, Runs, RunningView, running_in}
 use Rattle.node.specs.NodeView.{node_view, mode_view}
-use Rattle.protocol.specs.Node.Starting.{is_own, own_number, held_number, may_start, may_decide, own_at, with_own_now, decided, start_prospect, decide_prospect}
+use Rattle.protocol.specs.Node.Starting.{is_own, own_number, held_number, may_start, may_decide, own_at, with_own_now}
+use Rattle.protocol.specs.Node.Starting.{decided, start_prospect, decide_prospect}
 use Rattle.protocol.specs.Node.Plans.{if_due, unless_spent, putting}
 use Rattle.protocol.specs.Node.Modes.{is_none, is_running, is_down, crashed, with_kept}
 use Rattle.node.specs.StoredView.{HasRecord, IsCrashed, has_failed, put_outcome, IsAnswer}
@@ -43,7 +45,8 @@ and_false : (a : Bool) → (a && false) ≡ false
 and_false true = refl
 and_false false = refl
 
-all_false : (a b c d : Bool) (w x y z : Option StoreFault) → a ≡ false → b ≡ false → c ≡ false → d ≡ false → cond a w (cond b x (cond c y (cond d z None))) ≡ None
+all_false : (a b c d : Bool) (w x y z : Option StoreFault) → a ≡ false → b ≡ false → c ≡ false → d ≡ false
+    → cond a w (cond b x (cond c y (cond d z None))) ≡ None
 all_false true b c d w x y z p q r s = absurd (cc)
 all_false false true c d w x y z p q r s = absurd (cc)
 all_false false false true d w x y z p q r s = absurd (cc)
@@ -65,17 +68,22 @@ not_past : (n : ℕ) → n < MAX_COUNT → nat_lt MAX_COUNT (n + 1) ≡ false
 not_past n less = le-ltb MAX_COUNT (n + 1) (omega (arith, less))
 
 -- an own image that is held has this number
-own_is : (number : ℕ) (o : Option Tentative) (held : ℕ) → own_number number o ≡ Some held → (held_number o ≡ held) × (is_held number held o ≡ true) × (is_own number o ≡ true)
+own_is : (number : ℕ) (o : Option Tentative) (held : ℕ) → own_number number o ≡ Some held
+    → (held_number o ≡ held) × (is_held number held o ≡ true) × (is_own number o ≡ true)
 own_is number None held is = absurd (cc)
 own_is number (Some t) held is = at (eqb t.initiator number) refl is
   where
-    at : (b : Bool) → eqb t.initiator number ≡ b → cond b (Some t.number) None ≡ Some held → (t.number ≡ held) × ((eqb t.initiator number && eqb t.number held) ≡ true) × (eqb t.initiator number ≡ true)
-    at true test e = let same : t.number ≡ held = cc in (same, ap (λ (b : Bool). b && eqb t.number held) test ∙ eq-eqb t.number held same, test)
+    at : (b : Bool) → eqb t.initiator number ≡ b → cond b (Some t.number) None ≡ Some held
+        → (t.number ≡ held) × ((eqb t.initiator number && eqb t.number held) ≡ true) × (eqb t.initiator number ≡ true)
+    at true test e = let same : t.number ≡ held = cc in
+        (same, ap (λ (b : Bool). b && eqb t.number held) test ∙ eq-eqb t.number held same, test)
     at false test e = absurd (cc)
 
 -- ---- a start
 
-module _ (number highest : ℕ) (image : ImageView) (kept : RecordView) (version restart : ℕ) (armed : List ArmedRestart) (mode : ModeView) (running : RunningView) (runs : mode ≡ Runs running) (same : image ≡ running.current) (seen : highest ≡ highest_seen number kept) where
+module _ (number highest : ℕ) (image : ImageView) (kept : RecordView) (version restart : ℕ) (armed : List ArmedRestart)
+    (mode : ModeView) (running : RunningView) (runs : mode ≡ Runs running) (same : image ≡ running.current)
+    (seen : highest ≡ highest_seen number kept) where
   abbrev view : NodeView
   view = record { kept = kept; version = version; restart = restart; armed = armed; mode = mode }
 
@@ -89,17 +97,24 @@ module _ (number highest : ℕ) (image : ImageView) (kept : RecordView) (version
   own_fine due less =
       let parts = both_of (is_running mode) (is_none kept.tentative && is_none kept.decision) due in
       let free = both_of (is_none kept.tentative) (is_none kept.decision) parts.1 in
-      all_false (is_other_held number (highest + 1) kept.tentative) (nat_le (highest + 1) (highest_seen number kept)) (eqb number kept.node && is_some kept.decision) (nat_lt MAX_COUNT (highest + 1)) _ _ _ _
-      (none_other number (highest + 1) kept.tentative (none_is kept.tentative free.0)) (not_above (highest + 1) (highest_seen number kept) (omega (arith, seen)))
+      all_false (is_other_held number (highest + 1) kept.tentative) (nat_le (highest + 1) (highest_seen number kept))
+      (eqb number kept.node && is_some kept.decision) (nat_lt MAX_COUNT (highest + 1)) _ _ _ _
+      (none_other number (highest + 1) kept.tentative (none_is kept.tentative free.0))
+      (not_above (highest + 1) (highest_seen number kept) (omega (arith, seen)))
       (none_some (eqb number kept.node) kept.decision (none_is kept.decision free.1)) (not_past highest less)
 
 module _ {C : Type 0} (words : CellWords C)
-    (includes_now : (cell : C) (t : ℕ) (left : Option (List ℕ)) → t ≤ words.moment cell → words.may_leave cell left → words.left_since cell t left)
+    (includes_now : (cell : C) (t : ℕ) (left : Option (List ℕ)) → t ≤ words.moment cell → words.may_leave cell left
+    → words.left_since cell t left)
     (may_stay : (cell : C) → words.may_leave cell (Some (words.value cell)))
     (ready_settled : (cell : C) → IsTrue (words.is_ready cell) → Only (Some (words.value cell)) (words.may_leave cell))
-    (number round call : ℕ) (old mid new : Store C words) (before after : NodeState) (put : Result (Unit {0}) StoreFault) (has : HasRecord number (mode_view before.mode) old)
+    (number round call : ℕ) (old mid new : Store C words) (before after : NodeState)
+    (put : Result (Unit {0}) StoreFault) (has : HasRecord number (mode_view before.mode) old)
     (stays : has_failed put ≡ false → (new ≡ mid) × (after ≡ before))
-    (crash : IsTrue (has_failed put) → IsCrashed mid new × ((kept : RecordView) → node_view kept after ≡ crashed (restart_after before.armed.items call round) (node_view kept before))) where
+    (crash : IsTrue (has_failed put)
+    → IsCrashed mid new
+    × ((kept : RecordView)
+    → node_view kept after ≡ crashed (restart_after before.armed.items call round) (node_view kept before))) where
   -- from there on it may be recovered, where the device failed
   abbrev restart : ℕ
   restart = restart_after before.armed.items call round
@@ -115,13 +130,23 @@ module _ {C : Type 0} (words : CellWords C)
       at InDoubt is = absurd (cc)
       at (Runs running) is = refl
 
-  module _ (highest : ℕ) (image : ImageView) (running : RunningView) (runs : mode_view before.mode ≡ Runs running) (same : image ≡ running.current) (seen : highest ≡ highest_seen number (record_in old)) (due : may_start was ≡ true)
-      (less : highest < MAX_COUNT) (changes : Changes (refusal_to_take number (highest + 1)) (with_tentative number (highest + 1) image) old mid put) where
+  module _ (highest : ℕ) (image : ImageView) (running : RunningView) (runs : mode_view before.mode ≡ Runs running)
+      (same : image ≡ running.current) (seen : highest ≡ highest_seen number (record_in old))
+      (due : may_start was ≡ true)
+      (less : highest < MAX_COUNT)
+      (changes : Changes (refusal_to_take number (highest + 1)) (with_tentative number (highest + 1) image) old mid
+      put) where
     pub start_ends : Ends (with_own_now number was) restart old new before after put
     start_ends =
-        subst (λ (next : RecordView). Ends next restart old new before after put) (next_own number highest image (record_in old) before.version before.restart before.armed.items (mode_view before.mode) running runs same seen)
-        (ended words includes_now may_stay ready_settled (refusal_to_take number (highest + 1)) (with_tentative number (highest + 1) image) old mid new put
-        (has.ready (ap is_down runs)) (own_fine number highest image (record_in old) before.version before.restart before.armed.items (mode_view before.mode) running runs same seen due less) changes has.settled restart before after stays crash)
+        subst (λ (next : RecordView). Ends next restart old new before after put)
+        (next_own number highest image (record_in old) before.version before.restart before.armed.items
+        (mode_view before.mode) running runs same seen)
+        (ended words includes_now may_stay ready_settled (refusal_to_take number (highest + 1))
+        (with_tentative number (highest + 1) image) old mid new put
+        (has.ready (ap is_down runs))
+        (own_fine number highest image (record_in old) before.version before.restart before.armed.items
+        (mode_view before.mode) running runs same seen due less) changes has.settled restart before after stays
+        crash)
 
     pub start_kept : HasRecord number (mode_view after.mode) new
     start_kept = ends_kept (with_own_now number was) restart old new before after put start_ends number has long node
@@ -130,7 +155,9 @@ module _ {C : Type 0} (words : CellWords C)
         next = with_own_now number was
 
         is : next ≡ with_tentative number (highest + 1) image (record_in old)
-        is = sym (next_own number highest image (record_in old) before.version before.restart before.armed.items (mode_view before.mode) running runs same seen)
+        is = sym
+            (next_own number highest image (record_in old) before.version before.restart before.armed.items
+            (mode_view before.mode) running runs same seen)
 
         long : length next.highest ≡ length ((record_in old).highest)
         long = ap (λ (r : RecordView). length r.highest) is ∙ length-set ((record_in old).highest) number (highest + 1)
@@ -138,43 +165,62 @@ module _ {C : Type 0} (words : CellWords C)
         node : next.node ≡ (record_in old).node
         node = ap (λ (r : RecordView). r.node) is
 
-    pub start_event : {E : Type 0} (answer : Result Outcome E) → IsAnswer (put_outcome put) answer → call ≡ words.failed_call (cell_in new) → IsPutEvent (start_prospect number was) round was (node_view (record_in new) after) old new answer
-    start_event answer is failed = ends_event (with_own_now number was) restart old new before after put start_ends true (λ no. absurd (cc)) (start_prospect number was) round answer planned (ap (λ (n : ℕ). restart_after before.armed.items n round) failed) is
+    pub start_event : {E : Type 0} (answer : Result Outcome E) → IsAnswer (put_outcome put) answer
+        → call ≡ words.failed_call (cell_in new)
+        → IsPutEvent (start_prospect number was) round was (node_view (record_in new) after) old new answer
+    start_event answer is failed =
+        ends_event (with_own_now number was) restart old new before after put start_ends true (λ no. absurd (cc))
+        (start_prospect number was) round answer planned
+        (ap (λ (n : ℕ). restart_after before.armed.items n round) failed) is
       where
         seen_less : nat_lt (highest_seen number (record_in old)) MAX_COUNT ≡ true
         seen_less = lt-ltb (highest_seen number (record_in old)) MAX_COUNT (subst (λ (n : ℕ). n < MAX_COUNT) seen less)
 
         planned : start_prospect number was ≡ putting true (with_kept (with_own_now number was) was)
         planned =
-            ap (λ (b : Bool). if_due b (unless_spent false (nat_lt (highest_seen number (record_in old)) MAX_COUNT) (putting true (with_kept (with_own_now number was) was)))) due
+            ap (λ (b : Bool). if_due b
+            (unless_spent false (nat_lt (highest_seen number (record_in old)) MAX_COUNT)
+            (putting true (with_kept (with_own_now number was) was)))) due
             ∙ ap (λ (b : Bool). unless_spent false b (putting true (with_kept (with_own_now number was) was))) seen_less
 
   -- ---- a decision
 
-  module _ (held : ℕ) (participants : List ℕ) (nobody : participants ≡ []) (runs : is_running (mode_view before.mode) ≡ true) (is : own_number number (record_in old).tentative ≡ Some held)
+  module _ (held : ℕ) (participants : List ℕ) (nobody : participants ≡ [])
+      (runs : is_running (mode_view before.mode) ≡ true) (is : own_number number (record_in old).tentative ≡ Some held)
       (changes : Changes (refusal_to_decide held) (with_decision held participants) old mid put) where
     pub decide_ends : Ends (decided (record_in old)) restart old new before after put
     decide_ends =
         subst (λ (next : RecordView). Ends next restart old new before after put) next
-        (ended words includes_now may_stay ready_settled (refusal_to_decide held) (with_decision held participants) old mid new put (has.ready (up runs)) fine changes has.settled restart before after stays crash)
+        (ended words includes_now may_stay ready_settled (refusal_to_decide held) (with_decision held participants) old
+        mid new put (has.ready (up runs)) fine changes has.settled restart before after stays crash)
       where
         next : with_decision held participants (record_in old) ≡ decided (record_in old)
         next =
             ap (λ (ps : List ℕ). with_decision held ps (record_in old)) nobody
-            ∙ ap (λ (n : ℕ). with_decision n [] (record_in old)) (sym (own_is number (record_in old).tentative held is).0)
+            ∙ ap (λ (n : ℕ). with_decision n [] (record_in old))
+            (sym (own_is number (record_in old).tentative held is).0)
 
         fine : refusal_to_decide held (record_in old) ≡ None
         fine = ap (λ (b : Bool). cond b None (Some fault.NotHeld))
-            (ap (λ (node : ℕ). is_held node held (record_in old).tentative) has.named ∙ (own_is number (record_in old).tentative held is).1)
+            (ap (λ (node : ℕ). is_held node held (record_in old).tentative) has.named
+            ∙ (own_is number (record_in old).tentative held is).1)
 
     pub decide_kept : HasRecord number (mode_view after.mode) new
     decide_kept = ends_kept (decided (record_in old)) restart old new before after put decide_ends number has refl refl
 
-    pub decide_event : (fits_room : (cell : C) (left : List ℕ) → words.may_leave cell (Some left) → length left ≤ words.capacity cell) (room_is_bounded : (cell : C) → words.capacity cell ≤ MAX_VALUE_BYTES)
-        {E : Type 0} (answer : Result Outcome E) → IsAnswer (put_outcome put) answer → call ≡ words.failed_call (cell_in new) → IsPutEvent (decide_prospect number was) round was (node_view (record_in new) after) old new answer
+    pub decide_event : (fits_room : (cell : C) (left : List ℕ) → words.may_leave cell (Some left)
+        → length left ≤ words.capacity cell) (room_is_bounded : (cell : C) → words.capacity cell ≤ MAX_VALUE_BYTES)
+        {E : Type 0} (answer : Result Outcome E) → IsAnswer (put_outcome put) answer
+        → call ≡ words.failed_call (cell_in new)
+        → IsPutEvent (decide_prospect number was) round was (node_view (record_in new) after) old new answer
     decide_event fits_room room_is_bounded answer is_answer failed =
-        ends_event (decided (record_in old)) restart old new before after put decide_ends false (λ no. decision_fits (words.capacity (cell_in old)) (record_in old) (record_fits words fits_room room_is_bounded may_stay old) (held_number (record_in old).tentative)) (decide_prospect number was) round answer (ap (λ (b : Bool). if_due b (putting false (with_kept (decided (record_in old)) was))) due)
+        ends_event (decided (record_in old)) restart old new before after put decide_ends false
+        (λ no. decision_fits (words.capacity (cell_in old)) (record_in old)
+        (record_fits words fits_room room_is_bounded may_stay old) (held_number (record_in old).tentative))
+        (decide_prospect number was) round answer
+        (ap (λ (b : Bool). if_due b (putting false (with_kept (decided (record_in old)) was))) due)
         (ap (λ (n : ℕ). restart_after before.armed.items n round) failed) is_answer
       where
         due : may_decide number was ≡ true
-        due = ap (λ (b : Bool). b && is_own number (record_in old).tentative) runs ∙ (own_is number (record_in old).tentative held is).2
+        due = ap (λ (b : Bool). b && is_own number (record_in old).tentative) runs
+            ∙ (own_is number (record_in old).tentative held is).2

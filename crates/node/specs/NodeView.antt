@@ -24,4 +24,12 @@ mode_view (mode.Running running) = Runs (running_view running)
 
 -- a node with this record
 abbrev pub node_view : RecordView → NodeState → NodeView
-node_view kept state = record { kept = kept; version = state.version; restart = state.restart; armed = state.armed.items; mode = mode_view state.mode }
+node_view kept state =
+    record {
+      kept = kept;
+      version = state.version;
+      restart = state.restart;
+      armed = state.armed.items;
+      mode =
+          mode_view state.mode;
+    }

@@ -11,14 +11,18 @@ use Rattle.protocol.specs.Node.Plans.{Prospect, IsMade, IsPut, next_record, room
 use Rattle.protocol.specs.declared.outcome.Outcome.{Outcome}
 
 -- The event comes out as its prospect says, at a node that was so and is so now, in this round.
-pub record IsPutEvent {C : Type 0} {words : CellWords C} (prospect : Prospect) (round : ℕ) (was now : NodeView) (old new : Store C words) {E : Type 0} (result : Result Outcome E) : Type 0 where
+pub record IsPutEvent {C : Type 0} {words : CellWords C} (prospect : Prospect) (round : ℕ) (was now : NodeView)
+    (old new : Store C words) {E : Type 0} (result : Result Outcome E) : Type 0 where
   -- what came of it; a node whose device failed comes back after the rounds that were armed with the call that failed
-  pub step : IfOk result (λ outcome. IsMade (restart_after was.armed (words.failed_call (cell_in new)) round) prospect was outcome now)
+  pub step : IfOk result
+      (λ outcome. IsMade (restart_after was.armed (words.failed_call (cell_in new)) round) prospect was outcome now)
   -- want of memory changes nothing, and no device has failed then
   pub refused : OnErr result (now ≡ was)
   pub refused_failures : OnErr result (words.failure_count (cell_in new) ≡ words.failure_count (cell_in old))
   -- what the cell has to do with it
-  pub put : IfOk result (IsPut (room_for (fits_in (words.capacity (cell_in old))) prospect) (words.failure_count (cell_in old)) (words.failure_count (cell_in new)))
+  pub put : IfOk result
+      (IsPut (room_for (fits_in (words.capacity (cell_in old))) prospect) (words.failure_count (cell_in old))
+      (words.failure_count (cell_in new)))
   -- a crash at any moment leaves what it might have left before, or the record that is put
   pub any_moment : LeavesNext (next_record prospect was.kept) old new
   -- what fits and what is armed stay, and no call that was counted is forgotten

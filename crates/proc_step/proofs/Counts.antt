@@ -1,5 +1,6 @@
 -- What a turn took and sent, channel by channel.
-use Rattle.std.proofs.Common.{◌≡◌, ◌≢◌, ◌⊎◌, inl, inr, ℕ, zero, suc, ◌-◌, ◌<◌, ◌≤◌, Bool, true, false, cond, eqb, List, ℤ, [], ◌∷◌, ◌++◌, length, refl, sym, ap, ◌∙◌, append_assoc, arith}
+use Rattle.std.proofs.Common.{◌≡◌, ◌≢◌, ◌⊎◌, inl, inr, ℕ, zero, suc, ◌-◌, ◌<◌, ◌≤◌, Bool, true, false, cond, eqb, List}
+use Rattle.std.proofs.Common.{ℤ, [], ◌∷◌, ◌++◌, length, refl, sym, ap, ◌∙◌, append_assoc, arith}
 use Rattle.std.specs.Prelude.{slice_index}
 use Rattle.std.proofs.lemmas.List.{length-append, length-set, get_or_past, get_or-replicate, length-replicate}
 use Rattle.std.proofs.lemmas.Bool.{cases_lt}
@@ -22,50 +23,71 @@ length-left_after (s ∷ steps) unread = length-left_after steps (left_by s.act 
     by (Sent c item) = refl
 
 -- the counts are those of the items gone
-pub taken_at : (items left : List (List ℤ)) (c : ℕ) → length left ≡ length items → slice_index (taken_of items left) c ≡ length (history_of items c) - length (history_of left c)
+pub taken_at : (items left : List (List ℤ)) (c : ℕ) → length left ≡ length items
+    → slice_index (taken_of items left) c ≡ length (history_of items c) - length (history_of left c)
 taken_at [] left c e = let none : 0 - length (history_of left c) ≡ 0 = omega arith in sym none
 taken_at (x ∷ items) [] c e = absurd (cc)
 taken_at (x ∷ items) (y ∷ left) zero e = refl
 taken_at (x ∷ items) (y ∷ left) (suc c) e = taken_at items left c (omega (arith, e))
 
 -- so many were taken as were got
-pub taken_is : (items : List (List ℤ)) (steps : List Step) (got : ℕ → List ℤ) (c : ℕ) → ((d : ℕ) → history_of items d ≡ got d ++ history_of (left_after steps items) d) → slice_index (taken_of items (left_after steps items)) c ≡ length (got c)
+pub taken_is : (items : List (List ℤ)) (steps : List Step) (got : ℕ → List ℤ) (c : ℕ)
+    → ((d : ℕ) → history_of items d ≡ got d ++ history_of (left_after steps items) d)
+    → slice_index (taken_of items (left_after steps items)) c ≡ length (got c)
 taken_is items steps got c h =
     let e = taken_at items (left_after steps items) c (length-left_after steps items) in
     let n = length-append (got c) (history_of (left_after steps items) c) in
-    let k : length (history_of items c) ≡ length (got c ++ history_of (left_after steps items) c) = ap (length {A = ℤ}) (h c) in
+    let k : length (history_of items c) ≡ length (got c ++ history_of (left_after steps items) c) =
+    ap (length {A = ℤ}) (h c) in
     e ∙ omega (arith, n, k)
 
 -- where there is no room, nothing is sent
-pub nothing_past : (steps : List Step) (room : List ℕ) (left sent : List (List ℤ)) (c : ℕ) → length room ≤ c → CanAllBeMade steps room left sent → sent_on c steps ≡ []
+pub nothing_past : (steps : List Step) (room : List ℕ) (left sent : List (List ℤ)) (c : ℕ) → length room ≤ c
+    → CanAllBeMade steps room left sent → sent_on c steps ≡ []
 nothing_past [] room left sent c h m = refl
-nothing_past (s ∷ steps) room left sent c h m = at s.act m.0 (nothing_past steps room (left_by s.act left) (put_by s.act sent) c h m.1)
+nothing_past (s ∷ steps) room left sent c h m =
+    at s.act m.0 (nothing_past steps room (left_by s.act left) (put_by s.act sent) c h m.1)
   where
     at : (a : Act) → CanBeMade a room left sent → sent_on c steps ≡ [] → sent_by c a (sent_on c steps) ≡ []
     at (Got d item) can later = later
     at (Sent d item) can later = elsewhere (eqb_tells d c)
       where
-        elsewhere : ((eqb d c ≡ true) × (d ≡ c)) ⊎ ((eqb d c ≡ false) × (d ≢ c)) → sent_by c (Sent d item) (sent_on c steps) ≡ []
-        elsewhere (inl same) = let none : slice_index room d ≡ 0 = get_or_past room d 0 (omega (arith, same.1)) in absurd (omega (arith, none))
+        elsewhere : ((eqb d c ≡ true) × (d ≡ c)) ⊎ ((eqb d c ≡ false) × (d ≢ c))
+            → sent_by c (Sent d item) (sent_on c steps) ≡ []
+        elsewhere (inl same) = let none : slice_index room d ≡ 0 = get_or_past room d 0 (omega (arith, same.1)) in
+            absurd (omega (arith, none))
         elsewhere (inr other) = ap (λ (b : Bool). cond b (item ∷ sent_on c steps) (sent_on c steps)) other.0 ∙ later
 
 -- what was sent is what the acts send
-pub sent_is : (steps : List Step) (room : List ℕ) (left : List (List ℤ)) (c : ℕ) → CanAllBeMade steps room left (nothing_sent room) → history_of (put_after steps (nothing_sent room)) c ≡ sent_on c steps
+pub sent_is : (steps : List Step) (room : List ℕ) (left : List (List ℤ)) (c : ℕ)
+    → CanAllBeMade steps room left (nothing_sent room)
+    → history_of (put_after steps (nothing_sent room)) c ≡ sent_on c steps
 sent_is steps room left c m = at (cases_lt c (length room))
   where
     len : length (nothing_sent room) ≡ length room
     len = length-replicate (length room) []
 
     at : (c < length room) ⊎ (length room ≤ c) → history_of (put_after steps (nothing_sent room)) c ≡ sent_on c steps
-    at (inl below) = put_after-at steps (nothing_sent room) c (omega (arith, len, below)) ∙ ap (λ (x : List ℤ). x ++ sent_on c steps) (get_or-replicate (length room) c [] [] below)
-    at (inr past) = get_or_past (put_after steps (nothing_sent room)) c [] (omega (arith, length-put_after steps (nothing_sent room), len, past)) ∙ sym (nothing_past steps room left (nothing_sent room) c past m)
+    at (inl below) =
+        put_after-at steps (nothing_sent room) c (omega (arith, len, below))
+        ∙ ap (λ (x : List ℤ). x ++ sent_on c steps) (get_or-replicate (length room) c [] [] below)
+    at (inr past) =
+        get_or_past (put_after steps (nothing_sent room)) c []
+        (omega (arith, length-put_after steps (nothing_sent room), len, past))
+        ∙ sym (nothing_past steps room left (nothing_sent room) c past m)
 
 -- one list more is counted
-pub counted_more : (taken pushed whole : List ℕ) (items left : List ℤ) (all rests all' rests' : List (List ℤ)) → all ≡ items ∷ all' → rests ≡ left ∷ rests' → pushed ≡ taken ++ (length items - length left) ∷ [] → taken ++ taken_of all rests ≡ whole → pushed ++ taken_of all' rests' ≡ whole
+pub counted_more : (taken pushed whole : List ℕ) (items left : List ℤ) (all rests all' rests' : List (List ℤ))
+    → all ≡ items ∷ all' → rests ≡ left ∷ rests' → pushed ≡ taken ++ (length items - length left) ∷ []
+    → taken ++ taken_of all rests ≡ whole → pushed ++ taken_of all' rests' ≡ whole
 counted_more taken pushed whole items left all rests all' rests' a b p h =
-    ap (λ (x : List ℕ). x ++ taken_of all' rests') p ∙ (append_assoc taken ((length items - length left) ∷ []) (taken_of all' rests')
-    ∙ (ap (λ (x : List (List ℤ)). taken ++ taken_of x (left ∷ rests')) (sym a) ∙ (ap (λ (x : List (List ℤ)). taken ++ taken_of all x) (sym b) ∙ h)))
+    ap (λ (x : List ℕ). x ++ taken_of all' rests') p
+    ∙ (append_assoc taken ((length items - length left) ∷ []) (taken_of all' rests')
+    ∙ (ap (λ (x : List (List ℤ)). taken ++ taken_of x (left ∷ rests')) (sym a)
+    ∙ (ap (λ (x : List (List ℤ)). taken ++ taken_of all x) (sym b) ∙ h)))
 
 -- and the others are fewer still
-pub fewer_later : (items left : List ℤ) (all rests all' rests' : List (List ℤ)) → all ≡ items ∷ all' → rests ≡ left ∷ rests' → ((c : ℕ) → length (history_of rests c) ≤ length (history_of all c)) → (c : ℕ) → length (history_of rests' c) ≤ length (history_of all' c)
+pub fewer_later : (items left : List ℤ) (all rests all' rests' : List (List ℤ)) → all ≡ items ∷ all'
+    → rests ≡ left ∷ rests' → ((c : ℕ) → length (history_of rests c) ≤ length (history_of all c)) → (c : ℕ)
+    → length (history_of rests' c) ≤ length (history_of all' c)
 fewer_later items left all rests all' rests' a b h c = rw (a, b) at (h (suc c))

@@ -1,5 +1,6 @@
 -- The sites of a statement, and of those after it.
-use Rattle.std.proofs.Common.{◌≡◌, ◌∙◌, ◌⊎◌, inl, inr, ℕ, zero, suc, ◌+◌, ◌*◌, ◌-◌, ◌<◌, ◌≤◌, List, [], ◌∷◌, drop, take, get_or, length, ap, arith, Vec, Global}
+use Rattle.std.proofs.Common.{◌≡◌, ◌∙◌, ◌⊎◌, inl, inr, ℕ, zero, suc, ◌+◌, ◌*◌, ◌-◌, ◌<◌, ◌≤◌, List, [], ◌∷◌, drop, take}
+use Rattle.std.proofs.Common.{get_or, length, ap, arith, Vec, Global}
 use Rattle.std.proofs.lemmas.List.{take_all, length-drop}
 use Rattle.kahn_net.specs.Syntax.{Block, Nothing, GetThen, AssignThen, PutThen, StopThen, IfThen, then_of, block_of}
 use Rattle.kahn_net.specs.Statements.{sites_of}
@@ -14,10 +15,12 @@ pub sites_of_if : (s : Statement) (test : Expr) (first second : Vec Statement Gl
     → sites_of (then_of s Nothing) ≡ sites_of (block_of first.items) + sites_of (block_of second.items)
 sites_of_if s test first second is =
     let whole = ap sites_of (ap (λ (x : Statement). then_of x Nothing) is ∙ if_of test first second Nothing) in
-    whole ∙ (let same : sites_of (block_of first.items) + (sites_of (block_of second.items) + 0) ≡ sites_of (block_of first.items) + sites_of (block_of second.items) = omega arith in same)
+    whole ∙ (let same : sites_of (block_of first.items) + (sites_of (block_of second.items) + 0)
+    ≡ sites_of (block_of first.items) + sites_of (block_of second.items) = omega arith in same)
 
 -- statements have those of the first and those of the others
-pub sites_at : (ss : List Statement) (i : ℕ) (s : Statement) → i < length ss → s ≡ get_or ss i s → sites_of (block_of (drop i ss)) ≡ sites_of (then_of s Nothing) + sites_of (block_of (drop (i + 1) ss))
+pub sites_at : (ss : List Statement) (i : ℕ) (s : Statement) → i < length ss → s ≡ get_or ss i s
+    → sites_of (block_of (drop i ss)) ≡ sites_of (then_of s Nothing) + sites_of (block_of (drop (i + 1) ss))
 sites_at ss i s lt is = ap sites_of (block_at ss i s lt is) ∙ sites_then s (block_of (drop (i + 1) ss))
 
 -- how many statements there are, with those of blocks: what a walk over them goes by
@@ -49,13 +52,15 @@ weight_drop [] (suc i) = omega arith
 weight_drop (s ∷ ss) (suc i) = let h = weight_drop ss i in let w = weight_then s (block_of ss) in omega (arith, h, w)
 
 -- one of the statements is less than all of them
-pub less_at : (ss : List Statement) (i : ℕ) (s : Statement) → i < length ss → s ≡ get_or ss i s → left_in s < left_among ss
+pub less_at : (ss : List Statement) (i : ℕ) (s : Statement) → i < length ss → s ≡ get_or ss i s
+    → left_in s < left_among ss
 less_at ss i s lt is =
     let here = ap weight (block_at ss i s lt is) ∙ weight_then s (block_of (drop (i + 1) ss)) in
     omega (arith, here, weight_drop ss i)
 
 -- the blocks of an if are less than it
-pub less_in_if : (s : Statement) (test : Expr) (first second : Vec Statement Global) (block : List Statement) → s ≡ view.If test first second → (block ≡ first.items) ⊎ (block ≡ second.items) → left_among block < left_in s
+pub less_in_if : (s : Statement) (test : Expr) (first second : Vec Statement Global) (block : List Statement)
+    → s ≡ view.If test first second → (block ≡ first.items) ⊎ (block ≡ second.items) → left_among block < left_in s
 less_in_if s test first second block is which =
     let whole = ap weight (ap (λ (x : Statement). then_of x Nothing) is ∙ if_of test first second Nothing) in
     elim which [

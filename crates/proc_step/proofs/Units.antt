@@ -12,9 +12,11 @@ sites_within (GetThen x c rest) = let h = sites_within rest in omega arith
 sites_within (AssignThen x e rest) = let h = sites_within rest in omega arith
 sites_within (PutThen e c rest) = let h = sites_within rest in omega arith
 sites_within (StopThen rest) = let h = sites_within rest in omega arith
-sites_within (IfThen test first second rest) = let h = sites_within first in let i = sites_within second in let j = sites_within rest in omega arith
+sites_within (IfThen test first second rest) = let h = sites_within first in let i = sites_within second in let j =
+    sites_within rest in omega arith
 
-pub few_in_body : (prelude b b' : Block) (body : Option Block) (first : ℕ) → body ≡ Some b' → b ≡ b' → first ≡ sites_of prelude → block_units prelude + body_units body ≤ MAX_UNITS → first + sites_of b < 2 ^ 64
+pub few_in_body : (prelude b b' : Block) (body : Option Block) (first : ℕ) → body ≡ Some b' → b ≡ b'
+    → first ≡ sites_of prelude → block_units prelude + body_units body ≤ MAX_UNITS → first + sites_of b < 2 ^ 64
 few_in_body prelude b b' body first is same sites few =
     let p = sites_within prelude in
     let q = sites_within b' in

@@ -12,7 +12,8 @@ use Rattle.proc_step.specs.Turns.{CanAllBeMade, IsNextHeldBack}
 abbrev pub StopsAs : Flow → End → List Step → List ℤ → List ℕ → List (List ℤ) → List (List ℤ) → Type 0
 StopsAs RanOut end rest vars room unread sent = (rest ≡ []) × (end ≡ Ended vars unread)
 StopsAs Stopped end rest vars room unread sent = (rest ≡ []) × (end ≡ StopsAt vars)
-StopsAs (Stands site) end rest vars room unread sent = (standing_at rest end ≡ At (point_at site []) vars) × IsNextHeldBack rest room unread sent
+StopsAs (Stands site) end rest vars room unread sent =
+    (standing_at rest end ≡ At (point_at site []) vars) × IsNextHeldBack rest room unread sent
 
 -- where a process stands that stopped so, with these variables
 abbrev pub stands_as : Flow → List ℤ → Standing
@@ -21,7 +22,8 @@ stands_as Stopped vars = Done vars
 stands_as (Stands site) vars = At (point_at site []) vars
 
 -- a beginning of a trace was made, and then it stopped
-pub record Part (t : Trace) (room : List ℕ) (unread sent : List (List ℤ)) (flow : Flow) (vars' : List ℤ) (unread' sent' : List (List ℤ)) : Type 0 where
+pub record Part (t : Trace) (room : List ℕ) (unread sent : List (List ℤ)) (flow : Flow) (vars' : List ℤ)
+    (unread' sent' : List (List ℤ)) : Type 0 where
   pub done : List Step
   pub rest : List Step
   pub whole : t.steps ≡ done ++ rest
@@ -31,7 +33,8 @@ pub record Part (t : Trace) (room : List ℕ) (unread sent : List (List ℤ)) (f
   pub stop : StopsAs flow t.end rest vars' room unread' sent'
 
 -- a beginning of a trace was made, and this is where the process stands then
-pub record Played (t : Trace) (room : List ℕ) (unread sent : List (List ℤ)) (after : Standing) (unread' sent' : List (List ℤ)) : Type 0 where
+pub record Played (t : Trace) (room : List ℕ) (unread sent : List (List ℤ)) (after : Standing)
+    (unread' sent' : List (List ℤ)) : Type 0 where
   pub done : List Step
   pub rest : List Step
   pub whole : t.steps ≡ done ++ rest

@@ -1,5 +1,6 @@
 -- A process's turn: as many of its acts as the items at hand and the room allow.
-use Rattle.std.specs.Prelude.{◌≡◌, ◌≤◌, ◌<◌, ◌+◌, ℕ, ℤ, List, [], ◌∷◌, ◌++◌, length, take, drop, replicate, slice_get, slice_index, Some}
+use Rattle.std.specs.Prelude.{◌≡◌, ◌≤◌, ◌<◌, ◌+◌, ℕ, ℤ, List, [], ◌∷◌, ◌++◌, length, take, drop, replicate, slice_get}
+use Rattle.std.specs.Prelude.{slice_index, Some}
 use Rattle.kahn_net.specs.Streams.{history_of, IsPrefix}
 use Rattle.kahn_net.specs.Syntax.{Code, network_of}
 use Rattle.kahn_net.specs.Statements.{Act, Got, Sent, Step}
@@ -19,7 +20,8 @@ CanBeMade (Sent channel item) room left sent = length (history_of sent channel) 
 -- each of these acts in turn can be made
 abbrev pub CanAllBeMade : List Step → List ℕ → List (List ℤ) → List (List ℤ) → Type 0
 CanAllBeMade [] room left sent = Unit {0}
-CanAllBeMade (step ∷ steps) room left sent = CanBeMade step.act room left sent × CanAllBeMade steps room (left_by step.act left) (put_by step.act sent)
+CanAllBeMade (step ∷ steps) room left sent =
+    CanBeMade step.act room left sent × CanAllBeMade steps room (left_by step.act left) (put_by step.act sent)
 
 -- an act can't be made: a get with no item left, or a put with no room left
 abbrev pub IsHeldBack : Act → List ℕ → List (List ℤ) → List (List ℤ) → Type 0
@@ -39,15 +41,18 @@ HasBegun (Done vars) = Unit {0}
 
 -- on each channel, these items are those that come next once these acts are made, as far as they go
 abbrev pub AreNext : List (List ℤ) → List (List ℤ) → List Step → Type 0
-AreNext items inputs made = (channel : ℕ) → IsPrefix (history_of items channel) (drop (length (got_on channel made)) (history_of inputs channel))
+AreNext items inputs made =
+    (channel : ℕ)
+    → IsPrefix (history_of items channel) (drop (length (got_on channel made)) (history_of inputs channel))
 
 -- nothing was sent on any channel
 abbrev pub nothing_sent : List ℕ → List (List ℤ)
 nothing_sent room = replicate (length room) []
 
--- Acts m + 1 and on of a process were made on these items and this room, as many as could be: where it stands then, how many items of
--- each channel they took, and what they sent on each.
-pub record Turn (code : Code) (inputs : List (List ℤ)) (m : ℕ) (items : List (List ℤ)) (room : List ℕ) (after : Standing) (taken : List ℕ) (sent : List (List ℤ)) : Type 0 where
+-- Acts m + 1 and on of a process were made on these items and this room, as many as could be: where it stands then, how
+-- many items of each channel they took, and what they sent on each.
+pub record Turn (code : Code) (inputs : List (List ℤ)) (m : ℕ) (items : List (List ℤ)) (room : List ℕ)
+    (after : Standing) (taken : List ℕ) (sent : List (List ℤ)) : Type 0 where
   pub acts : List Step
   pub later : List Step
   pub split : drop m (process_trace code inputs).steps ≡ acts ++ later
@@ -58,17 +63,22 @@ pub record Turn (code : Code) (inputs : List (List ℤ)) (m : ℕ) (items : List
   pub taken_is : (channel : ℕ) → slice_index taken channel ≡ length (got_on channel acts)
   pub sent_is : (channel : ℕ) → history_of sent channel ≡ sent_on channel acts
   -- where it waits at a get or has finished, it has put exactly its function of what it got
-  pub function : NoPutNext later → (got : List (List ℤ)) → ((channel : ℕ) → history_of got channel ≡ got_on channel (take (m + length acts) (process_trace code inputs).steps))
-      → (channel : ℕ) → sent_on channel (take (m + length acts) (process_trace code inputs).steps) ≡ output_of code got channel
+  pub function : NoPutNext later → (got : List (List ℤ))
+      → ((channel : ℕ)
+      → history_of got channel ≡ got_on channel (take (m + length acts) (process_trace code inputs).steps))
+      → (channel : ℕ)
+      → sent_on channel (take (m + length acts) (process_trace code inputs).steps) ≡ output_of code got channel
 
--- A turn of a process from where it stands, whatever the whole input histories are: wherever it stands so after m acts, and the items
--- at hand come next there.
+-- A turn of a process from where it stands, whatever the whole input histories are: wherever it stands so after m acts,
+-- and the items at hand come next there.
 abbrev pub IsTurn : Code → Standing → List (List ℤ) → List ℕ → Standing → List ℕ → List (List ℤ) → Type 0
 IsTurn code before items room after taken sent =
-    (inputs : List (List ℤ)) (m : ℕ) → StandsAt code inputs m before → AreNext items inputs (take m (process_trace code inputs).steps)
+    (inputs : List (List ℤ)) (m : ℕ) → StandsAt code inputs m before
+    → AreNext items inputs (take m (process_trace code inputs).steps)
     → Turn code inputs m items room after taken sent
 
 -- the same of the process of this number
 abbrev pub IsOwnTurn : Program → ℕ → ProcState → List (List ℤ) → List ℕ → ProcState → List ℕ → List (List ℤ) → Type 0
 IsOwnTurn program process before items room after taken sent =
-    (code : Code) → slice_get (network_of program).codes process ≡ Some code → IsTurn code (standing_of before) items room (standing_of after) taken sent
+    (code : Code) → slice_get (network_of program).codes process ≡ Some code
+    → IsTurn code (standing_of before) items room (standing_of after) taken sent

@@ -9,7 +9,8 @@ AreAscending ends = AllPairs (λ (x y : SavedEnd). x.channel < y.channel) ends
 
 -- at this place stands an end of this channel
 abbrev pub IsPlaceOf : List SavedEnd → ℕ → ℕ → Type 0
-IsPlaceOf ends channel place = (place < length ends) × ((d : SavedEnd) → (slice_index_or ends place d).channel ≡ channel)
+IsPlaceOf ends channel place =
+    (place < length ends) × ((d : SavedEnd) → (slice_index_or ends place d).channel ≡ channel)
 
 -- no end is of this channel
 abbrev pub HasNoneOf : List SavedEnd → ℕ → Type 0

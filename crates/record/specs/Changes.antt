@@ -23,7 +23,8 @@ LogTakes count (Some log) = ¬ (Overfills log count)
 
 -- a log from a position on, where that is one of its positions or its end, and else as it was
 abbrev pub trimmed_log : ℕ → LogState → LogState
-trimmed_log position log = if nat_lt position log.base then log else (if nat_lt (log_end log) position then log else trimmed log position)
+trimmed_log position log =
+    if nat_lt position log.base then log else (if nat_lt (log_end log) position then log else trimmed log position)
 
 -- an end of a channel after so many items were got; one that stays on the node retains none of them
 abbrev pub counted : ℕ → End → End
@@ -37,8 +38,14 @@ trimmed_end position (Sends log) = Sends (trimmed_log position log)
 trimmed_end position (Both received log) = Both received (trimmed_log position log)
 
 abbrev pub trimmed_saved : ℕ → ℕ → SavedEnd → SavedEnd
-trimmed_saved channel position saved = record { channel = saved.channel; end = if saved.channel == channel then trimmed_end position saved.end else saved.end }
+trimmed_saved channel position saved =
+    record {
+      channel = saved.channel;
+      end =
+          if saved.channel == channel then trimmed_end position saved.end else saved.end;
+    }
 
 -- an image whose log of this channel begins at this position
 abbrev pub trimmed_image : ℕ → ℕ → ImageView → ImageView
-trimmed_image channel position image = record { processes = image.processes; ends = map (trimmed_saved channel position) image.ends }
+trimmed_image channel position image =
+    record { processes = image.processes; ends = map (trimmed_saved channel position) image.ends }

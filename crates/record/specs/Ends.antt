@@ -8,7 +8,8 @@ use Rattle.record.specs.declared.image.End.TheVariants.{Receives, Sends, Both}
 
 -- the end of this channel, where there is one: the first of the list
 abbrev pub end_of : ImageView → ℕ → Option End
-end_of image channel = option_map (λ (saved : SavedEnd). saved.end) (find (λ (saved : SavedEnd). eqb saved.channel channel) image.ends)
+end_of image channel =
+    option_map (λ (saved : SavedEnd). saved.end) (find (λ (saved : SavedEnd). eqb saved.channel channel) image.ends)
 
 -- the items that this end received
 abbrev pub received_at : Option End → ℕ

@@ -1,5 +1,6 @@
 -- The moves of a record: what it becomes by each put of it.
-use Rattle.std.specs.Prelude.{ℕ, ◌+◌, ◌==◌, not, if◌then◌else◌, List, [], ◌∷◌, filter, Option, Some, None, slice_index, slice_set}
+use Rattle.std.specs.Prelude.{ℕ, ◌+◌, ◌==◌, not, if◌then◌else◌, List, [], ◌∷◌, filter, Option, Some, None, slice_index}
+use Rattle.std.specs.Prelude.{slice_set}
 use Rattle.record.specs.DecisionView.{DecisionView}
 use Rattle.record.specs.ImageView.{ImageView}
 use Rattle.record.specs.RecordView.{RecordView}
@@ -9,7 +10,8 @@ use Rattle.record.specs.declared.record.Tentative.{Tentative}
 abbrev pub highest_seen : ℕ → RecordView → ℕ
 highest_seen initiator kept = slice_index kept.highest initiator
 
--- the record with this image as the tentative one of an instance, whose number becomes the highest seen of its initiator
+-- the record with this image as the tentative one of an instance, whose number becomes the highest seen of its
+-- initiator
 abbrev pub with_tentative : ℕ → ℕ → ImageView → RecordView → RecordView
 with_tentative initiator number image kept = record kept {
   highest = slice_set kept.highest initiator number;

@@ -11,8 +11,10 @@ use Rattle.recovery_line.proofs.Basics.{false_true, either, same_or_other, at_mo
 use Rattle.recovery_line.proofs.Grows.{Stays, Grows}
 use Rattle.recovery_line.proofs.Frames.{OnlyRecord, everywhere, HoldOn, live_stays, still_live}
 
-module _ (net : Net) (w v : World) (x p n : ℕ) (ok : Agreed net w) (nodes : (k : ℕ) → NodeOk net k (node_of w k)) (says : SettledSays w p x n)
-    (only : OnlyRecord w v x) (confirms : Confirms (w.records x) (v.records x) n p) (live_same : (y : ℕ) (live : Live) → IsLive v y live → IsLive w y live) where
+module _ (net : Net) (w v : World) (x p n : ℕ) (ok : Agreed net w) (nodes : (k : ℕ) → NodeOk net k (node_of w k))
+    (says : SettledSays w p x n)
+    (only : OnlyRecord w v x) (confirms : Confirms (w.records x) (v.records x) n p)
+    (live_same : (y : ℕ) (live : Live) → IsLive v y live → IsLive w y live) where
   tentative : (j : ℕ) → (v.records j).tentative ≡ (w.records j).tentative
   tentative = everywhere (λ r. r.tentative) w v x only confirms.tentative
 
@@ -50,11 +52,16 @@ module _ (net : Net) (w v : World) (x p n : ℕ) (ok : Agreed net w) (nodes : (k
   ]
 
   -- a holder stays named, since it isn't the one that leaves
-  named_still : (y m q : ℕ) (i : Image) → (w.records y).decided m ≡ true → (w.records y).named m q ≡ true → Holds (w.records q) y m i → ((v.records y).decided m ≡ true) × ((v.records y).named m q ≡ true)
+  named_still : (y m q : ℕ) (i : Image) → (w.records y).decided m ≡ true → (w.records y).named m q ≡ true
+      → Holds (w.records q) y m i → ((v.records y).decided m ≡ true) × ((v.records y).named m q ≡ true)
   named_still y m q i decided named held = elim (same_or_other y x) [
     | inr other ↦ (rw (only y other) decided, rw (only y other) named)
     | inl is ↦ elim (same_or_other m n) [
-      | inr other ↦ rw is ((confirms.others m other).0 ∙ (rw is at decided), ap (λ (f : ℕ → Bool). f q) (confirms.others m other).1 ∙ (rw is at named))
+      | inr other ↦ rw is (
+        (confirms.others m other).0 ∙ (rw is at decided),
+        ap (λ (f : ℕ → Bool). f q) (confirms.others m other).1
+            ∙ (rw is at named),
+      )
       | inl this ↦
           let stays : q ≢ p = λ same. says.free i (rw (← same, ← is, ← this) held) in
           let before : (w.records x).named n q ≡ true = rw (is, this) at named in
@@ -62,7 +69,8 @@ module _ (net : Net) (w v : World) (x p n : ℕ) (ok : Agreed net w) (nodes : (k
     ]
   ]
 
-  decided_still : (y m q : ℕ) (i : Image) → (w.records y).decided m ≡ true → Holds (w.records q) y m i → (v.records y).decided m ≡ true
+  decided_still : (y m q : ℕ) (i : Image) → (w.records y).decided m ≡ true → Holds (w.records q) y m i
+      → (v.records y).decided m ≡ true
   decided_still y m q i decided held = elim (same_or_other q y) [
     | inl own ↦ let one = (nodes y).older m m i (rw own at held) decided in absurd (omega arith)
     | inr other ↦ (named_still y m q i decided (ok.holders y m q i other held decided) held).0
@@ -84,7 +92,8 @@ module _ (net : Net) (w v : World) (x p n : ℕ) (ok : Agreed net w) (nodes : (k
   on y live is = record {
     undecided = elim (either ((v.records y).decided live.number)) [
       | inr never ↦ never
-      | inl now ↦ let one = ok.live y live is in absurd (false_true (sym one.1.undecided ∙ decided_before y live.number now))
+      | inl now ↦ let one = ok.live y live is in
+          absurd (false_true (sym one.1.undecided ∙ decided_before y live.number now))
     ];
     holders = λ q i held. (holds_on q y live.number i held, permanent q);
     none_new = λ q i other held. was_held q y live.number i held;
@@ -107,11 +116,13 @@ module _ (net : Net) (w v : World) (x p n : ℕ) (ok : Agreed net w) (nodes : (k
   pub confirms_agrees : Agreed net v
   confirms_agrees = record {
     highest = λ j y. rw (highest j, highest y) (ok.highest j y);
-    named = λ y m q now is_named. rw (highest q) (ok.named y m q (decided_before y m now) (named_before y m q is_named));
+    named = λ y m q now is_named. rw (highest q)
+        (ok.named y m q (decided_before y m now) (named_before y m q is_named));
     holders = λ y m q i other held now.
         let was = was_held q y m i held in
         let decided = decided_before y m now in
         (named_still y m q i decided (ok.holders y m q i other was decided) was).1;
     no_orphan = λ c a b cross. rw (line b, line a) (ok.no_orphan c a b cross);
-    live = λ y live is. let one = ok.live y live (live_same y live is) in (one.0, live_stays net w v y one.0 live (on y live (live_same y live is)) one.1);
+    live = λ y live is. let one = ok.live y live (live_same y live is) in
+        (one.0, live_stays net w v y one.0 live (on y live (live_same y live is)) one.1);
   }

@@ -1,5 +1,6 @@
 -- A run of two nodes: node 1 puts an item, node 0 gets it and starts an instance, and node 1 takes part.
-use Rattle.std.proofs.Common.{◌≡◌, ◌⊎◌, inr, ℕ, zero, suc, ◌<◌, ◌≤◌, Bool, true, false, Option, Some, None, [], ◌∷◌, refl, sym, ap, subst, arith}
+use Rattle.std.proofs.Common.{◌≡◌, ◌⊎◌, inr, ℕ, zero, suc, ◌<◌, ◌≤◌, Bool, true, false, Option, Some, None, [], ◌∷◌}
+use Rattle.std.proofs.Common.{refl, sym, ap, subst, arith}
 use Rattle.std.proofs.Math.Path.{fun_ext}
 use Rattle.std.specs.Prelude.{◌≢◌}
 use Rattle.recovery_line.specs.Images.{Image, Net, IsCross, IsLocal, blank}
@@ -68,7 +69,15 @@ abbrev got : Image
 got = record { received = one_at_0; base = λ c. 0; sent = λ c. 0 }
 
 abbrev taken : Image → Record
-taken image = record { highest = one_at_0; decided = λ n. false; named = λ n p. false; permanent = blank; tentative = Some (record { initiator = 0; number = 1; image = image }) }
+taken image =
+    record {
+      highest = one_at_0;
+      decided = λ n. false;
+      named = λ n p. false;
+      permanent = blank;
+      tentative =
+          Some (record { initiator = 0; number = 1; image = image });
+    }
 
 abbrev decided : Record
 decided = record { highest = one_at_0; decided = is_one; named = names_node_1; permanent = got; tentative = None }
@@ -94,7 +103,8 @@ just packet zero = Some packet
 just packet (suc place) = None
 
 abbrev world : Record → Record → Mode → Mode → (ℕ → Option Packet) → World
-world r s m n flight = record { records = by_node r s new_record; modes = by_node m n idle; outlets = λ c. 0; flight = flight }
+world r s m n flight =
+    record { records = by_node r s new_record; modes = by_node m n idle; outlets = λ c. 0; flight = flight }
 
 abbrev ask : Packet
 ask = Ask 0 1 0 1
@@ -129,11 +139,15 @@ w7 = world (taken got) (taken put) (Running got (Some ready)) (Running put None)
 abbrev w8 : World
 w8 = world decided (taken put) (Running got None) (Running put None) (just took)
 
-at_0 : (r r' s : Record) (m m' n : Mode) (flight : ℕ → Option Packet) → OnlyAt (world r s m n flight) (world r' s m' n flight) 0
-at_0 r r' s m m' n flight = record { records = but_at_0 r r' s new_record; modes = but_at_0 m m' n idle; flight = λ packet is. is }
+at_0 : (r r' s : Record) (m m' n : Mode) (flight : ℕ → Option Packet)
+    → OnlyAt (world r s m n flight) (world r' s m' n flight) 0
+at_0 r r' s m m' n flight =
+    record { records = but_at_0 r r' s new_record; modes = but_at_0 m m' n idle; flight = λ packet is. is }
 
-at_1 : (r s s' : Record) (m n n' : Mode) (flight : ℕ → Option Packet) → OnlyAt (world r s m n flight) (world r s' m n' flight) 1
-at_1 r s s' m n n' flight = record { records = but_at_1 r s s' new_record; modes = but_at_1 m n n' idle; flight = λ packet is. is }
+at_1 : (r s s' : Record) (m n n' : Mode) (flight : ℕ → Option Packet)
+    → OnlyAt (world r s m n flight) (world r s' m n' flight) 1
+at_1 r s s' m n n' flight =
+    record { records = but_at_1 r s s' new_record; modes = but_at_1 m n n' idle; flight = λ packet is. is }
 
 -- the opening world, node by node
 opens : opening ≡ w0
@@ -150,81 +164,110 @@ opens = rw (fun_ext all_new, fun_ext all_idle) refl
     all_idle (suc (suc k)) = refl
 
 puts : Step net w0 w1
-puts = Acts 1 (at_1 new_record new_record new_record idle idle (Running put None) nothing_sent) (Work blank put None (record {
-  same = record { disk = refl; outlets = refl };
-  was = refl;
-  now = refl;
-  received = λ c. omega arith;
-  base = refl;
-  sent = λ c. omega arith;
-  local = λ c is. omega arith;
-}))
+puts = Acts 1 (at_1 new_record new_record new_record idle idle (Running put None) nothing_sent)
+    (Work blank put None (record {
+      same = record { disk = refl; outlets = refl };
+      was = refl;
+      now = refl;
+      received = λ c. omega arith;
+      base = refl;
+      sent = λ c. omega arith;
+      local = λ c is. omega arith;
+    }))
 
 gets : Step net w1 w2
-gets = Acts 0 (at_0 new_record new_record new_record idle (Running got None) (Running put None) nothing_sent) (Work blank got None (record {
-  same = record { disk = refl; outlets = refl };
-  was = refl;
-  now = refl;
-  received = λ c. omega arith;
-  base = refl;
-  sent = λ c. omega arith;
-  local = local;
-}))
+gets = Acts 0 (at_0 new_record new_record new_record idle (Running got None) (Running put None) nothing_sent)
+    (Work blank got None (record {
+      same = record { disk = refl; outlets = refl };
+      was = refl;
+      now = refl;
+      received = λ c. omega arith;
+      base = refl;
+      sent = λ c. omega arith;
+      local = local;
+    }))
   where
     local : (c : ℕ) → IsLocal net c 0 → one_at_0 c ≤ 0
     local zero is = absurd (channel.apart (one_inside {o = Some 1} refl is.from))
     local (suc c) is = omega arith
 
 takes : (image : Image) → Takes new_record (taken image) 0 1 image
-takes image = record { free = refl; new = omega arith; holds = refl; highest = refl; others = others; permanent = refl; decided = refl; named = refl }
+takes image =
+    record {
+      free = refl;
+      new = omega arith;
+      holds = refl;
+      highest = refl;
+      others = others;
+      permanent = refl;
+      decided =
+          refl;
+      named = refl;
+    }
   where
     others : (y : ℕ) → y ≢ 0 → one_at_0 y ≡ 0
     others zero other = absurd (other refl)
     others (suc y) other = refl
 
 starts : Step net w2 w3
-starts = Acts 0 (at_0 new_record (taken got) new_record (Running got None) (Running got (Some waiting)) (Running put None) nothing_sent) (Start got waiting (record {
-  was = refl;
-  number = refl;
-  takes = takes got;
-  asks = record { each = each; only = only };
-  nobody = λ p is. false_true is;
-  now = refl;
-  outlets = refl;
-}))
+starts =
+    Acts 0 (at_0 new_record (taken got) new_record (Running got None) (Running got (Some waiting)) (Running put None)
+    nothing_sent) (Start got waiting (record {
+      was = refl;
+      number = refl;
+      takes = takes got;
+      asks = record { each = each; only = only };
+      nobody = λ p is. false_true is;
+      now = refl;
+      outlets = refl;
+    }))
   where
     each : (c p : ℕ) → IsCross net c p 0 → 0 < one_at_0 c → asks_by Awaited c ≡ Some (one_at_0 c, Awaited)
     each zero p cross above = refl
     each (suc c) p cross above = absurd (some_not_none refl cross.from)
 
-    only : (c m : ℕ) (answer : Answer) → asks_by Awaited c ≡ Some (m, answer) → (p : ℕ) × IsCross net c p 0 × (m ≡ one_at_0 c) × (answer ≡ Awaited)
-    only zero m answer asked = (1, channel, ap (λ (pair : ℕ × Answer). pair.0) (one_inside asked refl), ap (λ (pair : ℕ × Answer). pair.1) (one_inside asked refl))
+    only : (c m : ℕ) (answer : Answer) → asks_by Awaited c ≡ Some (m, answer)
+        → (p : ℕ) × IsCross net c p 0 × (m ≡ one_at_0 c) × (answer ≡ Awaited)
+    only zero m answer asked = (
+      1,
+      channel,
+      ap (λ (pair : ℕ × Answer). pair.0) (one_inside asked refl),
+      ap (λ (pair : ℕ × Answer). pair.1)
+          (one_inside asked refl),
+    )
     only (suc c) m answer asked = absurd (some_not_none refl asked)
 
 -- one packet is sent, and the others are lost
-sends : (r s : Record) (m n : Mode) (flight : ℕ → Option Packet) (packet : Packet) → MaySend net (world r s m n flight) packet → Step net (world r s m n flight) (world r s m n (just packet))
-sends r s m n flight packet may = Send (record { records = refl; modes = refl; outlets = refl; flight = λ other is. sent other is.0 is.1 })
+sends : (r s : Record) (m n : Mode) (flight : ℕ → Option Packet) (packet : Packet)
+    → MaySend net (world r s m n flight) packet → Step net (world r s m n flight) (world r s m n (just packet))
+sends r s m n flight packet may =
+    Send (record { records = refl; modes = refl; outlets = refl; flight = λ other is. sent other is.0 is.1 })
   where
-    sent : (other : Packet) (place : ℕ) → just packet place ≡ Some other → InFlight (world r s m n flight) other ⊎ MaySend net (world r s m n flight) other
+    sent : (other : Packet) (place : ℕ) → just packet place ≡ Some other
+        → InFlight (world r s m n flight) other ⊎ MaySend net (world r s m n flight) other
     sent other zero is = inr (subst (λ (p : Packet). MaySend net (world r s m n flight) p) (one_inside refl is) may)
     sent other (suc place) is = absurd (some_not_none refl is)
 
 asks : Step net w3 w4
-asks = sends (taken got) new_record (Running got (Some waiting)) (Running put None) nothing_sent ask (record { live = waiting; is = refl; number = refl; asked = refl })
+asks = sends (taken got) new_record (Running got (Some waiting)) (Running put None) nothing_sent ask
+    (record { live = waiting; is = refl; number = refl; asked = refl })
 
 takes_part : Step net w4 w5
-takes_part = Comes 1 ask (0, refl) (at_1 (taken got) new_record (taken put) (Running got (Some waiting)) (Running put None) (Running put None) (just ask)) (record {
-  to = 0;
-  cross = channel;
-  current = put;
-  live = None;
-  running = refl;
-  above = omega arith;
-  within = omega arith;
-  takes = takes put;
-  mode = refl;
-  outlets = refl;
-})
+takes_part =
+    Comes 1 ask (0, refl)
+    (at_1 (taken got) new_record (taken put) (Running got (Some waiting)) (Running put None) (Running put None)
+    (just ask)) (record {
+      to = 0;
+      cross = channel;
+      current = put;
+      live = None;
+      running = refl;
+      above = omega arith;
+      within = omega arith;
+      takes = takes put;
+      mode = refl;
+      outlets = refl;
+    })
 
 is_up : (current : Image) (live : Option Live) → Running current live ≢ Down
 is_up current live down = false_true (ap stopped (sym down))
@@ -244,45 +287,50 @@ answers = sends (taken got) (taken put) (Running got (Some waiting)) (Running pu
   held = refl;
   above = omega arith;
   within = omega arith;
-  needs_of = record { each = λ c r cross above. absurd (omega arith); only = λ c m need. absurd (some_not_none refl need) };
+  needs_of =
+      record { each = λ c r cross above. absurd (omega arith); only = λ c m need. absurd (some_not_none refl need) };
 })
 
 hears : Step net w6 w7
-hears = Comes 0 took (0, refl) (at_0 (taken got) (taken got) (taken put) (Running got (Some waiting)) (Running got (Some ready)) (Running put None) (just took)) (
-  refl,
-  record {
-    from = 1;
-    to = 0;
-    cross = channel;
-    current = got;
-    own = got;
-    before = waiting;
-    later = ready;
-    same = record { disk = refl; outlets = refl };
-    was = refl;
-    now = refl;
-    held = refl;
-    number = refl;
-    number_same = refl;
-    count = 1;
-    answer = Awaited;
-    asked = refl;
-    answered = refl;
-    asks_kept = kept;
-    asks_new = new;
-    met = λ d r j cross need. absurd (some_not_none refl need);
-    takes = refl;
-    takes_others = others;
-    places = λ p is. refl;
-    last = inr (λ p is. absurd (false_true is));
-  },
-)
+hears = Comes 0 took (0, refl)
+    (at_0 (taken got) (taken got) (taken put) (Running got (Some waiting)) (Running got (Some ready))
+    (Running put None) (just took)) (
+      refl,
+      record {
+        from = 1;
+        to = 0;
+        cross = channel;
+        current = got;
+        own = got;
+        before = waiting;
+        later = ready;
+        same = record { disk = refl; outlets = refl };
+        was = refl;
+        now = refl;
+        held = refl;
+        number = refl;
+        number_same = refl;
+        count = 1;
+        answer = Awaited;
+        asked = refl;
+        answered = refl;
+        asks_kept = kept;
+        asks_new = new;
+        met = λ d r j cross need. absurd (some_not_none refl need);
+        takes = refl;
+        takes_others = others;
+        places = λ p is. refl;
+        last = inr (λ p is. absurd (false_true is));
+      },
+    )
   where
-    kept : (d j : ℕ) (answer : Answer) → d ≢ 0 → asks_by Awaited d ≡ Some (j, answer) → asks_by By_took d ≡ Some (j, answer)
+    kept : (d j : ℕ) (answer : Answer) → d ≢ 0 → asks_by Awaited d ≡ Some (j, answer)
+        → asks_by By_took d ≡ Some (j, answer)
     kept zero j answer other asked = absurd (other refl)
     kept (suc d) j answer other asked = absurd (some_not_none refl asked)
 
-    new : (d j : ℕ) (answer : Answer) → d ≢ 0 → asks_by By_took d ≡ Some (j, answer) → (asks_by Awaited d ≡ Some (j, answer)) ⊎ ((None ≡ Some j) × (answer ≡ Awaited) × (producer_of d ≢ Some 0))
+    new : (d j : ℕ) (answer : Answer) → d ≢ 0 → asks_by By_took d ≡ Some (j, answer)
+        → (asks_by Awaited d ≡ Some (j, answer)) ⊎ ((None ≡ Some j) × (answer ≡ Awaited) × (producer_of d ≢ Some 0))
     new zero j answer other asked = absurd (other refl)
     new (suc d) j answer other asked = absurd (some_not_none refl asked)
 
@@ -292,22 +340,24 @@ hears = Comes 0 took (0, refl) (at_0 (taken got) (taken got) (taken put) (Runnin
     others (suc (suc p)) other = refl
 
 concludes : Step net w7 w8
-concludes = Acts 0 (at_0 (taken got) decided (taken put) (Running got (Some ready)) (Running got None) (Running put None) (just took)) (Conclude got got ready (record {
-  was = refl;
-  answered = answered;
-  decides = record {
-    held = refl;
-    permanent = refl;
-    free = refl;
-    highest = refl;
-    decided = λ p is. refl;
-    alone = λ none. absurd (false_true (sym (none 1)));
-    named = λ p. refl;
-    others = others;
-  };
-  now = refl;
-  outlets = refl;
-}))
+concludes =
+    Acts 0 (at_0 (taken got) decided (taken put) (Running got (Some ready)) (Running got None) (Running put None)
+    (just took)) (Conclude got got ready (record {
+      was = refl;
+      answered = answered;
+      decides = record {
+        held = refl;
+        permanent = refl;
+        free = refl;
+        highest = refl;
+        decided = λ p is. refl;
+        alone = λ none. absurd (false_true (sym (none 1)));
+        named = λ p. refl;
+        others = others;
+      };
+      now = refl;
+      outlets = refl;
+    }))
   where
     answered : (c m : ℕ) → asks_by By_took c ≢ Some (m, Awaited)
     answered zero m asked = let wrong = ap (λ (pair : ℕ × Answer). pair.1) (one_inside refl asked) in cc wrong
@@ -319,4 +369,18 @@ concludes = Acts 0 (at_0 (taken got) decided (taken put) (Running got (Some read
     others (suc (suc m)) other = (refl, refl)
 
 pub reaches_a_decision : ReachesADecision
-reaches_a_decision = (net, w8, 0, 1, 1, (w1 ∷ w2 ∷ w3 ∷ w4 ∷ w5 ∷ w6 ∷ w7 ∷ w8 ∷ [], (rw opens puts, (gets, (starts, (asks, (takes_part, (answers, (hears, (concludes, refl))))))))), refl, refl, channel.apart)
+reaches_a_decision = (
+  net,
+  w8,
+  0,
+  1,
+  1,
+  (
+    w1 ∷ w2 ∷ w3 ∷ w4 ∷ w5 ∷ w6 ∷ w7 ∷ w8
+        ∷ [],
+    (rw opens puts, (gets, (starts, (asks, (takes_part, (answers, (hears, (concludes, refl)))))))),
+  ),
+  refl,
+  refl,
+  channel.apart,
+)

@@ -7,7 +7,8 @@ use Rattle.recovery_line.specs.Moves.{Drops}
 use Rattle.recovery_line.specs.Nodes.{Live}
 use Rattle.recovery_line.specs.Worlds.{World, IsLive}
 use Rattle.recovery_line.specs.Invariant.{Agreed}
-use Rattle.recovery_line.proofs.Basics.{same_or_other, at_most_itself, some_not_none, same_initiator, same_number, effective_free, effective_open}
+use Rattle.recovery_line.proofs.Basics.{same_or_other, at_most_itself, some_not_none, same_initiator, same_number}
+use Rattle.recovery_line.proofs.Basics.{effective_free, effective_open}
 use Rattle.recovery_line.proofs.Grows.{Stays, Goes, Fate, Grows}
 use Rattle.recovery_line.proofs.Frames.{OnlyRecord, everywhere, effective_at_others, HoldOn, live_stays, still_live}
 
@@ -40,7 +41,12 @@ module _ (net : Net) (w v : World) (k x n : ℕ) (image : Image) (ok : Agreed ne
   fate : (j y m : ℕ) (i : Image) → Holds (w.records j) y m i → Fate w v j y m i
   fate j y m i held = elim (same_or_other j k) [
     | inr other ↦ Stays (rw (s.only j other) held)
-    | inl is ↦ Goes (rw (same_initiator (w.records k) y m x n i image (rw is at held) s.drops.held, same_number (w.records k) y m x n i image (rw is at held) s.drops.held) s.undecided)
+    | inl is ↦ Goes
+        (rw (
+          same_initiator (w.records k) y m x n i image (rw is at held) s.drops.held,
+          same_number (w.records k) y m x
+              n i image (rw is at held) s.drops.held,
+        ) s.undecided)
   ]
 
   on : (y : ℕ) (live : Live) → IsLive v y live → HoldOn w v y live
@@ -54,12 +60,17 @@ module _ (net : Net) (w v : World) (k x n : ℕ) (image : Image) (ok : Agreed ne
       holds : (p : ℕ) (i : Image) → Holds (w.records p) y live.number i → Holds (v.records p) y live.number i
       holds p i held = elim (same_or_other p k) [
         | inr other ↦ rw (s.only p other) held
-        | inl at_k ↦ absurd (s.closed live (rw (same_initiator (w.records k) y live.number x n i image (rw at_k at held) s.drops.held) at is) (same_number (w.records k) y live.number x n i image (rw at_k at held) s.drops.held))
+        | inl at_k ↦ absurd
+            (s.closed live
+            (rw (same_initiator (w.records k) y live.number x n i image (rw at_k at held) s.drops.held) at is)
+            (same_number (w.records k) y live.number x n i image (rw at_k at held) s.drops.held))
       ]
 
   line : (j : ℕ) → effective v.records j ≡ effective w.records j
   line j = elim (same_or_other j k) [
-    | inl is ↦ rw is (effective_free v.records k s.drops.free ∙ s.drops.permanent ∙ sym (effective_open w.records k x n image s.drops.held s.undecided))
+    | inl is ↦ rw is
+        (effective_free v.records k s.drops.free ∙ s.drops.permanent
+        ∙ sym (effective_open w.records k x n image s.drops.held s.undecided))
     | inr other ↦ effective_at_others w.records v.records j (s.only j other) decided
   ]
 
@@ -80,7 +91,10 @@ module _ (net : Net) (w v : World) (k x n : ℕ) (image : Image) (ok : Agreed ne
   leaves_agrees = record {
     highest = λ p y. rw (highest p, highest y) (ok.highest p y);
     named = λ y m p now is_named. rw (highest p) (ok.named y m p (rw (decided y) at now) (rw (named y) at is_named));
-    holders = λ y m p i other held now. rw (named y) (ok.holders y m p i other (was_held p y m i held) (rw (decided y) at now));
+    holders =
+        λ y m p i other held now. rw (named y)
+        (ok.holders y m p i other (was_held p y m i held) (rw (decided y) at now));
     no_orphan = λ c p q cross. rw (line q, line p) (ok.no_orphan c p q cross);
-    live = λ y live is. let one = ok.live y live (s.live y live is) in (one.0, live_stays net w v y one.0 live (on y live is) one.1);
+    live = λ y live is. let one = ok.live y live (s.live y live is) in
+        (one.0, live_stays net w v y one.0 live (on y live is) one.1);
   }

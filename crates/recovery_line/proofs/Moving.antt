@@ -3,7 +3,8 @@ use Rattle.std.proofs.Common.{◌≡◌, ◌⊎◌, inl, inr, ℕ, ap}
 use Rattle.recovery_line.specs.Images.{Net}
 use Rattle.recovery_line.specs.Records.{Record}
 use Rattle.recovery_line.specs.Moves.{Move, Take, Decide, Settle, Drop, Confirm}
-use Rattle.recovery_line.specs.Nodes.{Node, NodeStep, Work, Trim, Release, Roll_back, Crash, Restore, Forget, Doubt, Start, Give_up, Conclude}
+use Rattle.recovery_line.specs.Nodes.{Node, NodeStep, Work, Trim, Release, Roll_back, Crash, Restore, Forget, Doubt}
+use Rattle.recovery_line.specs.Nodes.{Start, Give_up, Conclude}
 use Rattle.recovery_line.specs.Packets.{Packet, Kept, Ask, Took, Covered, Query, Commit, Ended, Settled, Hears}
 use Rattle.recovery_line.specs.Worlds.{World, node_of, OnlyAt, Step, Acts, Comes, Send}
 use Rattle.recovery_line.specs.Laws.{AtMostOneMove}
@@ -40,12 +41,14 @@ hears_once net k (Settled p x n) a b s = inr (Confirm n p s.1.confirms, s.1.outl
 
 moves : (w v : World) (k : ℕ) → OnlyAt w v k → Once (node_of w k) (node_of v k) → AtMostOneMove w v
 unfolding Once
-moves w v k at (inl same) = record { node = k; others = at.records; move = inl same; either = inl (records_stay w v k at same) }
+moves w v k at (inl same) =
+    record { node = k; others = at.records; move = inl same; either = inl (records_stay w v k at same) }
 moves w v k at (inr one) = record { node = k; others = at.records; move = inr one.0; either = inr one.1 }
 
 pub moves_at_most_once : (net : Net) (w v : World) → Step net w v → AtMostOneMove w v
 moves_at_most_once net w v (Acts k at s) = moves w v k at (step_once net k (node_of w k) (node_of v k) s)
-moves_at_most_once net w v (Comes k packet flight at s) = moves w v k at (hears_once net k packet (node_of w k) (node_of v k) s)
+moves_at_most_once net w v (Comes k packet flight at s) =
+    moves w v k at (hears_once net k packet (node_of w k) (node_of v k) s)
 moves_at_most_once net w v (Send s) = record {
   node = 0;
   others = λ j other. ap (λ (records : ℕ → Record). records j) s.records;

@@ -1,14 +1,20 @@
 -- What one node keeps in each of the steps that it makes by itself.
-use Rattle.std.proofs.Common.{◌≡◌, ◌⊎◌, inl, inr, ℕ, ◌<◌, ◌≤◌, Bool, true, false, Option, Some, None, List, [], ◌∷◌, refl, sym, ap, ◌∙◌, subst, arith}
+use Rattle.std.proofs.Common.{◌≡◌, ◌⊎◌, inl, inr, ℕ, ◌<◌, ◌≤◌, Bool, true, false, Option, Some, None, List, [], ◌∷◌}
+use Rattle.std.proofs.Common.{refl, sym, ap, ◌∙◌, subst, arith}
 use Rattle.std.specs.Prelude.{◌≢◌}
 use Rattle.recovery_line.specs.Images.{Image, AtMost, Net, IsLocal, IsOutput}
 use Rattle.recovery_line.specs.Records.{Holds}
 use Rattle.recovery_line.specs.Moves.{Takes, Drops}
-use Rattle.recovery_line.specs.Nodes.{Live, Mode, Down, In_doubt, Running, current_of, live_of, Node, Unwritten, Works, Trims, Unneeded, Got, Released, Releases, Forgets, Starts, GivesUp, Concludes, NodeStep, Work, Trim, Release, Roll_back, Crash, Restore, Forget, Doubt, Start, Give_up, Conclude}
+use Rattle.recovery_line.specs.Nodes.{Live, Mode, Down, In_doubt, Running, current_of, live_of, Node, Unwritten, Works}
+use Rattle.recovery_line.specs.Nodes.{Trims, Unneeded, Got, Released, Releases, Forgets, Starts, GivesUp, Concludes}
+use Rattle.recovery_line.specs.Nodes.{NodeStep, Work, Trim, Release, Roll_back, Crash, Restore, Forget, Doubt, Start}
+use Rattle.recovery_line.specs.Nodes.{Give_up, Conclude}
 use Rattle.recovery_line.specs.Worlds.{Alone}
 use Rattle.recovery_line.specs.Invariant.{IsImageOf, Permanent, Held, Current, NodeOk}
 use Rattle.recovery_line.specs.Laws.{CanRestart}
-use Rattle.recovery_line.proofs.Basics.{false_true, not_in_doubt, same_or_other, at_most_itself, at_most_next, some_not_none, one_inside, same_initiator, same_number, same_image, current_is, live_is}
+use Rattle.recovery_line.proofs.Basics.{false_true, not_in_doubt, same_or_other, at_most_itself, at_most_next}
+use Rattle.recovery_line.proofs.Basics.{some_not_none, one_inside, same_initiator, same_number, same_image, current_is}
+use Rattle.recovery_line.proofs.Basics.{live_is}
 
 -- the image can be node b's current one, over the record of a
 pub record Fits (net : Net) (k : ℕ) (a b : Node) (j : Image) : Type 0 where
@@ -47,18 +53,22 @@ record_stays_ok net k a b ok s = record {
     log c i (Held x n held) = ok.log c i (Held x n (rw (s.disk) at held))
     log c i (Current now) = (s.current i now).log c
 
-    local : (c : ℕ) (i : Image) → IsLocal net c k → IsImageOf b i → (i.base c ≤ i.received c) × (i.received c ≤ i.sent c)
+    local : (c : ℕ) (i : Image) → IsLocal net c k → IsImageOf b i
+        → (i.base c ≤ i.received c) × (i.received c ≤ i.sent c)
     local c i is (Permanent same) = ok.local c i is (Permanent (rw (s.disk) at same))
     local c i is (Held x n held) = ok.local c i is (Held x n (rw (s.disk) at held))
     local c i is (Current now) = (s.current i now).local c is
 
     output : (c : ℕ) (i : Image) → IsOutput net c k → IsImageOf b i → i.base c ≤ b.outlets c
-    output c i is (Permanent same) = let one = ok.output c i is (Permanent (rw (s.disk) at same)) in let two = s.outlets c in omega arith
-    output c i is (Held x n held) = let one = ok.output c i is (Held x n (rw (s.disk) at held)) in let two = s.outlets c in omega arith
+    output c i is (Permanent same) = let one = ok.output c i is (Permanent (rw (s.disk) at same)) in let two =
+        s.outlets c in omega arith
+    output c i is (Held x n held) = let one = ok.output c i is (Held x n (rw (s.disk) at held)) in let two =
+        s.outlets c in omega arith
     output c i is (Current now) = (s.current i now).output c is
 
 -- the current image fits, and so does the permanent one of a node that holds no other
-pub current_fits : (net : Net) (k : ℕ) (a b : Node) (j : Image) → NodeOk net k a → ((c : ℕ) → a.outlets c ≤ b.outlets c) → current_of a.mode ≡ Some j → Fits net k a b j
+pub current_fits : (net : Net) (k : ℕ) (a b : Node) (j : Image) → NodeOk net k a
+    → ((c : ℕ) → a.outlets c ≤ b.outlets c) → current_of a.mode ≡ Some j → Fits net k a b j
 current_fits net k a b j ok outlets now = record {
   after = ok.current j now;
   latest = λ x n i held. ok.latest x n i j held now;
@@ -67,7 +77,8 @@ current_fits net k a b j ok outlets now = record {
   log = λ c. ok.log c j (Current now);
 }
 
-pub permanent_fits : (net : Net) (k : ℕ) (a b : Node) → NodeOk net k a → ((c : ℕ) → a.outlets c ≤ b.outlets c) → a.disk.tentative ≡ None → Fits net k a b a.disk.permanent
+pub permanent_fits : (net : Net) (k : ℕ) (a b : Node) → NodeOk net k a → ((c : ℕ) → a.outlets c ≤ b.outlets c)
+    → a.disk.tentative ≡ None → Fits net k a b a.disk.permanent
 permanent_fits net k a b ok outlets free = record {
   after = at_most_itself a.disk.permanent;
   latest = λ x n i held. absurd (some_not_none free held);
@@ -79,12 +90,15 @@ permanent_fits net k a b ok outlets free = record {
 same_outlets : (a b : Node) → b.outlets ≡ a.outlets → (c : ℕ) → a.outlets c ≤ b.outlets c
 same_outlets a b same c = let e = ap (λ (f : ℕ → ℕ). f c) same in omega arith
 
-covers_still : (net : Net) (k : ℕ) (a b : Node) → NodeOk net k a → b.outlets ≡ a.outlets → (c : ℕ) → IsOutput net c k → b.outlets c ≤ a.disk.permanent.sent c
+covers_still : (net : Net) (k : ℕ) (a b : Node) → NodeOk net k a → b.outlets ≡ a.outlets → (c : ℕ) → IsOutput net c k
+    → b.outlets c ≤ a.disk.permanent.sent c
 covers_still net k a b ok same c is = let e = ap (λ (f : ℕ → ℕ). f c) same in let one = ok.covered c is in omega arith
 
 -- the images and the record stay, and a live instance keeps its number
-pub images_stay_ok : (net : Net) (k : ℕ) (a b : Node) → NodeOk net k a → Unwritten a b → current_of b.mode ≡ current_of a.mode
-    → ((live : Live) → live_of b.mode ≡ Some live → (i : Image) × Holds a.disk k live.number i) → b.mode ≢ In_doubt → NodeOk net k b
+pub images_stay_ok : (net : Net) (k : ℕ) (a b : Node) → NodeOk net k a → Unwritten a b
+    → current_of b.mode ≡ current_of a.mode
+    → ((live : Live) → live_of b.mode ≡ Some live → (i : Image) × Holds a.disk k live.number i) → b.mode ≢ In_doubt
+    → NodeOk net k b
 images_stay_ok net k a b ok same current own known = record_stays_ok net k a b ok (record {
   disk = same.disk;
   outlets = same_outlets a b same.outlets;
@@ -95,18 +109,21 @@ images_stay_ok net k a b ok same current own known = record_stays_ok net k a b o
 })
 
 -- the permanent image becomes current, and nothing is live
-pub restores_ok : (net : Net) (k : ℕ) (a b : Node) → NodeOk net k a → Unwritten a b → a.disk.tentative ≡ None → b.mode ≡ Running a.disk.permanent None → NodeOk net k b
+pub restores_ok : (net : Net) (k : ℕ) (a b : Node) → NodeOk net k a → Unwritten a b → a.disk.tentative ≡ None
+    → b.mode ≡ Running a.disk.permanent None → NodeOk net k b
 restores_ok net k a b ok same free now = record_stays_ok net k a b ok (record {
   disk = same.disk;
   outlets = same_outlets a b same.outlets;
   covered = covers_still net k a b ok same.outlets;
-  current = λ j is. let e = current_is b.mode a.disk.permanent j None now is in rw e (permanent_fits net k a b ok (same_outlets a b same.outlets) free);
+  current = λ j is. let e = current_is b.mode a.disk.permanent j None now is in
+      rw e (permanent_fits net k a b ok (same_outlets a b same.outlets) free);
   own = λ live is. absurd (some_not_none refl (live_is b.mode a.disk.permanent None live now is));
   doubt = λ in_doubt. absurd (not_in_doubt b.mode a.disk.permanent None now in_doubt);
 })
 
 -- nothing is current and nothing is live
-pub stops_ok : (net : Net) (k : ℕ) (a b : Node) → NodeOk net k a → Unwritten a b → current_of b.mode ≡ None → live_of b.mode ≡ None
+pub stops_ok : (net : Net) (k : ℕ) (a b : Node) → NodeOk net k a → Unwritten a b → current_of b.mode ≡ None
+    → live_of b.mode ≡ None
     → (b.mode ≡ In_doubt → (x : ℕ) × (n : ℕ) × (i : Image) × (x ≢ k) × Holds a.disk x n i) → NodeOk net k b
 stops_ok net k a b ok same current live doubt = record_stays_ok net k a b ok (record {
   disk = same.disk;
@@ -117,7 +134,8 @@ stops_ok net k a b ok same current live doubt = record_stays_ok net k a b ok (re
   doubt = doubt;
 })
 
-pub works_ok : (net : Net) (k : ℕ) (a b : Node) (before later : Image) (live : Option Live) → NodeOk net k a → Works net k a b before later live → NodeOk net k b
+pub works_ok : (net : Net) (k : ℕ) (a b : Node) (before later : Image) (live : Option Live) → NodeOk net k a
+    → Works net k a b before later live → NodeOk net k b
 works_ok net k a b before later live ok s = record_stays_ok net k a b ok (record {
   disk = s.same.disk;
   outlets = same_outlets a b s.same.outlets;
@@ -137,13 +155,15 @@ works_ok net k a b before later live ok s = record_stays_ok net k a b ok (record
     fits = record {
       after = at_most_next a.disk.permanent before later old.after rises;
       latest = λ x n i held. at_most_next i before later (old.latest x n i held) rises;
-      local = λ c is. let e = ap (λ (f : ℕ → ℕ). f c) s.base in let one = (old.local c is).0 in let two = s.received c in (omega arith, s.local c is);
+      local = λ c is. let e = ap (λ (f : ℕ → ℕ). f c) s.base in let one = (old.local c is).0 in let two =
+          s.received c in (omega arith, s.local c is);
       output = λ c is. let e = ap (λ (f : ℕ → ℕ). f c) s.base in let one = old.output c is in omega arith;
       log = λ c. let e = ap (λ (f : ℕ → ℕ). f c) s.base in let one = old.log c in let two = s.sent c in omega arith;
     }
 
 -- a log is trimmed, if of a local channel to what was got, and if of an output to what was released
-pub trims_ok : (net : Net) (k : ℕ) (a b : Node) (c to : ℕ) (before later : Image) (live : Option Live) → NodeOk net k a → Trims a b c to before later live
+pub trims_ok : (net : Net) (k : ℕ) (a b : Node) (c to : ℕ) (before later : Image) (live : Option Live) → NodeOk net k a
+    → Trims a b c to before later live
     → (IsLocal net c k → to ≤ before.received c) → (IsOutput net c k → to ≤ a.outlets c) → NodeOk net k b
 trims_ok net k a b c to before later live ok s local output = record_stays_ok net k a b ok (record {
   disk = s.same.disk;
@@ -178,22 +198,26 @@ trims_ok net k a b c to before later live ok s local output = record_stays_ok ne
           let two = ap (λ (f : ℕ → ℕ). f d) s.sent in
           let three = old.local d is in (
             elim (same_or_other d c) [
-              | inl at_c ↦ let four = s.base in let five = local (subst (λ (e : ℕ). IsLocal net e k) at_c is) in rw at_c (let six = ap (λ (f : ℕ → ℕ). f c) s.received in omega arith)
+              | inl at_c ↦ let four = s.base in let five = local (subst (λ (e : ℕ). IsLocal net e k) at_c is) in
+                  rw at_c (let six = ap (λ (f : ℕ → ℕ). f c) s.received in omega arith)
               | inr other ↦ let four = s.others d other in omega arith
             ],
             omega arith,
           );
       output = λ d is. elim (same_or_other d c) [
-        | inl at_c ↦ let four = s.base in let five = output (subst (λ (e : ℕ). IsOutput net e k) at_c is) in let six = ap (λ (f : ℕ → ℕ). f c) s.same.outlets in rw at_c (omega arith)
+        | inl at_c ↦ let four = s.base in let five = output (subst (λ (e : ℕ). IsOutput net e k) at_c is) in let six =
+            ap (λ (f : ℕ → ℕ). f c) s.same.outlets in rw at_c (omega arith)
         | inr other ↦ let four = s.others d other in let five = old.output d is in omega arith
       ];
       log = λ d. let one = ap (λ (f : ℕ → ℕ). f d) s.sent in elim (same_or_other d c) [
-        | inl at_c ↦ rw at_c (let two = ap (λ (f : ℕ → ℕ). f c) s.sent in let four = s.base in let five = s.within in omega arith)
+        | inl at_c ↦ rw at_c
+            (let two = ap (λ (f : ℕ → ℕ). f c) s.sent in let four = s.base in let five = s.within in omega arith)
         | inr other ↦ let four = s.others d other in let five = old.log d in omega arith
       ];
     }
 
-releases_ok : (net : Net) (k : ℕ) (a b : Node) (c : ℕ) (current : Image) (live : Option Live) → NodeOk net k a → Releases net k a b c current live → NodeOk net k b
+releases_ok : (net : Net) (k : ℕ) (a b : Node) (c : ℕ) (current : Image) (live : Option Live) → NodeOk net k a
+    → Releases net k a b c current live → NodeOk net k b
 releases_ok net k a b c current live ok s = record_stays_ok net k a b ok (record {
   disk = s.disk;
   outlets = grows;
@@ -213,11 +237,13 @@ releases_ok net k a b c current live ok s = record_stays_ok net k a b ok (record
     ]
 
 -- an unneeded position bounds a local channel's log and an output's
-unneeded_local : (net : Net) (k : ℕ) (a : Node) (current : Image) (c to : ℕ) → Unneeded net k a current c to → IsLocal net c k → to ≤ current.received c
+unneeded_local : (net : Net) (k : ℕ) (a : Node) (current : Image) (c to : ℕ) → Unneeded net k a current c to
+    → IsLocal net c k → to ≤ current.received c
 unneeded_local net k a current c to (Got local le) is = le
 unneeded_local net k a current c to (Released output le) is = absurd (some_not_none output.to is.to)
 
-unneeded_output : (net : Net) (k : ℕ) (a : Node) (current : Image) (c to : ℕ) → Unneeded net k a current c to → IsOutput net c k → to ≤ a.outlets c
+unneeded_output : (net : Net) (k : ℕ) (a : Node) (current : Image) (c to : ℕ) → Unneeded net k a current c to
+    → IsOutput net c k → to ≤ a.outlets c
 unneeded_output net k a current c to (Got local le) is = absurd (some_not_none is.to local.to)
 unneeded_output net k a current c to (Released output le) is = le
 
@@ -230,15 +256,20 @@ pub record ImageGoes (k : ℕ) (a b : Node) (x n : ℕ) (image : Image) : Type 0
   pub known : b.mode ≢ In_doubt
 
 -- each image of b was one of a
-pub image_was_there : (k : ℕ) (a b : Node) (x n : ℕ) (image : Image) → ImageGoes k a b x n image → (i : Image) → IsImageOf b i → IsImageOf a i
+pub image_was_there : (k : ℕ) (a b : Node) (x n : ℕ) (image : Image) → ImageGoes k a b x n image → (i : Image)
+    → IsImageOf b i → IsImageOf a i
 image_was_there k a b x n image s i (Permanent same) = Permanent (sym s.drops.permanent ∙ same)
 image_was_there k a b x n image s i (Held y m held) = absurd (some_not_none s.drops.free held)
-image_was_there k a b x n image s i (Current now) = elim (s.current i now) [ inl old ↦ Current old | inr is ↦ Permanent (sym is) ]
+image_was_there k a b x n image s i (Current now) =
+    elim (s.current i now) [ inl old ↦ Current old | inr is ↦ Permanent (sym is) ]
 
-pub image_goes_ok : (net : Net) (k : ℕ) (a b : Node) (x n : ℕ) (image : Image) → NodeOk net k a → ImageGoes k a b x n image → NodeOk net k b
+pub image_goes_ok : (net : Net) (k : ℕ) (a b : Node) (x n : ℕ) (image : Image) → NodeOk net k a
+    → ImageGoes k a b x n image → NodeOk net k b
 image_goes_ok net k a b x n image ok s = record {
   tentative = λ y m i held. absurd (some_not_none s.drops.free held);
-  current = λ i now. rw (s.drops.permanent) (elim (s.current i now) [ inl old ↦ ok.current i old | inr is ↦ rw is (at_most_itself a.disk.permanent) ]);
+  current =
+      λ i now. rw (s.drops.permanent)
+      (elim (s.current i now) [ inl old ↦ ok.current i old | inr is ↦ rw is (at_most_itself a.disk.permanent) ]);
   latest = λ y m i j held now. absurd (some_not_none s.drops.free held);
   used = rw (s.drops.highest, s.drops.decided) ok.used;
   older = λ m j i held now. absurd (some_not_none s.drops.free held);
@@ -263,22 +294,29 @@ pub record BecomesPermanent (k : ℕ) (a b : Node) (x n : ℕ) (image : Image) :
   pub known : b.mode ≢ In_doubt
 
 -- each image of b was one of a
-pub permanent_was_there : (k : ℕ) (a b : Node) (x n : ℕ) (image : Image) → BecomesPermanent k a b x n image → (i : Image) → IsImageOf b i → IsImageOf a i
+pub permanent_was_there : (k : ℕ) (a b : Node) (x n : ℕ) (image : Image) → BecomesPermanent k a b x n image
+    → (i : Image) → IsImageOf b i → IsImageOf a i
 permanent_was_there k a b x n image s i (Permanent same) = let e = sym s.permanent ∙ same in Held x n (rw (← e) s.held)
 permanent_was_there k a b x n image s i (Held y m held) = absurd (some_not_none s.free held)
-permanent_was_there k a b x n image s i (Current now) = elim (s.current i now) [ inl old ↦ Current old | inr is ↦ Held x n (rw is s.held) ]
+permanent_was_there k a b x n image s i (Current now) =
+    elim (s.current i now) [ inl old ↦ Current old | inr is ↦ Held x n (rw is s.held) ]
 
-pub becomes_permanent_ok : (net : Net) (k : ℕ) (a b : Node) (x n : ℕ) (image : Image) → NodeOk net k a → BecomesPermanent k a b x n image → NodeOk net k b
+pub becomes_permanent_ok : (net : Net) (k : ℕ) (a b : Node) (x n : ℕ) (image : Image) → NodeOk net k a
+    → BecomesPermanent k a b x n image → NodeOk net k b
 becomes_permanent_ok net k a b x n image ok s = record {
   tentative = λ y m i held. absurd (some_not_none s.free held);
-  current = λ i now. rw (s.permanent) (elim (s.current i now) [ inl old ↦ ok.latest x n image i s.held old | inr is ↦ rw is (at_most_itself image) ]);
+  current =
+      λ i now. rw (s.permanent)
+      (elim (s.current i now) [ inl old ↦ ok.latest x n image i s.held old | inr is ↦ rw is (at_most_itself image) ]);
   latest = λ y m i j held now. absurd (some_not_none s.free held);
   used = λ m now. rw (s.highest) (s.decided m now);
   older = λ m j i held now. absurd (some_not_none s.free held);
   own = λ live now. absurd (s.none_live live now);
   local = λ c i is image_of. ok.local c i is (permanent_was_there k a b x n image s i image_of);
   output = λ c i is image_of. rw (s.outlets) (ok.output c i is (permanent_was_there k a b x n image s i image_of));
-  covered = λ c is. rw (s.outlets, s.permanent) (let one = ok.covered c is in let two = ((ok.tentative x n image s.held).1 c).2 in omega arith);
+  covered =
+      λ c is. rw (s.outlets, s.permanent)
+      (let one = ok.covered c is in let two = ((ok.tentative x n image s.held).1 c).2 in omega arith);
   log = λ c i image_of. ok.log c i (permanent_was_there k a b x n image s i image_of);
   doubt = λ now. absurd (s.known now);
 }
@@ -292,14 +330,18 @@ pub record CurrentIsTaken (k : ℕ) (a b : Node) (x n : ℕ) (image : Image) : T
   pub own : (live : Live) → live_of b.mode ≡ Some live → (i : Image) × Holds b.disk k live.number i
 
 -- each image of b was one of a
-pub taken_was_there : (k : ℕ) (a b : Node) (x n : ℕ) (image : Image) → CurrentIsTaken k a b x n image → (i : Image) → IsImageOf b i → IsImageOf a i
+pub taken_was_there : (k : ℕ) (a b : Node) (x n : ℕ) (image : Image) → CurrentIsTaken k a b x n image → (i : Image)
+    → IsImageOf b i → IsImageOf a i
 taken_was_there k a b x n image s i (Permanent same) = Permanent (sym s.takes.permanent ∙ same)
-taken_was_there k a b x n image s i (Held y m held) = Current (rw (same_image b.disk y m x n i image held s.takes.holds) s.running)
+taken_was_there k a b x n image s i (Held y m held) =
+    Current (rw (same_image b.disk y m x n i image held s.takes.holds) s.running)
 taken_was_there k a b x n image s i (Current now) = Current (rw (one_inside now s.still) s.running)
 
-pub current_is_taken_ok : (net : Net) (k : ℕ) (a b : Node) (x n : ℕ) (image : Image) → NodeOk net k a → CurrentIsTaken k a b x n image → NodeOk net k b
+pub current_is_taken_ok : (net : Net) (k : ℕ) (a b : Node) (x n : ℕ) (image : Image) → NodeOk net k a
+    → CurrentIsTaken k a b x n image → NodeOk net k b
 current_is_taken_ok net k a b x n image ok s = record {
-  tentative = λ y m i held. let of = held_now y m i held in rw (of.0, of.1, of.2, s.takes.permanent) (s.takes.highest, ok.current image s.running);
+  tentative = λ y m i held. let of = held_now y m i held in
+      rw (of.0, of.1, of.2, s.takes.permanent) (s.takes.highest, ok.current image s.running);
   current = λ i now. rw (s.takes.permanent, one_inside now s.still) (ok.current image s.running);
   latest = λ y m i j held now. rw ((held_now y m i held).2, one_inside now s.still) (at_most_itself image);
   used = λ m now. let one = ok.used m (rw (s.takes.decided) at now) in let two = highest_grows k in omega arith;
@@ -313,7 +355,12 @@ current_is_taken_ok net k a b x n image ok s = record {
 }
   where
     held_now : (y m : ℕ) (i : Image) → Holds b.disk y m i → (y ≡ x) × (m ≡ n) × (i ≡ image)
-    held_now y m i held = (same_initiator b.disk y m x n i image held s.takes.holds, same_number b.disk y m x n i image held s.takes.holds, same_image b.disk y m x n i image held s.takes.holds)
+    held_now y m i held = (
+      same_initiator b.disk y m x n i image held s.takes.holds,
+      same_number b.disk y m x n i image held
+          s.takes.holds,
+      same_image b.disk y m x n i image held s.takes.holds,
+    )
 
     highest_grows : (y : ℕ) → a.disk.highest y ≤ b.disk.highest y
     highest_grows y = elim (same_or_other y x) [
@@ -338,7 +385,8 @@ forget_goes k a b x n image s = record {
   known = not_in_doubt b.mode a.disk.permanent None s.now;
 }
 
-pub give_up_goes : (k : ℕ) (a b : Node) (current image : Image) (live : Live) → GivesUp k a b current image live → ImageGoes k a b k live.number image
+pub give_up_goes : (k : ℕ) (a b : Node) (current image : Image) (live : Live) → GivesUp k a b current image live
+    → ImageGoes k a b k live.number image
 give_up_goes k a b current image live s = record {
   drops = s.drops;
   outlets = s.outlets;
@@ -347,7 +395,8 @@ give_up_goes k a b current image live s = record {
   known = not_in_doubt b.mode current None s.now;
 }
 
-pub start_takes : (net : Net) (k : ℕ) (a b : Node) (current : Image) (live : Live) → Starts net k a b current live → CurrentIsTaken k a b k live.number current
+pub start_takes : (net : Net) (k : ℕ) (a b : Node) (current : Image) (live : Live) → Starts net k a b current live
+    → CurrentIsTaken k a b k live.number current
 start_takes net k a b current live s = record {
   takes = s.takes;
   running = ap current_of s.was;
@@ -356,7 +405,8 @@ start_takes net k a b current live s = record {
   own = λ l is. let e = one_inside is (ap live_of s.now) in (current, rw e s.takes.holds);
 }
 
-pub conclude_permanent : (net : Net) (k : ℕ) (a b : Node) (current image : Image) (live : Live) → NodeOk net k a → Concludes k a b current image live → BecomesPermanent k a b k live.number image
+pub conclude_permanent : (net : Net) (k : ℕ) (a b : Node) (current image : Image) (live : Live) → NodeOk net k a
+    → Concludes k a b current image live → BecomesPermanent k a b k live.number image
 conclude_permanent net k a b current image live ok s = record {
   held = s.decides.held;
   permanent = s.decides.permanent;
@@ -382,21 +432,32 @@ down_not_doubt same = false_true (ap is_doubt same)
 -- each step that a node makes by itself
 pub node_step_ok : (net : Net) (k : ℕ) (a b : Node) → NodeOk net k a → NodeStep net k a b → NodeOk net k b
 node_step_ok net k a b ok (Work before later live s) = works_ok net k a b before later live ok s
-node_step_ok net k a b ok (Trim c to before later live bound s) = trims_ok net k a b c to before later live ok s (unneeded_local net k a before c to bound) (unneeded_output net k a before c to bound)
+node_step_ok net k a b ok (Trim c to before later live bound s) =
+    trims_ok net k a b c to before later live ok s (unneeded_local net k a before c to bound)
+    (unneeded_output net k a before c to bound)
 node_step_ok net k a b ok (Release c current live s) = releases_ok net k a b c current live ok s
 node_step_ok net k a b ok (Roll_back current live s) = restores_ok net k a b ok s.same s.free s.now
-node_step_ok net k a b ok (Crash s) = stops_ok net k a b ok s.same (ap current_of s.now) (ap live_of s.now) (λ now. absurd (down_not_doubt (sym s.now ∙ now)))
+node_step_ok net k a b ok (Crash s) =
+    stops_ok net k a b ok s.same (ap current_of s.now) (ap live_of s.now)
+    (λ now. absurd (down_not_doubt (sym s.now ∙ now)))
 node_step_ok net k a b ok (Restore s) = restores_ok net k a b ok s.same s.free s.now
 node_step_ok net k a b ok (Forget x n image s) = image_goes_ok net k a b x n image ok (forget_goes k a b x n image s)
-node_step_ok net k a b ok (Doubt x n image s) = stops_ok net k a b ok s.same (ap current_of s.now) (ap live_of s.now) (λ now. (x, n, image, s.other, s.held))
-node_step_ok net k a b ok (Start current live s) = current_is_taken_ok net k a b k live.number current ok (start_takes net k a b current live s)
-node_step_ok net k a b ok (Give_up current image live s) = image_goes_ok net k a b k live.number image ok (give_up_goes k a b current image live s)
-node_step_ok net k a b ok (Conclude current image live s) = becomes_permanent_ok net k a b k live.number image ok (conclude_permanent net k a b current image live ok s)
+node_step_ok net k a b ok (Doubt x n image s) =
+    stops_ok net k a b ok s.same (ap current_of s.now) (ap live_of s.now) (λ now. (x, n, image, s.other, s.held))
+node_step_ok net k a b ok (Start current live s) =
+    current_is_taken_ok net k a b k live.number current ok (start_takes net k a b current live s)
+node_step_ok net k a b ok (Give_up current image live s) =
+    image_goes_ok net k a b k live.number image ok (give_up_goes k a b current image live s)
+node_step_ok net k a b ok (Conclude current image live s) =
+    becomes_permanent_ok net k a b k live.number image ok (conclude_permanent net k a b current image live ok s)
 
 -- the permanent image and the outlets only grow
-pub node_step_grows : (net : Net) (k : ℕ) (a b : Node) → NodeOk net k a → NodeStep net k a b → AtMost a.disk.permanent b.disk.permanent × ((c : ℕ) → a.outlets c ≤ b.outlets c)
-node_step_grows net k a b ok (Work before later live s) = rw (s.same.disk, s.same.outlets) (at_most_itself a.disk.permanent, λ c. omega arith)
-node_step_grows net k a b ok (Trim c to before later live bound s) = rw (s.same.disk, s.same.outlets) (at_most_itself a.disk.permanent, λ d. omega arith)
+pub node_step_grows : (net : Net) (k : ℕ) (a b : Node) → NodeOk net k a → NodeStep net k a b
+    → AtMost a.disk.permanent b.disk.permanent × ((c : ℕ) → a.outlets c ≤ b.outlets c)
+node_step_grows net k a b ok (Work before later live s) =
+    rw (s.same.disk, s.same.outlets) (at_most_itself a.disk.permanent, λ c. omega arith)
+node_step_grows net k a b ok (Trim c to before later live bound s) =
+    rw (s.same.disk, s.same.outlets) (at_most_itself a.disk.permanent, λ d. omega arith)
 node_step_grows net k a b ok (Release c current live s) = (
   rw (s.disk) (at_most_itself a.disk.permanent),
   λ d. elim (same_or_other d c) [
@@ -404,17 +465,26 @@ node_step_grows net k a b ok (Release c current live s) = (
     | inr other ↦ let one = s.others d other in omega arith
   ],
 )
-node_step_grows net k a b ok (Roll_back current live s) = rw (s.same.disk, s.same.outlets) (at_most_itself a.disk.permanent, λ c. omega arith)
-node_step_grows net k a b ok (Crash s) = rw (s.same.disk, s.same.outlets) (at_most_itself a.disk.permanent, λ c. omega arith)
-node_step_grows net k a b ok (Restore s) = rw (s.same.disk, s.same.outlets) (at_most_itself a.disk.permanent, λ c. omega arith)
-node_step_grows net k a b ok (Forget x n image s) = rw (s.drops.permanent, s.outlets) (at_most_itself a.disk.permanent, λ c. omega arith)
-node_step_grows net k a b ok (Doubt x n image s) = rw (s.same.disk, s.same.outlets) (at_most_itself a.disk.permanent, λ c. omega arith)
-node_step_grows net k a b ok (Start current live s) = rw (s.takes.permanent, s.outlets) (at_most_itself a.disk.permanent, λ c. omega arith)
-node_step_grows net k a b ok (Give_up current image live s) = rw (s.drops.permanent, s.outlets) (at_most_itself a.disk.permanent, λ c. omega arith)
-node_step_grows net k a b ok (Conclude current image live s) = rw (s.decides.permanent, s.outlets) ((ok.tentative k live.number image s.decides.held).1, λ c. omega arith)
+node_step_grows net k a b ok (Roll_back current live s) =
+    rw (s.same.disk, s.same.outlets) (at_most_itself a.disk.permanent, λ c. omega arith)
+node_step_grows net k a b ok (Crash s) =
+    rw (s.same.disk, s.same.outlets) (at_most_itself a.disk.permanent, λ c. omega arith)
+node_step_grows net k a b ok (Restore s) =
+    rw (s.same.disk, s.same.outlets) (at_most_itself a.disk.permanent, λ c. omega arith)
+node_step_grows net k a b ok (Forget x n image s) =
+    rw (s.drops.permanent, s.outlets) (at_most_itself a.disk.permanent, λ c. omega arith)
+node_step_grows net k a b ok (Doubt x n image s) =
+    rw (s.same.disk, s.same.outlets) (at_most_itself a.disk.permanent, λ c. omega arith)
+node_step_grows net k a b ok (Start current live s) =
+    rw (s.takes.permanent, s.outlets) (at_most_itself a.disk.permanent, λ c. omega arith)
+node_step_grows net k a b ok (Give_up current image live s) =
+    rw (s.drops.permanent, s.outlets) (at_most_itself a.disk.permanent, λ c. omega arith)
+node_step_grows net k a b ok (Conclude current image live s) =
+    rw (s.decides.permanent, s.outlets) ((ok.tentative k live.number image s.decides.held).1, λ c. omega arith)
 
 -- and no other node's outlet changes
-pub node_step_outlets : (net : Net) (k : ℕ) (a b : Node) → NodeStep net k a b → (c j : ℕ) → j ≢ k → IsOutput net c j → b.outlets c ≡ a.outlets c
+pub node_step_outlets : (net : Net) (k : ℕ) (a b : Node) → NodeStep net k a b → (c j : ℕ) → j ≢ k → IsOutput net c j
+    → b.outlets c ≡ a.outlets c
 node_step_outlets net k a b (Work before later live s) c j other is = ap (λ (f : ℕ → ℕ). f c) s.same.outlets
 node_step_outlets net k a b (Trim d to before later live bound s) c j other is = ap (λ (f : ℕ → ℕ). f c) s.same.outlets
 node_step_outlets net k a b (Release d current live s) c j other is = elim (same_or_other c d) [
@@ -430,16 +500,21 @@ node_step_outlets net k a b (Start current live s) c j other is = ap (λ (f : �
 node_step_outlets net k a b (Give_up current image live s) c j other is = ap (λ (f : ℕ → ℕ). f c) s.outlets
 node_step_outlets net k a b (Conclude current image live s) c j other is = ap (λ (f : ℕ → ℕ). f c) s.outlets
 
-pub node_stays_ok : (net : Net) (k : ℕ) (a b : Node) (nodes : List Node) → NodeOk net k a → Alone net k a nodes b → NodeOk net k b
+pub node_stays_ok : (net : Net) (k : ℕ) (a b : Node) (nodes : List Node) → NodeOk net k a → Alone net k a nodes b
+    → NodeOk net k b
 node_stays_ok net k a b [] ok same = rw (← same) ok
 node_stays_ok net k a b (c ∷ nodes) ok run = node_stays_ok net k c b nodes (node_step_ok net k a c ok run.0) run.1
 
-pub node_never_falls_back : (net : Net) (k : ℕ) (a b : Node) (nodes : List Node) → NodeOk net k a → Alone net k a nodes b → AtMost a.disk.permanent b.disk.permanent × ((c : ℕ) → a.outlets c ≤ b.outlets c)
+pub node_never_falls_back : (net : Net) (k : ℕ) (a b : Node) (nodes : List Node) → NodeOk net k a
+    → Alone net k a nodes b → AtMost a.disk.permanent b.disk.permanent × ((c : ℕ) → a.outlets c ≤ b.outlets c)
 node_never_falls_back net k a b [] ok same = rw (← same) (at_most_itself a.disk.permanent, λ c. omega arith)
 node_never_falls_back net k a b (c ∷ nodes) ok run =
     let one = node_step_grows net k a c ok run.0 in
-    let two = node_never_falls_back net k c b nodes (node_step_ok net k a c ok run.0) run.1 in
-    (at_most_next a.disk.permanent c.disk.permanent b.disk.permanent one.0 two.0, λ d. let three = one.1 d in let four = two.1 d in omega arith)
+    let two = node_never_falls_back net k c b nodes (node_step_ok net k a c ok run.0) run.1 in (
+      at_most_next a.disk.permanent c.disk.permanent b.disk.permanent one.0 two.0,
+      λ d. let three = one.1 d in
+          let four = two.1 d in omega arith,
+    )
 
 pub node_is_sound : (net : Net) (k : ℕ) (a : Node) → NodeOk net k a → CanRestart net k a
 node_is_sound net k a ok = record {

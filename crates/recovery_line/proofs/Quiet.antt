@@ -20,11 +20,13 @@ pub record Learns (w v : World) (x : ℕ) (before later : Live) : Type 0 where
   pub was : IsLive w x before
   pub now : IsLive v x later
   pub number : later.number ≡ before.number
-  pub asks : (c m : ℕ) (answer : Answer) → before.asks c ≡ Some (m, answer) → (next : Answer) × (later.asks c ≡ Some (m, next))
+  pub asks : (c m : ℕ) (answer : Answer) → before.asks c ≡ Some (m, answer)
+      → (next : Answer) × (later.asks c ≡ Some (m, next))
   pub others : (y : ℕ) (live : Live) → y ≢ x → IsLive v y live → IsLive w y live
 
 -- whichever live instances there are
-grows_by : (net : Net) (w v : World) → v.records ≡ w.records → ((x : ℕ) (now : Live) → IsLive v x now → StillLive w v x now) → Grows net w v
+grows_by : (net : Net) (w v : World) → v.records ≡ w.records
+    → ((x : ℕ) (now : Live) → IsLive v x now → StillLive w v x now) → Grows net w v
 grows_by net w v same live = record {
   permanent = λ k. rw same (at_most_itself (w.records k).permanent);
   highest = λ k y. rw same (omega arith);
@@ -73,7 +75,8 @@ hears_grows net w v x before later s = grows_by net w v s.records (λ y now is. 
   }
 ])
 
-pub hears_agrees : (net : Net) (w v : World) (x : ℕ) (own : Image) (before later : Live) → Agreed net w → Learns w v x before later → LiveOk net w.records x own later → Agreed net v
+pub hears_agrees : (net : Net) (w v : World) (x : ℕ) (own : Image) (before later : Live) → Agreed net w
+    → Learns w v x before later → LiveOk net w.records x own later → Agreed net v
 hears_agrees net w v x own before later ok s fine = record {
   highest = rw (s.records) ok.highest;
   named = rw (s.records) ok.named;

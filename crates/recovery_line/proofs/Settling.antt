@@ -6,7 +6,8 @@ use Rattle.recovery_line.specs.Moves.{Settles}
 use Rattle.recovery_line.specs.Nodes.{Live}
 use Rattle.recovery_line.specs.Worlds.{World, IsLive}
 use Rattle.recovery_line.specs.Invariant.{Agreed}
-use Rattle.recovery_line.proofs.Basics.{false_true, same_or_other, at_most_itself, some_not_none, same_initiator, same_number, same_image, effective_free, effective_committed}
+use Rattle.recovery_line.proofs.Basics.{false_true, same_or_other, at_most_itself, some_not_none, same_initiator}
+use Rattle.recovery_line.proofs.Basics.{same_number, same_image, effective_free, effective_committed}
 use Rattle.recovery_line.proofs.Grows as grows
 use Rattle.recovery_line.proofs.Grows.{Fate, Replaced, Grows}
 use Rattle.recovery_line.proofs.Frames.{OnlyRecord, everywhere, effective_at_others, HoldOn, live_stays, still_live}
@@ -43,13 +44,15 @@ module _ (net : Net) (w v : World) (k x n : ℕ) (image : Image) (ok : Agreed ne
   fate : (j y m : ℕ) (i : Image) → Holds (w.records j) y m i → Fate w v j y m i
   fate j y m i held = elim (same_or_other j k) [
     | inr other ↦ grows.Stays (rw (s.only j other) held)
-    | inl is ↦ grows.Settles (rw is s.settles.free) (rw is (s.settles.permanent ∙ same_image (w.records k) x n y m image i s.settles.held (rw is at held)))
+    | inl is ↦ grows.Settles (rw is s.settles.free)
+        (rw is (s.settles.permanent ∙ same_image (w.records k) x n y m image i s.settles.held (rw is at held)))
   ]
 
   replaced : (j : ℕ) → Replaced w v j
   replaced j = elim (same_or_other j k) [
     | inr other ↦ inl (ap (λ (r : Record). r.permanent) (s.only j other))
-    | inl is ↦ inr (x, n, rw (is, s.settles.permanent) s.settles.held, λ over. false_true (sym over.undecided ∙ s.decided))
+    | inl is ↦ inr
+        (x, n, rw (is, s.settles.permanent) s.settles.held, λ over. false_true (sym over.undecided ∙ s.decided))
   ]
 
   -- a committed instance isn't live
@@ -61,7 +64,10 @@ module _ (net : Net) (w v : World) (k x n : ℕ) (image : Image) (ok : Agreed ne
     undecided = let one = ok.live y live is in rw (decided y) one.1.undecided;
     holders = λ p i held. elim (same_or_other p k) [
       | inr other ↦ (rw (s.only p other) held, ap (λ (r : Record). r.permanent) (s.only p other))
-      | inl at_k ↦ absurd (not_live live (rw (same_initiator (w.records k) y live.number x n i image (rw at_k at held) s.settles.held) at is) (same_number (w.records k) y live.number x n i image (rw at_k at held) s.settles.held))
+      | inl at_k ↦ absurd
+          (not_live live
+          (rw (same_initiator (w.records k) y live.number x n i image (rw at_k at held) s.settles.held) at is)
+          (same_number (w.records k) y live.number x n i image (rw at_k at held) s.settles.held))
     ];
     none_new = λ p i other held. was_held p y live.number i held;
     permanent = rises;
@@ -69,7 +75,9 @@ module _ (net : Net) (w v : World) (k x n : ℕ) (image : Image) (ok : Agreed ne
 
   line : (j : ℕ) → effective v.records j ≡ effective w.records j
   line j = elim (same_or_other j k) [
-    | inl is ↦ rw is (effective_free v.records k s.settles.free ∙ s.settles.permanent ∙ sym (effective_committed w.records k x n image s.settles.held s.decided))
+    | inl is ↦ rw is
+        (effective_free v.records k s.settles.free ∙ s.settles.permanent
+        ∙ sym (effective_committed w.records k x n image s.settles.held s.decided))
     | inr other ↦ effective_at_others w.records v.records j (s.only j other) decided
   ]
 
@@ -90,7 +98,10 @@ module _ (net : Net) (w v : World) (k x n : ℕ) (image : Image) (ok : Agreed ne
   confirmed_agrees = record {
     highest = λ p y. rw (highest p, highest y) (ok.highest p y);
     named = λ y m p now is_named. rw (highest p) (ok.named y m p (rw (decided y) at now) (rw (named y) at is_named));
-    holders = λ y m p i other held now. rw (named y) (ok.holders y m p i other (was_held p y m i held) (rw (decided y) at now));
+    holders =
+        λ y m p i other held now. rw (named y)
+        (ok.holders y m p i other (was_held p y m i held) (rw (decided y) at now));
     no_orphan = λ c p q cross. rw (line q, line p) (ok.no_orphan c p q cross);
-    live = λ y live is. let one = ok.live y live (s.live y live is) in (one.0, live_stays net w v y one.0 live (on y live (s.live y live is)) one.1);
+    live = λ y live is. let one = ok.live y live (s.live y live is) in
+        (one.0, live_stays net w v y one.0 live (on y live (s.live y live is)) one.1);
   }

@@ -1,4 +1,5 @@
--- What every reachable world keeps: of each node alone, of the records of two nodes, of each initiator that collects answers, and of each packet.
+-- What every reachable world keeps: of each node alone, of the records of two nodes, of each initiator that collects
+-- answers, and of each packet.
 use Rattle.std.specs.Prelude.{◌≡◌, ◌≢◌, ◌⊎◌, ℕ, ◌≤◌, ◌<◌, true, false, Option, Some}
 use Rattle.recovery_line.specs.Images.{Image, AtMost, Net, IsCross, IsLocal, IsOutput}
 use Rattle.recovery_line.specs.Records.{Record, Holds, effective}
@@ -22,7 +23,8 @@ pub record NodeOk (net : Net) (k : ℕ) (a : Node) : Type 0 where
   pub used : (n : ℕ) → a.disk.decided n ≡ true → n ≤ a.disk.highest k
   pub older : (m n : ℕ) (i : Image) → Holds a.disk k m i → a.disk.decided n ≡ true → n < m
   pub own : (live : Live) → live_of a.mode ≡ Some live → (i : Image) × Holds a.disk k live.number i
-  pub local : (c : ℕ) (i : Image) → IsLocal net c k → IsImageOf a i → (i.base c ≤ i.received c) × (i.received c ≤ i.sent c)
+  pub local : (c : ℕ) (i : Image) → IsLocal net c k → IsImageOf a i
+      → (i.base c ≤ i.received c) × (i.received c ≤ i.sent c)
   pub output : (c : ℕ) (i : Image) → IsOutput net c k → IsImageOf a i → i.base c ≤ a.outlets c
   pub covered : (c : ℕ) → IsOutput net c k → a.outlets c ≤ a.disk.permanent.sent c
   pub log : (c : ℕ) (i : Image) → IsImageOf a i → i.base c ≤ i.sent c
@@ -55,29 +57,39 @@ pub record LiveOk (net : Net) (records : ℕ → Record) (x : ℕ) (own : Image)
   pub undecided : (records x).decided live.number ≡ false
   pub takers : (p : ℕ) → live.takes p ≡ true → (p ≢ x) × ((i : Image) × Holds (records p) x live.number i)
   -- each need of its image is asked for, and each of a taker's image is asked for or met by its own
-  pub needs : (c p : ℕ) → IsCross net c p x → (records x).permanent.received c < own.received c → (answer : Answer) × (live.asks c ≡ Some (own.received c, answer))
-  pub takers_needs : (c p q : ℕ) (i : Image) → IsCross net c p q → live.takes q ≡ true → Holds (records q) x live.number i → (records q).permanent.received c < i.received c
-      → ((p ≡ x) × (i.received c ≤ own.sent c)) ⊎ ((p ≢ x) × ((answer : Answer) × (live.asks c ≡ Some (i.received c, answer))))
-  pub took : (c p q m : ℕ) → IsCross net c p q → live.asks c ≡ Some (m, By_took) → (live.takes p ≡ true) × ((i : Image) → Holds (records p) x live.number i → m ≤ i.sent c)
-  pub covered : (c p q m : ℕ) → IsCross net c p q → live.asks c ≡ Some (m, By_covered) → m ≤ (records p).permanent.sent c
+  pub needs : (c p : ℕ) → IsCross net c p x → (records x).permanent.received c < own.received c
+      → (answer : Answer) × (live.asks c ≡ Some (own.received c, answer))
+  pub takers_needs : (c p q : ℕ) (i : Image) → IsCross net c p q → live.takes q ≡ true
+      → Holds (records q) x live.number i → (records q).permanent.received c < i.received c
+      → ((p ≡ x) × (i.received c ≤ own.sent c))
+      ⊎ ((p ≢ x) × ((answer : Answer) × (live.asks c ≡ Some (i.received c, answer))))
+  pub took : (c p q m : ℕ) → IsCross net c p q → live.asks c ≡ Some (m, By_took)
+      → (live.takes p ≡ true) × ((i : Image) → Holds (records p) x live.number i → m ≤ i.sent c)
+  pub covered : (c p q m : ℕ) → IsCross net c p q → live.asks c ≡ Some (m, By_covered)
+      → m ≤ (records p).permanent.sent c
   -- whoever else holds an image of the instance was asked for it
   pub holders : (p : ℕ) (i : Image) → p ≢ x → Holds (records p) x live.number i → Unmet net records live p
   -- each count asked for, of another node, was received by the initiator's image or a taker's
   pub witnessed : (c m : ℕ) (answer : Answer) → live.asks c ≡ Some (m, answer)
-      → (p : ℕ) × (q : ℕ) × (i : Image) × IsCross net c p q × ((q ≡ x) ⊎ (live.takes q ≡ true)) × Holds (records q) x live.number i × (m ≡ i.received c) × (p ≢ x)
+      → (p : ℕ) × (q : ℕ) × (i : Image) × IsCross net c p q × ((q ≡ x) ⊎ (live.takes q ≡ true))
+      × Holds (records q) x live.number i × (m ≡ i.received c) × (p ≢ x)
   pub needed : (p : ℕ) → live.takes p ≡ true → NeedOf net records x live p
 
 -- Of the records of two nodes.
 pub record Agreed (net : Net) (w : World) : Type 0 where
   pub highest : (p x : ℕ) → (w.records p).highest x ≤ (w.records x).highest x
-  pub named : (x n p : ℕ) → (w.records x).decided n ≡ true → (w.records x).named n p ≡ true → n ≤ (w.records p).highest x
-  pub holders : (x n p : ℕ) (i : Image) → p ≢ x → Holds (w.records p) x n i → (w.records x).decided n ≡ true → (w.records x).named n p ≡ true
+  pub named : (x n p : ℕ) → (w.records x).decided n ≡ true → (w.records x).named n p ≡ true
+      → n ≤ (w.records p).highest x
+  pub holders : (x n p : ℕ) (i : Image) → p ≢ x → Holds (w.records p) x n i → (w.records x).decided n ≡ true
+      → (w.records x).named n p ≡ true
   pub no_orphan : NoOrphan net (effective w.records)
   pub live : (x : ℕ) (live : Live) → IsLive w x live → (own : Image) × LiveOk net w.records x own live
 
 -- each log reaches back to what its channel's consumer got for good
 abbrev pub LogsKept : Net → World → Type 0
-LogsKept net w = (c p q : ℕ) (i : Image) → IsCross net c p q → IsImageOf (node_of w p) i → i.base c ≤ (w.records q).permanent.received c
+LogsKept net w =
+    (c p q : ℕ) (i : Image) → IsCross net c p q → IsImageOf (node_of w p) i
+    → i.base c ≤ (w.records q).permanent.received c
 
 pub record AskSays (w : World) (x n c m p : ℕ) : Type 0 where
   pub used : n ≤ (w.records x).highest x
@@ -105,7 +117,8 @@ pub record CoveredSays (w : World) (x n c m p : ℕ) : Type 0 where
 
 pub record CommitSays (w : World) (x p n : ℕ) : Type 0 where
   pub seen : n ≤ (w.records p).highest x
-  pub held : (i : Image) → Holds (w.records p) x n i → ((w.records x).decided n ≡ true) × ((w.records x).named n p ≡ true)
+  pub held : (i : Image) → Holds (w.records p) x n i
+      → ((w.records x).decided n ≡ true) × ((w.records x).named n p ≡ true)
 
 pub record SettledSays (w : World) (p x n : ℕ) : Type 0 where
   pub seen : n ≤ (w.records p).highest x

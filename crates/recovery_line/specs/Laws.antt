@@ -16,11 +16,14 @@ NodeOpens = (net : Net) (k : ℕ) → NodeOk net k (node_of opening k)
 
 -- whatever steps it makes by itself
 abbrev pub NodeStaysOk : Type 0
-NodeStaysOk = (net : Net) (k : ℕ) (a b : Node) (nodes : List Node) → NodeOk net k a → Alone net k a nodes b → NodeOk net k b
+NodeStaysOk =
+    (net : Net) (k : ℕ) (a b : Node) (nodes : List Node) → NodeOk net k a → Alone net k a nodes b → NodeOk net k b
 
 -- and when a packet comes, where a verdict is on another's instance
 abbrev pub NodeHearsOk : Type 0
-NodeHearsOk = (net : Net) (k : ℕ) (packet : Packet) (a b : Node) → NodeOk net k a → IsByOther k packet → Hears net k packet a b → NodeOk net k b
+NodeHearsOk =
+    (net : Net) (k : ℕ) (packet : Packet) (a b : Node) → NodeOk net k a → IsByOther k packet → Hears net k packet a b
+    → NodeOk net k b
 
 -- The node can restart from its permanent image, and its current log has what is still to be released of that.
 pub record CanRestart (net : Net) (k : ℕ) (a : Node) : Type 0 where
@@ -28,14 +31,17 @@ pub record CanRestart (net : Net) (k : ℕ) (a : Node) : Type 0 where
   pub nothing_lost : (c : ℕ) → IsLocal net c k → a.disk.permanent.base c ≤ a.disk.permanent.received c
   pub outputs : (c : ℕ) → IsOutput net c k → a.disk.permanent.base c ≤ a.outlets c
   pub covers : (c : ℕ) → IsOutput net c k → a.outlets c ≤ a.disk.permanent.sent c
-  pub in_log : (c : ℕ) (i : Image) → IsOutput net c k → current_of a.mode ≡ Some i → (i.base c ≤ a.outlets c) × (a.disk.permanent.sent c ≤ i.sent c)
+  pub in_log : (c : ℕ) (i : Image) → IsOutput net c k → current_of a.mode ≡ Some i
+      → (i.base c ≤ a.outlets c) × (a.disk.permanent.sent c ≤ i.sent c)
 
 abbrev pub NodeIsSound : Type 0
 NodeIsSound = (net : Net) (k : ℕ) (a : Node) → NodeOk net k a → CanRestart net k a
 
 -- The line has its permanent image, while it holds no image of another's instance: its own is never effective.
 abbrev pub OwnIsNotEffective : Type 0
-OwnIsNotEffective = (net : Net) (w : World) (k : ℕ) → NodeOk net k (node_of w k) → ((x n : ℕ) (i : Image) → Holds (w.records k) x n i → x ≡ k)
+OwnIsNotEffective =
+    (net : Net) (w : World) (k : ℕ) → NodeOk net k (node_of w k)
+    → ((x n : ℕ) (i : Image) → Holds (w.records k) x n i → x ≡ k)
     → effective w.records k ≡ (w.records k).permanent
 
 abbrev pub NodeNeverFallsBack : Type 0
@@ -54,7 +60,9 @@ abbrev pub IsTrueWhenSent : Type 0
 IsTrueWhenSent = (net : Net) (w : World) (packet : Packet) → Consistent net w → MaySend net w packet → Says net w packet
 
 abbrev pub StaysTrue : Type 0
-StaysTrue = (net : Net) (w v : World) (worlds : List World) (packet : Packet) → Consistent net w → Run net w worlds v → Says net w packet → Says net v packet
+StaysTrue =
+    (net : Net) (w v : World) (worlds : List World) (packet : Packet) → Consistent net w → Run net w worlds v
+    → Says net w packet → Says net v packet
 
 -- at most one node's record differs, by at most one write
 pub record AtMostOneMove (w v : World) : Type 0 where
@@ -78,17 +86,23 @@ IsConsistent = (net : Net) (w : World) → Reachable net w → Consistent net w
 
 -- the line is sound at every moment of every step
 abbrev pub LineIsSound : Type 0
-LineIsSound = (net : Net) (w v : World) (records : ℕ → Record) (outlets : ℕ → ℕ) → Reachable net w → Step net w v → AtMoment w v records outlets
+LineIsSound =
+    (net : Net) (w v : World) (records : ℕ → Record) (outlets : ℕ → ℕ) → Reachable net w → Step net w v
+    → AtMoment w v records outlets
     → Sound net (effective records) outlets
 
 -- and it covers what was released
 abbrev pub LineCovers : Type 0
-LineCovers = (net : Net) (w v : World) (records : ℕ → Record) (outlets : ℕ → ℕ) → Reachable net w → Step net w v → AtMoment w v records outlets
+LineCovers =
+    (net : Net) (w v : World) (records : ℕ → Record) (outlets : ℕ → ℕ) → Reachable net w → Step net w v
+    → AtMoment w v records outlets
     → Covers net records outlets
 
 -- no line that is possible at a later moment is behind
 abbrev pub LineNeverFallsBack : Type 0
-LineNeverFallsBack = (net : Net) (w u v : World) (worlds : List World) (records : ℕ → Record) (outlets : ℕ → ℕ) → Reachable net w → Run net w worlds u → Step net u v → AtMoment u v records outlets
+LineNeverFallsBack =
+    (net : Net) (w u v : World) (worlds : List World) (records : ℕ → Record) (outlets : ℕ → ℕ) → Reachable net w
+    → Run net w worlds u → Step net u v → AtMoment u v records outlets
     → NotBehind w.records records × ((c : ℕ) → w.outlets c ≤ outlets c)
 
 -- a decision is written only while all whom it names hold the instance
@@ -101,7 +115,8 @@ CommitsWhileHeld = (net : Net) (w v : World) (x n p : ℕ) → Reachable net w �
 abbrev pub StaysCommitted : Type 0
 StaysCommitted = (net : Net) (w v : World) (x n p : ℕ) (i : Image) → Reachable net w → Step net w v
     → Holds (w.records p) x n i → (w.records x).decided n ≡ true
-    → (Holds (v.records p) x n i × ((v.records x).decided n ≡ true)) ⊎ (((v.records p).tentative ≡ None) × ((v.records p).permanent ≡ i))
+    → (Holds (v.records p) x n i × ((v.records x).decided n ≡ true))
+    ⊎ (((v.records p).tentative ≡ None) × ((v.records p).permanent ≡ i))
 
 -- whoever holds a committed instance is named by its decision
 abbrev pub HoldersAreNamed : Type 0
@@ -109,10 +124,14 @@ HoldersAreNamed = (net : Net) (w : World) (x n p : ℕ) (i : Image) → Reachabl
     → Holds (w.records p) x n i → (w.records x).decided n ≡ true → (p ≢ x) × ((w.records x).named n p ≡ true)
 
 abbrev pub EndedIsOver : Type 0
-EndedIsOver = (net : Net) (w : World) (x p n : ℕ) → Reachable net w → MaySend net w (Ended x p n) ⊎ InFlight w (Ended x p n) → Over w x n
+EndedIsOver =
+    (net : Net) (w : World) (x p n : ℕ) → Reachable net w → MaySend net w (Ended x p n) ⊎ InFlight w (Ended x p n)
+    → Over w x n
 
 abbrev pub StaysOver : Type 0
-StaysOver = (net : Net) (w v : World) (worlds : List World) (x n : ℕ) → Reachable net w → Run net w worlds v → Over w x n → Over v x n
+StaysOver =
+    (net : Net) (w v : World) (worlds : List World) (x n : ℕ) → Reachable net w → Run net w worlds v → Over w x n
+    → Over v x n
 
 -- a permanent image stays, or is replaced by one held for an instance that wasn't over
 abbrev pub OverStaysOut : Type 0
@@ -123,7 +142,9 @@ OverStaysOut = (net : Net) (w v : World) (k : ℕ) → Reachable net w → Step 
 -- Each taker has a channel of which the initiator's image, or that of a taker whose Took came earlier,
 -- received more than the taker's permanent image has put.
 abbrev pub TakersAreNeeded : Type 0
-TakersAreNeeded = (net : Net) (w : World) (x p : ℕ) (live : Live) → Reachable net w → IsLive w x live → live.takes p ≡ true → NeedOf net w.records x live p
+TakersAreNeeded =
+    (net : Net) (w : World) (x p : ℕ) (live : Live) → Reachable net w → IsLive w x live → live.takes p ≡ true
+    → NeedOf net w.records x live p
 
 -- While its initiator collects answers for an instance: in the line in which the initiator takes its image,
 -- and of the takers a part that leaves one out, there is an orphan.
@@ -137,7 +158,8 @@ NoSmallerDecision = (net : Net) (w v : World) (x n p : ℕ) (part : ℕ → Bool
     → (w.records x).decided n ≡ false → (v.records x).decided n ≡ true → (v.records x).named n p ≡ true
     → part x ≡ true → part p ≡ false → NoOrphan net (line_with w.records part) → ⊥
 
--- While the instance is live, its initiator or one of its takers received this many items of the channel in its tentative image.
+-- While the instance is live, its initiator or one of its takers received this many items of the channel in its
+-- tentative image.
 pub record Wanted (net : Net) (w : World) (x n c m : ℕ) : Type 0 where
   pub live : Live
   pub is : IsLive w x live
@@ -159,9 +181,11 @@ pub record WantedBefore (net : Net) (w : World) (x n c m : ℕ) : Type 0 where
 
 -- whatever is asked for was received by an image of the instance
 abbrev pub AsksForNeeds : Type 0
-AsksForNeeds = (net : Net) (w : World) (x n c m : ℕ) → Reachable net w → InFlight w (Ask x n c m) → WantedBefore net w x n c m
+AsksForNeeds =
+    (net : Net) (w : World) (x n c m : ℕ) → Reachable net w → InFlight w (Ask x n c m) → WantedBefore net w x n c m
 
--- the Ask that made node p take an image of another's instance: p's permanent image hadn't put so many, and its new one has
+-- the Ask that made node p take an image of another's instance: p's permanent image hadn't put so many, and its new one
+-- has
 pub record Needed (net : Net) (w v : World) (p x n : ℕ) (i : Image) : Type 0 where
   pub channel : ℕ
   pub count : ℕ
@@ -179,4 +203,6 @@ TakesWhereNeeded = (net : Net) (w v : World) (p x n : ℕ) (i : Image) → Reach
 
 -- some run reaches a decision that names another node
 abbrev pub ReachesADecision : Type 0
-ReachesADecision = (net : Net) × (w : World) × (x : ℕ) × (n : ℕ) × (p : ℕ) × Reachable net w × ((w.records x).decided n ≡ true) × ((w.records x).named n p ≡ true) × (p ≢ x)
+ReachesADecision =
+    (net : Net) × (w : World) × (x : ℕ) × (n : ℕ) × (p : ℕ) × Reachable net w × ((w.records x).decided n ≡ true)
+    × ((w.records x).named n p ≡ true) × (p ≢ x)

@@ -123,8 +123,10 @@ pub record Doubts (k : ℕ) (a b : Node) (x n : ℕ) (image : Image) : Type 0 wh
 -- What is asked for an image: on each channel from another node of which it received more than the
 -- permanent image.
 pub record AsksNeeds (net : Net) (k : ℕ) (permanent image : Image) (asks : ℕ → Option (ℕ × Answer)) : Type 0 where
-  pub each : (c p : ℕ) → IsCross net c p k → permanent.received c < image.received c → asks c ≡ Some (image.received c, Awaited)
-  pub only : (c m : ℕ) (answer : Answer) → asks c ≡ Some (m, answer) → (p : ℕ) × IsCross net c p k × (m ≡ image.received c) × (answer ≡ Awaited)
+  pub each : (c p : ℕ) → IsCross net c p k → permanent.received c < image.received c
+      → asks c ≡ Some (image.received c, Awaited)
+  pub only : (c m : ℕ) (answer : Answer) → asks c ≡ Some (m, answer)
+      → (p : ℕ) × IsCross net c p k × (m ≡ image.received c) × (answer ≡ Awaited)
 
 -- A node that holds nothing takes its current image for a new instance of its own, and asks for its needs.
 pub record Starts (net : Net) (k : ℕ) (a b : Node) (current : Image) (live : Live) : Type 0 where
@@ -154,7 +156,8 @@ pub record Concludes (k : ℕ) (a b : Node) (current image : Image) (live : Live
 -- The steps that node k makes by itself.
 pub data NodeStep (net : Net) (k : ℕ) (a b : Node) : Type 0 where
   Work : (before later : Image) (live : Option Live) → Works net k a b before later live → NodeStep net k a b
-  Trim : (c to : ℕ) (before later : Image) (live : Option Live) → Unneeded net k a before c to → Trims a b c to before later live → NodeStep net k a b
+  Trim : (c to : ℕ) (before later : Image) (live : Option Live) → Unneeded net k a before c to
+      → Trims a b c to before later live → NodeStep net k a b
   Release : (c : ℕ) (current : Image) (live : Option Live) → Releases net k a b c current live → NodeStep net k a b
   Roll_back : (current : Image) (live : Option Live) → RollsBack a b current live → NodeStep net k a b
   Crash : Crashes a b → NodeStep net k a b

@@ -1,10 +1,13 @@
--- How the record that a node writes is seen here: by the counts of its images, the numbers and the names in its decisions.
-use Rattle.std.specs.Prelude.{◌≡◌, ◌≢◌, ℕ, ◌<◌, Bool, false, ◌==◌, ◌&&◌, ◌||◌, List, [], ◌∷◌, length, Option, Some, None, slice_index}
+-- How the record that a node writes is seen here: by the counts of its images, the numbers and the names in its
+-- decisions.
+use Rattle.std.specs.Prelude.{◌≡◌, ◌≢◌, ℕ, ◌<◌, Bool, false, ◌==◌, ◌&&◌, ◌||◌, List, [], ◌∷◌, length, Option, Some}
+use Rattle.std.specs.Prelude.{None, slice_index}
 use Rattle.record.specs.DecisionView.{DecisionView}
 use Rattle.record.specs.ImageView.{ImageView}
 use Rattle.record.specs.RecordView.{RecordView}
 use Rattle.record.specs.Ends.{received_of, base_of, sent_of}
-use Rattle.record.specs.Moves.{highest_seen, with_tentative, with_permanent, without_tentative, with_decision, with_confirmed, with_epoch}
+use Rattle.record.specs.Moves.{highest_seen, with_tentative, with_permanent, without_tentative, with_decision}
+use Rattle.record.specs.Moves.{with_confirmed, with_epoch}
 use Rattle.record.specs.declared.record.Tentative.{Tentative as HeldImage}
 use Rattle.recovery_line.specs.Images.{Image}
 use Rattle.recovery_line.specs.Records.{Record, Tentative}
@@ -17,7 +20,8 @@ image_seen image = record { received = received_of image; base = base_of image; 
 
 abbrev pub tentative_seen : Option HeldImage → Option Tentative
 tentative_seen None = None
-tentative_seen (Some held) = Some (record { initiator = held.initiator; number = held.number; image = image_seen held.image })
+tentative_seen (Some held) =
+    Some (record { initiator = held.initiator; number = held.number; image = image_seen held.image })
 
 -- the node is one of these
 abbrev pub has_node : ℕ → List ℕ → Bool
@@ -52,25 +56,36 @@ record_seen kept = record {
 
 -- an image is taken: nothing is held, and the number is above the highest seen of a node that there is
 abbrev pub TakingMoves : Type 0
-TakingMoves = (kept : RecordView) (initiator number : ℕ) (image : ImageView) → kept.tentative ≡ None → initiator < length kept.highest → highest_seen initiator kept < number
-    → Takes (record_seen kept) (record_seen (with_tentative initiator number image kept)) initiator number (image_seen image)
+TakingMoves =
+    (kept : RecordView) (initiator number : ℕ) (image : ImageView) → kept.tentative ≡ None
+    → initiator < length kept.highest → highest_seen initiator kept < number
+    → Takes (record_seen kept) (record_seen (with_tentative initiator number image kept)) initiator number
+    (image_seen image)
 
 -- an image becomes permanent by a decision, while no other is unsettled
 abbrev pub DecidingMoves : Type 0
-DecidingMoves = (kept : RecordView) (held : HeldImage) (participants : List ℕ) → kept.tentative ≡ Some held → kept.decision ≡ None
-    → Decides (record_seen kept) (record_seen (with_decision held.number participants kept)) held.initiator held.number (image_seen held.image) (λ p. has_node p participants)
+DecidingMoves =
+    (kept : RecordView) (held : HeldImage) (participants : List ℕ) → kept.tentative ≡ Some held → kept.decision ≡ None
+    → Decides (record_seen kept) (record_seen (with_decision held.number participants kept)) held.initiator held.number
+    (image_seen held.image) (λ p. has_node p participants)
 
 -- it becomes permanent at another's word
 abbrev pub SettlingMoves : Type 0
-SettlingMoves = (kept : RecordView) (held : HeldImage) → kept.tentative ≡ Some held → Settles (record_seen kept) (record_seen (with_permanent kept)) held.initiator held.number (image_seen held.image)
+SettlingMoves =
+    (kept : RecordView) (held : HeldImage) → kept.tentative ≡ Some held
+    → Settles (record_seen kept) (record_seen (with_permanent kept)) held.initiator held.number (image_seen held.image)
 
 -- it goes
 abbrev pub DroppingMoves : Type 0
-DroppingMoves = (kept : RecordView) (held : HeldImage) → kept.tentative ≡ Some held → Drops (record_seen kept) (record_seen (without_tentative kept)) held.initiator held.number (image_seen held.image)
+DroppingMoves =
+    (kept : RecordView) (held : HeldImage) → kept.tentative ≡ Some held
+    → Drops (record_seen kept) (record_seen (without_tentative kept)) held.initiator held.number (image_seen held.image)
 
 -- a node confirms a decision
 abbrev pub ConfirmingMoves : Type 0
-ConfirmingMoves = (kept : RecordView) (number node : ℕ) → Confirms (record_seen kept) (record_seen (with_confirmed number node kept)) number node
+ConfirmingMoves =
+    (kept : RecordView) (number node : ℕ)
+    → Confirms (record_seen kept) (record_seen (with_confirmed number node kept)) number node
 
 -- a new epoch drops an image of the node's own instance
 abbrev pub EpochDropsOwn : Type 0
@@ -79,4 +94,6 @@ EpochDropsOwn = (kept : RecordView) (held : HeldImage) → kept.tentative ≡ So
 
 -- and else it isn't seen at all
 abbrev pub EpochIsNotSeen : Type 0
-EpochIsNotSeen = (kept : RecordView) → ((held : HeldImage) → kept.tentative ≡ Some held → held.initiator ≢ kept.node) → record_seen (with_epoch kept) ≡ record_seen kept
+EpochIsNotSeen =
+    (kept : RecordView) → ((held : HeldImage) → kept.tentative ≡ Some held → held.initiator ≢ kept.node)
+    → record_seen (with_epoch kept) ≡ record_seen kept

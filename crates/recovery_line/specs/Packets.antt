@@ -3,7 +3,8 @@ use Rattle.std.specs.Prelude.{◌≡◌, ◌≢◌, ◌⊎◌, ℕ, ◌≤◌, �
 use Rattle.recovery_line.specs.Images.{Image, Net, IsCross}
 use Rattle.recovery_line.specs.Records.{Holds}
 use Rattle.recovery_line.specs.Moves.{Takes, Settles, Drops, Confirms}
-use Rattle.recovery_line.specs.Nodes.{Answer, Awaited, By_took, By_covered, Live, Mode, Down, In_doubt, Running, Node, Unwritten, Trims}
+use Rattle.recovery_line.specs.Nodes.{Answer, Awaited, By_took, By_covered, Live, Mode, Down, In_doubt, Running, Node}
+use Rattle.recovery_line.specs.Nodes.{Unwritten, Trims}
 
 pub data Packet : Type 0 where
   -- the channel's consumer got so many items for good
@@ -75,9 +76,12 @@ pub record HearsTook (net : Net) (k : ℕ) (a b : Node) (n c : ℕ) (needs : ℕ
   pub answer : Answer
   pub asked : before.asks c ≡ Some (count, answer)
   pub answered : later.asks c ≡ Some (count, By_took)
-  pub asks_kept : (d j : ℕ) (answer : Answer) → d ≢ c → before.asks d ≡ Some (j, answer) → later.asks d ≡ Some (j, answer)
-  pub asks_new : (d j : ℕ) (answer : Answer) → d ≢ c → later.asks d ≡ Some (j, answer) → (before.asks d ≡ Some (j, answer)) ⊎ ((needs d ≡ Some j) × (answer ≡ Awaited) × (net.producer d ≢ Some k))
-  pub met : (d r j : ℕ) → IsCross net d r from → needs d ≡ Some j → ((r ≡ k) × (j ≤ own.sent d)) ⊎ ((r ≢ k) × (i : ℕ) × (answer : Answer) × (later.asks d ≡ Some (i, answer)))
+  pub asks_kept : (d j : ℕ) (answer : Answer) → d ≢ c → before.asks d ≡ Some (j, answer)
+      → later.asks d ≡ Some (j, answer)
+  pub asks_new : (d j : ℕ) (answer : Answer) → d ≢ c → later.asks d ≡ Some (j, answer)
+      → (before.asks d ≡ Some (j, answer)) ⊎ ((needs d ≡ Some j) × (answer ≡ Awaited) × (net.producer d ≢ Some k))
+  pub met : (d r j : ℕ) → IsCross net d r from → needs d ≡ Some j
+      → ((r ≡ k) × (j ≤ own.sent d)) ⊎ ((r ≢ k) × (i : ℕ) × (answer : Answer) × (later.asks d ≡ Some (i, answer)))
   pub takes : later.takes from ≡ true
   pub takes_others : (p : ℕ) → p ≢ from → later.takes p ≡ before.takes p
   pub places : (p : ℕ) → before.takes p ≡ true → later.place p ≡ before.place p

@@ -22,7 +22,8 @@ abbrev pub Holds : Record → ℕ → ℕ → Image → Type 0
 Holds r x n i = r.tentative ≡ Some (record { initiator = x; number = n; image = i })
 
 abbrev pub new_record : Record
-new_record = record { highest = λ x. 0; decided = λ n. false; named = λ n p. false; permanent = blank; tentative = None }
+new_record =
+    record { highest = λ x. 0; decided = λ n. false; named = λ n p. false; permanent = blank; tentative = None }
 
 abbrev pub chosen : (ℕ → Record) → Image → Option Tentative → Image
 chosen records permanent None = permanent

@@ -3,7 +3,8 @@ use Rattle.std.specs.Prelude.{◌≡◌, ◌≢◌, ◌⊎◌, ℕ, ◌≤◌, �
 use Rattle.recovery_line.specs.Images.{Image, Net, IsCross, blank}
 use Rattle.recovery_line.specs.Records.{Record, Holds, new_record}
 use Rattle.recovery_line.specs.Nodes.{Awaited, Live, Mode, Down, Running, live_of, Node, NodeStep}
-use Rattle.recovery_line.specs.Packets.{Packet, Kept, Ask, Took, Covered, Query, Commit, Ended, Settled, AreNeeds, Hears}
+use Rattle.recovery_line.specs.Packets.{Packet, Kept, Ask, Took, Covered, Query, Commit, Ended, Settled, AreNeeds}
+use Rattle.recovery_line.specs.Packets.{Hears}
 
 -- by node its record and its mode, by output the number of items released, and by place a packet under way
 pub record World : Type 0 where
@@ -22,7 +23,8 @@ abbrev pub InFlight : World → Packet → Type 0
 InFlight w packet = (place : ℕ) × (w.flight place ≡ Some packet)
 
 abbrev pub opening : World
-opening = record { records = λ k. new_record; modes = λ k. Running blank None; outlets = λ c. 0; flight = λ place. None }
+opening =
+    record { records = λ k. new_record; modes = λ k. Running blank None; outlets = λ c. 0; flight = λ place. None }
 
 pub record SendsKept (net : Net) (w : World) (c m : ℕ) : Type 0 where
   pub node : ℕ
@@ -107,7 +109,8 @@ pub record Sends (net : Net) (w v : World) : Type 0 where
 -- One step: a node acts by itself, a packet that was sent comes to a node, or nodes send.
 pub data Step (net : Net) (w v : World) : Type 0 where
   Acts : (k : ℕ) → OnlyAt w v k → NodeStep net k (node_of w k) (node_of v k) → Step net w v
-  Comes : (k : ℕ) (packet : Packet) → InFlight w packet → OnlyAt w v k → Hears net k packet (node_of w k) (node_of v k) → Step net w v
+  Comes : (k : ℕ) (packet : Packet) → InFlight w packet → OnlyAt w v k → Hears net k packet (node_of w k) (node_of v k)
+      → Step net w v
   Send : Sends net w v → Step net w v
 
 -- the worlds in their order, each led to by a step from the one before

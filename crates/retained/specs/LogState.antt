@@ -1,5 +1,6 @@
 -- What a log is: the last items of a history, and how many came before them.
-use Rattle.std.specs.Prelude.{◌≡◌, ◌⊎◌, ℕ, ◌+◌, ◌-◌, ◌<◌, ◌≤◌, nat_lt, if◌then◌else◌, List, ℤ, length, take, drop, Option, None, slice_get}
+use Rattle.std.specs.Prelude.{◌≡◌, ◌⊎◌, ℕ, ◌+◌, ◌-◌, ◌<◌, ◌≤◌, nat_lt, if◌then◌else◌, List, ℤ, length, take, drop}
+use Rattle.std.specs.Prelude.{Option, None, slice_get}
 use Rattle.std.specs.Option.{option_to_list}
 use Rattle.kahn_net.specs.declared.limits.TheConstants.{MAX_COUNT}
 use Rattle.retained.specs.declared.log.TheConstants.{MAX_LOG_ITEMS}

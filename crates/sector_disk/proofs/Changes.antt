@@ -9,7 +9,8 @@ module _ {T C : Type 0} (may_leave : T → C → Type 0) (end : C → Type 0) wh
   Left past t c = ((t ≤ length past) × end c) ⊎ LeftBySome may_leave past t c
 
   -- the value was `old`, and is another now: all that might have been left of the old one is kept
-  changed : (past : List T) (old : T) → Elapses (length past) (length (old ∷ past)) (LeftBySome may_leave (old ∷ past)) (Left (old ∷ past)) end
+  changed : (past : List T) (old : T)
+      → Elapses (length past) (length (old ∷ past)) (LeftBySome may_leave (old ∷ past)) (Left (old ∷ past)) end
   changed past old = record {
     later = omega arith;
     keeps = λ t c le had. inr had;
@@ -21,6 +22,8 @@ module _ {T C : Type 0} (may_leave : T → C → Type 0) (end : C → Type 0) wh
       news t c (inr had) = inl had
 
   -- the same, with the past as a note has left it
-  pub changed_to : (past later : List T) (old : T) → later ≡ old ∷ past → Elapses (length past) (length later) (LeftBySome may_leave (old ∷ past)) (Left later) end
+  pub changed_to : (past later : List T) (old : T) → later ≡ old ∷ past
+      → Elapses (length past) (length later) (LeftBySome may_leave (old ∷ past)) (Left later) end
   changed_to past later old is =
-      subst (λ (l : List T). Elapses (length past) (length l) (LeftBySome may_leave (old ∷ past)) (Left l) end) (sym is) (changed past old)
+      subst (λ (l : List T). Elapses (length past) (length l) (LeftBySome may_leave (old ∷ past)) (Left l) end)
+      (sym is) (changed past old)

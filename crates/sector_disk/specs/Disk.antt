@@ -1,5 +1,6 @@
 -- What the calls of a disk do to its content, to what a crash may leave, and to its counts.
-use Rattle.std.specs.Prelude.{◌<◌, min, ◌≡◌, ℕ, ◌+◌, ◌*◌, ◌%◌, ◌≤◌, List, ◌++◌, length, take, drop, Result, IsErrOf, Ok, Err}
+use Rattle.std.specs.Prelude.{◌<◌, min, ◌≡◌, ℕ, ◌+◌, ◌*◌, ◌%◌, ◌≤◌, List, ◌++◌, length, take, drop, Result, IsErrOf, Ok}
+use Rattle.std.specs.Prelude.{Err}
 use Rattle.sector_disk.specs.declared.TheConstants.{SECTOR_BYTES, GREATEST_COUNT}
 use Rattle.sector_disk.specs.declared.disk.ArmedFault.{ArmedFault}
 use Rattle.sector_disk.specs.declared.fault.DiskFault.{DiskFault}
@@ -47,7 +48,8 @@ count_after (Err Device) n = min (n + 1) GREATEST_COUNT
 count_after (Ok done) n = min (n + 1) GREATEST_COUNT
 
 -- A device call tells `Device` exactly where the count of failures rises, and then it is the last that failed.
-pub record IsCounted {D : Type 0} (failure_count call_count failed_call : D → ℕ) (old new : D) (result : Result (Unit {0}) DiskFault) : Type 0 where
+pub record IsCounted {D : Type 0} (failure_count call_count failed_call : D → ℕ) (old new : D)
+    (result : Result (Unit {0}) DiskFault) : Type 0 where
   pub fails : IsErrOf result Device → failure_count old < failure_count new
   pub works : ¬ (IsErrOf result Device) → failure_count new ≡ failure_count old
   pub calls : call_count new ≡ count_after result (call_count old)

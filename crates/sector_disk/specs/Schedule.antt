@@ -3,8 +3,8 @@ use Rattle.std.specs.Prelude.{ℕ, ◌+◌, ◌==◌, min, nat_lt, if◌then◌e
 use Rattle.sector_disk.specs.declared.TheConstants.{GREATEST_COUNT}
 use Rattle.sector_disk.specs.declared.disk.ArmedFault.{ArmedFault}
 
--- the faults that are armed, in the order of arming; the calls since the last recount; all failures; the last call that failed
--- since the last recount, or 0; and the byte by which a crash fills
+-- the faults that are armed, in the order of arming; the calls since the last recount; all failures; the last call that
+-- failed since the last recount, or 0; and the byte by which a crash fills
 pub record FaultState : Type 0 where
   pub armed : List ArmedFault
   pub calls : ℕ
@@ -21,13 +21,15 @@ next_count calls = min (calls + 1) GREATEST_COUNT
 
 -- the fault that the call with this count meets: the first that is armed for it; none once the failures are counted out
 abbrev pub fault_at : List ArmedFault → ℕ → ℕ → Option ArmedFault
-fault_at armed count failures = if nat_lt failures GREATEST_COUNT then find (λ fault. fault.call == count) armed else None
+fault_at armed count failures =
+    if nat_lt failures GREATEST_COUNT then find (λ fault. fault.call == count) armed else None
 
 -- the fault that the next device call meets
 abbrev pub fault_met : FaultState → Option ArmedFault
 fault_met s = fault_at s.armed (next_count s.calls) s.failures
 
--- the call counts, and meets this fault or none: where it meets one it fails, and a crash is to fill by that fault's byte
+-- the call counts, and meets this fault or none: where it meets one it fails, and a crash is to fill by that fault's
+-- byte
 abbrev pub after_meeting : Option ArmedFault → FaultState → FaultState
 after_meeting None s = record s { calls = next_count s.calls }
 after_meeting (Some fault) s = record s {

@@ -7,7 +7,8 @@ use Rattle.kahn_net.specs.declared.program.Link.{Link}
 use Rattle.kahn_net.specs.declared.program.Expr.{Expr}
 use Rattle.kahn_net.specs.declared.program.Expr.TheViews.{Chain}
 
-pub value_starts : (e : Expr) (first : Box Expr Global) (links : Vec Link Global) (items : List Link) (vars : List ℤ) (total : ℤ) → e ≡ Chain first links → items ≡ links.items → total ≡ value_of (tree_of first.value) vars
+pub value_starts : (e : Expr) (first : Box Expr Global) (links : Vec Link Global) (items : List Link) (vars : List ℤ)
+    (total : ℤ) → e ≡ Chain first links → items ≡ links.items → total ≡ value_of (tree_of first.value) vars
     → value_along (links_of (drop 0 items)) vars total ≡ value_of (tree_of e) vars
 value_starts e first links items vars total h k t =
     ap (λ (z : ℤ). value_along (links_of items) vars z) t

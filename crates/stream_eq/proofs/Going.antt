@@ -11,15 +11,19 @@ use Rattle.stream_eq.specs.Play.{EndsAs, IsPlayed}
 use Rattle.stream_eq.proofs.Loops.{ended_is, past_then}
 
 -- what is left to do leads where the first trace leads
-pub record Going (first : Trace) (start : List (List ℤ)) (rest : Block) (vars : List ℤ) (unread sent : List (List ℤ)) : Type 0 where
+pub record Going (first : Trace) (start : List (List ℤ)) (rest : Block) (vars : List ℤ)
+    (unread sent : List (List ℤ)) : Type 0 where
   pub site : ℕ
   pub left : List ℕ
   pub put : put_after (trace_of site left rest vars unread).steps sent ≡ put_after first.steps start
   pub end : (trace_of site left rest vars unread).end ≡ first.end
 
 -- one statement is played, and then the rest is left to do
-module _ {first : Trace} {start : List (List ℤ)} (s : Statement) (rest : Block) {vars : List ℤ} {unread sent : List (List ℤ)} (g : Going first start (then_of s rest) vars unread sent)
-    {ended : Bool} {vars' : List ℤ} {unread' sent' : List (List ℤ)} (played : (site : ℕ) (left : List ℕ) → IsPlayed (trace_of site left (then_of s Nothing) vars unread) sent sent' ended vars' unread') where
+module _ {first : Trace} {start : List (List ℤ)} (s : Statement) (rest : Block) {vars : List ℤ}
+    {unread sent : List (List ℤ)} (g : Going first start (then_of s rest) vars unread sent)
+    {ended : Bool} {vars' : List ℤ} {unread' sent' : List (List ℤ)}
+    (played : (site : ℕ) (left : List ℕ)
+    → IsPlayed (trace_of site left (then_of s Nothing) vars unread) sent sent' ended vars' unread') where
   abbrev one : Trace
   one = trace_of g.site g.left (then_of s Nothing) vars unread
 
@@ -39,36 +43,59 @@ module _ {first : Trace} {start : List (List ℤ)} (s : Statement) (rest : Block
   pub goes_further : ended ≡ true → Going first start rest vars' unread' sent'
   goes_further holds =
       let m = played g.site g.left in
-      let after : from_end one.end behind ≡ behind vars' unread' = ap (λ (e : End). from_end e behind) (ended_is one.end ended vars' unread' holds m.end) in
+      let after : from_end one.end behind ≡ behind vars' unread' =
+      ap (λ (e : End). from_end e behind) (ended_is one.end ended vars' unread' holds m.end) in
       record {
         site = g.site + sites_of (then_of s Nothing);
         left = g.left;
-        put = ap (put_after (behind vars' unread').steps) m.put ∙ (ap (λ (t : Trace). put_after t.steps (put_after one.steps sent)) (sym after)
+        put = ap (put_after (behind vars' unread').steps) m.put
+            ∙ (ap (λ (t : Trace). put_after t.steps (put_after one.steps sent)) (sym after)
             ∙ (sym (put_after-append one.steps (from_end one.end behind).steps sent) ∙ put_in_two));
         end = ap (λ (t : Trace). t.end) (sym after) ∙ end_in_two;
       }
 
   -- it didn't, so the whole doesn't
-  pub stays : {vars'' : List ℤ} {unread'' : List (List ℤ)} → ended ≡ false → IsPlayed first start sent' false vars'' unread''
+  pub stays : {vars'' : List ℤ} {unread'' : List (List ℤ)} → ended ≡ false
+      → IsPlayed first start sent' false vars'' unread''
   stays {vars''} {unread''} fails = at one.end refl (played g.site g.left).end
     where
       put_is : (from_end one.end behind).steps ≡ [] → sent' ≡ put_after first.steps start
-      put_is none = (played g.site g.left).put ∙ (ap (λ (x : List Step). put_after x sent) (sym (append-nil one.steps) ∙ ap (λ (x : List Step). one.steps ++ x) (sym none)) ∙ put_in_two)
+      put_is none =
+          (played g.site g.left).put
+          ∙ (ap (λ (x : List Step). put_after x sent)
+          (sym (append-nil one.steps) ∙ ap (λ (x : List Step). one.steps ++ x) (sym none)) ∙ put_in_two)
 
       end_is : (e : End) → one.end ≡ e → (from_end e behind).end ≡ first.end
       end_is e same = ap (λ (x : End). (from_end x behind).end) (sym same) ∙ end_in_two
 
       at : (e : End) → one.end ≡ e → EndsAs e ended vars' unread' → IsPlayed first start sent' false vars'' unread''
       at (Ended w x) same h = absurd (cc)
-      at (Waits p w c) same h = record { put = put_is (ap (λ (x : End). (from_end x behind).steps) same); end = subst (λ (d : End). EndsAs d false vars'' unread'') (end_is (Waits p w c) same) refl }
-      at (Stopped w) same h = record { put = put_is (ap (λ (x : End). (from_end x behind).steps) same); end = subst (λ (d : End). EndsAs d false vars'' unread'') (end_is (Stopped w) same) refl }
+      at (Waits p w c) same h =
+          record {
+            put = put_is (ap (λ (x : End). (from_end x behind).steps) same);
+            end =
+                subst (λ (d : End). EndsAs d false vars'' unread'') (end_is (Waits p w c) same) refl;
+          }
+      at (Stopped w) same h =
+          record {
+            put = put_is (ap (λ (x : End). (from_end x behind).steps) same);
+            end =
+                subst (λ (d : End). EndsAs d false vars'' unread'') (end_is (Stopped w) same) refl;
+          }
 
 -- what a statement puts past a limit is past it whatever comes behind
-pub past_behind : {first : Trace} {start : List (List ℤ)} (s : Statement) (rest : Block) {vars : List ℤ} {unread sent : List (List ℤ)} (limits : List ℕ) (g : Going first start (then_of s rest) vars unread sent)
-    → ((site : ℕ) (left : List ℕ) → GoesPast limits (put_after (trace_of site left (then_of s Nothing) vars unread).steps sent)) → GoesPast limits (put_after first.steps start)
+pub past_behind : {first : Trace} {start : List (List ℤ)} (s : Statement) (rest : Block) {vars : List ℤ}
+    {unread sent : List (List ℤ)} (limits : List ℕ) (g : Going first start (then_of s rest) vars unread sent)
+    → ((site : ℕ) (left : List ℕ)
+    → GoesPast limits (put_after (trace_of site left (then_of s Nothing) vars unread).steps sent))
+    → GoesPast limits (put_after first.steps start)
 past_behind {first} {start} s rest {vars} {unread} {sent} limits g past =
-    subst (GoesPast limits) (ap (λ (t : Trace). put_after t.steps sent) (sym (first_then_rest g.site g.left s rest vars unread)) ∙ g.put)
-    (past_then limits (trace_of g.site g.left (then_of s Nothing) vars unread) (trace_of (g.site + sites_of (then_of s Nothing)) g.left rest) sent (past g.site g.left))
+    subst (GoesPast limits)
+    (ap (λ (t : Trace). put_after t.steps sent) (sym (first_then_rest g.site g.left s rest vars unread)) ∙ g.put)
+    (past_then limits (trace_of g.site g.left (then_of s Nothing) vars unread)
+    (trace_of (g.site + sites_of (then_of s Nothing)) g.left rest) sent (past g.site g.left))
 
-pub going_at : {first : Trace} {start : List (List ℤ)} {b b' : Block} {vars : List ℤ} {unread sent : List (List ℤ)} → Going first start b vars unread sent → b ≡ b' → Going first start b' vars unread sent
-going_at {first} {start} {b} {b'} {vars} {unread} {sent} g d = subst (λ (x : Block). Going first start x vars unread sent) d g
+pub going_at : {first : Trace} {start : List (List ℤ)} {b b' : Block} {vars : List ℤ} {unread sent : List (List ℤ)}
+    → Going first start b vars unread sent → b ≡ b' → Going first start b' vars unread sent
+going_at {first} {start} {b} {b'} {vars} {unread} {sent} g d =
+    subst (λ (x : Block). Going first start x vars unread sent) d g

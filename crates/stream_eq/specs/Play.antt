@@ -13,7 +13,8 @@ EndsAs (Waits point vars channel) ended vars' unread' = ended ≡ false
 EndsAs (Stopped vars) ended vars' unread' = ended ≡ false
 
 -- the acts of a trace were made: its items were put on these histories, and it ended so
-pub record IsPlayed (t : Trace) (before after : List (List ℤ)) (ended : Bool) (vars : List ℤ) (unread : List (List ℤ)) : Type 0 where
+pub record IsPlayed (t : Trace) (before after : List (List ℤ)) (ended : Bool) (vars : List ℤ)
+    (unread : List (List ℤ)) : Type 0 where
   pub put : after ≡ put_after t.steps before
   pub end : EndsAs t.end ended vars unread
 

@@ -1,5 +1,6 @@
 -- Which process goes on next.
-use Rattle.std.specs.Prelude.{◌≡◌, ℕ, suc, ◌≤◌, Bool, true, false, if◌then◌else◌, List, [], ◌∷◌, drop, slice_index_or, Option, Some, None}
+use Rattle.std.specs.Prelude.{◌≡◌, ℕ, suc, ◌≤◌, Bool, true, false, if◌then◌else◌, List, [], ◌∷◌, drop, slice_index_or}
+use Rattle.std.specs.Prelude.{Option, Some, None}
 
 -- the process of this number is ready
 abbrev pub IsReady : List Bool → ℕ → Type 0
@@ -13,7 +14,8 @@ start_after (Some last) = suc last
 abbrev pub IsAfter : Option ℕ → ℕ → Type 0
 IsAfter last process = start_after last ≤ process
 
--- The process that is next: where a ready one comes after the last one granted, the least of these, and else the least of all ready ones.
+-- The process that is next: where a ready one comes after the last one granted, the least of these, and else the least
+-- of all ready ones.
 pub record IsNext (last : Option ℕ) (ready : List Bool) (process : ℕ) : Type 0 where
   pub is_ready : IsReady ready process
   pub after : (other : ℕ) → IsReady ready other → IsAfter last other → IsAfter last process × (process ≤ other)

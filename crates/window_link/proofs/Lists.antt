@@ -1,11 +1,13 @@
 -- Lists and choices, as the laws of a link need them.
-use Rattle.std.proofs.Common.{◌≡◌, ℕ, zero, suc, Bool, true, false, ◌&&◌, cond, List, [], ◌∷◌, ◌++◌, length, Option, Some, refl, ap, subst, arith}
+use Rattle.std.proofs.Common.{◌≡◌, ℕ, zero, suc, Bool, true, false, ◌&&◌, cond, List, [], ◌∷◌, ◌++◌, length, Option}
+use Rattle.std.proofs.Common.{Some, refl, ap, subst, arith}
 use Rattle.std.specs.Prelude.{slice_get, Contains}
 use Rattle.std.specs.List.{AllByRecursion}
 use Rattle.std.proofs.lemmas.Option.{slice_get_within, get_or_from_slice_get}
 
 -- what holds of either choice holds of the one that is made
-pub by_cases : {A : Type 0} (P : A → Type 0) (b : Bool) (x y : A) → (b ≡ true → P x) → (b ≡ false → P y) → P (cond b x y)
+pub by_cases : {A : Type 0} (P : A → Type 0) (b : Bool) (x y : A) → (b ≡ true → P x) → (b ≡ false → P y)
+    → P (cond b x y)
 by_cases P true x y on_true on_false = on_true refl
 by_cases P false x y on_true on_false = on_false refl
 
@@ -13,16 +15,19 @@ pub and_both : (a b : Bool) → (a && b) ≡ true → (a ≡ true) × (b ≡ tru
 and_both true b e = (refl, e)
 and_both false b e = absurd cc
 
-pub the_same : {A : Type 0} (x y : A) → (let one : Option A = Some x in let other : Option A = Some y in one ≡ other) → x ≡ y
+pub the_same : {A : Type 0} (x y : A) → (let one : Option A = Some x in let other : Option A = Some y in one ≡ other)
+    → x ≡ y
 the_same x y e = cc
 
 -- what holds of each holds of the one at a place
-pub at_place : {A : Type 0} (P : A → Type 0) (xs : List A) → AllByRecursion P xs → (k : ℕ) (x : A) → slice_get xs k ≡ Some x → P x
+pub at_place : {A : Type 0} (P : A → Type 0) (xs : List A) → AllByRecursion P xs → (k : ℕ) (x : A)
+    → slice_get xs k ≡ Some x → P x
 at_place P [] all k x e = absurd cc
 at_place P (y ∷ ys) all zero x e = subst P (the_same y x e) all.0
 at_place P (y ∷ ys) all (suc k) x e = at_place P ys all.1 k x e
 
-pub each_weaker : {A : Type 0} (P Q : A → Type 0) → ((x : A) → P x → Q x) → (xs : List A) → AllByRecursion P xs → AllByRecursion Q xs
+pub each_weaker : {A : Type 0} (P Q : A → Type 0) → ((x : A) → P x → Q x) → (xs : List A) → AllByRecursion P xs
+    → AllByRecursion Q xs
 each_weaker P Q weaker [] all = tt
 each_weaker P Q weaker (x ∷ xs) all = (weaker x all.0, each_weaker P Q weaker xs all.1)
 
@@ -33,7 +38,8 @@ in_front (y ∷ xs) ys zero x e = e
 in_front (y ∷ xs) ys (suc k) x e = in_front xs ys k x e
 
 -- what stands behind the front is the first of the rest
-pub behind_front : {A : Type 0} (xs rest : List A) (x : A) → slice_get (xs ++ rest) (length xs) ≡ Some x → (more : List A) × (rest ≡ x ∷ more)
+pub behind_front : {A : Type 0} (xs rest : List A) (x : A) → slice_get (xs ++ rest) (length xs) ≡ Some x
+    → (more : List A) × (rest ≡ x ∷ more)
 behind_front [] [] x e = absurd cc
 behind_front [] (y ∷ more) x e = (more, ap (λ z. z ∷ more) (the_same y x e))
 behind_front (y ∷ xs) rest x e = behind_front xs rest x e

@@ -11,7 +11,8 @@ pub same_wire : (wire : WireState) (node : ℕ) → wire ≡ with_queue wire nod
 same_wire wire node =
     let none : QueueState = record { flights = []; counts = []; room = 0 } in
     ap (λ (queues : List QueueState). let made : WireState = record { queues = queues; rules = wire.rules } in made)
-    (sym (ap (slice_set wire.queues node) (unwrap_or-slice_get wire.queues node none) ∙ set-get_or wire.queues node none))
+    (sym (ap (slice_set wire.queues node) (unwrap_or-slice_get wire.queues node none)
+    ∙ set-get_or wire.queues node none))
 
 pub on_any_err : {T E P : Type 0} (r : Result T E) → P → OnErr r P
 on_any_err (Ok x) p = tt

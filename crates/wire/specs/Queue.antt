@@ -1,5 +1,6 @@
 -- The packets in flight to one node.
-use Rattle.std.specs.Prelude.{ℕ, ◌+◌, Bool, nat_le, List, ◌++◌, slice_get, slice_set, slice_index, Option, Some, None, option_map, replicate, remove, All, IsTrue}
+use Rattle.std.specs.Prelude.{ℕ, ◌+◌, Bool, nat_le, List, ◌++◌, slice_get, slice_set, slice_index, Option, Some, None}
+use Rattle.std.specs.Prelude.{option_map, replicate, remove, All, IsTrue}
 use Rattle.std.specs.Option.{option_to_list}
 use Rattle.wire.specs.declared.rule.Fate.{Fate}
 use Rattle.wire.specs.declared.queue.Flight.{Flight}
@@ -23,7 +24,8 @@ replaced flights place None = flights
 replaced flights place (Some f) = slice_set flights place f
 
 abbrev pub with_delay : List Flight → ℕ → ℕ → List Flight
-with_delay flights place rounds = replaced flights place (option_map (λ f. flight f.packet (capped (f.due + rounds))) (slice_get flights place))
+with_delay flights place rounds =
+    replaced flights place (option_map (λ f. flight f.packet (capped (f.due + rounds))) (slice_get flights place))
 
 -- one packet more was sent by this node
 abbrev pub counted : List ℕ → ℕ → List ℕ

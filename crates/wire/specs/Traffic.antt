@@ -41,7 +41,8 @@ with_traffic traffic node queue = record { queues = slice_set traffic.queues nod
 
 -- the same with other packets in flight to a node
 abbrev pub with_flights : Traffic → ℕ → List Flight → Traffic
-with_flights traffic node flights = with_traffic traffic node (record { flights = flights; counts = (traffic_at traffic node).counts })
+with_flights traffic node flights =
+    with_traffic traffic node (record { flights = flights; counts = (traffic_at traffic node).counts })
 
 -- the packet at a place is taken or lost
 abbrev pub traffic_without : Traffic → ℕ → ℕ → Traffic
@@ -72,12 +73,14 @@ queue_sent rules from to packet round queue = record {
 
 -- a packet was sent, in a round
 abbrev pub traffic_sent : ℕ → ℕ → List ℕ → ℕ → Traffic → Traffic
-traffic_sent from to packet round traffic = with_traffic traffic to (queue_sent traffic.rules from to packet round (traffic_at traffic to))
+traffic_sent from to packet round traffic =
+    with_traffic traffic to (queue_sent traffic.rules from to packet round (traffic_at traffic to))
 
 -- one packet after the other
 abbrev pub all_sent : ℕ → List Sending → Traffic → Traffic
 all_sent round [] traffic = traffic
-all_sent round (sending ∷ sendings) traffic = all_sent round sendings (traffic_sent sending.from sending.to sending.packet round traffic)
+all_sent round (sending ∷ sendings) traffic =
+    all_sent round sendings (traffic_sent sending.from sending.to sending.packet round traffic)
 
 -- these are nodes
 abbrev pub AreNodes : Sending → Type 0

@@ -1,5 +1,6 @@
 -- All that is in flight.
-use Rattle.std.specs.Prelude.{ℕ, ◌+◌, Bool, false, List, [], slice_get, slice_set, slice_index, unwrap_or, Option, Some, None}
+use Rattle.std.specs.Prelude.{ℕ, ◌+◌, Bool, false, List, [], slice_get, slice_set, slice_index, unwrap_or, Option, Some}
+use Rattle.std.specs.Prelude.{None}
 use Rattle.wire.specs.declared.rule.Rule.{Rule}
 use Rattle.wire.specs.declared.queue.Flight.{Flight}
 use Rattle.wire.specs.Rules.{capped}

@@ -20,31 +20,57 @@ one_record kept other (Some bytes) is too = sym (spelled_is kept bytes is) ∙ s
 
 module _ {C : Type 0} (words : CellWords C) where
   -- what a crash leaves spells the record of its store, and no other
-  pub own_alone : (store : Store C words) → Only (Some (words.value (cell_in store))) (words.may_leave (cell_in store)) → (left : Option (List ℕ)) → words.may_leave (cell_in store) left
+  pub own_alone : (store : Store C words) → Only (Some (words.value (cell_in store))) (words.may_leave (cell_in store))
+      → (left : Option (List ℕ)) → words.may_leave (cell_in store) left
       → (spelled : RecordView) → Spells spelled left → spelled ≡ record_in store
-  own_alone store settled left might spelled is = sym (spelled_is spelled (words.value (cell_in store)) (subst (λ (l : Option (List ℕ)). Spells spelled l) (settled left might) is))
+  own_alone store settled left might spelled is =
+      sym (spelled_is spelled (words.value (cell_in store))
+      (subst (λ (l : Option (List ℕ)). Spells spelled l) (settled left might) is))
 
-  pub own_spelled : (store : Store C words) → Only (Some (words.value (cell_in store))) (words.may_leave (cell_in store)) → (left : Option (List ℕ)) → words.may_leave (cell_in store) left
+  pub own_spelled : (store : Store C words)
+      → Only (Some (words.value (cell_in store))) (words.may_leave (cell_in store)) → (left : Option (List ℕ))
+      → words.may_leave (cell_in store) left
       → ∥ Spells (record_in store) left ∥₁
-  own_spelled store settled left might = ∥∥₁_map (store.kept.leaves left might) (λ some. subst (λ (kept : RecordView). Spells kept left) (own_alone store settled left might some.0 some.1) some.1)
+  own_spelled store settled left might =
+      ∥∥₁_map (store.kept.leaves left might)
+      (λ some. subst (λ (kept : RecordView). Spells kept left) (own_alone store settled left might some.0 some.1)
+      some.1)
 
-  pub own_left : (store : Store C words) (next : RecordView) → Only (Some (words.value (cell_in store))) (words.may_leave (cell_in store)) → (left : Option (List ℕ)) → words.may_leave (cell_in store) left
+  pub own_left : (store : Store C words) (next : RecordView)
+      → Only (Some (words.value (cell_in store))) (words.may_leave (cell_in store)) → (left : Option (List ℕ))
+      → words.may_leave (cell_in store) left
       → LeavesEither (record_in store) next left
-  own_left store next settled left might = record { something = store.kept.leaves left might; one_of = λ spelled is. inl (own_alone store settled left might spelled is) }
+  own_left store next settled left might =
+      record {
+        something = store.kept.leaves left might;
+        one_of =
+            λ spelled is. inl (own_alone store settled left might spelled is);
+      }
 
-  pub leaves_own : (store : Store C words) → Only (Some (words.value (cell_in store))) (words.may_leave (cell_in store)) → (left : Option (List ℕ)) → words.may_leave (cell_in store) left
+  pub leaves_own : (store : Store C words)
+      → Only (Some (words.value (cell_in store))) (words.may_leave (cell_in store)) → (left : Option (List ℕ))
+      → words.may_leave (cell_in store) left
       → LeavesAsMuch (record_in store).permanent left
   leaves_own store settled left might = record {
     something = store.kept.leaves left might;
-    as_much = λ spelled is channel. (let same = own_alone store settled left might spelled is in omega (arith, ap (λ (r : RecordView). sent_of r.permanent channel) same));
+    as_much =
+        λ spelled is
+        channel. (let same = own_alone store settled left might spelled is in
+        omega (arith, ap (λ (r : RecordView). sent_of r.permanent channel) same));
   }
 
-  module _ (old new : Store C words) (settled : Only (Some (words.value (cell_in old))) (words.may_leave (cell_in old))) where
+  module _ (old new : Store C words)
+      (settled : Only (Some (words.value (cell_in old))) (words.may_leave (cell_in old))) where
     -- through a put of this record
-    pub through : (next : RecordView) → LeavesNext next old new → LeaveEitherSince words.moment words.left_since (cell_in old) (cell_in new) (record_in old) next
+    pub through : (next : RecordView) → LeavesNext next old new
+        → LeaveEitherSince words.moment words.left_since (cell_in old) (cell_in new) (record_in old) next
     through next run left since =
-        ⊎_elim (own_left old next settled left) (λ is. record { something = ∣ (next, is) ∣₁; one_of = λ spelled too. inr (one_record spelled next left too is) }) (run.each left since)
+        ⊎_elim (own_left old next settled left)
+        (λ is. record
+        { something = ∣ (next, is) ∣₁; one_of = λ spelled too. inr (one_record spelled next left too is) })
+        (run.each left since)
 
     -- and where nothing was put
-    pub through_crash : LeavesAsBefore old new → LeaveEitherSince words.moment words.left_since (cell_in old) (cell_in new) (record_in old) (record_in old)
+    pub through_crash : LeavesAsBefore old new
+        → LeaveEitherSince words.moment words.left_since (cell_in old) (cell_in new) (record_in old) (record_in old)
     through_crash run left since = own_left old (record_in old) settled left (run.each left since)

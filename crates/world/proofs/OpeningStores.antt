@@ -1,5 +1,6 @@
 -- A store that was opened on a cell with a record's bytes, and why none is.
-use Rattle.std.proofs.Common.{◌≡◌, inl, inr, ℕ, ◌+◌, ◌*◌, ◌<◌, ◌≤◌, List, length, get_or, take, drop, Option, Some, None, refl, sym, ap, subst, ◌∙◌, length-take, arith}
+use Rattle.std.proofs.Common.{◌≡◌, inl, inr, ℕ, ◌+◌, ◌*◌, ◌<◌, ◌≤◌, List, length, get_or, take, drop, Option, Some}
+use Rattle.std.proofs.Common.{None, refl, sym, ap, subst, ◌∙◌, length-take, arith}
 use Rattle.std.specs.Prelude.{◌%◌, false, Err, IsSome, IsTrue, IsErrOf}
 use Rattle.sector_disk.specs.Clock.{Only}
 use Rattle.sector_disk.specs.declared.TheConstants.{SECTOR_BYTES}
@@ -31,11 +32,13 @@ answered : (o : Option RecordView) → IsSome o → ¬ (IsErrOf (record_or Reope
 answered None known failed = absurd (cc)
 answered (Some kept) known failed = absurd (cc)
 
-module _ {C : Type 0} (words : CellWords C) (kept : RecordView) (bytes : List ℕ) (cell : C) (opened recounted : Store C words) (load : IsLoad words cell (cell_in opened) (record_or Reopen (known_in opened)))
+module _ {C : Type 0} (words : CellWords C) (kept : RecordView) (bytes : List ℕ) (cell : C)
+    (opened recounted : Store C words) (load : IsLoad words cell (cell_in opened) (record_or Reopen (known_in opened)))
     (same : IsUntouched opened recounted) where
   -- shows that record
   pub opened_record : IsRecordText kept bytes → words.value cell ≡ bytes → record_in recounted ≡ kept
-  opened_record text holds = ap record_spelled (same.same_value ∙ (load.same_value ∙ holds)) ∙ spelled_is kept bytes text
+  opened_record text holds =
+      ap record_spelled (same.same_value ∙ (load.same_value ∙ holds)) ∙ spelled_is kept bytes text
 
   -- and holds it
   pub opened_holds : IsRecordText kept bytes → words.value cell ≡ bytes → Holds recounted kept
@@ -59,13 +62,22 @@ room_there sectors value_len some =
     (omega (arith, least), omega (arith, most))
 
 -- a value that stands on a disk had room there
-pub formatted_room : (sectors : ℕ) (value content : List ℕ) → length value ≤ MAX_VALUE_BYTES → HoldsFrame value sectors content → HasRoom sectors (length value)
+pub formatted_room : (sectors : ℕ) (value content : List ℕ) → length value ≤ MAX_VALUE_BYTES
+    → HoldsFrame value sectors content → HasRoom sectors (length value)
 formatted_room sectors value content few frame =
-    let whole : length (take (frame_size (length value)) (named sectors content)) ≡ frame_size (length value) = frame.whole in
-    let cut : length (take (frame_size (length value)) (named sectors content)) ≤ length (named sectors content) = omega (arith, length-take (frame_size (length value)) (named sectors content)) in
-    let inside : length (named sectors content) ≤ SECTOR_BYTES * area_sectors sectors = omega (arith, length-take (SECTOR_BYTES * area_sectors sectors) (drop (SECTOR_BYTES * (1 + (get_or content 0 0 % 2) * area_sectors sectors)) content)) in
+    let whole : length (take (frame_size (length value)) (named sectors content)) ≡ frame_size (length value) =
+    frame.whole in
+    let cut : length (take (frame_size (length value)) (named sectors content)) ≤ length (named sectors content) =
+    omega (arith, length-take (frame_size (length value)) (named sectors content)) in
+    let inside : length (named sectors content) ≤ SECTOR_BYTES * area_sectors sectors =
+    omega (
+      arith,
+      length-take (SECTOR_BYTES * area_sectors sectors)
+          (drop (SECTOR_BYTES * (1 + (get_or content 0 0 % 2) * area_sectors sectors)) content),
+    ) in
     let long : length value + LENGTH_BYTES ≤ frame_size (length value) = omega arith in
-    let room : length value + LENGTH_BYTES ≤ SECTOR_BYTES * area_sectors sectors = omega (arith, whole, cut, inside, long) in
+    let room : length value + LENGTH_BYTES ≤ SECTOR_BYTES * area_sectors sectors =
+    omega (arith, whole, cut, inside, long) in
     (omega (arith, room), omega (arith, room, few))
 
 -- the bytes of a record are as many as are told
@@ -74,42 +86,57 @@ unfolding spelled_length
 bytes_long kept bytes text = ap (length {A = ℕ}) text.spelled
 
 -- a disk that is formatted with a record's bytes has room for them
-pub kept_room : (kept : RecordView) (bytes value content : List ℕ) (before now : ℕ) → IsRecordWithin MAX_RETAINED_ITEMS kept → IsRecordText kept bytes → value ≡ bytes → now ≡ before → HoldsFrame value now content
+pub kept_room : (kept : RecordView) (bytes value content : List ℕ) (before now : ℕ)
+    → IsRecordWithin MAX_RETAINED_ITEMS kept → IsRecordText kept bytes → value ≡ bytes → now ≡ before
+    → HoldsFrame value now content
     → HasRoom before (spelled_length kept)
 kept_room kept bytes value content before now within text same sectors frame =
     let long : length value ≡ spelled_length kept = ap (length {A = ℕ}) same ∙ bytes_long kept bytes text in
     let short : spelled_length kept ≤ MAX_RECORD_BYTES = bounded_is_short kept within in
     let few : length value ≤ MAX_VALUE_BYTES = omega (arith, long, short) in
-    subst (λ (n : ℕ). HasRoom n (spelled_length kept)) sectors (subst (HasRoom now) long (formatted_room now value content few frame))
+    subst (λ (n : ℕ). HasRoom n (spelled_length kept)) sectors
+    (subst (HasRoom now) long (formatted_room now value content few frame))
 
 -- what a crash leaves of a store that holds a record, and leaves nothing else
-pub leaves_only : {C : Type 0} (words : CellWords C) (kept first : RecordView) (opened held : Store C words) → first ≡ kept → held ≡ opened → Holds opened first
-    → Only (Some (words.value (cell_in held))) (words.may_leave (cell_in held)) → (left : Option (List ℕ)) → words.may_leave (cell_in held) left → Spells kept left
+pub leaves_only : {C : Type 0} (words : CellWords C) (kept first : RecordView) (opened held : Store C words)
+    → first ≡ kept → held ≡ opened → Holds opened first
+    → Only (Some (words.value (cell_in held))) (words.may_leave (cell_in held)) → (left : Option (List ℕ))
+    → words.may_leave (cell_in held) left → Spells kept left
 leaves_only words kept first opened held is same holds settled left might =
     let text : IsRecordText kept (words.value (cell_in held)) =
-    subst (λ (r : RecordView). IsRecordText r (words.value (cell_in held))) is (subst (λ (s : Store _ words). IsRecordText first (words.value (cell_in s))) (sym same) holds) in
+    subst (λ (r : RecordView). IsRecordText r (words.value (cell_in held))) is
+    (subst (λ (s : Store _ words). IsRecordText first (words.value (cell_in s))) (sym same) holds) in
     subst (Spells kept) (sym (settled left might)) text
 
 -- Refusals
 
 -- one of `format`, as the store tells it
-pub format_refusal : (sectors given value_len : ℕ) (fault : CellFault) (told : StoreFault) → given ≡ value_len → told ≡ of_cell fault → ¬ (fault ≡ cell.Reopen)
-    → (fault ≡ cell.TooLarge → HasNoRoom sectors given) → (HasNoRoom sectors given → fault ≡ cell.TooLarge) → IsOpeningRefusal sectors value_len told
+pub format_refusal : (sectors given value_len : ℕ) (fault : CellFault) (told : StoreFault) → given ≡ value_len
+    → told ≡ of_cell fault → ¬ (fault ≡ cell.Reopen)
+    → (fault ≡ cell.TooLarge → HasNoRoom sectors given) → (HasNoRoom sectors given → fault ≡ cell.TooLarge)
+    → IsOpeningRefusal sectors value_len told
 format_refusal sectors given value_len fault told same is ready large none =
-    subst (IsOpeningRefusal sectors value_len) (sym is) (subst (λ (n : ℕ). IsOpeningRefusal sectors n (of_cell fault)) same (at fault ready large none))
+    subst (IsOpeningRefusal sectors value_len) (sym is)
+    (subst (λ (n : ℕ). IsOpeningRefusal sectors n (of_cell fault)) same (at fault ready large none))
   where
-    at : (f : CellFault) → ¬ (f ≡ cell.Reopen) → (f ≡ cell.TooLarge → HasNoRoom sectors given) → (HasNoRoom sectors given → f ≡ cell.TooLarge) → IsOpeningRefusal sectors given (of_cell f)
+    at : (f : CellFault) → ¬ (f ≡ cell.Reopen) → (f ≡ cell.TooLarge → HasNoRoom sectors given)
+        → (HasNoRoom sectors given → f ≡ cell.TooLarge) → IsOpeningRefusal sectors given (of_cell f)
     at cell.NoMemory ready large none = tt
-    at cell.Device ready large none = room_there sectors given (λ little. (let same : cell.Device ≡ cell.TooLarge = none little in cc))
+    at cell.Device ready large none =
+        room_there sectors given (λ little. (let same : cell.Device ≡ cell.TooLarge = none little in cc))
     at cell.TooLarge ready large none = large refl
     at cell.Reopen ready large none = absurd (ready refl)
 
 -- one of a store on a cell that is ready and holds a record
-pub open_refusal : {C : Type 0} (words : CellWords C) (kept : RecordView) (old new : C) (fault : StoreFault) (sectors value_len : ℕ) → IsLoad words old new (Err fault) → IsRecordText kept (words.value old) → IsTrue (words.is_ready old)
+pub open_refusal : {C : Type 0} (words : CellWords C) (kept : RecordView) (old new : C) (fault : StoreFault)
+    (sectors value_len : ℕ) → IsLoad words old new (Err fault) → IsRecordText kept (words.value old)
+    → IsTrue (words.is_ready old)
     → HasRoom sectors value_len → IsOpeningRefusal sectors value_len fault
-open_refusal words kept old new fault sectors value_len load text ready room = at fault (load.only kept text) (λ same. load.reopen.0 (ap (λ (f : StoreFault). Err f) same))
+open_refusal words kept old new fault sectors value_len load text ready room =
+    at fault (load.only kept text) (λ same. load.reopen.0 (ap (λ (f : StoreFault). Err f) same))
   where
-    at : (f : StoreFault) → IsOfCell f → (f ≡ store.Reopen → words.is_ready old ≡ false) → IsOpeningRefusal sectors value_len f
+    at : (f : StoreFault) → IsOfCell f → (f ≡ store.Reopen → words.is_ready old ≡ false)
+        → IsOpeningRefusal sectors value_len f
     at store.NoMemory told reopens = tt
     at store.Device told reopens = room
     at store.Reopen told reopens = (let down : words.is_ready old ≡ false = reopens refl in cc)

@@ -16,7 +16,8 @@ few_places world node inv within =
     omega (arith, count, few, within)
 
 -- and so is the number of a station
-pub number_few : (world : WorldView) (node : ℕ) (station : StationView) → WorldInvariant world → slice_get world.stations node ≡ Some station → station.number < NODES
+pub number_few : (world : WorldView) (node : ℕ) (station : StationView) → WorldInvariant world
+    → slice_get world.stations node ≡ Some station → station.number < NODES
 number_few world node station inv there =
     let few = few_places world node inv (slice_get_within world.stations node station there) in
     let number = (inv.numbered node station there).0 in

@@ -1,5 +1,6 @@
 -- What a world shows of an output.
-use Rattle.std.proofs.Common.{◌≡◌, ℕ, ◌+◌, ◌<◌, List, ℤ, ◌∷◌, map, length, drop, get_or, Option, Some, None, refl, sym, ap, ◌∙◌, Bor}
+use Rattle.std.proofs.Common.{◌≡◌, ℕ, ◌+◌, ◌<◌, List, ℤ, ◌∷◌, map, length, drop, get_or, Option, Some, None, refl, sym}
+use Rattle.std.proofs.Common.{ap, ◌∙◌, Bor}
 use Rattle.std.specs.Prelude.{◌==◌, find, option_copied, option_map}
 use Rattle.std.proofs.lemmas.List.{at_drop_more}
 use Rattle.protocol.specs.World.StationView.{OutletView, StationView}
@@ -11,28 +12,35 @@ outlet_of channel outlets = find (λ (outlet : OutletView). outlet.channel == ch
 abbrev items_in : Option OutletView → Option (List ℤ)
 items_in found = option_map (λ (outlet : OutletView). outlet.taken) found
 
-here : (found : Option OutletView) (shown : Option (Bor (List ℤ))) (items : Bor (List ℤ)) (others : List ℤ) → option_copied shown ≡ items_in found → shown ≡ Some items → taken_or found others ≡ items.now
+here : (found : Option OutletView) (shown : Option (Bor (List ℤ))) (items : Bor (List ℤ)) (others : List ℤ)
+    → option_copied shown ≡ items_in found → shown ≡ Some items → taken_or found others ≡ items.now
 here None None items others is there = absurd (cc)
 here None (Some x) items others is there = absurd (cc)
 here (Some outlet) None items others is there = absurd (cc)
 here (Some outlet) (Some x) items others is there = cc
 
-not_here : (found : Option OutletView) (shown : Option (Bor (List ℤ))) (others : List ℤ) → option_copied shown ≡ items_in found → shown ≡ None → taken_or found others ≡ others
+not_here : (found : Option OutletView) (shown : Option (Bor (List ℤ))) (others : List ℤ)
+    → option_copied shown ≡ items_in found → shown ≡ None → taken_or found others ≡ others
 not_here None shown others is there = refl
 not_here (Some outlet) None others is there = absurd (cc)
 not_here (Some outlet) (Some x) others is there = absurd (cc)
 
-module _ {A : Type 0} (view : A → StationView) (channel : ℕ) (xs : List A) (i : ℕ) (x : A) (outlets : List OutletView) (shown : Option (Bor (List ℤ)))
-    (within : i < length xs) (at : x ≡ get_or xs i x) (are : outlets ≡ (view x).outlets) (is : option_copied shown ≡ items_in (outlet_of channel outlets)) where
+module _ {A : Type 0} (view : A → StationView) (channel : ℕ) (xs : List A) (i : ℕ) (x : A) (outlets : List OutletView)
+    (shown : Option (Bor (List ℤ)))
+    (within : i < length xs) (at : x ≡ get_or xs i x) (are : outlets ≡ (view x).outlets)
+    (is : option_copied shown ≡ items_in (outlet_of channel outlets)) where
   -- from this station on, it is what this one shows, or else the others
-  one_on : taken_or (outlet_of channel outlets) (released_of channel (map view (drop (i + 1) xs))) ≡ released_of channel (map view (drop i xs))
+  one_on : taken_or (outlet_of channel outlets) (released_of channel (map view (drop (i + 1) xs)))
+      ≡ released_of channel (map view (drop i xs))
   one_on =
-      ap (λ (l : List OutletView). taken_or (outlet_of channel l) (released_of channel (map view (drop (i + 1) xs)))) are
+      ap (λ (l : List OutletView). taken_or (outlet_of channel l) (released_of channel (map view (drop (i + 1) xs))))
+      are
       ∙ ap (λ (one : A). released_of channel (map view (one ∷ drop (i + 1) xs))) at
       ∙ sym (at_drop_more (λ (l : List A). released_of channel (map view l)) xs i x within)
 
   pub shown_here : (items : Bor (List ℤ)) → shown ≡ Some items → items.now ≡ released_of channel (map view (drop i xs))
   shown_here items there = sym (here _ shown items _ is there) ∙ one_on
 
-  pub shown_later : shown ≡ None → released_of channel (map view (drop (i + 1) xs)) ≡ released_of channel (map view (drop i xs))
+  pub shown_later : shown ≡ None
+      → released_of channel (map view (drop (i + 1) xs)) ≡ released_of channel (map view (drop i xs))
   shown_later there = sym (not_here _ shown _ is there) ∙ one_on

@@ -1,5 +1,6 @@
 -- What has left the stations of a list, after an event at one of them, and what a crash meanwhile leaves of each.
-use Rattle.std.proofs.Common.{◌≡◌, ◌⊎◌, inl, inr, ℕ, ◌<◌, Bool, List, ℤ, length, get_or, Option, map, refl, sym, ap, subst}
+use Rattle.std.proofs.Common.{◌≡◌, ◌⊎◌, inl, inr, ℕ, ◌<◌, Bool, List, ℤ, length, get_or, Option, map, refl, sym, ap}
+use Rattle.std.proofs.Common.{subst}
 use Rattle.std.specs.Prelude.{Result, Ok, Err, IfOk, OnErr, slice_set}
 use Rattle.std.specs.List.{AllZip}
 use Rattle.std.specs.declared.alloc.AllocError.{AllocError}
@@ -38,93 +39,170 @@ use Rattle.world.proofs.Views.{same_outputs}
 module _ (setting : Setting) (sure : IsSoundSetting setting) (room : RecordView → Bool) (event : EventView) where
   -- what is seen after an event that was refused, or wasn't
   sound_then : (old : StationView) (new : StationView) (result : Result Reply AllocError) → IsSoundStation setting old
-      → IfOk result (λ reply. IsStationStep setting room event old (reply_view reply) new) → OnErr result (new ≡ old) → StationInvariant setting.net setting.inputs new
-  sound_then old new (Ok reply) sound step same = station_keeps setting sure room event old (reply_view reply) new sound step
+      → IfOk result (λ reply. IsStationStep setting room event old (reply_view reply) new) → OnErr result (new ≡ old)
+      → StationInvariant setting.net setting.inputs new
+  sound_then old new (Ok reply) sound step same =
+      station_keeps setting sure room event old (reply_view reply) new sound step
   sound_then old new (Err e) sound step same = subst (StationInvariant setting.net setting.inputs) (sym same) sound.inv
 
   begins_then : (old : StationView) (new : StationView) (result : Result Reply AllocError)
-      → IfOk result (λ reply. IsStationStep setting room event old (reply_view reply) new) → OnErr result (new ≡ old) → EachBegins (outputs_of old.outlets) (outputs_of new.outlets)
+      → IfOk result (λ reply. IsStationStep setting room event old (reply_view reply) new) → OnErr result (new ≡ old)
+      → EachBegins (outputs_of old.outlets) (outputs_of new.outlets)
   begins_then old new (Ok reply) step same = step_begins setting room event old (reply_view reply) new step
-  begins_then old new (Err e) step same = subst (λ (s : StationView). EachBegins (outputs_of old.outlets) (outputs_of s.outlets)) (sym same) (begins_same (outputs_of old.outlets))
+  begins_then old new (Err e) step same =
+      subst (λ (s : StationView). EachBegins (outputs_of old.outlets) (outputs_of s.outlets)) (sym same)
+      (begins_same (outputs_of old.outlets))
 
   -- and the record that is kept isn't behind
   ahead_then : (old : StationView) (new : StationView) (result : Result Reply AllocError) → IsSoundStation setting old
-      → IfOk result (λ reply. IsStationStep setting room event old (reply_view reply) new) → OnErr result (new ≡ old) → IsBehind old.node.kept.permanent new.node.kept.permanent
-  ahead_then old new (Ok reply) sound step same = step_ahead setting sure room event old (reply_view reply) new sound step
-  ahead_then old new (Err e) sound step same = subst (λ (s : StationView). IsBehind old.node.kept.permanent s.node.kept.permanent) (sym same) (behind_itself old.node.kept.permanent)
+      → IfOk result (λ reply. IsStationStep setting room event old (reply_view reply) new) → OnErr result (new ≡ old)
+      → IsBehind old.node.kept.permanent new.node.kept.permanent
+  ahead_then old new (Ok reply) sound step same =
+      step_ahead setting sure room event old (reply_view reply) new sound step
+  ahead_then old new (Err e) sound step same =
+      subst (λ (s : StationView). IsBehind old.node.kept.permanent s.node.kept.permanent) (sym same)
+      (behind_itself old.node.kept.permanent)
 
   -- but of the same node
   node_then : (old : StationView) (new : StationView) (result : Result Reply AllocError) → IsSoundStation setting old
-      → IfOk result (λ reply. IsStationStep setting room event old (reply_view reply) new) → OnErr result (new ≡ old) → new.node.kept.node ≡ old.node.kept.node
+      → IfOk result (λ reply. IsStationStep setting room event old (reply_view reply) new) → OnErr result (new ≡ old)
+      → new.node.kept.node ≡ old.node.kept.node
   node_then old new (Ok reply) sound step same = step_node setting sure room event old (reply_view reply) new sound step
   node_then old new (Err e) sound step same = ap (λ (s : StationView). s.node.kept.node) same
 
-module _ {C O : Type 0} {cell : CellWords C} (taken : O → List ℤ) (failures : O → ℕ) (only_now : (c : C) (left : Option (List ℕ)) → cell.left_since c (cell.moment c) left → cell.may_leave c left)
+module _ {C O : Type 0} {cell : CellWords C} (taken : O → List ℤ) (failures : O → ℕ)
+    (only_now : (c : C) (left : Option (List ℕ)) → cell.left_since c (cell.moment c) left → cell.may_leave c left)
     (net : Network) (inputs : List (List ℤ)) where
   -- as it is seen, so it is
-  seen_grown : (old new : Station C O cell) → HasGrown cell.moment cell.left_since (cell_in old.node.store) (cell_in new.node.store) (outputs_of (station_view taken failures old).outlets) (outputs_of (station_view taken failures new).outlets)
+  seen_grown : (old new : Station C O cell)
+      → HasGrown cell.moment cell.left_since (cell_in old.node.store) (cell_in new.node.store)
+      (outputs_of (station_view taken failures old).outlets) (outputs_of (station_view taken failures new).outlets)
       → IsGrown taken old new
   seen_grown old new grown =
-      subst (λ (after : List OutputView). HasGrown cell.moment cell.left_since (cell_in old.node.store) (cell_in new.node.store) (outputs_view taken old.outputs.items) after) (same_outputs taken failures new.outputs.items)
-      (subst (λ (before : List OutputView). HasGrown cell.moment cell.left_since (cell_in old.node.store) (cell_in new.node.store) before (outputs_of (station_view taken failures new).outlets)) (same_outputs taken failures old.outputs.items) grown)
+      subst (λ (after : List OutputView). HasGrown cell.moment cell.left_since (cell_in old.node.store)
+      (cell_in new.node.store) (outputs_view taken old.outputs.items) after)
+      (same_outputs taken failures new.outputs.items)
+      (subst (λ (before : List OutputView). HasGrown cell.moment cell.left_since (cell_in old.node.store)
+      (cell_in new.node.store) before (outputs_of (station_view taken failures new).outlets))
+      (same_outputs taken failures old.outputs.items) grown)
 
   -- a station that nobody touched
-  still : (station : Station C O cell) → StationInvariant net inputs (station_view taken failures station) → IsGrown taken station station
+  still : (station : Station C O cell) → StationInvariant net inputs (station_view taken failures station)
+      → IsGrown taken station station
   still station inv =
       seen_grown station station
-      (still_grown cell.moment cell.left_since cell.may_leave only_now (record_in station.node.store) (outlet_views taken failures station.outputs.items) (cell_in station.node.store) inv.kept.covered (leaves_own cell station.node.store station.node.kept.settled))
+      (still_grown cell.moment cell.left_since cell.may_leave only_now (record_in station.node.store)
+      (outlet_views taken failures station.outputs.items) (cell_in station.node.store) inv.kept.covered
+      (leaves_own cell station.node.store station.node.kept.settled))
 
   -- the stations of a list that nobody touched
-  pub all_still : (stations : List (Station C O cell)) → AreSound net inputs (map (station_view taken failures) stations) → AllZip (IsGrown taken) stations stations
-  all_still stations sound = pairs_refl (IsGrown taken) stations (λ i station is. still station (sound i (station_view taken failures station) (map_at (station_view taken failures) stations i station is)))
+  pub all_still : (stations : List (Station C O cell))
+      → AreSound net inputs (map (station_view taken failures) stations) → AllZip (IsGrown taken) stations stations
+  all_still stations sound =
+      pairs_refl (IsGrown taken) stations
+      (λ i station is. still station
+      (sound i (station_view taken failures station) (map_at (station_view taken failures) stations i station is)))
 
   -- what a crash leaves of a station whose cell nobody called is the record of before
-  untouched_in_line : (old new : Station C O cell) → StationInvariant net inputs (station_view taken failures old) → StationInvariant net inputs (station_view taken failures new) → cell_in old.node.store ≡ cell_in new.node.store
-      → (left : Option (List ℕ)) → cell.left_since (cell_in new.node.store) (cell.moment (cell_in old.node.store)) left → LeavesInLine net (station_view taken failures old) (station_view taken failures new) left
+  untouched_in_line : (old new : Station C O cell) → StationInvariant net inputs (station_view taken failures old)
+      → StationInvariant net inputs (station_view taken failures new) → cell_in old.node.store ≡ cell_in new.node.store
+      → (left : Option (List ℕ)) → cell.left_since (cell_in new.node.store) (cell.moment (cell_in old.node.store)) left
+      → LeavesInLine net (station_view taken failures old) (station_view taken failures new) left
   untouched_in_line old new inv later same left since =
-      same_in_line net inputs (station_view taken failures old) (station_view taken failures new) left inv later (ap (λ (c : C). record_spelled (cell.value c)) (sym same))
+      same_in_line net inputs (station_view taken failures old) (station_view taken failures new) left inv later
+      (ap (λ (c : C). record_spelled (cell.value c)) (sym same))
       (own_left cell old.node.store (record_in old.node.store) old.node.kept.settled left
-      (only_now (cell_in old.node.store) left (subst (λ (c : C). cell.left_since c (cell.moment (cell_in old.node.store)) left) (sym same) since)))
+      (only_now (cell_in old.node.store) left
+      (subst (λ (c : C). cell.left_since c (cell.moment (cell_in old.node.store)) left) (sym same) since)))
 
-  still_in_line : (station : Station C O cell) → StationInvariant net inputs (station_view taken failures station) → StaysInLine taken failures net station station
-  still_in_line station inv = record { leaves = untouched_in_line station station inv inv refl; goes_on = behind_itself (record_in station.node.store).permanent }
+  still_in_line : (station : Station C O cell) → StationInvariant net inputs (station_view taken failures station)
+      → StaysInLine taken failures net station station
+  still_in_line station inv =
+      record {
+        leaves = untouched_in_line station station inv inv refl;
+        goes_on =
+            behind_itself (record_in station.node.store).permanent;
+      }
 
-  pub all_still_in_line : (stations : List (Station C O cell)) → AreSound net inputs (map (station_view taken failures) stations) → AllZip (StaysInLine taken failures net) stations stations
+  pub all_still_in_line : (stations : List (Station C O cell))
+      → AreSound net inputs (map (station_view taken failures) stations)
+      → AllZip (StaysInLine taken failures net) stations stations
   all_still_in_line stations sound =
-      pairs_refl (StaysInLine taken failures net) stations (λ i station is. still_in_line station (sound i (station_view taken failures station) (map_at (station_view taken failures) stations i station is)))
+      pairs_refl (StaysInLine taken failures net) stations
+      (λ i station is. still_in_line station
+      (sound i (station_view taken failures station) (map_at (station_view taken failures) stations i station is)))
 
-module _ {C O : Type 0} {cell : CellWords C} (taken : O → List ℤ) (failures : O → ℕ) (only_now : (c : C) (left : Option (List ℕ)) → cell.left_since c (cell.moment c) left → cell.may_leave c left)
+module _ {C O : Type 0} {cell : CellWords C} (taken : O → List ℤ) (failures : O → ℕ)
+    (only_now : (c : C) (left : Option (List ℕ)) → cell.left_since c (cell.moment c) left → cell.may_leave c left)
     (setting : Setting) (sure : IsSoundSetting setting) (room : RecordView → Bool) (event : EventView) where
   -- what a crash leaves of a station with an event
-  event_in_line : (old new : Station C O cell) → IsSoundStation setting (station_view taken failures old) → StationInvariant setting.net setting.inputs (station_view taken failures new)
+  event_in_line : (old new : Station C O cell) → IsSoundStation setting (station_view taken failures old)
+      → StationInvariant setting.net setting.inputs (station_view taken failures new)
       → (station_view taken failures new).node.kept.node ≡ (station_view taken failures old).node.kept.node
-      → HasMoved cell.moment cell.left_since (cell_in old.node.store) (cell_in new.node.store) (record_in old.node.store) (next_kept setting event (station_view taken failures old)) (outlet_views taken failures old.outputs.items) (outlet_views taken failures new.outputs.items)
-      → (left : Option (List ℕ)) → cell.left_since (cell_in new.node.store) (cell.moment (cell_in old.node.store)) left → LeavesInLine setting.net (station_view taken failures old) (station_view taken failures new) left
+      → HasMoved cell.moment cell.left_since (cell_in old.node.store) (cell_in new.node.store)
+      (record_in old.node.store) (next_kept setting event (station_view taken failures old))
+      (outlet_views taken failures old.outputs.items) (outlet_views taken failures new.outputs.items)
+      → (left : Option (List ℕ)) → cell.left_since (cell_in new.node.store) (cell.moment (cell_in old.node.store)) left
+      → LeavesInLine setting.net (station_view taken failures old) (station_view taken failures new) left
   event_in_line old new sound later node moved left since = at moved.apart
     where
       at : (cell_in old.node.store ≡ cell_in new.node.store)
           ⊎ ((outlet_views taken failures old.outputs.items ≡ outlet_views taken failures new.outputs.items)
-          × ((other : Option (List ℕ)) → cell.left_since (cell_in new.node.store) (cell.moment (cell_in old.node.store)) other → LeavesEither (record_in old.node.store) (next_kept setting event (station_view taken failures old)) other))
+          × ((other : Option (List ℕ))
+          → cell.left_since (cell_in new.node.store) (cell.moment (cell_in old.node.store)) other
+          → LeavesEither (record_in old.node.store) (next_kept setting event (station_view taken failures old))
+          other))
           → LeavesInLine setting.net (station_view taken failures old) (station_view taken failures new) left
-      at (inl same) = untouched_in_line taken failures only_now setting.net setting.inputs old new sound.inv later same left since
-      at (inr through) = either_in_line setting sure event (station_view taken failures old) (station_view taken failures new) left sound (ap outputs_of through.0) node (through.1 left since)
+      at (inl same) =
+          untouched_in_line taken failures only_now setting.net setting.inputs old new sound.inv later same left since
+      at (inr through) =
+          either_in_line setting sure event (station_view taken failures old) (station_view taken failures new) left
+          sound (ap outputs_of through.0) node (through.1 left since)
 
   -- the stations of a list of which one had an event
-  module _ (stations : List (Station C O cell)) (place : ℕ) (x y : Station C O cell) (result : Result Reply AllocError) (here : IsSoundStation setting (station_view taken failures x))
-      (sound : AreSound setting.net setting.inputs (map (station_view taken failures) stations)) (within : place < length stations) (is : x ≡ get_or stations place x)
-      (moved : HasMoved cell.moment cell.left_since (cell_in x.node.store) (cell_in y.node.store) (record_in x.node.store) (next_kept setting event (station_view taken failures x)) (outlet_views taken failures x.outputs.items) (outlet_views taken failures y.outputs.items))
-      (step : IfOk result (λ reply. IsStationStep setting room event (station_view taken failures x) (reply_view reply) (station_view taken failures y)))
+  module _ (stations : List (Station C O cell)) (place : ℕ) (x y : Station C O cell) (result : Result Reply AllocError)
+      (here : IsSoundStation setting (station_view taken failures x))
+      (sound : AreSound setting.net setting.inputs (map (station_view taken failures) stations))
+      (within : place < length stations) (is : x ≡ get_or stations place x)
+      (moved : HasMoved cell.moment cell.left_since (cell_in x.node.store) (cell_in y.node.store)
+      (record_in x.node.store) (next_kept setting event (station_view taken failures x))
+      (outlet_views taken failures x.outputs.items) (outlet_views taken failures y.outputs.items))
+      (step : IfOk result
+      (λ reply. IsStationStep setting room event (station_view taken failures x) (reply_view reply)
+      (station_view taken failures y)))
       (same : OnErr result (station_view taken failures y ≡ station_view taken failures x)) where
     later : StationInvariant setting.net setting.inputs (station_view taken failures y)
-    later = sound_then setting sure room event (station_view taken failures x) (station_view taken failures y) result here step same
+    later = sound_then setting sure room event (station_view taken failures x) (station_view taken failures y) result
+        here step same
 
     pub all_grown : AllZip (IsGrown taken) stations (slice_set stations place y)
     all_grown =
-        pairs_set (IsGrown taken) stations place x y (λ i station at. still taken failures only_now setting.net setting.inputs station (sound i (station_view taken failures station) (map_at (station_view taken failures) stations i station at))) within is
-        (seen_grown taken failures only_now setting.net setting.inputs x y (has_grown cell.moment cell.left_since cell.may_leave only_now (record_in x.node.store) (next_kept setting event (station_view taken failures x)) (record_in y.node.store).permanent (outlet_views taken failures x.outputs.items) (outlet_views taken failures y.outputs.items)
-        (cell_in x.node.store) (cell_in y.node.store) here.inv.kept.covered later.kept.covered (leaves_own cell y.node.store y.node.kept.settled) (next_ahead setting sure event (station_view taken failures x) here) moved (begins_then setting sure room event (station_view taken failures x) (station_view taken failures y) result step same)))
+        pairs_set (IsGrown taken) stations place x y
+        (λ i station at. still taken failures only_now setting.net setting.inputs station
+        (sound i (station_view taken failures station)
+        (map_at (station_view taken failures) stations i station at))) within is
+        (seen_grown taken failures only_now setting.net setting.inputs x y
+        (has_grown cell.moment cell.left_since cell.may_leave only_now (record_in x.node.store)
+        (next_kept setting event (station_view taken failures x)) (record_in y.node.store).permanent
+        (outlet_views taken failures x.outputs.items) (outlet_views taken failures y.outputs.items)
+        (cell_in x.node.store) (cell_in y.node.store) here.inv.kept.covered later.kept.covered
+        (leaves_own cell y.node.store y.node.kept.settled)
+        (next_ahead setting sure event (station_view taken failures x) here) moved
+        (begins_then setting sure room event (station_view taken failures x) (station_view taken failures y) result
+        step same)))
 
     pub all_in_line : AllZip (StaysInLine taken failures setting.net) stations (slice_set stations place y)
     all_in_line =
-        pairs_set (StaysInLine taken failures setting.net) stations place x y (λ i station at. still_in_line taken failures only_now setting.net setting.inputs station (sound i (station_view taken failures station) (map_at (station_view taken failures) stations i station at))) within is
-        (record { leaves = event_in_line x y here later (node_then setting sure room event (station_view taken failures x) (station_view taken failures y) result here step same) moved; goes_on = ahead_then setting sure room event (station_view taken failures x) (station_view taken failures y) result here step same })
+        pairs_set (StaysInLine taken failures setting.net) stations place x y
+        (λ i station at. still_in_line taken failures only_now setting.net setting.inputs station
+        (sound i (station_view taken failures station)
+        (map_at (station_view taken failures) stations i station at))) within is
+        (record {
+          leaves =
+              event_in_line x y here later
+              (node_then setting sure room event (station_view taken failures x) (station_view taken failures y) result
+              here step same) moved;
+          goes_on =
+              ahead_then setting sure room event (station_view taken failures x) (station_view taken failures y) result
+              here step same;
+        })

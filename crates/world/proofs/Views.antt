@@ -1,5 +1,6 @@
 -- Views of stations.
-use Rattle.std.proofs.Common.{◌≡◌, ℕ, zero, suc, ◌<◌, Bool, List, ℤ, [], ◌∷◌, length, get_or, Option, Some, map, refl, sym, ap, subst, ◌∙◌}
+use Rattle.std.proofs.Common.{◌≡◌, ℕ, zero, suc, ◌<◌, Bool, List, ℤ, [], ◌∷◌, length, get_or, Option, Some, map, refl}
+use Rattle.std.proofs.Common.{sym, ap, subst, ◌∙◌}
 use Rattle.std.specs.Prelude.{Result, Ok, Err, IfOk, OnErr, slice_get, slice_set}
 use Rattle.std.proofs.lemmas.List.{length-map, map-set}
 use Rattle.std.proofs.lemmas.Option.{slice_get_read}
@@ -17,7 +18,8 @@ use Rattle.protocol.specs.World.OutputView.{OutputView}
 use Rattle.world.specs.OutputView.{output_view, outputs_view}
 use Rattle.protocol.specs.World.StationView.{OutletView, StationView}
 use Rattle.world.specs.StationView.{outlet_view, outlet_views}
-use Rattle.protocol.specs.World.Steps.{may_restart, next_release, setting_in, setting_of, IsHanded, IsRelease, IsStationStep, IsActOf, IsAct, Setting}
+use Rattle.protocol.specs.World.Steps.{may_restart, next_release, setting_in, setting_of, IsHanded, IsRelease}
+use Rattle.protocol.specs.World.Steps.{IsStationStep, IsActOf, IsAct, Setting}
 use Rattle.world.specs.WorldView.{IsCellUnchanged}
 use Rattle.protocol.specs.World.EventView.{EventView}
 use Rattle.world.specs.ReplyView.{reply_view}
@@ -28,29 +30,37 @@ use Rattle.world.specs.declared.output.Output.{Output}
 use Rattle.world.specs.declared.event.Reply.{Reply}
 
 -- an outlet of the list, as it is seen
-pub outlet_at : {O : Type 0} (taken : O → List ℤ) (failures : O → ℕ) (outputs : List (Output O)) (j : ℕ) (x : Output O) → j < length outputs → x ≡ get_or outputs j x
+pub outlet_at : {O : Type 0} (taken : O → List ℤ) (failures : O → ℕ) (outputs : List (Output O)) (j : ℕ) (x : Output O)
+    → j < length outputs → x ≡ get_or outputs j x
     → slice_get (outlet_views taken failures outputs) j ≡ Some (outlet_view taken failures x)
-outlet_at taken failures outputs j x within is = map_at (outlet_view taken failures) outputs j x (slice_get_read outputs (length outputs) j x refl within is)
+outlet_at taken failures outputs j x within is =
+    map_at (outlet_view taken failures) outputs j x (slice_get_read outputs (length outputs) j x refl within is)
 
 pub outlet_set : {O : Type 0} (taken : O → List ℤ) (failures : O → ℕ) (outputs : List (Output O)) (j : ℕ) (y : Output O)
-    → outlet_views taken failures (slice_set outputs j y) ≡ slice_set (outlet_views taken failures outputs) j (outlet_view taken failures y)
+    → outlet_views taken failures (slice_set outputs j y)
+    ≡ slice_set (outlet_views taken failures outputs) j (outlet_view taken failures y)
 outlet_set taken failures outputs j y = map-set (outlet_view taken failures) outputs j y
 
 -- Items that leave
 
 module _ (round place : ℕ) (old : StationView) (outlet later : OutletView) (node : NodeView) where
   abbrev stands : NodeView → ℕ → ℕ → List OutletView → StationView
-  stands state number failures outlets = record { number = number; node = state; failures = failures; outlets = outlets; turns = old.turns }
+  stands state number failures outlets =
+      record { number = number; node = state; failures = failures; outlets = outlets; turns = old.turns }
 
   -- one item left, or didn't
-  pub release_step : (failures number : ℕ) (outlets : List OutletView) (result : Result Reply AllocError) → next_release round old ≡ Some place → slice_get old.outlets place ≡ Some outlet
+  pub release_step : (failures number : ℕ) (outlets : List OutletView) (result : Result Reply AllocError)
+      → next_release round old ≡ Some place → slice_get old.outlets place ≡ Some outlet
       → number ≡ old.number → failures ≡ old.failures → outlets ≡ slice_set old.outlets place later
       → IfOk result (λ reply. node ≡ trimmed_node outlet.channel (length later.taken) old.node)
       → IfOk result (λ reply. IsHanded round (current_log outlet.channel old.node.mode) outlet (reply_view reply) later)
-      → IfOk result (λ reply. IsRelease round (next_release round old) old (reply_view reply) (stands node number failures outlets))
+      → IfOk result
+      (λ reply. IsRelease round (next_release round old) old (reply_view reply)
+      (stands node number failures outlets))
   release_step failures number outlets (Err e) next there same_number same_failures set trimmed handed = tt
   release_step failures number outlets (Ok reply) next there same_number same_failures set trimmed handed =
-      subst (λ (next : Option ℕ). IsRelease round next old (reply_view reply) (stands node number failures outlets)) (sym next)
+      subst (λ (next : Option ℕ). IsRelease round next old (reply_view reply) (stands node number failures outlets))
+      (sym next)
       (record {
         outlet = outlet;
         later = later;
@@ -60,60 +70,81 @@ module _ (round place : ℕ) (old : StationView) (outlet later : OutletView) (no
             ap (λ (n : ℕ). stands node n failures outlets) same_number
             ∙ (ap (λ (n : ℕ). stands node old.number n outlets) same_failures
             ∙ (ap (stands node old.number old.failures) set
-            ∙ ap (λ (state : NodeView). stands state old.number old.failures (slice_set old.outlets place later)) trimmed));
+            ∙ ap (λ (state : NodeView). stands state old.number old.failures (slice_set old.outlets place later))
+            trimmed));
       })
 
   -- nothing changed where it was refused
-  pub release_refused : (failures number : ℕ) (outlets : List OutletView) (result : Result Reply AllocError) → slice_get old.outlets place ≡ Some outlet
-      → number ≡ old.number → failures ≡ old.failures → outlets ≡ slice_set old.outlets place later → OnErr result ((node ≡ old.node) × (later ≡ outlet))
+  pub release_refused : (failures number : ℕ) (outlets : List OutletView) (result : Result Reply AllocError)
+      → slice_get old.outlets place ≡ Some outlet
+      → number ≡ old.number → failures ≡ old.failures → outlets ≡ slice_set old.outlets place later
+      → OnErr result ((node ≡ old.node) × (later ≡ outlet))
       → OnErr result (stands node number failures outlets ≡ old)
   release_refused failures number outlets (Ok reply) there same_number same_failures set same = tt
   release_refused failures number outlets (Err e) there same_number same_failures set same =
       ap (λ (n : ℕ). stands node n failures outlets) same_number
       ∙ (ap (λ (n : ℕ). stands node old.number n outlets) same_failures
-      ∙ (ap (stands node old.number old.failures) (set ∙ (ap (slice_set old.outlets place) same.1 ∙ set_same old.outlets place outlet there))
+      ∙ (ap (stands node old.number old.failures)
+      (set ∙ (ap (slice_set old.outlets place) same.1 ∙ set_same old.outlets place outlet there))
       ∙ ap (λ (state : NodeView). stands state old.number old.failures old.outlets) same.0))
 
 -- Stations of a world
 
 -- an event at the station of this place is one of the list of stations
-pub acted : {S : Type 0} (setting : Setting) (view : S → StationView) (room : S → RecordView → Bool) (event : EventView) (xs : List S) (place : ℕ) (x y : S) (result : Result Reply AllocError) → place < length xs → x ≡ get_or xs place x
+pub acted : {S : Type 0} (setting : Setting) (view : S → StationView) (room : S → RecordView → Bool)
+    (event : EventView) (xs : List S) (place : ℕ) (x y : S) (result : Result Reply AllocError) → place < length xs
+    → x ≡ get_or xs place x
     → IfOk result (λ reply. IsStationStep setting (room x) event (view x) (reply_view reply) (view y))
-    → IfOk result (λ reply. IsAct setting place (map room xs) event (map view xs) (reply_view reply) (map view (slice_set xs place y)))
+    → IfOk result
+    (λ reply. IsAct setting place (map room xs) event (map view xs) (reply_view reply)
+    (map view (slice_set xs place y)))
 acted setting view room event xs place x y (Err e) within is step = tt
 acted {S} setting view room event xs place x y (Ok reply) within is step =
     let there : slice_get xs place ≡ Some x = slice_get_read xs (length xs) place x refl within is in
     let fits : slice_get (map room xs) place ≡ Some (room x) = map_at room xs place x there in
     let seen : slice_get (map view xs) place ≡ Some (view x) = map_at view xs place x there in
-    subst (λ (f : Option (RecordView → Bool)). IsActOf setting place f (slice_get (map view xs) place) event (map view xs) (reply_view reply) (map view (slice_set xs place y))) (sym fits)
-    (subst (λ (s : Option StationView). IsActOf setting place (Some (room x)) s event (map view xs) (reply_view reply) (map view (slice_set xs place y))) (sym seen)
+    subst (λ (f : Option (RecordView → Bool)). IsActOf setting place f (slice_get (map view xs) place) event
+    (map view xs) (reply_view reply) (map view (slice_set xs place y))) (sym fits)
+    (subst (λ (s : Option StationView). IsActOf setting place (Some (room x)) s event (map view xs) (reply_view reply)
+    (map view (slice_set xs place y))) (sym seen)
     (record { later = view y; step = step; stations = map-set view xs place y }))
 
 -- the setting of a world by its stations, as they are and as they are seen
-pub setting_is : {S : Type 0} (view : S → StationView) (net : Network) (given inputs : List (List ℤ)) (traffic : Traffic) (xs : List S) (round : ℕ) → given ≡ inputs
-    → setting_in net given traffic (may_restart (length xs)) round ≡ setting_of (record { net = net; inputs = inputs; stations = map view xs; traffic = traffic; round = round })
+pub setting_is : {S : Type 0} (view : S → StationView) (net : Network) (given inputs : List (List ℤ))
+    (traffic : Traffic) (xs : List S) (round : ℕ) → given ≡ inputs
+    → setting_in net given traffic (may_restart (length xs)) round
+    ≡ setting_of (record { net = net; inputs = inputs; stations = map view xs; traffic = traffic; round = round })
 setting_is view net given inputs traffic xs round same =
     ap (λ (lists : List (List ℤ)). setting_in net lists traffic (may_restart (length xs)) round) same
     ∙ ap (λ (n : ℕ). setting_in net inputs traffic (may_restart n) round) (sym (length-map xs view))
 
 -- whether nodes may restart, by the number of stations
-pub restarts_are : {S : Type 0} (net : Network) (inputs : List (List ℤ)) (traffic : Traffic) (xs : List S) (restarts : Bool) (count round : ℕ) → restarts ≡ may_restart count → count ≡ length xs
+pub restarts_are : {S : Type 0} (net : Network) (inputs : List (List ℤ)) (traffic : Traffic) (xs : List S)
+    (restarts : Bool) (count round : ℕ) → restarts ≡ may_restart count → count ≡ length xs
     → setting_in net inputs traffic restarts round ≡ setting_in net inputs traffic (may_restart (length xs)) round
-restarts_are net inputs traffic xs restarts count round may many = ap (λ (b : Bool). setting_in net inputs traffic b round) (may ∙ ap may_restart many)
+restarts_are net inputs traffic xs restarts count round may many =
+    ap (λ (b : Bool). setting_in net inputs traffic b round) (may ∙ ap may_restart many)
 
 -- the station of this place is a sound one
-pub sound_at : {S : Type 0} (view : S → StationView) (net : Network) (inputs : List (List ℤ)) (traffic : Traffic) (xs : List S) (place : ℕ) (x : S) (restarts : Bool) (count round : ℕ) → restarts ≡ may_restart count → count ≡ length xs
-    → length (map view xs) ≡ node_count net → IsNumbered (map view xs) → AreSound net inputs (map view xs) → place < length xs → x ≡ get_or xs place x → IsSoundStation (setting_in net inputs traffic restarts round) (view x)
+pub sound_at : {S : Type 0} (view : S → StationView) (net : Network) (inputs : List (List ℤ)) (traffic : Traffic)
+    (xs : List S) (place : ℕ) (x : S) (restarts : Bool) (count round : ℕ) → restarts ≡ may_restart count
+    → count ≡ length xs
+    → length (map view xs) ≡ node_count net → IsNumbered (map view xs) → AreSound net inputs (map view xs)
+    → place < length xs → x ≡ get_or xs place x
+    → IsSoundStation (setting_in net inputs traffic restarts round) (view x)
 sound_at view net inputs traffic xs place x restarts count round may many all numbered sound within is =
-    let there : slice_get (map view xs) place ≡ Some (view x) = map_at view xs place x (slice_get_read xs (length xs) place x refl within is) in
+    let there : slice_get (map view xs) place ≡ Some (view x) =
+    map_at view xs place x (slice_get_read xs (length xs) place x refl within is) in
     record {
       inv = sound place (view x) there;
       named = (let named = numbered place (view x) there in named.1 ∙ sym named.0);
-      here = λ alone. all_here net (map view xs) all numbered place (view x) there (ap may_restart (length-map xs view ∙ sym many) ∙ (sym may ∙ alone));
+      here = λ alone. all_here net (map view xs) all numbered place (view x) there
+          (ap may_restart (length-map xs view ∙ sym many) ∙ (sym may ∙ alone));
     }
 
 -- what is true of the station of this place
-pub seen_at : {S : Type 0} (view : S → StationView) (xs : List S) (place : ℕ) (x : S) → place < length xs → x ≡ get_or xs place x → slice_get (map view xs) place ≡ Some (view x)
+pub seen_at : {S : Type 0} (view : S → StationView) (xs : List S) (place : ℕ) (x : S) → place < length xs
+    → x ≡ get_or xs place x → slice_get (map view xs) place ≡ Some (view x)
 seen_at view xs place x within is = map_at view xs place x (slice_get_read xs (length xs) place x refl within is)
 
 -- a cell that nobody called
@@ -121,7 +152,8 @@ pub cell_stays : {C O : Type 0} {cell : CellWords C} (station : Station C O cell
 cell_stays station = refl
 
 -- a refused event leaves the list of stations as it is seen
-pub refused_at : {S : Type 0} (view : S → StationView) (P : Type 0) (xs : List S) (place : ℕ) (x y : S) (result : Result Reply AllocError) → place < length xs → x ≡ get_or xs place x
+pub refused_at : {S : Type 0} (view : S → StationView) (P : Type 0) (xs : List S) (place : ℕ) (x y : S)
+    (result : Result Reply AllocError) → place < length xs → x ≡ get_or xs place x
     → OnErr result ((view y ≡ view x) × P) → OnErr result ((map view (slice_set xs place y) ≡ map view xs) × P)
 refused_at view P xs place x y (Ok reply) within is same = tt
 refused_at {S} view P xs place x y (Err e) within is same =
@@ -130,10 +162,13 @@ refused_at {S} view P xs place x y (Err e) within is same =
   where
     same_seen : (xs : List S) (place : ℕ) → slice_get xs place ≡ Some x → map view (slice_set xs place y) ≡ map view xs
     same_seen [] place h = refl
-    same_seen (z ∷ xs) zero h = let first : z ≡ x = cc in ap (λ (v : StationView). v ∷ map view xs) (same.0 ∙ ap view (sym first))
+    same_seen (z ∷ xs) zero h = let first : z ≡ x = cc in
+        ap (λ (v : StationView). v ∷ map view xs) (same.0 ∙ ap view (sym first))
     same_seen (z ∷ xs) (suc k) h = ap (λ (rest : List StationView). view z ∷ rest) (same_seen xs k h)
 
 -- what has left by the outlets, as it is seen
-pub same_outputs : {O : Type 0} (taken : O → List ℤ) (failures : O → ℕ) (outputs : List (Output O)) → outputs_of (outlet_views taken failures outputs) ≡ outputs_view taken outputs
+pub same_outputs : {O : Type 0} (taken : O → List ℤ) (failures : O → ℕ) (outputs : List (Output O))
+    → outputs_of (outlet_views taken failures outputs) ≡ outputs_view taken outputs
 same_outputs taken failures [] = refl
-same_outputs taken failures (output ∷ outputs) = ap (λ (rest : List OutputView). output_view taken output ∷ rest) (same_outputs taken failures outputs)
+same_outputs taken failures (output ∷ outputs) =
+    ap (λ (rest : List OutputView). output_view taken output ∷ rest) (same_outputs taken failures outputs)

@@ -10,11 +10,13 @@ use Rattle.world.specs.declared.output.Output.{Output}
 use Rattle.world.specs.declared.station.Station.{Station}
 
 -- the disk on which a station's record lies
-abbrev pub disk_of : {D O : Type 0} {disk : DiskWords D} {cell : CellWords (GateCell D disk)} → Station (GateCell D disk) O cell → D
+abbrev pub disk_of : {D O : Type 0} {disk : DiskWords D} {cell : CellWords (GateCell D disk)}
+    → Station (GateCell D disk) O cell → D
 disk_of station = disk_in (cell_in station.node.store)
 
 -- the disks of these stations, one each, in their order
-abbrev pub disks_of : {D O : Type 0} {disk : DiskWords D} {cell : CellWords (GateCell D disk)} → List (Station (GateCell D disk) O cell) → List D
+abbrev pub disks_of : {D O : Type 0} {disk : DiskWords D} {cell : CellWords (GateCell D disk)}
+    → List (Station (GateCell D disk) O cell) → List D
 disks_of {D} {O} {disk} {cell} stations = map (λ (station : Station (GateCell D disk) O cell). disk_of station) stations
 
 -- their outputs, station by station

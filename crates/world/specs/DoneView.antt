@@ -5,4 +5,5 @@ use Rattle.protocol.specs.World.DoneView.{DoneView}
 use Rattle.node.specs.JobView.{job_view}
 
 abbrev pub done_view : Done → DoneView
-done_view done = record { job = job_view done.job; after = standing_of done.state; taken = done.taken.items; sent = done.sent.items }
+done_view done =
+    record { job = job_view done.job; after = standing_of done.state; taken = done.taken.items; sent = done.sent.items }

@@ -11,7 +11,9 @@ use Rattle.ckpt_codec.specs.Lengths.{spelled_length}
 use Rattle.ckpt_store.specs.Spelling.{Spells}
 use Rattle.ckpt_store.specs.StoreView.{cell_in}
 use Rattle.ckpt_store.specs.declared.fault.StoreFault.{StoreFault}
-use Rattle.ckpt_store.specs.declared.fault.StoreFault.TheVariants.{NoMemory, Device, TooLarge, Reopen, Truncated, Version, Malformed, HoldsOther, PastNumber, NotHeld, Unsettled, Spent}
+use Rattle.ckpt_store.specs.declared.fault.StoreFault.TheVariants.{NoMemory, Device, TooLarge, Reopen, Truncated}
+use Rattle.ckpt_store.specs.declared.fault.StoreFault.TheVariants.{Version, Malformed, HoldsOther, PastNumber, NotHeld}
+use Rattle.ckpt_store.specs.declared.fault.StoreFault.TheVariants.{Unsettled, Spent}
 use Rattle.world.specs.declared.output.Output.{Output}
 use Rattle.world.specs.declared.station.Station.{Station}
 use Rattle.protocol.specs.Node.Opening.{opening_record}
@@ -47,8 +49,8 @@ AllNumbered P number (x ∷ xs) (y ∷ ys) = P number x y × AllNumbered P (suc 
 abbrev pub HasRoom : ℕ → ℕ → Type 0
 HasRoom sectors value_len = (3 ≤ sectors) × (value_len ≤ room_on sectors)
 
--- Why a disk of so many sectors isn't opened with a record of so many bytes: memory is missing; the disk has no room; or it has, and the device
--- failed. No other refusal comes.
+-- Why a disk of so many sectors isn't opened with a record of so many bytes: memory is missing; the disk has no room;
+-- or it has, and the device failed. No other refusal comes.
 abbrev pub IsOpeningRefusal : ℕ → ℕ → StoreFault → Type 0
 IsOpeningRefusal sectors value_len NoMemory = Unit {0}
 IsOpeningRefusal sectors value_len Device = HasRoom sectors value_len
@@ -68,30 +70,41 @@ abbrev pub HaveRoom : Network → ℕ → List ℕ → Type 0
 HaveRoom net number [] = Unit {0}
 HaveRoom net number (sectors ∷ rest) = HasRoom sectors (opening_length net number) × HaveRoom net (suc number) rest
 
--- Why no world is opened on disks of so many sectors, one for each node from this number on: one of them isn't opened with the record of its node,
--- for a reason that is given above; or memory is missing.
+-- Why no world is opened on disks of so many sectors, one for each node from this number on: one of them isn't opened
+-- with the record of its node, for a reason that is given above; or memory is missing.
 abbrev pub IsWorldRefusal : Network → ℕ → List ℕ → StoreFault → Type 0
 IsWorldRefusal net number [] fault = fault ≡ NoMemory
-IsWorldRefusal net number (sectors ∷ rest) fault = IsOpeningRefusal sectors (opening_length net number) fault ⊎ IsWorldRefusal net (suc number) rest fault
+IsWorldRefusal net number (sectors ∷ rest) fault =
+    IsOpeningRefusal sectors (opening_length net number) fault ⊎ IsWorldRefusal net (suc number) rest fault
 
 -- a crash now leaves this record of a station, and no other
 abbrev pub LeavesOnlyRecord : {C O : Type 0} {cell : CellWords C} → RecordView → Station C O cell → Type 0
-LeavesOnlyRecord {C} {O} {cell} kept station = (left : Option (List ℕ)) → cell.may_leave (cell_in station.node.store) left → Spells kept left
+LeavesOnlyRecord {C} {O} {cell} kept station =
+    (left : Option (List ℕ)) → cell.may_leave (cell_in station.node.store) left → Spells kept left
 
 -- the same of each of these stations: of that of the node of this number the opening record, and so on
 abbrev pub LeaveOnlyRecords : {C O : Type 0} {cell : CellWords C} → Network → ℕ → List (Station C O cell) → Type 0
 LeaveOnlyRecords net number [] = Unit {0}
-LeaveOnlyRecords net number (station ∷ stations) = LeavesOnlyRecord (opening_record net (node_count net) number) station × LeaveOnlyRecords net (suc number) stations
+LeaveOnlyRecords net number (station ∷ stations) =
+    LeavesOnlyRecord (opening_record net (node_count net) number) station × LeaveOnlyRecords net (suc number) stations
 
--- each of these stations, the first one being of the node of this number, has the outlets of those outputs that are its node's
-abbrev pub HaveOutlets : {C O : Type 0} {cell : CellWords C} → Network → ℕ → List (Output O) → List (Station C O cell) → Type 0
+-- each of these stations, the first one being of the node of this number, has the outlets of those outputs that are its
+-- node's
+abbrev pub HaveOutlets : {C O : Type 0} {cell : CellWords C} → Network → ℕ → List (Output O) → List (Station C O cell)
+    → Type 0
 HaveOutlets net number outputs [] = Unit {0}
-HaveOutlets net number outputs (station ∷ stations) = HasOutlets (own_outputs net number outputs) station × HaveOutlets net (suc number) outputs stations
+HaveOutlets net number outputs (station ∷ stations) =
+    HasOutlets (own_outputs net number outputs) station × HaveOutlets net (suc number) outputs stations
 
--- The station of the node of this number was opened on a disk, with those of the outputs that are its node's: it is as it is said of an opening one,
--- a crash leaves the opening record, and its cell has the room of the disk, which that record fits.
-pub record IsOpened {D O : Type 0} {disk : DiskWords D} {cell : CellWords (GateCell D disk)} (taken : O → List ℤ) (failures : O → ℕ) (net : Network) (outputs : List (Output O)) (number : ℕ) (given : D) (station : Station (GateCell D disk) O cell) : Type 0 where
-  pub view : station_view taken failures station ≡ opening_station net (node_count net) number (disk.failure_count given) (outlets_on net number (outlet_views taken failures outputs))
+-- The station of the node of this number was opened on a disk, with those of the outputs that are its node's: it is as
+-- it is said of an opening one, a crash leaves the opening record, and its cell has the room of the disk, which that
+-- record fits.
+pub record IsOpened {D O : Type 0} {disk : DiskWords D} {cell : CellWords (GateCell D disk)} (taken : O → List ℤ)
+    (failures : O → ℕ) (net : Network) (outputs : List (Output O)) (number : ℕ) (given : D)
+    (station : Station (GateCell D disk) O cell) : Type 0 where
+  pub view : station_view taken failures station
+      ≡ opening_station net (node_count net) number (disk.failure_count given)
+      (outlets_on net number (outlet_views taken failures outputs))
   pub outlets : HasOutlets (own_outputs net number outputs) station
   pub left : LeavesOnlyRecord (opening_record net (node_count net) number) station
   pub room : cell.capacity (cell_in station.node.store) ≡ room_on (disk.sector_count given)

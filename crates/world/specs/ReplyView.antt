@@ -1,6 +1,8 @@
 -- Answers as data.
 use Rattle.std.specs.Prelude.{Option, Some, None, Result, Ok, Err}
-use Rattle.protocol.specs.World.ReplyView.{ReplyView, Delivered, Dropped, Granted, Installed, Discarded, Sent, Started, Decided, Refused, Released, OutletFailed, Crashed, Recovered, InDoubt, Down, Acted, Idled, NotDue}
+use Rattle.protocol.specs.World.ReplyView.{ReplyView, Delivered, Dropped, Granted, Installed, Discarded, Sent, Started}
+use Rattle.protocol.specs.World.ReplyView.{Decided, Refused, Released, OutletFailed, Crashed, Recovered, InDoubt, Down}
+use Rattle.protocol.specs.World.ReplyView.{Acted, Idled, NotDue}
 use Rattle.node.specs.JobView.{job_view}
 use Rattle.world.specs.declared.event.Reply.{Reply}
 use Rattle.world.specs.declared.event.Reply.TheVariants as reply

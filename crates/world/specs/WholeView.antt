@@ -8,8 +8,11 @@ use Rattle.world.specs.WorldView.{world_view, IsGrown}
 use Rattle.world.specs.declared.world.World.{World}
 
 abbrev pub world_of : {C O : Type 0} {cell : CellWords C} {outlet : OutletWords O} → World C O cell outlet → WorldView
-world_of {C} {O} {cell} {outlet} world = world_view outlet.taken outlet.failures world.net world.inputs world.stations.items (traffic_of world.wire) world.round
+world_of {C} {O} {cell} {outlet} world =
+    world_view outlet.taken outlet.failures world.net world.inputs world.stations.items (traffic_of world.wire)
+    world.round
 
 -- what has left each station only grew, and is covered at each moment between
-abbrev pub HaveGrown : {C O : Type 0} {cell : CellWords C} {outlet : OutletWords O} → World C O cell outlet → World C O cell outlet → Type 0
+abbrev pub HaveGrown : {C O : Type 0} {cell : CellWords C} {outlet : OutletWords O} → World C O cell outlet
+    → World C O cell outlet → Type 0
 HaveGrown {C} {O} {cell} {outlet} old new = AllZip (IsGrown outlet.taken) old.stations.items new.stations.items

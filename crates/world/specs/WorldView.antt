@@ -35,16 +35,27 @@ station_view {C} {O} {cell} taken failures station = record {
 }
 
 -- a world by its parts: shares of its network and of the inputs, its stations, what is in flight, and the round
-abbrev pub world_view : {C O : Type 0} {cell : CellWords C} → (O → List ℤ) → (O → ℕ) → Arc Net Global → Arc Inputs Global → List (Station C O cell) → Traffic → ℕ → WorldView
-world_view taken failures net inputs stations traffic round = record { net = network_of net.value.program; inputs = inputs.value; stations = map (station_view taken failures) stations; traffic = traffic; round = round }
+abbrev pub world_view : {C O : Type 0} {cell : CellWords C} → (O → List ℤ) → (O → ℕ) → Arc Net Global
+    → Arc Inputs Global → List (Station C O cell) → Traffic → ℕ → WorldView
+world_view taken failures net inputs stations traffic round =
+    record {
+      net = network_of net.value.program;
+      inputs = inputs.value;
+      stations =
+          map (station_view taken failures) stations;
+      traffic = traffic;
+      round = round;
+    }
 
 -- what each station's cell has room for
 abbrev pub rooms : {C O : Type 0} {cell : CellWords C} → List (Station C O cell) → List (RecordView → Bool)
-rooms {C} {O} {cell} stations = map (λ (station : Station C O cell). fits_in (cell.capacity (cell_in station.node.store))) stations
+rooms {C} {O} {cell} stations =
+    map (λ (station : Station C O cell). fits_in (cell.capacity (cell_in station.node.store))) stations
 
 -- the most bytes that each station's cell has room for
 abbrev pub capacities : {C O : Type 0} {cell : CellWords C} → List (Station C O cell) → List ℕ
-capacities {C} {O} {cell} stations = map (λ (station : Station C O cell). cell.capacity (cell_in station.node.store)) stations
+capacities {C} {O} {cell} stations =
+    map (λ (station : Station C O cell). cell.capacity (cell_in station.node.store)) stations
 
 -- a station's cell wasn't touched
 abbrev pub IsCellUnchanged : {C O : Type 0} {cell : CellWords C} → Station C O cell → Station C O cell → Type 0
@@ -52,33 +63,46 @@ IsCellUnchanged old new = cell_in new.node.store ≡ cell_in old.node.store
 
 -- what has left a station only grew, and is covered at each moment between
 abbrev pub IsGrown : {C O : Type 0} {cell : CellWords C} → (O → List ℤ) → Station C O cell → Station C O cell → Type 0
-IsGrown {C} {O} {cell} taken old new = HasGrown cell.moment cell.left_since (cell_in old.node.store) (cell_in new.node.store) (outputs_view taken old.outputs.items) (outputs_view taken new.outputs.items)
+IsGrown {C} {O} {cell} taken old new =
+    HasGrown cell.moment cell.left_since (cell_in old.node.store) (cell_in new.node.store)
+    (outputs_view taken old.outputs.items) (outputs_view taken new.outputs.items)
 
 -- a station has the outlets of these outputs
 abbrev pub HasOutlets : {C O : Type 0} {cell : CellWords C} → List (Output O) → Station C O cell → Type 0
-HasOutlets {C} {O} outputs station = map (λ (output : Output O). output.outlet) station.outputs.items ≡ map (λ (output : Output O). output.outlet) outputs
+HasOutlets {C} {O} outputs station =
+    map (λ (output : Output O). output.outlet) station.outputs.items
+    ≡ map (λ (output : Output O). output.outlet) outputs
 
--- The node of a station whose device failed in an event of this round may be recovered after as many rounds as were armed with the call that
--- failed, by the first fault armed for it, and one round later where there was none.
+-- The node of a station whose device failed in an event of this round may be recovered after as many rounds as were
+-- armed with the call that failed, by the first fault armed for it, and one round later where there was none.
 abbrev pub RestartsAsArmed : {C O : Type 0} {cell : CellWords C} → ℕ → Station C O cell → Station C O cell → Type 0
-RestartsAsArmed {cell = cell} round old new = (view_of new.node).restart ≡ restart_after (view_of old.node).armed (cell.failed_call (cell_in new.node.store)) round
+RestartsAsArmed {cell = cell} round old new =
+    (view_of new.node).restart
+    ≡ restart_after (view_of old.node).armed (cell.failed_call (cell_in new.node.store)) round
 
 -- the same of the station of this place
-abbrev pub RestartsAsArmedAt : {C O : Type 0} {cell : CellWords C} → ℕ → ℕ → List (Station C O cell) → List (Station C O cell) → Type 0
-RestartsAsArmedAt {C} {O} {cell} round place olds news = (old new : Station C O cell) → slice_get olds place ≡ Some old → slice_get news place ≡ Some new → RestartsAsArmed round old new
+abbrev pub RestartsAsArmedAt : {C O : Type 0} {cell : CellWords C} → ℕ → ℕ → List (Station C O cell)
+    → List (Station C O cell) → Type 0
+RestartsAsArmedAt {C} {O} {cell} round place olds news =
+    (old new : Station C O cell) → slice_get olds place ≡ Some old → slice_get news place ≡ Some new
+    → RestartsAsArmed round old new
 
 -- the faults that are armed behind an event and its answer: an `Arm` that isn't refused puts its own behind them
 abbrev pub armed_then : EventView → Option ReplyView → List ArmedFault → List ArmedFault
 armed_then (ByNode k (event.Arm fault rounds)) (Some answer) faults = faults ++ (fault ∷ [])
 armed_then event answer faults = faults
 
--- What an event leaves of a station's device besides what it holds: no other fault is armed, nor one disarmed, and no device call that was counted
--- is forgotten.
-abbrev pub LeavesDeviceBy : {C O : Type 0} {cell : CellWords C} → EventView → Option ReplyView → Station C O cell → Station C O cell → Type 0
+-- What an event leaves of a station's device besides what it holds: no other fault is armed, nor one disarmed, and no
+-- device call that was counted is forgotten.
+abbrev pub LeavesDeviceBy : {C O : Type 0} {cell : CellWords C} → EventView → Option ReplyView → Station C O cell
+    → Station C O cell → Type 0
 LeavesDeviceBy {cell = cell} event answer old new =
     (cell.armed (cell_in new.node.store) ≡ armed_then event answer (cell.armed (cell_in old.node.store)))
     × (cell.call_count (cell_in old.node.store) ≤ cell.call_count (cell_in new.node.store))
 
 -- the same of the station of this place
-abbrev pub LeavesDeviceAt : {C O : Type 0} {cell : CellWords C} → EventView → Option ReplyView → ℕ → List (Station C O cell) → List (Station C O cell) → Type 0
-LeavesDeviceAt {C} {O} {cell} event answer place olds news = (old new : Station C O cell) → slice_get olds place ≡ Some old → slice_get news place ≡ Some new → LeavesDeviceBy event answer old new
+abbrev pub LeavesDeviceAt : {C O : Type 0} {cell : CellWords C} → EventView → Option ReplyView → ℕ
+    → List (Station C O cell) → List (Station C O cell) → Type 0
+LeavesDeviceAt {C} {O} {cell} event answer place olds news =
+    (old new : Station C O cell) → slice_get olds place ≡ Some old → slice_get news place ≡ Some new
+    → LeavesDeviceBy event answer old new

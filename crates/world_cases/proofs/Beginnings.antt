@@ -1,5 +1,6 @@
 -- What starts_with tells, said of beginnings.
-use Rattle.std.proofs.Common.{rules, ◌↔◌, ◌⊎◌, inl, inr, IsTrue, ◌≡◌, ℤ, length, Bool, true, false, List, int_eq, sym, ap, ◌∙◌}
+use Rattle.std.proofs.Common.{rules, ◌↔◌, ◌⊎◌, inl, inr, IsTrue, ◌≡◌, ℤ, length, Bool, true, false, List, int_eq, sym}
+use Rattle.std.proofs.Common.{ap, ◌∙◌}
 use Rattle.std.proofs.lemmas.Bool.{false≢true}
 use Rattle.std.proofs.lemmas.Bool.Decides.{Decides-int_eq}
 use Rattle.std.proofs.lemmas.Slice.Eq.{slice_eq-Decides}
@@ -8,7 +9,8 @@ use Rattle.std.specs.List.{starts_with}
 use Rattle.kahn_net.specs.Streams.{IsPrefix}
 
 -- seen and asked are slices of whole and of part
-pub begins : {part whole seen asked : List ℤ} {told : Bool} → seen ≡ whole → asked ≡ part → told ≡ starts_with int_eq seen asked
+pub begins : {part whole seen asked : List ℤ} {told : Bool} → seen ≡ whole → asked ≡ part
+    → told ≡ starts_with int_eq seen asked
     → IsTrue told ↔ IsPrefix part whole
 begins {part} {whole} {asked = asked} {told = told} see ask is =
     slice_eq-Decides Decides-int_eq part (take (length part) whole) told

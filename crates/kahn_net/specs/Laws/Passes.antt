@@ -1,16 +1,20 @@
--- Laws of passes: each whole pass of a body that passes takes an item, so one pass more than there are items is always enough.
-use Rattle.std.proofs.Common.{◌≡◌, ℕ, zero, suc, ◌+◌, ◌≤◌, Bool, true, false, ◌&&◌, ◌||◌, pos, List, ℤ, [], ◌∷◌, ◌++◌, length, set, refl, ap, ◌∙◌, arith}
+-- Laws of passes: each whole pass of a body that passes takes an item, so one pass more than there are items is always
+-- enough.
+use Rattle.std.proofs.Common.{◌≡◌, ℕ, zero, suc, ◌+◌, ◌≤◌, Bool, true, false, ◌&&◌, ◌||◌, pos, List, ℤ, [], ◌∷◌, ◌++◌}
+use Rattle.std.proofs.Common.{length, set, refl, ap, ◌∙◌, arith}
 use Rattle.std.specs.Prelude.{IsTrue}
 use Rattle.std.specs.Ordering.{int_eq}
 use Rattle.kahn_net.specs.Streams.{history_of, total}
 use Rattle.kahn_net.specs.Syntax.{Block, Nothing, GetThen, AssignThen, PutThen, StopThen, IfThen}
 use Rattle.kahn_net.specs.Valid.{is_passing}
-use Rattle.kahn_net.specs.Statements.{Trace, End, Ended, trace_of, point_at, choose, on_get, from_end, value_of, sites_of}
+use Rattle.kahn_net.specs.Statements.{Trace, End, Ended, trace_of, point_at, choose, on_get, from_end, value_of}
+use Rattle.kahn_net.specs.Statements.{sites_of}
 use Rattle.kahn_net.specs.Processes.{passes}
 use Rattle.kahn_net.specs.Laws.Traces.{one_of, then_do_same, ended_then}
 
 -- an item less
-pub total-set : (all : List (List ℤ)) (c : ℕ) (item : ℤ) (left : List ℤ) → history_of all c ≡ item ∷ left → suc (total (set all c left)) ≡ total all
+pub total-set : (all : List (List ℤ)) (c : ℕ) (item : ℤ) (left : List ℤ) → history_of all c ≡ item ∷ left
+    → suc (total (set all c left)) ≡ total all
 total-set [] c item left h = absurd (cc)
 total-set (x ∷ all) zero item left h = omega (arith, ap length h)
 total-set (x ∷ all) (suc c) item left h = let fewer = total-set all c item left h in omega arith
@@ -32,11 +36,16 @@ of_second true false r = omega arith
 of_second false true r = omega arith
 of_second false false r = omega arith
 
-pub pass_takes : (site : ℕ) (left : List ℕ) (b : Block) (vars : List ℤ) (unread : List (List ℤ)) (vars' : List ℤ) (unread' : List (List ℤ))
-    → (trace_of site left b vars unread).end ≡ Ended vars' unread' → total unread' + one_if (is_passing b) ≤ total unread
-pass_takes site left Nothing vars unread vars' unread' e = let same : unread ≡ unread' = cc in omega (arith, ap total same)
-pass_takes site left (AssignThen x v rest) vars unread vars' unread' e = pass_takes site left rest (set vars x (value_of v vars)) unread vars' unread' e
-pass_takes site left (PutThen v channel rest) vars unread vars' unread' e = pass_takes (site + 1) left rest vars unread vars' unread' e
+pub pass_takes : (site : ℕ) (left : List ℕ) (b : Block) (vars : List ℤ) (unread : List (List ℤ)) (vars' : List ℤ)
+    (unread' : List (List ℤ))
+    → (trace_of site left b vars unread).end ≡ Ended vars' unread'
+    → total unread' + one_if (is_passing b) ≤ total unread
+pass_takes site left Nothing vars unread vars' unread' e = let same : unread ≡ unread' = cc in
+    omega (arith, ap total same)
+pass_takes site left (AssignThen x v rest) vars unread vars' unread' e =
+    pass_takes site left rest (set vars x (value_of v vars)) unread vars' unread' e
+pass_takes site left (PutThen v channel rest) vars unread vars' unread' e =
+    pass_takes (site + 1) left rest vars unread vars' unread' e
 pass_takes site left (StopThen rest) vars unread vars' unread' e = absurd (cc)
 pass_takes site left (IfThen test first second rest) vars unread vars' unread' e =
     let one = trace_of site left first vars unread in
@@ -44,43 +53,68 @@ pass_takes site left (IfThen test first second rest) vars unread vars' unread' e
     let go = trace_of (site + sites_of first + sites_of second) left rest in
     let parts = ended_then (choose (value_of test vars) one other) go vars' unread' e in
     let later = pass_takes (site + sites_of first + sites_of second) left rest parts.0 parts.1 vars' unread' parts.3 in
-    let chosen = one_of (λ (t : Trace). (v : List ℤ) (u : List (List ℤ)) → t.end ≡ Ended v u → total u + one_if ((is_passing first && is_passing second) || is_passing rest) ≤ total unread + one_if (is_passing rest)) (int_eq (value_of test vars) (pos 0)) other one
-    (λ v u f. let part = pass_takes (site + sites_of first) left second vars unread v u f in omega (arith, part, of_second (is_passing first) (is_passing second) (is_passing rest)))
-    (λ v u f. let part = pass_takes site left first vars unread v u f in omega (arith, part, of_first (is_passing first) (is_passing second) (is_passing rest)))
+    let chosen =
+    one_of (λ (t : Trace). (v : List ℤ) (u : List (List ℤ)) → t.end ≡ Ended v u
+    → total u + one_if ((is_passing first && is_passing second) || is_passing rest)
+    ≤ total unread + one_if (is_passing rest)) (int_eq (value_of test vars) (pos 0)) other one
+    (λ v u f. let part = pass_takes (site + sites_of first) left second vars unread v u f in
+    omega (arith, part, of_second (is_passing first) (is_passing second) (is_passing rest)))
+    (λ v u f. let part = pass_takes site left first vars unread v u f in
+    omega (arith, part, of_first (is_passing first) (is_passing second) (is_passing rest)))
     parts.0 parts.1 parts.2 in
     omega (arith, later, chosen)
 pass_takes site left (GetThen x channel rest) vars unread vars' unread' e =
-    at_get (history_of unread channel) refl (λ item later f. pass_takes (site + 1) left rest (set vars x item) (set unread channel later) vars' unread' f) e
+    at_get (history_of unread channel) refl
+    (λ item later f. pass_takes (site + 1) left rest (set vars x item) (set unread channel later) vars' unread' f) e
   where
     at_get : (history : List ℤ) → history_of unread channel ≡ history
-        → ((item : ℤ) (later : List ℤ) → (trace_of (site + 1) left rest (set vars x item) (set unread channel later)).end ≡ Ended vars' unread' → total unread' + one_if (is_passing rest) ≤ total (set unread channel later))
-        → (on_get history (point_at site left) channel vars (λ item later. trace_of (site + 1) left rest (set vars x item) (set unread channel later))).end ≡ Ended vars' unread' → total unread' + 1 ≤ total unread
+        → ((item : ℤ) (later : List ℤ)
+        → (trace_of (site + 1) left rest (set vars x item) (set unread channel later)).end ≡ Ended vars' unread'
+        → total unread' + one_if (is_passing rest) ≤ total (set unread channel later))
+        → (on_get history (point_at site left) channel vars
+        (λ item later. trace_of (site + 1) left rest (set vars x item) (set unread channel later))).end
+        ≡ Ended vars' unread' → total unread' + 1 ≤ total unread
     at_get [] is rest_takes f = absurd (cc)
     at_get (item ∷ later) is rest_takes f =
         let fewer = total-set unread channel item later is in
         let after = rest_takes item later f in
         omega arith
 
-pub fewer_left : (site : ℕ) (left : List ℕ) (b : Block) (vars : List ℤ) (unread : List (List ℤ)) (v : List ℤ) (u : List (List ℤ)) → IsTrue (is_passing b) → (trace_of site left b vars unread).end ≡ Ended v u → total u + 1 ≤ total unread
+pub fewer_left : (site : ℕ) (left : List ℕ) (b : Block) (vars : List ℤ) (unread : List (List ℤ)) (v : List ℤ)
+    (u : List (List ℤ)) → IsTrue (is_passing b) → (trace_of site left b vars unread).end ≡ Ended v u
+    → total u + 1 ≤ total unread
 fewer_left site left b vars unread v u passing e = rw passing at (pass_takes site left b vars unread v u e)
 
 -- more passes than there are items change nothing: a process's acts are well founded
-pub enough_passes : (n m site : ℕ) (b : Block) (vars : List ℤ) (unread : List (List ℤ)) → IsTrue (is_passing b) → total unread ≤ n → total unread ≤ m → passes (suc n) site b vars unread ≡ passes (suc m) site b vars unread
+pub enough_passes : (n m site : ℕ) (b : Block) (vars : List ℤ) (unread : List (List ℤ)) → IsTrue (is_passing b)
+    → total unread ≤ n → total unread ≤ m → passes (suc n) site b vars unread ≡ passes (suc m) site b vars unread
 enough_passes zero m site b vars unread passing h k =
-    then_do_same (trace_of site [] b vars unread) (passes zero site b) (passes m site b) (λ v u e. let fewer = fewer_left site [] b vars unread v u passing e in absurd (omega arith))
+    then_do_same (trace_of site [] b vars unread) (passes zero site b) (passes m site b)
+    (λ v u e. let fewer = fewer_left site [] b vars unread v u passing e in absurd (omega arith))
 enough_passes (suc n) zero site b vars unread passing h k =
-    then_do_same (trace_of site [] b vars unread) (passes (suc n) site b) (passes zero site b) (λ v u e. let fewer = fewer_left site [] b vars unread v u passing e in absurd (omega arith))
+    then_do_same (trace_of site [] b vars unread) (passes (suc n) site b) (passes zero site b)
+    (λ v u e. let fewer = fewer_left site [] b vars unread v u passing e in absurd (omega arith))
 enough_passes (suc n) (suc m) site b vars unread passing h k =
     then_do_same (trace_of site [] b vars unread) (passes (suc n) site b) (passes (suc m) site b)
-    (λ v u e. let fewer = fewer_left site [] b vars unread v u passing e in enough_passes n m site b v u passing (omega arith) (omega arith))
+    (λ v u e. let fewer = fewer_left site [] b vars unread v u passing e in
+    enough_passes n m site b v u passing (omega arith) (omega arith))
 
-fueled : (n site : ℕ) (b : Block) (v : List ℤ) (u : List (List ℤ)) → IsTrue (is_passing b) → total u + 1 ≤ n → passes n site b v u ≡ passes (suc (total u)) site b v u
+fueled : (n site : ℕ) (b : Block) (v : List ℤ) (u : List (List ℤ)) → IsTrue (is_passing b) → total u + 1 ≤ n
+    → passes n site b v u ≡ passes (suc (total u)) site b v u
 fueled zero site b v u passing h = absurd (omega arith)
 fueled (suc n) site b v u passing h = enough_passes n (total u) site b v u passing (omega arith) (omega arith)
 
 -- the first pass, and those after it
-pub one_pass : (site : ℕ) (b : Block) (vars : List ℤ) (unread : List (List ℤ)) (v : List ℤ) (u : List (List ℤ)) → IsTrue (is_passing b) → (trace_of site [] b vars unread).end ≡ Ended v u
-    → passes (suc (total unread)) site b vars unread ≡ record { steps = (trace_of site [] b vars unread).steps ++ (passes (suc (total u)) site b v u).steps; end = (passes (suc (total u)) site b v u).end }
+pub one_pass : (site : ℕ) (b : Block) (vars : List ℤ) (unread : List (List ℤ)) (v : List ℤ) (u : List (List ℤ))
+    → IsTrue (is_passing b) → (trace_of site [] b vars unread).end ≡ Ended v u
+    → passes (suc (total unread)) site b vars unread
+    ≡ record {
+      steps = (trace_of site [] b vars unread).steps ++ (passes (suc (total u)) site b v u).steps;
+      end =
+          (passes (suc (total u)) site b v u).end;
+    }
 one_pass site b vars unread v u passing e =
-    ap (λ (w : Trace). let r : Trace = record { steps = (trace_of site [] b vars unread).steps ++ w.steps; end = w.end } in r)
-    (ap (λ (d : End). from_end d (passes (total unread) site b)) e ∙ fueled (total unread) site b v u passing (fewer_left site [] b vars unread v u passing e))
+    ap (λ (w : Trace). let r : Trace =
+    record { steps = (trace_of site [] b vars unread).steps ++ w.steps; end = w.end } in r)
+    (ap (λ (d : End). from_end d (passes (total unread) site b)) e
+    ∙ fueled (total unread) site b v u passing (fewer_left site [] b vars unread v u passing e))

@@ -1,5 +1,6 @@
 -- Laws of prefixes.
-use Rattle.std.proofs.Common.{◌≡◌, ℕ, zero, suc, ◌≤◌, List, ℤ, [], ◌∷◌, ◌++◌, Some, length, take, drop, refl, sym, ap, ◌∙◌, append-nil, append_assoc, length-append, arith}
+use Rattle.std.proofs.Common.{◌≡◌, ℕ, zero, suc, ◌≤◌, List, ℤ, [], ◌∷◌, ◌++◌, Some, length, take, drop, refl, sym, ap}
+use Rattle.std.proofs.Common.{◌∙◌, append-nil, append_assoc, length-append, arith}
 use Rattle.std.specs.Prelude.{slice_get}
 use Rattle.std.proofs.lemmas.List.{take_at, take-append-drop}
 use Rattle.kahn_net.specs.Streams.{history_of, IsPrefix, ArePrefixes}
@@ -13,7 +14,12 @@ pub prefix_of : {part whole : List ℤ} → IsFollowed part whole → IsPrefix p
 prefix_of {part} {whole} p = sym (ap (take (length part)) p.is ∙ take_at part p.rest (length part) refl)
 
 pub followed : (part whole : List ℤ) → IsPrefix part whole → IsFollowed part whole
-followed part whole e = record { rest = drop (length part) whole; is = sym (take-append-drop (length part) whole) ∙ ap (λ (x : List ℤ). x ++ drop (length part) whole) (sym e) }
+followed part whole e =
+    record {
+      rest = drop (length part) whole;
+      is =
+          sym (take-append-drop (length part) whole) ∙ ap (λ (x : List ℤ). x ++ drop (length part) whole) (sym e);
+    }
 
 pub prefix_refl : (xs : List ℤ) → IsPrefix xs xs
 prefix_refl xs = prefix_of (record { rest = []; is = sym (append-nil xs) })
@@ -25,7 +31,12 @@ pub prefix_trans : (xs ys zs : List ℤ) → IsPrefix xs ys → IsPrefix ys zs �
 prefix_trans xs ys zs before after =
     let p = followed xs ys before in
     let q = followed ys zs after in
-    prefix_of (record { rest = p.rest ++ q.rest; is = q.is ∙ (ap (λ (x : List ℤ). x ++ q.rest) p.is ∙ append_assoc xs p.rest q.rest) })
+    prefix_of
+    (record {
+      rest = p.rest ++ q.rest;
+      is =
+          q.is ∙ (ap (λ (x : List ℤ). x ++ q.rest) p.is ∙ append_assoc xs p.rest q.rest);
+    })
 
 pub prefix_along : (xs xs' ys ys' : List ℤ) → xs ≡ xs' → ys ≡ ys' → IsPrefix xs' ys' → IsPrefix xs ys
 prefix_along xs xs' ys ys' e f same =
@@ -33,7 +44,8 @@ prefix_along xs xs' ys ys' e f same =
     prefix_of (record { rest = p.rest; is = f ∙ (p.is ∙ ap (λ (x : List ℤ). x ++ p.rest) (sym e)) })
 
 pub prefix_length : (xs ys : List ℤ) → IsPrefix xs ys → length xs ≤ length ys
-prefix_length xs ys front = let p = followed xs ys front in omega (arith, ap (length {A = ℤ}) p.is, length-append xs p.rest)
+prefix_length xs ys front = let p = followed xs ys front in
+    omega (arith, ap (length {A = ℤ}) p.is, length-append xs p.rest)
 
 -- what stands in a prefix stands there in the whole
 pub prefix_item : (xs ys : List ℤ) (k : ℕ) (v : ℤ) → IsPrefix xs ys → slice_get xs k ≡ Some v → slice_get ys k ≡ Some v
@@ -48,4 +60,5 @@ pub prefixes_refl : (all : List (List ℤ)) → ArePrefixes all all
 prefixes_refl all = record { at = λ c. prefix_refl (history_of all c) }
 
 pub prefixes_trans : (a b c : List (List ℤ)) → ArePrefixes a b → ArePrefixes b c → ArePrefixes a c
-prefixes_trans a b c p q = record { at = λ d. prefix_trans (history_of a d) (history_of b d) (history_of c d) (p.at d) (q.at d) }
+prefixes_trans a b c p q =
+    record { at = λ d. prefix_trans (history_of a d) (history_of b d) (history_of c d) (p.at d) (q.at d) }

@@ -1,5 +1,8 @@
--- Laws of a process at rest: where it has got all of the channel at which it waits, what it has done by now is all that it does.
-use Rattle.std.proofs.Common.{◌≡◌, ◌==◌, ◌||◌, ℕ, zero, suc, ◌+◌, ◌<◌, ◌≤◌, Bool, true, false, cond, pos, List, ℤ, [], ◌∷◌, ◌++◌, length, take, drop, set, Option, Some, None, refl, sym, ap, ◌∙◌, subst, arith, append-nil}
+-- Laws of a process at rest: where it has got all of the channel at which it waits, what it has done by now is all that
+-- it does.
+use Rattle.std.proofs.Common.{◌≡◌, ◌==◌, ◌||◌, ℕ, zero, suc, ◌+◌, ◌<◌, ◌≤◌, Bool, true, false, cond, pos, List, ℤ, []}
+use Rattle.std.proofs.Common.{◌∷◌, ◌++◌, length, take, drop, set, Option, Some, None, refl, sym, ap, ◌∙◌, subst, arith}
+use Rattle.std.proofs.Common.{append-nil}
 use Rattle.std.proofs.lemmas.List.{take-append-drop, length-append}
 use Rattle.std.proofs.lemmas.Bool.Decides.{nat_tests}
 use Rattle.std.specs.Prelude.{IsTrue, slice_get}
@@ -7,12 +10,15 @@ use Rattle.std.specs.Ordering.{int_eq}
 use Rattle.kahn_net.specs.Streams.{history_of, total, ArePrefixes}
 use Rattle.kahn_net.specs.Syntax.{Block, Nothing, GetThen, AssignThen, PutThen, StopThen, IfThen, Code}
 use Rattle.kahn_net.specs.Valid.{block_gets, body_gets, code_gets}
-use Rattle.kahn_net.specs.Statements.{Act, Got, Sent, Step, Trace, End, Ended, Waits, Stopped, trace_of, point_at, choose, on_get, from_end, then_do, value_of, sites_of}
-use Rattle.kahn_net.specs.Processes.{Standing, NotBegun, StandsAt, HasPassingLoop, passes, loop_trace, process_trace, got_by, got_on}
+use Rattle.kahn_net.specs.Statements.{Act, Got, Sent, Step, Trace, End, Ended, Waits, Stopped, trace_of, point_at}
+use Rattle.kahn_net.specs.Statements.{choose, on_get, from_end, then_do, value_of, sites_of}
+use Rattle.kahn_net.specs.Processes.{Standing, NotBegun, StandsAt, HasPassingLoop, passes, loop_trace, process_trace}
+use Rattle.kahn_net.specs.Processes.{got_by, got_on}
 use Rattle.kahn_net.specs.Resuming.{left_after}
 use Rattle.kahn_net.specs.Laws.Traces.{one_of}
 use Rattle.kahn_net.specs.Laws.Streams.{IsLonger, longer_process}
-use Rattle.kahn_net.specs.Laws.Got.{got_on-append, got_and_left, reads_process, process_waits_empty, IsGetFrom, GetsNext, next_from, Split, Within, Beyond, split}
+use Rattle.kahn_net.specs.Laws.Got.{got_on-append, got_and_left, reads_process, process_waits_empty, IsGetFrom}
+use Rattle.kahn_net.specs.Laws.Got.{GetsNext, next_from, Split, Within, Beyond, split}
 use Rattle.kahn_net.specs.NextActs.{Next, Begins, Gets, Puts, NoNext, next_of, IsNextAct}
 use Rattle.kahn_net.specs.Laws.NextActs.{next_acts}
 
@@ -23,8 +29,11 @@ either_false true b h = absurd (cc)
 either_false false b h = (refl, h)
 
 -- what one does after the other
-deaf_then : (channel : ℕ) (t : Trace) (go : List ℤ → List (List ℤ) → Trace) → got_on channel t.steps ≡ [] → ((v : List ℤ) (u : List (List ℤ)) → got_on channel (go v u).steps ≡ []) → got_on channel (then_do t go).steps ≡ []
-deaf_then channel t go h later = got_on-append channel t.steps (from_end t.end go).steps ∙ (ap (λ (x : List ℤ). x ++ got_on channel (from_end t.end go).steps) h ∙ at_end t.end)
+deaf_then : (channel : ℕ) (t : Trace) (go : List ℤ → List (List ℤ) → Trace) → got_on channel t.steps ≡ []
+    → ((v : List ℤ) (u : List (List ℤ)) → got_on channel (go v u).steps ≡ []) → got_on channel (then_do t go).steps ≡ []
+deaf_then channel t go h later =
+    got_on-append channel t.steps (from_end t.end go).steps
+    ∙ (ap (λ (x : List ℤ). x ++ got_on channel (from_end t.end go).steps) h ∙ at_end t.end)
   where
     at_end : (e : End) → got_on channel (from_end e go).steps ≡ []
     at_end (Ended v u) = later v u
@@ -32,9 +41,11 @@ deaf_then channel t go h later = got_on-append channel t.steps (from_end t.end g
     at_end (Stopped v) = refl
 
 -- statements without a get from a channel get nothing there
-deaf_block : (channel site : ℕ) (left : List ℕ) (b : Block) (vars : List ℤ) (unread : List (List ℤ)) → block_gets channel b ≡ false → got_on channel (trace_of site left b vars unread).steps ≡ []
+deaf_block : (channel site : ℕ) (left : List ℕ) (b : Block) (vars : List ℤ) (unread : List (List ℤ))
+    → block_gets channel b ≡ false → got_on channel (trace_of site left b vars unread).steps ≡ []
 deaf_block channel site left Nothing vars unread h = refl
-deaf_block channel site left (AssignThen x e rest) vars unread h = deaf_block channel site left rest (set vars x (value_of e vars)) unread h
+deaf_block channel site left (AssignThen x e rest) vars unread h =
+    deaf_block channel site left rest (set vars x (value_of e vars)) unread h
 deaf_block channel site left (PutThen e c rest) vars unread h = deaf_block channel (site + 1) left rest vars unread h
 deaf_block channel site left (StopThen rest) vars unread h = refl
 deaf_block channel site left (IfThen test first second rest) vars unread h =
@@ -42,71 +53,90 @@ deaf_block channel site left (IfThen test first second rest) vars unread h =
     let in_second = either_false (block_gets channel second) (block_gets channel rest) in_first.1 in
     let one = trace_of site left first vars unread in
     let other = trace_of (site + sites_of first) left second vars unread in
-    deaf_then channel (choose (value_of test vars) one other) (trace_of (site + sites_of first + sites_of second) left rest)
+    deaf_then channel (choose (value_of test vars) one other)
+    (trace_of (site + sites_of first + sites_of second) left rest)
     (one_of (λ (t : Trace). got_on channel t.steps ≡ []) (int_eq (value_of test vars) (pos 0)) other one
-    (deaf_block channel (site + sites_of first) left second vars unread in_second.0) (deaf_block channel site left first vars unread in_first.0))
+    (deaf_block channel (site + sites_of first) left second vars unread in_second.0)
+    (deaf_block channel site left first vars unread in_first.0))
     (λ v u. deaf_block channel (site + sites_of first + sites_of second) left rest v u in_second.1)
 deaf_block channel site left (GetThen x c rest) vars unread h =
     let both = either_false (c == channel) (block_gets channel rest) h in
-    at_get (history_of unread c) both.0 (λ item later. deaf_block channel (site + 1) left rest (set vars x item) (set unread c later) both.1)
+    at_get (history_of unread c) both.0
+    (λ item later. deaf_block channel (site + 1) left rest (set vars x item) (set unread c later) both.1)
   where
-    at_get : (history : List ℤ) → (c == channel) ≡ false → ((item : ℤ) (later : List ℤ) → got_on channel (trace_of (site + 1) left rest (set vars x item) (set unread c later)).steps ≡ [])
-        → got_on channel (on_get history (point_at site left) c vars (λ item later. trace_of (site + 1) left rest (set vars x item) (set unread c later))).steps ≡ []
+    at_get : (history : List ℤ) → (c == channel) ≡ false
+        → ((item : ℤ) (later : List ℤ)
+        → got_on channel (trace_of (site + 1) left rest (set vars x item) (set unread c later)).steps ≡ [])
+        → got_on channel
+        (on_get history (point_at site left) c vars
+        (λ item later. trace_of (site + 1) left rest (set vars x item) (set unread c later))).steps ≡ []
     at_get [] other silent = refl
     at_get (item ∷ later) other silent =
         let after = got_on channel (trace_of (site + 1) left rest (set vars x item) (set unread c later)).steps in
         ap (λ (t : Bool). cond t (item ∷ after) after) other ∙ silent item later
 
 -- again and again
-deaf_passes : (channel n site : ℕ) (b : Block) (vars : List ℤ) (unread : List (List ℤ)) → block_gets channel b ≡ false → got_on channel (passes n site b vars unread).steps ≡ []
+deaf_passes : (channel n site : ℕ) (b : Block) (vars : List ℤ) (unread : List (List ℤ)) → block_gets channel b ≡ false
+    → got_on channel (passes n site b vars unread).steps ≡ []
 deaf_passes channel zero site b vars unread h = refl
 deaf_passes channel (suc n) site b vars unread h =
-    deaf_then channel (trace_of site [] b vars unread) (passes n site b) (deaf_block channel site [] b vars unread h) (λ v u. deaf_passes channel n site b v u h)
+    deaf_then channel (trace_of site [] b vars unread) (passes n site b) (deaf_block channel site [] b vars unread h)
+    (λ v u. deaf_passes channel n site b v u h)
 
-deaf_loop : (channel site : ℕ) (body : Option Block) (vars : List ℤ) (unread : List (List ℤ)) → body_gets channel body ≡ false → got_on channel (loop_trace site body vars unread).steps ≡ []
+deaf_loop : (channel site : ℕ) (body : Option Block) (vars : List ℤ) (unread : List (List ℤ))
+    → body_gets channel body ≡ false → got_on channel (loop_trace site body vars unread).steps ≡ []
 deaf_loop channel site None vars unread h = refl
 deaf_loop channel site (Some b) vars unread h = deaf_passes channel (suc (total unread)) site b vars unread h
 
 -- a process whose text has no get from a channel gets nothing there
-pub deaf : (code : Code) (inputs : List (List ℤ)) (channel : ℕ) → code_gets channel code ≡ false → got_on channel (process_trace code inputs).steps ≡ []
+pub deaf : (code : Code) (inputs : List (List ℤ)) (channel : ℕ) → code_gets channel code ≡ false
+    → got_on channel (process_trace code inputs).steps ≡ []
 deaf code inputs channel h =
     let both = either_false (block_gets channel code.prelude) (body_gets channel code.body) h in
     deaf_then channel (trace_of 0 [] code.prelude code.vars inputs) (loop_trace (sites_of code.prelude) code.body)
-    (deaf_block channel 0 [] code.prelude code.vars inputs both.0) (λ v u. deaf_loop channel (sites_of code.prelude) code.body v u both.1)
+    (deaf_block channel 0 [] code.prelude code.vars inputs both.0)
+    (λ v u. deaf_loop channel (sites_of code.prelude) code.body v u both.1)
 
 -- so one that got an item has a get
-pub gets_where_got : (code : Code) (inputs : List (List ℤ)) (channel : ℕ) → 0 < length (got_on channel (process_trace code inputs).steps) → IsTrue (code_gets channel code)
+pub gets_where_got : (code : Code) (inputs : List (List ℤ)) (channel : ℕ)
+    → 0 < length (got_on channel (process_trace code inputs).steps) → IsTrue (code_gets channel code)
 gets_where_got code inputs channel some = at (code_gets channel code) refl
   where
     at : (b : Bool) → code_gets channel code ≡ b → code_gets channel code ≡ true
     at true is = is
-    at false is = let none : length (got_on channel (process_trace code inputs).steps) ≡ 0 = ap (length {A = ℤ}) (deaf code inputs channel is) in absurd (omega (arith, some, none))
+    at false is = let none : length (got_on channel (process_trace code inputs).steps) ≡ 0 =
+        ap (length {A = ℤ}) (deaf code inputs channel is) in absurd (omega (arith, some, none))
 
 -- Counting
 
 -- a get from a channel gets one item more
 one_more : (c : ℕ) (a : Act) (later : List ℤ) → IsGetFrom c a → length (got_by c a later) ≡ suc (length later)
 one_more c (Sent d item) later h = absurd h
-one_more c (Got d item) later h = ap (λ (b : Bool). length (cond b (item ∷ later) later)) (ap (λ (n : ℕ). n == c) h ∙ same_number c)
+one_more c (Got d item) later h =
+    ap (λ (b : Bool). length (cond b (item ∷ later) later)) (ap (λ (n : ℕ). n == c) h ∙ same_number c)
   where
     same_number : (n : ℕ) → (n == n) ≡ true
     same_number n = grind (arith, nat_tests)
 
 -- after these steps, and one more that gets from the channel
-got_past : (c : ℕ) (xs : List Step) (x : Step) (mid : List Step) → IsGetFrom c x.act → length (got_on c (xs ++ x ∷ mid)) ≡ length (got_on c xs) + suc (length (got_on c mid))
+got_past : (c : ℕ) (xs : List Step) (x : Step) (mid : List Step) → IsGetFrom c x.act
+    → length (got_on c (xs ++ x ∷ mid)) ≡ length (got_on c xs) + suc (length (got_on c mid))
 got_past c xs x mid h =
     ap (length {A = ℤ}) (got_on-append c xs (x ∷ mid))
-    ∙ (length-append (got_on c xs) (got_on c (x ∷ mid)) ∙ ap (λ (n : ℕ). length (got_on c xs) + n) (one_more c x.act (got_on c mid) h))
+    ∙ (length-append (got_on c xs) (got_on c (x ∷ mid))
+    ∙ ap (λ (n : ℕ). length (got_on c xs) + n) (one_more c x.act (got_on c mid) h))
 
 -- what a part of the steps gets is no more than what all get
 got_less : (c : ℕ) (xs ys : List Step) → length (got_on c xs) ≤ length (got_on c (xs ++ ys))
 got_less c xs ys =
-    let sum : length (got_on c (xs ++ ys)) ≡ length (got_on c xs ++ got_on c ys) = ap (length {A = ℤ}) (got_on-append c xs ys) in
+    let sum : length (got_on c (xs ++ ys)) ≡ length (got_on c xs ++ got_on c ys) =
+    ap (length {A = ℤ}) (got_on-append c xs ys) in
     let parts = length-append (got_on c xs) (got_on c ys) in
     omega (arith, sum, parts)
 
 -- the first of the steps that are left stands at their number
-first_left : (m : ℕ) (steps : List Step) (x : Step) (more : List Step) → drop m steps ≡ x ∷ more → slice_get steps m ≡ Some x
+first_left : (m : ℕ) (steps : List Step) (x : Step) (more : List Step) → drop m steps ≡ x ∷ more
+    → slice_get steps m ≡ Some x
 first_left zero [] x more h = absurd (cc)
 first_left (suc m) [] x more h = absurd (cc)
 first_left zero (y ∷ steps) x more h = let same : y ≡ x = cc in ap (λ (s : Step). Some s) same
@@ -114,17 +144,20 @@ first_left (suc m) (y ∷ steps) x more h = first_left m steps x more h
 
 -- Rest
 
--- nothing comes next after these acts: the process has finished, or it gets from a channel of which they got all that there is here
+-- nothing comes next after these acts: the process has finished, or it gets from a channel of which they got all that
+-- there is here
 abbrev pub IsStuck : Code → List (List ℤ) → List Step → Next → Type 0
 IsStuck code here done Begins = ⊥
 IsStuck code here done (Gets c) = IsTrue (code_gets c code) → length (history_of here c) ≤ length (got_on c done)
 IsStuck code here done (Puts c) = ⊥
 IsStuck code here done NoNext = Unit {0}
 
--- A process made so many acts where there is at least what is here, got no more of any channel than is here, and is stuck: then those are all
--- the acts that it makes on what is here.
-pub acts_at_rest : (code : Code) (here whole : List (List ℤ)) (m : ℕ) (standing : Standing) → HasPassingLoop code → ArePrefixes here whole → StandsAt code whole m standing
-    → ((c : ℕ) → IsTrue (code_gets c code) → length (got_on c (take m (process_trace code whole).steps)) ≤ length (history_of here c))
+-- A process made so many acts where there is at least what is here, got no more of any channel than is here, and is
+-- stuck: then those are all the acts that it makes on what is here.
+pub acts_at_rest : (code : Code) (here whole : List (List ℤ)) (m : ℕ) (standing : Standing) → HasPassingLoop code
+    → ArePrefixes here whole → StandsAt code whole m standing
+    → ((c : ℕ) → IsTrue (code_gets c code)
+    → length (got_on c (take m (process_trace code whole).steps)) ≤ length (history_of here c))
     → IsStuck code here (take m (process_trace code whole).steps) (next_of code standing)
     → (process_trace code here).steps ≡ take m (process_trace code whole).steps
 acts_at_rest code here whole m standing passing p stands few stuck =
@@ -146,17 +179,20 @@ acts_at_rest code here whole m standing passing p stands few stuck =
     of_here : (c : ℕ) → length (got_on c own) ≤ length (history_of here c)
     of_here c =
         let left = history_of (left_after own here) c in
-        let sum : length (history_of here c) ≡ length (got_on c own ++ left) = ap (length {A = ℤ}) (got_and_left own here c (reads_process code here).reading) in
+        let sum : length (history_of here c) ≡ length (got_on c own ++ left) =
+        ap (length {A = ℤ}) (got_and_left own here c (reads_process code here).reading) in
         let parts = length-append (got_on c own) left in
         omega (arith, sum, parts)
 
     -- past its acts it would get an item that isn't here
-    no_further : (x : Step) (mid : List Step) → own ≡ done ++ x ∷ mid → (next : Next) → IsStuck code here done next → IsNextAct next x.act → ⊥
+    no_further : (x : Step) (mid : List Step) → own ≡ done ++ x ∷ mid → (next : Next) → IsStuck code here done next
+        → IsNextAct next x.act → ⊥
     no_further x mid is Begins s n = s
     no_further x mid is (Puts c) s n = s
     no_further x mid is NoNext s n = n
     no_further x mid is (Gets c) s n =
-        let count : length (got_on c own) ≡ length (got_on c done) + suc (length (got_on c mid)) = ap (λ (steps : List Step). length (got_on c steps)) is ∙ got_past c done x mid (from_here x.act n) in
+        let count : length (got_on c own) ≡ length (got_on c done) + suc (length (got_on c mid)) =
+        ap (λ (steps : List Step). length (got_on c steps)) is ∙ got_past c done x mid (from_here x.act n) in
         let all = of_here c in
         let few_here = s (gets_where_got code here c (omega (arith, count))) in
         omega (arith, count, all, few_here)
@@ -166,21 +202,31 @@ acts_at_rest code here whole m standing passing p stands few stuck =
         from_here (Sent d item) none = none
 
     -- and it doesn't stop before: the item for which it would wait is one that it got
-    no_less : (y : Step) (past : List Step) → done ≡ own ++ y ∷ past → l.more ≡ y ∷ (past ++ rest) → (e : End) → (process_trace code here).end ≡ e → ⊥
+    no_less : (y : Step) (past : List Step) → done ≡ own ++ y ∷ past → l.more ≡ y ∷ (past ++ rest) → (e : End)
+        → (process_trace code here).end ≡ e → ⊥
     no_less y past is more (Ended v u) ends = let none : [] ≡ y ∷ (past ++ rest) = sym (l.ends v u ends).0 ∙ more in cc
     no_less y past is more (Stopped v) ends = let none : [] ≡ y ∷ (past ++ rest) = sym (l.stops v ends).0 ∙ more in cc
     no_less y past is more (Waits s v c) ends =
-        let gets : GetsNext c (y ∷ (past ++ rest)) = subst (GetsNext c) more (next_from code (NotBegun code.vars) here whole passing p s v c ends l.more l.steps) in
-        let count : length (got_on c done) ≡ length (got_on c own) + suc (length (got_on c past)) = ap (λ (steps : List Step). length (got_on c steps)) is ∙ got_past c own y past gets in
+        let gets : GetsNext c (y ∷ (past ++ rest)) =
+        subst (GetsNext c) more
+        (next_from code (NotBegun code.vars) here whole passing p s v c ends l.more l.steps) in
+        let count : length (got_on c done) ≡ length (got_on c own) + suc (length (got_on c past)) =
+        ap (λ (steps : List Step). length (got_on c steps)) is ∙ got_past c own y past gets in
         let all : length (history_of here c) ≡ length (got_on c own) =
-        ap (length {A = ℤ}) (got_and_left own here c (reads_process code here).reading ∙ (ap (λ (z : List ℤ). got_on c own ++ z) (process_waits_empty code here s v c ends) ∙ append-nil (got_on c own))) in
+        ap (length {A = ℤ})
+        (got_and_left own here c (reads_process code here).reading
+        ∙ (ap (λ (z : List ℤ). got_on c own ++ z) (process_waits_empty code here s v c ends)
+        ∙ append-nil (got_on c own))) in
         let part = got_less c done rest in
-        let whole_steps : length (got_on c (done ++ rest)) ≡ length (got_on c (process_trace code whole).steps) = ap (λ (steps : List Step). length (got_on c steps)) (take-append-drop m (process_trace code whole).steps) in
+        let whole_steps : length (got_on c (done ++ rest)) ≡ length (got_on c (process_trace code whole).steps) =
+        ap (λ (steps : List Step). length (got_on c steps)) (take-append-drop m (process_trace code whole).steps) in
         let enough = few c (gets_where_got code whole c (omega (arith, count, part, whole_steps))) in
         omega (arith, count, all, enough)
 
     in_parts : Split own l.more done rest → own ≡ done
     in_parts (Within x mid e f) =
-        absurd (no_further x mid e (next_of code standing) stuck (next_acts code whole m standing stands passing x (first_left m (process_trace code whole).steps x (mid ++ l.more) f)))
+        absurd (no_further x mid e (next_of code standing) stuck
+        (next_acts code whole m standing stands passing x
+        (first_left m (process_trace code whole).steps x (mid ++ l.more) f)))
     in_parts (Beyond [] e f) = sym (e ∙ append-nil own)
     in_parts (Beyond (y ∷ past) e f) = absurd (no_less y past e f (process_trace code here).end refl)

@@ -1,5 +1,7 @@
 -- A process's function is monotone: where more is unread, it does what it did, and then more.
-use Rattle.std.proofs.Common.{true, false, pos, eqb, ◌≡◌, ◌≢◌, ◌⊎◌, ℕ, zero, suc, ◌+◌, ◌<◌, ◌≤◌, List, ℤ, [], ◌∷◌, ◌++◌, refl, sym, ap, ◌∙◌, subst, arith, set, length, append-nil, append_assoc, length-append, drop, Option, Some, None, inl, inr}
+use Rattle.std.proofs.Common.{true, false, pos, eqb, ◌≡◌, ◌≢◌, ◌⊎◌, ℕ, zero, suc, ◌+◌, ◌<◌, ◌≤◌, List, ℤ, [], ◌∷◌, ◌++◌}
+use Rattle.std.proofs.Common.{refl, sym, ap, ◌∙◌, subst, arith, set, length, append-nil, append_assoc, length-append}
+use Rattle.std.proofs.Common.{drop, Option, Some, None, inl, inr}
 use Rattle.std.proofs.lemmas.List.{get_or-set_same, get_or-set_other, drop-append-le}
 use Rattle.std.proofs.lemmas.Bool.Decides.{eqb_tells}
 use Rattle.std.specs.Prelude.{IsTrue}
@@ -7,20 +9,23 @@ use Rattle.std.specs.Ordering.{int_eq}
 use Rattle.kahn_net.specs.Streams.{history_of, total, IsPrefix, ArePrefixes}
 use Rattle.kahn_net.specs.Syntax.{Block, Nothing, GetThen, AssignThen, PutThen, StopThen, IfThen, Code}
 use Rattle.kahn_net.specs.Valid.{is_passing}
-use Rattle.kahn_net.specs.Statements.{Got, Sent, Point, Step, Trace, End, Ended, Waits, Stopped, no_steps, trace_of, point_at, choose, on_get, from_end, then_do, value_of, sites_of}
-use Rattle.kahn_net.specs.Processes.{Standing, NotBegun, At, Done, standing_at, IsHere, StandsAt, HasPassingLoop, passes, loop_trace, process_trace, sent_on, output_of}
+use Rattle.kahn_net.specs.Statements.{Got, Sent, Point, Step, Trace, End, Ended, Waits, Stopped, no_steps, trace_of}
+use Rattle.kahn_net.specs.Statements.{point_at, choose, on_get, from_end, then_do, value_of, sites_of}
+use Rattle.kahn_net.specs.Processes.{Standing, NotBegun, At, Done, standing_at, IsHere, StandsAt, HasPassingLoop}
+use Rattle.kahn_net.specs.Processes.{passes, loop_trace, process_trace, sent_on, output_of}
 use Rattle.kahn_net.specs.Laws.Traces.{both_of}
 use Rattle.kahn_net.specs.Laws.Passes.{fewer_left}
 use Rattle.kahn_net.specs.Laws.Puts.{sent_on-append}
 use Rattle.kahn_net.specs.Laws.Prefixes.{IsFollowed, followed, prefix_of}
 
--- A longer trace does the same and goes on: where this one waits it stands at the same point, and where this one ended or stopped it does so
--- too.
+-- A longer trace does the same and goes on: where this one waits it stands at the same point, and where this one ended
+-- or stopped it does so too.
 pub record IsLonger (t long : Trace) : Type 0 where
   pub more : List Step
   pub steps : long.steps ≡ t.steps ++ more
   pub stands : (point : Point) (v : List ℤ) → standing_at [] t.end ≡ At point v → standing_at more long.end ≡ At point v
-  pub ends : (v : List ℤ) (u : List (List ℤ)) → t.end ≡ Ended v u → (more ≡ []) × ((u' : List (List ℤ)) × (long.end ≡ Ended v u') × ArePrefixes u u')
+  pub ends : (v : List ℤ) (u : List (List ℤ)) → t.end ≡ Ended v u
+      → (more ≡ []) × ((u' : List (List ℤ)) × (long.end ≡ Ended v u') × ArePrefixes u u')
   pub stops : (v : List ℤ) → t.end ≡ Stopped v → (more ≡ []) × (long.end ≡ Stopped v)
 
 -- a channel on which there is an item is there
@@ -30,24 +35,35 @@ within (y ∷ all) zero x xs h = omega arith
 within (y ∷ all) (suc c) x xs h = let here = within all c x xs h in omega arith
 
 -- the same item taken from both
-pub prefixes_set : (small big : List (List ℤ)) (c : ℕ) (x y : ℤ) (left rest ys : List ℤ) → ArePrefixes small big → history_of small c ≡ x ∷ left → history_of big c ≡ y ∷ ys → ys ≡ left ++ rest → ArePrefixes (set small c left) (set big c ys)
+pub prefixes_set : (small big : List (List ℤ)) (c : ℕ) (x y : ℤ) (left rest ys : List ℤ) → ArePrefixes small big
+    → history_of small c ≡ x ∷ left → history_of big c ≡ y ∷ ys → ys ≡ left ++ rest
+    → ArePrefixes (set small c left) (set big c ys)
 prefixes_set small big c x y left rest ys p h k e = record { at = λ d. at d (eqb_tells d c) }
   where
-    at : (d : ℕ) → ((eqb d c ≡ true) × (d ≡ c)) ⊎ ((eqb d c ≡ false) × (d ≢ c)) → IsPrefix (history_of (set small c left) d) (history_of (set big c ys) d)
+    at : (d : ℕ) → ((eqb d c ≡ true) × (d ≡ c)) ⊎ ((eqb d c ≡ false) × (d ≢ c))
+        → IsPrefix (history_of (set small c left) d) (history_of (set big c ys) d)
     at d (inl s) = prefix_of (record {
       rest = rest;
       is = subst (λ (n : ℕ). history_of (set big c ys) n ≡ history_of (set small c left) n ++ rest) (sym s.1)
-          (get_or-set_same big c ys [] (within big c y ys k) ∙ (e ∙ ap (λ (z : List ℤ). z ++ rest) (sym (get_or-set_same small c left [] (within small c x left h)))));
+          (get_or-set_same big c ys [] (within big c y ys k)
+          ∙ (e ∙ ap (λ (z : List ℤ). z ++ rest) (sym (get_or-set_same small c left [] (within small c x left h)))));
     })
     at d (inr s) =
         let m = followed (history_of small d) (history_of big d) (p.at d) in
-        prefix_of (record { rest = m.rest; is = get_or-set_other big c d ys [] s.1 ∙ (m.is ∙ ap (λ (z : List ℤ). z ++ m.rest) (sym (get_or-set_other small c d left [] s.1))) })
+        prefix_of
+        (record {
+          rest = m.rest;
+          is =
+              get_or-set_other big c d ys [] s.1
+              ∙ (m.is ∙ ap (λ (z : List ℤ). z ++ m.rest) (sym (get_or-set_other small c d left [] s.1)));
+        })
 
 pub not_done : (v v' : List ℤ) (point : Point) → Done v ≡ At point v' → ⊥
 not_done v v' point e = cc
 
 -- what stands before more still stands
-keeps : (rest : List Step) (e : End) (go : List ℤ → List (List ℤ) → Trace) (point : Point) (v : List ℤ) → standing_at rest e ≡ At point v → standing_at (rest ++ (from_end e go).steps) (from_end e go).end ≡ At point v
+keeps : (rest : List Step) (e : End) (go : List ℤ → List (List ℤ) → Trace) (point : Point) (v : List ℤ)
+    → standing_at rest e ≡ At point v → standing_at (rest ++ (from_end e go).steps) (from_end e go).end ≡ At point v
 keeps (x ∷ rest) e go point v h = h
 keeps [] (Waits s y c) go point v h = h
 keeps [] (Ended y z) go point v h = absurd (not_done y v point h)
@@ -55,13 +71,17 @@ keeps [] (Stopped y) go point v h = absurd (not_done y v point h)
 
 -- what one does after the other
 pub longer_then : (t long : Trace) (go go' : List ℤ → List (List ℤ) → Trace) → IsLonger t long
-    → ((v : List ℤ) (u w : List (List ℤ)) → t.end ≡ Ended v u → long.end ≡ Ended v w → ArePrefixes u w → IsLonger (go v u) (go' v w)) → IsLonger (then_do t go) (then_do long go')
+    → ((v : List ℤ) (u w : List (List ℤ)) → t.end ≡ Ended v u → long.end ≡ Ended v w → ArePrefixes u w
+    → IsLonger (go v u) (go' v w)) → IsLonger (then_do t go) (then_do long go')
 longer_then t long go go' l next = at_end t.end refl
   where
-    at_end : (e : End) → t.end ≡ e → IsLonger (record { steps = t.steps ++ (from_end e go).steps; end = (from_end e go).end }) (then_do long go')
+    at_end : (e : End) → t.end ≡ e
+        → IsLonger (record { steps = t.steps ++ (from_end e go).steps; end = (from_end e go).end }) (then_do long go')
     at_end (Waits s y c) is = record {
       more = l.more ++ (from_end long.end go').steps;
-      steps = ap (λ (x : List Step). x ++ (from_end long.end go').steps) l.steps ∙ (append_assoc t.steps l.more (from_end long.end go').steps ∙ ap (λ (x : List Step). x ++ (l.more ++ (from_end long.end go').steps)) (sym (append-nil t.steps)));
+      steps = ap (λ (x : List Step). x ++ (from_end long.end go').steps) l.steps
+          ∙ (append_assoc t.steps l.more (from_end long.end go').steps
+          ∙ ap (λ (x : List Step). x ++ (l.more ++ (from_end long.end go').steps)) (sym (append-nil t.steps)));
       stands = λ site v h. keeps l.more long.end go' site v (l.stands site v (ap (standing_at []) is ∙ h));
       ends = λ v u h. absurd (cc);
       stops = λ v h. absurd (cc);
@@ -71,7 +91,8 @@ longer_then t long go go' l next = at_end t.end refl
         let same : from_end long.end go' ≡ no_steps (Stopped y) = ap (λ (x : End). from_end x go') e.1 in
         record {
           more = (from_end long.end go').steps;
-          steps = ap (λ (x : List Step). x ++ (from_end long.end go').steps) (l.steps ∙ ap (λ (x : List Step). t.steps ++ x) e.0);
+          steps = ap (λ (x : List Step). x ++ (from_end long.end go').steps)
+              (l.steps ∙ ap (λ (x : List Step). t.steps ++ x) e.0);
           stands = λ point v h. absurd (not_done y v point h);
           ends = λ v u h. absurd (cc);
           stops = λ v h. (ap (λ (x : Trace). x.steps) same, ap (λ (x : Trace). x.end) same ∙ h);
@@ -84,15 +105,26 @@ longer_then t long go go' l next = at_end t.end refl
         let n2 : IsLonger (go v u) (from_end long.end go') = subst (λ (x : Trace). IsLonger (go v u) x) (sym same) n in
         record {
           more = n2.more;
-          steps = ap (λ (x : List Step). x ++ (from_end long.end go').steps) (l.steps ∙ (ap (λ (x : List Step). t.steps ++ x) e.0 ∙ append-nil t.steps)) ∙ (ap (λ (x : List Step). t.steps ++ x) n2.steps ∙ sym (append_assoc t.steps (go v u).steps n2.more));
+          steps = ap (λ (x : List Step). x ++ (from_end long.end go').steps)
+              (l.steps ∙ (ap (λ (x : List Step). t.steps ++ x) e.0 ∙ append-nil t.steps))
+              ∙ (ap (λ (x : List Step). t.steps ++ x) n2.steps ∙ sym (append_assoc t.steps (go v u).steps n2.more));
           stands = n2.stands;
           ends = n2.ends;
           stops = n2.stops;
         }
 
 -- what statements do
-pub longer : (site : ℕ) (left : List ℕ) (b : Block) (v : List ℤ) (u w : List (List ℤ)) → ArePrefixes u w → IsLonger (trace_of site left b v u) (trace_of site left b v w)
-longer site left Nothing v u w p = record { more = []; steps = refl; stands = λ point v' h. absurd (not_done v v' point h); ends = λ v' u' h. (refl, (w, ended v' u' h, subst (λ (x : List (List ℤ)). ArePrefixes x w) (same_unread v' u' h) p)); stops = λ v' h. absurd (cc) }
+pub longer : (site : ℕ) (left : List ℕ) (b : Block) (v : List ℤ) (u w : List (List ℤ)) → ArePrefixes u w
+    → IsLonger (trace_of site left b v u) (trace_of site left b v w)
+longer site left Nothing v u w p =
+    record {
+      more = [];
+      steps = refl;
+      stands = λ point v' h. absurd (not_done v v' point h);
+      ends =
+          λ v' u' h. (refl, (w, ended v' u' h, subst (λ (x : List (List ℤ)). ArePrefixes x w) (same_unread v' u' h) p));
+      stops = λ v' h. absurd (cc);
+    }
   where
     ended : (v' : List ℤ) (u' : List (List ℤ)) → Ended v u ≡ Ended v' u' → Ended v w ≡ Ended v' w
     ended v' u' h = let same : v ≡ v' = cc in ap (λ (x : List ℤ). Ended x w) same
@@ -100,79 +132,159 @@ longer site left Nothing v u w p = record { more = []; steps = refl; stands = λ
     same_unread : (v' : List ℤ) (u' : List (List ℤ)) → Ended v u ≡ Ended v' u' → u ≡ u'
     same_unread v' u' h = cc
 longer site left (AssignThen x e b) v u w p =
-    let r = longer site left b (set v x (value_of e v)) u w p in record { more = r.more; steps = r.steps; stands = r.stands; ends = r.ends; stops = r.stops }
+    let r = longer site left b (set v x (value_of e v)) u w p in
+    record { more = r.more; steps = r.steps; stands = r.stands; ends = r.ends; stops = r.stops }
 longer site left (PutThen e c b) v u w p =
     let r = longer (site + 1) left b v u w p in
     let s : Step = record { point = point_at site left; vars = v; act = Sent c (value_of e v) } in
-    record { more = r.more; steps = ap (λ (x : List Step). s ∷ x) r.steps; stands = r.stands; ends = r.ends; stops = r.stops }
+    record {
+      more = r.more;
+      steps = ap (λ (x : List Step). s ∷ x) r.steps;
+      stands = r.stands;
+      ends = r.ends;
+      stops =
+          r.stops;
+    }
 longer site left (StopThen b) v u w p =
-    record { more = []; steps = refl; stands = λ point v' h. absurd (not_done v v' point h); ends = λ v' u' h. absurd (cc); stops = λ v' h. (refl, h) }
+    record {
+      more = [];
+      steps = refl;
+      stands = λ point v' h. absurd (not_done v v' point h);
+      ends =
+          λ v' u' h. absurd (cc);
+      stops = λ v' h. (refl, h);
+    }
 longer site left (IfThen test first second b) v u w p =
     let one = trace_of site left first v in
     let other = trace_of (site + sites_of first) left second v in
     let go = trace_of (site + sites_of first + sites_of second) left b in
     longer_then (choose (value_of test v) (one u) (other u)) (choose (value_of test v) (one w) (other w)) go go
-    (both_of IsLonger (int_eq (value_of test v) (pos 0)) (other u) (one u) (other w) (one w) (longer (site + sites_of first) left second v u w p) (longer site left first v u w p))
+    (both_of IsLonger (int_eq (value_of test v) (pos 0)) (other u) (one u) (other w) (one w)
+    (longer (site + sites_of first) left second v u w p) (longer site left first v u w p))
     (λ v' u' w' e e' p'. longer (site + sites_of first + sites_of second) left b v' u' w' p')
-longer site left (GetThen x c b) v u w p = at_get (history_of u c) (history_of w c) refl refl (followed (history_of u c) (history_of w c) (p.at c))
+longer site left (GetThen x c b) v u w p =
+    at_get (history_of u c) (history_of w c) refl refl (followed (history_of u c) (history_of w c) (p.at c))
     (λ item l l' q. longer (site + 1) left b (set v x item) (set u c l) (set w c l') q)
   where
     at_get : (h h' : List ℤ) → history_of u c ≡ h → history_of w c ≡ h' → IsFollowed (history_of u c) (history_of w c)
-        → ((item : ℤ) (l l' : List ℤ) → ArePrefixes (set u c l) (set w c l') → IsLonger (trace_of (site + 1) left b (set v x item) (set u c l)) (trace_of (site + 1) left b (set v x item) (set w c l')))
-        → IsLonger (on_get h (point_at site left) c v (λ item later. trace_of (site + 1) left b (set v x item) (set u c later))) (on_get h' (point_at site left) c v (λ item later. trace_of (site + 1) left b (set v x item) (set w c later)))
-    at_get [] [] hu hw m later = record { more = []; steps = refl; stands = λ point v' h. h; ends = λ v' u' h. absurd (cc); stops = λ v' h. absurd (cc) }
-    at_get [] (y ∷ ys) hu hw m later = record { more = (on_get (y ∷ ys) (point_at site left) c v (λ item later. trace_of (site + 1) left b (set v x item) (set w c later))).steps; steps = refl; stands = λ point v' h. h; ends = λ v' u' h. absurd (cc); stops = λ v' h. absurd (cc) }
-    at_get (z ∷ zs) [] hu hw m later = let bad : [] ≡ (z ∷ zs) ++ m.rest = sym hw ∙ (m.is ∙ ap (λ (q : List ℤ). q ++ m.rest) hu) in absurd (cc)
+        → ((item : ℤ) (l l' : List ℤ) → ArePrefixes (set u c l) (set w c l')
+        → IsLonger (trace_of (site + 1) left b (set v x item) (set u c l))
+        (trace_of (site + 1) left b (set v x item) (set w c l')))
+        → IsLonger
+        (on_get h (point_at site left) c v
+        (λ item later. trace_of (site + 1) left b (set v x item) (set u c later)))
+        (on_get h' (point_at site left) c v
+        (λ item later. trace_of (site + 1) left b (set v x item) (set w c later)))
+    at_get [] [] hu hw m later =
+        record {
+          more = [];
+          steps = refl;
+          stands = λ point v' h. h;
+          ends = λ v' u' h. absurd (cc);
+          stops =
+              λ v' h. absurd (cc);
+        }
+    at_get [] (y ∷ ys) hu hw m later =
+        record {
+          more =
+              (on_get (y ∷ ys) (point_at site left) c v
+              (λ item later. trace_of (site + 1) left b (set v x item) (set w c later))).steps;
+          steps = refl;
+          stands =
+              λ point v' h. h;
+          ends = λ v' u' h. absurd (cc);
+          stops = λ v' h. absurd (cc);
+        }
+    at_get (z ∷ zs) [] hu hw m later = let bad : [] ≡ (z ∷ zs) ++ m.rest =
+        sym hw ∙ (m.is ∙ ap (λ (q : List ℤ). q ++ m.rest) hu) in absurd (cc)
     at_get (z ∷ zs) (y ∷ ys) hu hw m later =
         let both : y ∷ ys ≡ z ∷ (zs ++ m.rest) = sym hw ∙ (m.is ∙ ap (λ (q : List ℤ). q ++ m.rest) hu) in
         let same : z ≡ y = cc in
         let tail : ys ≡ zs ++ m.rest = cc in
         let r = later z zs ys (prefixes_set u w c z y zs m.rest ys p hu hw tail) in
         let s : Step = record { point = point_at site left; vars = v; act = Got c z } in
-        let r2 : IsLonger (on_get (z ∷ zs) (point_at site left) c v (λ item later. trace_of (site + 1) left b (set v x item) (set u c later))) (on_get (z ∷ ys) (point_at site left) c v (λ item later. trace_of (site + 1) left b (set v x item) (set w c later))) = record { more = r.more; steps = ap (λ (q : List Step). s ∷ q) r.steps; stands = r.stands; ends = r.ends; stops = r.stops } in
-        subst (λ (i : ℤ). IsLonger (on_get (z ∷ zs) (point_at site left) c v (λ item later. trace_of (site + 1) left b (set v x item) (set u c later))) (on_get (i ∷ ys) (point_at site left) c v (λ item later. trace_of (site + 1) left b (set v x item) (set w c later)))) same r2
+        let r2 : IsLonger
+        (on_get (z ∷ zs) (point_at site left) c v
+        (λ item later. trace_of (site + 1) left b (set v x item) (set u c later)))
+        (on_get (z ∷ ys) (point_at site left) c v
+        (λ item later. trace_of (site + 1) left b (set v x item) (set w c later))) =
+        record {
+          more = r.more;
+          steps = ap (λ (q : List Step). s ∷ q) r.steps;
+          stands = r.stands;
+          ends =
+              r.ends;
+          stops = r.stops;
+        } in
+        subst (λ (i : ℤ). IsLonger
+        (on_get (z ∷ zs) (point_at site left) c v
+        (λ item later. trace_of (site + 1) left b (set v x item) (set u c later)))
+        (on_get (i ∷ ys) (point_at site left) c v
+        (λ item later. trace_of (site + 1) left b (set v x item) (set w c later)))) same r2
 
 -- whole passes
-pub longer_passes : (n m site : ℕ) (b : Block) (v : List ℤ) (u w : List (List ℤ)) → IsTrue (is_passing b) → total u ≤ n → total w ≤ m → ArePrefixes u w → IsLonger (passes (suc n) site b v u) (passes (suc m) site b v w)
+pub longer_passes : (n m site : ℕ) (b : Block) (v : List ℤ) (u w : List (List ℤ)) → IsTrue (is_passing b) → total u ≤ n
+    → total w ≤ m → ArePrefixes u w → IsLonger (passes (suc n) site b v u) (passes (suc m) site b v w)
 longer_passes zero m site b v u w passing h h' p =
-    longer_then (trace_of site [] b v u) (trace_of site [] b v w) (passes zero site b) (passes m site b) (longer site [] b v u w p)
+    longer_then (trace_of site [] b v u) (trace_of site [] b v w) (passes zero site b) (passes m site b)
+    (longer site [] b v u w p)
     (λ v' u' w' e e' p'. let fewer = fewer_left site [] b v u v' u' passing e in absurd (omega arith))
 longer_passes (suc n) zero site b v u w passing h h' p =
-    longer_then (trace_of site [] b v u) (trace_of site [] b v w) (passes (suc n) site b) (passes zero site b) (longer site [] b v u w p)
+    longer_then (trace_of site [] b v u) (trace_of site [] b v w) (passes (suc n) site b) (passes zero site b)
+    (longer site [] b v u w p)
     (λ v' u' w' e e' p'. let fewer = fewer_left site [] b v w v' w' passing e' in absurd (omega arith))
 longer_passes (suc n) (suc m) site b v u w passing h h' p =
-    longer_then (trace_of site [] b v u) (trace_of site [] b v w) (passes (suc n) site b) (passes (suc m) site b) (longer site [] b v u w p)
-    (λ v' u' w' e e' p'. let fewer = fewer_left site [] b v u v' u' passing e in let fewer' = fewer_left site [] b v w v' w' passing e' in longer_passes n m site b v' u' w' passing (omega arith) (omega arith) p')
+    longer_then (trace_of site [] b v u) (trace_of site [] b v w) (passes (suc n) site b) (passes (suc m) site b)
+    (longer site [] b v u w p)
+    (λ v' u' w' e e' p'. let fewer = fewer_left site [] b v u v' u' passing e in let fewer' =
+    fewer_left site [] b v w v' w' passing e' in
+    longer_passes n m site b v' u' w' passing (omega arith) (omega arith) p')
 
 -- the loop
-pub longer_loop : (site : ℕ) (body : Option Block) (v : List ℤ) (u w : List (List ℤ)) → ((b : Block) → body ≡ Some b → IsTrue (is_passing b)) → ArePrefixes u w → IsLonger (loop_trace site body v u) (loop_trace site body v w)
+pub longer_loop : (site : ℕ) (body : Option Block) (v : List ℤ) (u w : List (List ℤ))
+    → ((b : Block) → body ≡ Some b → IsTrue (is_passing b)) → ArePrefixes u w
+    → IsLonger (loop_trace site body v u) (loop_trace site body v w)
 longer_loop site None v u w passing p = longer 0 [] Nothing v u w p
-longer_loop site (Some b) v u w passing p = longer_passes (total u) (total w) site b v u w (passing b refl) (omega arith) (omega arith) p
+longer_loop site (Some b) v u w passing p =
+    longer_passes (total u) (total w) site b v u w (passing b refl) (omega arith) (omega arith) p
 
 -- a process
-pub longer_process : (code : Code) (small big : List (List ℤ)) → HasPassingLoop code → ArePrefixes small big → IsLonger (process_trace code small) (process_trace code big)
+pub longer_process : (code : Code) (small big : List (List ℤ)) → HasPassingLoop code → ArePrefixes small big
+    → IsLonger (process_trace code small) (process_trace code big)
 longer_process code small big passing p =
-    longer_then (trace_of 0 [] code.prelude code.vars small) (trace_of 0 [] code.prelude code.vars big) (loop_trace (sites_of code.prelude) code.body) (loop_trace (sites_of code.prelude) code.body)
-    (longer 0 [] code.prelude code.vars small big p) (λ v u w e e' p'. longer_loop (sites_of code.prelude) code.body v u w passing p')
+    longer_then (trace_of 0 [] code.prelude code.vars small) (trace_of 0 [] code.prelude code.vars big)
+    (loop_trace (sites_of code.prelude) code.body) (loop_trace (sites_of code.prelude) code.body)
+    (longer 0 [] code.prelude code.vars small big p)
+    (λ v u w e e' p'. longer_loop (sites_of code.prelude) code.body v u w passing p')
 
 -- more unread gives the same, and then more
-pub monotone : (code : Code) (small big : List (List ℤ)) (channel : ℕ) → HasPassingLoop code → ArePrefixes small big → IsPrefix (output_of code small channel) (output_of code big channel)
+pub monotone : (code : Code) (small big : List (List ℤ)) (channel : ℕ) → HasPassingLoop code → ArePrefixes small big
+    → IsPrefix (output_of code small channel) (output_of code big channel)
 monotone code small big channel passing p =
     let l = longer_process code small big passing p in
-    prefix_of (record { rest = sent_on channel l.more; is = ap (sent_on channel) l.steps ∙ sent_on-append channel (process_trace code small).steps l.more })
+    prefix_of
+    (record {
+      rest = sent_on channel l.more;
+      is =
+          ap (sent_on channel) l.steps ∙ sent_on-append channel (process_trace code small).steps l.more;
+    })
 
 -- where a process stands on fewer items, before steps that it still has to make, it stands on more
-pub still_stands : (t long : Trace) (l : IsLonger t long) (rest : List Step) → standing_at (rest ++ l.more) long.end ≡ standing_at rest t.end
+pub still_stands : (t long : Trace) (l : IsLonger t long) (rest : List Step)
+    → standing_at (rest ++ l.more) long.end ≡ standing_at rest t.end
 still_stands t long l (x ∷ rest) = refl
 still_stands t long l [] = at t.end refl
   where
     at : (e : End) → t.end ≡ e → standing_at l.more long.end ≡ standing_at [] t.end
     at (Waits s v c) is = l.stands s v (ap (standing_at []) is) ∙ ap (standing_at []) (sym is)
-    at (Ended v u) is = let e = l.ends v u is in ap (λ (m : List Step). standing_at m long.end) e.0 ∙ (ap (standing_at []) e.1.1 ∙ ap (standing_at []) (sym is))
-    at (Stopped v) is = let e = l.stops v is in ap (λ (m : List Step). standing_at m long.end) e.0 ∙ (ap (standing_at []) e.1 ∙ ap (standing_at []) (sym is))
+    at (Ended v u) is = let e = l.ends v u is in
+        ap (λ (m : List Step). standing_at m long.end) e.0 ∙ (ap (standing_at []) e.1.1 ∙ ap (standing_at []) (sym is))
+    at (Stopped v) is = let e = l.stops v is in
+        ap (λ (m : List Step). standing_at m long.end) e.0 ∙ (ap (standing_at []) e.1 ∙ ap (standing_at []) (sym is))
 
 -- where a process stands after m acts doesn't depend on what comes later on its inputs
-pub stands_on : (code : Code) (small big : List (List ℤ)) (m : ℕ) (standing : Standing) → HasPassingLoop code → ArePrefixes small big → StandsAt code small m standing → StandsAt code big m standing
+pub stands_on : (code : Code) (small big : List (List ℤ)) (m : ℕ) (standing : Standing) → HasPassingLoop code
+    → ArePrefixes small big → StandsAt code small m standing → StandsAt code big m standing
 stands_on code small big m standing passing p s =
     let t = process_trace code small in
     let long = process_trace code big in
@@ -181,11 +293,15 @@ stands_on code small big m standing passing p s =
     let le = s.within in
     record {
       within = omega (arith, ap (length {A = Step}) l.steps);
-      here = on standing s.here (sym (still_stands t long l (drop m t.steps)) ∙ ap (λ (x : List Step). standing_at x long.end) (sym (ap (drop m) l.steps ∙ drop-append-le m t.steps l.more s.within)));
+      here = on standing s.here
+          (sym (still_stands t long l (drop m t.steps))
+          ∙ ap (λ (x : List Step). standing_at x long.end)
+          (sym (ap (drop m) l.steps ∙ drop-append-le m t.steps l.more s.within)));
     }
   where
     on : (standing : Standing) → IsHere code (process_trace code small) m standing
-        → standing_at (drop m (process_trace code small).steps) (process_trace code small).end ≡ standing_at (drop m (process_trace code big).steps) (process_trace code big).end
+        → standing_at (drop m (process_trace code small).steps) (process_trace code small).end
+        ≡ standing_at (drop m (process_trace code big).steps) (process_trace code big).end
         → IsHere code (process_trace code big) m standing
     on (NotBegun vars) h same = h
     on (At point vars) h same = h ∙ same

@@ -8,7 +8,8 @@ use Rattle.kahn_net.specs.declared.program.Port.{Port}
 use Rattle.datagram.specs.declared.packet.Need.{Need}
 use Rattle.datagram.specs.declared.packet.Packet.{Packet}
 use Rattle.datagram.specs.declared.packet.Body.{Body}
-use Rattle.datagram.specs.declared.packet.Body.TheVariants.{Data, Ack, Kept, Ask, Took, Covered, Refused, Query, Commit, Ended, Settled, Undone}
+use Rattle.datagram.specs.declared.packet.Body.TheVariants.{Data, Ack, Kept, Ask, Took, Covered, Refused, Query, Commit}
+use Rattle.datagram.specs.declared.packet.Body.TheVariants.{Ended, Settled, Undone}
 use Rattle.protocol.specs.Node.Layout.{consumer_of, is_incoming, is_outgoing, node_at, port_on, producer_of}
 
 -- the number under which a node is addressed: 0 where there is none, to which no packet goes
@@ -38,15 +39,17 @@ runs_between net from to c = not (from == to) && ends_run net from to (slice_get
 abbrev pub are_nodes : Network → ℕ → ℕ → Bool
 are_nodes net from to = not (from == to) && (nat_lt from (node_count net) && nat_lt to (node_count net))
 
--- The channels and nodes that are named are right. An item and an undoing go from the sender of the channel to its receiver, an
--- acknowledgement and what was kept the other way. What is asked for was put by the node that is asked, and what it answers speaks of that; the
--- channels of its own needs come to it from other nodes.
+-- The channels and nodes that are named are right. An item and an undoing go from the sender of the channel to its
+-- receiver, an acknowledgement and what was kept the other way. What is asked for was put by the node that is asked,
+-- and what it answers speaks of that; the channels of its own needs come to it from other nodes.
 abbrev pub names_run : Network → ℕ → ℕ → Body → Bool
 names_run net from to (Data channel position item) = runs_between net from to channel
 names_run net from to (Ack channel epoch next) = runs_between net to from channel
 names_run net from to (Kept channel count) = runs_between net to from channel
 names_run net from to (Ask number channel count) = are_nodes net from to && is_outgoing net to channel
-names_run net from to (Took number channel count needs) = are_nodes net from to && (is_outgoing net from channel && list_all (λ (need : Need). is_incoming net from need.channel) needs)
+names_run net from to (Took number channel count needs) =
+    are_nodes net from to &&
+    (is_outgoing net from channel && list_all (λ (need : Need). is_incoming net from need.channel) needs)
 names_run net from to (Covered number channel count) = are_nodes net from to && is_outgoing net from channel
 names_run net from to (Refused number channel reason) = are_nodes net from to && is_outgoing net from channel
 names_run net from to (Query number) = are_nodes net from to

@@ -1,5 +1,6 @@
 -- Which process of a node goes on next, and the job that it is given.
-use Rattle.std.specs.Prelude.{ℕ, Bool, true, false, ◌&&◌, ◌==◌, nat_lt, if◌then◌else◌, ℤ, List, length, map, find, is_some, Option, Some, None, slice_get}
+use Rattle.std.specs.Prelude.{ℕ, Bool, true, false, ◌&&◌, ◌==◌, nat_lt, if◌then◌else◌, ℤ, List, length, map, find}
+use Rattle.std.specs.Prelude.{is_some, Option, Some, None, slice_get}
 use Rattle.std.specs.List.{range_with_len}
 use Rattle.kahn_net.specs.Streams.{history_of}
 use Rattle.kahn_net.specs.Syntax.{Code, Network}
@@ -20,10 +21,12 @@ use Rattle.protocol.specs.Node.Plans.{Prospect, Undue, becoming}
 use Rattle.protocol.specs.declared.links.Inbox.{Inbox}
 use Rattle.kahn_net.specs.declared.limits.TheConstants.{MAX_COUNT}
 
--- a next item is at hand of a channel whose items come from there: of an input, or of the log from which the channel is got
+-- a next item is at hand of a channel whose items come from there: of an input, or of the log from which the channel is
+-- got
 abbrev pub has_next : List (List ℤ) → ImageView → List Inbox → ℕ → Port → Bool
 has_next inputs image inboxes channel Outside = nat_lt (received_of image channel) (length (history_of inputs channel))
-has_next inputs image inboxes channel (Process p) = nat_lt (received_of image channel) (sent_in (source_of image inboxes channel))
+has_next inputs image inboxes channel (Process p) =
+    nat_lt (received_of image channel) (sent_in (source_of image inboxes channel))
 
 abbrev pub has_item : List (List ℤ) → ImageView → List Inbox → ℕ → Option Channel → Bool
 has_item inputs image inboxes channel None = false
@@ -47,15 +50,19 @@ next_at (Some code) standing = next_of code standing
 
 -- a process is ready
 abbrev pub is_ready : Network → List (List ℤ) → ImageView → List Inbox → SavedProcessView → Bool
-is_ready net inputs image inboxes saved = can_go net inputs image inboxes (next_at (slice_get net.codes saved.number) saved.standing)
+is_ready net inputs image inboxes saved =
+    can_go net inputs image inboxes (next_at (slice_get net.codes saved.number) saved.standing)
 
 -- the process of this number, if it is here and ready
 abbrev pub ready_process : Network → List (List ℤ) → ImageView → List Inbox → ℕ → Option SavedProcessView
-ready_process net inputs image inboxes number = find (λ (saved : SavedProcessView). (saved.number == number) && is_ready net inputs image inboxes saved) image.processes
+ready_process net inputs image inboxes number =
+    find (λ (saved : SavedProcessView). (saved.number == number) && is_ready net inputs image inboxes saved)
+    image.processes
 
 -- whether each of the network's processes is here and ready, in order of their numbers
 unfoldable pub ready_processes : Network → List (List ℤ) → ImageView → List Inbox → List Bool
-ready_processes net inputs image inboxes = map (λ (number : ℕ). is_some (ready_process net inputs image inboxes number)) (range_with_len 0 (length net.codes))
+ready_processes net inputs image inboxes =
+    map (λ (number : ℕ). is_some (ready_process net inputs image inboxes number)) (range_with_len 0 (length net.codes))
 
 abbrev pub process_at : Network → List (List ℤ) → ImageView → List Inbox → Option ℕ → Option SavedProcessView
 process_at net inputs image inboxes None = None
@@ -63,7 +70,8 @@ process_at net inputs image inboxes (Some number) = ready_process net inputs ima
 
 -- the ready process that is next in turn behind the one granted last
 abbrev pub next_process : Network → List (List ℤ) → ImageView → List Inbox → Option ℕ → Option SavedProcessView
-next_process net inputs image inboxes last = process_at net inputs image inboxes (next_in_turn last (ready_processes net inputs image inboxes))
+next_process net inputs image inboxes last =
+    process_at net inputs image inboxes (next_in_turn last (ready_processes net inputs image inboxes))
 
 -- a node that runs may grant a job: it holds no tentative image, has no job out, and its version isn't the greatest
 abbrev pub may_grant : RunningNode → Bool
@@ -71,11 +79,14 @@ may_grant node = is_none node.kept.tentative && (is_none node.out && nat_lt node
 
 abbrev pub job_of : Network → List (List ℤ) → RunningNode → Option SavedProcessView → Option JobView
 job_of net inputs node None = None
-job_of net inputs node (Some saved) = Some (job_for net inputs node.current node.inboxes saved.number saved.standing node.version)
+job_of net inputs node (Some saved) =
+    Some (job_for net inputs node.current node.inboxes saved.number saved.standing node.version)
 
 -- the job that it grants next, if it may grant one and a process is ready
 abbrev pub next_job : Network → List (List ℤ) → RunningNode → Option JobView
-next_job net inputs node = if may_grant node then job_of net inputs node (next_process net inputs node.current node.inboxes node.last) else None
+next_job net inputs node =
+    if may_grant node then job_of net inputs node (next_process net inputs node.current node.inboxes node.last) else
+    None
 
 -- and then, where a job was granted
 abbrev pub after_grant : Option JobView → RunningNode → RunningNode

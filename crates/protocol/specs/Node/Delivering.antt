@@ -1,5 +1,6 @@
 -- What a packet does to the node that it is for.
-use Rattle.std.specs.Prelude.{ℕ, ◌==◌, ◌&&◌, nat_lt, Bool, true, false, not, if◌then◌else◌, List, [], ◌∷◌, ℤ, length, Option, Some, None, option_map, slice_get, slice_set}
+use Rattle.std.specs.Prelude.{ℕ, ◌==◌, ◌&&◌, nat_lt, Bool, true, false, not, if◌then◌else◌, List, [], ◌∷◌, ℤ, length}
+use Rattle.std.specs.Prelude.{Option, Some, None, option_map, slice_get, slice_set}
 use Rattle.std.specs.List.{position_from}
 use Rattle.kahn_net.specs.Syntax.{Network}
 use Rattle.kahn_net.specs.declared.limits.TheConstants.{MAX_COUNT}
@@ -11,7 +12,8 @@ use Rattle.window_link.specs.declared.receiving.Arrival.TheVariants as arrival
 use Rattle.datagram.specs.Reading.{whole_at}
 use Rattle.datagram.specs.declared.packet.Packet.{Packet}
 use Rattle.datagram.specs.declared.packet.Body.{Body}
-use Rattle.datagram.specs.declared.packet.Body.TheVariants.{Data, Ack, Kept, Ask, Took, Covered, Refused, Query, Commit, Ended, Settled, Undone}
+use Rattle.datagram.specs.declared.packet.Body.TheVariants.{Data, Ack, Kept, Ask, Took, Covered, Refused, Query, Commit}
+use Rattle.datagram.specs.declared.packet.Body.TheVariants.{Ended, Settled, Undone}
 use Rattle.protocol.specs.Node.Addresses.{names_right}
 use Rattle.protocol.specs.Node.NodeView.{NodeView, RunningView, on_running}
 use Rattle.protocol.specs.Node.Modes.{is_down}
@@ -28,7 +30,8 @@ has_place log = nat_lt (length log.items) MAX_INBOX_ITEMS && nat_lt (log_end log
 
 -- the inbox after an item came of which the window made this
 abbrev pub with_arrival : Arrival → Receiver → ℤ → Inbox → Inbox
-with_arrival arrival.Taken window item inbox = record { channel = inbox.channel; window = window; log = log_with (item ∷ []) inbox.log }
+with_arrival arrival.Taken window item inbox =
+    record { channel = inbox.channel; window = window; log = log_with (item ∷ []) inbox.log }
 with_arrival arrival.Held window item inbox = inbox
 with_arrival arrival.Dropped window item inbox = inbox
 
@@ -37,7 +40,8 @@ after_arrival received item inbox = with_arrival received.answer received.window
 
 -- the item of a position is taken where it is the next one and there is a place for it
 abbrev pub taking : ℕ → ℤ → Inbox → Inbox
-taking position item inbox = if has_place inbox.log then after_arrival (received inbox.window position item) item inbox else inbox
+taking position item inbox =
+    if has_place inbox.log then after_arrival (received inbox.window position item) item inbox else inbox
 
 -- what was acknowledged is noted
 abbrev pub acknowledged : ℕ → ℕ → Outbox → Outbox
@@ -60,8 +64,11 @@ outbox_place outboxes channel = position_from (λ (outbox : Outbox). outbox.chan
 
 -- what a node has in memory after it heard this: only an item and an acknowledgement change anything, so far
 abbrev pub hearing : Body → RunningView → RunningView
-hearing (Data channel position item) running = record running { inboxes = changed_at (taking position item) running.inboxes (inbox_place running.inboxes channel) }
-hearing (Ack channel epoch next) running = record running { outboxes = changed_at (acknowledged epoch next) running.outboxes (outbox_place running.outboxes channel) }
+hearing (Data channel position item) running =
+    record running { inboxes = changed_at (taking position item) running.inboxes (inbox_place running.inboxes channel) }
+hearing (Ack channel epoch next) running =
+    record running
+    { outboxes = changed_at (acknowledged epoch next) running.outboxes (outbox_place running.outboxes channel) }
 hearing (Kept channel count) running = running
 hearing (Ask number channel count) running = running
 hearing (Took number channel count needs) running = running

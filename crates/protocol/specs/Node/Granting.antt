@@ -1,5 +1,6 @@
 -- What a job has at hand, and the room that it has.
-use Rattle.std.specs.Prelude.{ℕ, suc, ◌-◌, min, Bool, false, ◌==◌, if◌then◌else◌, ℤ, List, [], ◌∷◌, length, take, drop, find, Option, Some, None, option_map, slice_get}
+use Rattle.std.specs.Prelude.{ℕ, suc, ◌-◌, min, Bool, false, ◌==◌, if◌then◌else◌, ℤ, List, [], ◌∷◌, length, take, drop}
+use Rattle.std.specs.Prelude.{find, Option, Some, None, option_map, slice_get}
 use Rattle.kahn_net.specs.Streams.{history_of}
 use Rattle.kahn_net.specs.Syntax.{Network}
 use Rattle.kahn_net.specs.Processes.{Standing}
@@ -22,7 +23,8 @@ is_process process (Process p) = p == process
 
 -- the log of the inbox of this channel, the first of the list
 abbrev pub inbox_log : List Inbox → ℕ → Option LogState
-inbox_log inboxes channel = option_map (λ (inbox : Inbox). inbox.log) (find (λ (inbox : Inbox). inbox.channel == channel) inboxes)
+inbox_log inboxes channel =
+    option_map (λ (inbox : Inbox). inbox.log) (find (λ (inbox : Inbox). inbox.channel == channel) inboxes)
 
 abbrev pub first_log : Option LogState → Option LogState → Option LogState
 first_log (Some log) other = Some log
@@ -37,20 +39,22 @@ abbrev pub next_in_log : ℕ → Option LogState → List ℤ
 next_in_log received None = []
 next_in_log received (Some log) = take MAX_JOB_ITEMS (items_since log received)
 
--- The items of a channel that are at hand where so many were received, at most 64: those that come next of an input, or of the log from which
--- the channel is got.
+-- The items of a channel that are at hand where so many were received, at most 64: those that come next of an input, or
+-- of the log from which the channel is got.
 abbrev pub items_by : List (List ℤ) → ℕ → Port → ℕ → Option LogState → List ℤ
 items_by inputs channel Outside received log = take MAX_JOB_ITEMS (drop received (history_of inputs channel))
 items_by inputs channel (Process p) received log = next_in_log received log
 
 abbrev pub next_items : List (List ℤ) → ImageView → List Inbox → ℕ → Port → List ℤ
-next_items inputs image inboxes channel producer = items_by inputs channel producer (received_of image channel) (source_of image inboxes channel)
+next_items inputs image inboxes channel producer =
+    items_by inputs channel producer (received_of image channel) (source_of image inboxes channel)
 
 -- what a process has at hand of each channel, the first one of this number: of those from which it gets
 abbrev pub items_from : List (List ℤ) → ImageView → List Inbox → ℕ → ℕ → List Channel → List (List ℤ)
 items_from inputs image inboxes process number [] = []
 items_from inputs image inboxes process number (channel ∷ channels) =
-    (if is_process process channel.consumer then next_items inputs image inboxes number channel.producer else []) ∷ items_from inputs image inboxes process (suc number) channels
+    (if is_process process channel.consumer then next_items inputs image inboxes number channel.producer else [])
+    ∷ items_from inputs image inboxes process (suc number) channels
 
 -- the places that a log of at most so many items has for a job: at most 64, and no more than fit
 abbrev pub room_in : ℕ → Option LogState → ℕ
@@ -65,7 +69,8 @@ room_of image channel = room_in (log_share image) (log_of image channel)
 abbrev pub room_from : ImageView → ℕ → ℕ → List Channel → List ℕ
 room_from image process number [] = []
 room_from image process number (channel ∷ channels) =
-    (if is_process process channel.producer then room_of image number else 0) ∷ room_from image process (suc number) channels
+    (if is_process process channel.producer then room_of image number else 0)
+    ∷ room_from image process (suc number) channels
 
 -- the job of a process that stands there
 abbrev pub job_for : Network → List (List ℤ) → ImageView → List Inbox → ℕ → Standing → ℕ → JobView

@@ -9,7 +9,8 @@ use Rattle.kahn_net.specs.declared.program.Port.TheVariants.{Outside, Process}
 -- of so many numbers from a first one on, those that pass a test
 abbrev pub numbers_where : (ℕ → Bool) → ℕ → ℕ → List ℕ
 numbers_where test first zero = []
-numbers_where test first (suc count) = if test first then first ∷ numbers_where test (suc first) count else numbers_where test (suc first) count
+numbers_where test first (suc count) =
+    if test first then first ∷ numbers_where test (suc first) count else numbers_where test (suc first) count
 
 -- the node of the process at this end of a channel; none where the items come from outside or go there
 abbrev pub node_at : Network → Port → Option ℕ

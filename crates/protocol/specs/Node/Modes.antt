@@ -36,4 +36,5 @@ version_down node = if is_down node.mode then node.version else next_number node
 
 -- a node that went down, or stays so, and may be recovered from this round on: what it had in memory is gone
 abbrev pub crashed : ℕ → NodeView → NodeView
-crashed restart node = record { kept = node.kept; version = version_down node; restart = restart; armed = node.armed; mode = Down }
+crashed restart node =
+    record { kept = node.kept; version = version_down node; restart = restart; armed = node.armed; mode = Down }

@@ -7,8 +7,8 @@ use Rattle.protocol.specs.declared.armed_restart.ArmedRestart.{ArmedRestart}
 use Rattle.protocol.specs.declared.links.Inbox.{Inbox}
 use Rattle.protocol.specs.declared.links.Outbox.{Outbox}
 
--- what a node has in memory while it runs: where it stands, the job that is out, the process to which the last job was granted, and its ends of
--- channels from other nodes and to them
+-- what a node has in memory while it runs: where it stands, the job that is out, the process to which the last job was
+-- granted, and its ends of channels from other nodes and to them
 pub record RunningView : Type 0 where
   pub current : ImageView
   pub out : Option JobView
@@ -16,14 +16,15 @@ pub record RunningView : Type 0 where
   pub inboxes : List Inbox
   pub outboxes : List Outbox
 
--- A node is down, and has no more than its record; or it holds another's tentative image and waits for the verdict; or it runs.
+-- A node is down, and has no more than its record; or it holds another's tentative image and waits for the verdict; or
+-- it runs.
 pub data ModeView : Type 0 where
   Down : ModeView
   InDoubt : ModeView
   Runs : (running : RunningView) → ModeView
 
--- What a node keeps over a crash is its record, its version, the round from which it may be recovered, and how long each fault that is
--- armed on its disk keeps it down, in the order of arming.
+-- What a node keeps over a crash is its record, its version, the round from which it may be recovered, and how long
+-- each fault that is armed on its disk keeps it down, in the order of arming.
 pub record NodeView : Type 0 where
   pub kept : RecordView
   pub version : ℕ
@@ -42,7 +43,17 @@ pub record RunningNode : Type 0 where
   pub outboxes : List Outbox
 
 abbrev pub running_node : RecordView → ℕ → RunningView → RunningNode
-running_node kept version running = record { kept = kept; version = version; current = running.current; out = running.out; last = running.last; inboxes = running.inboxes; outboxes = running.outboxes }
+running_node kept version running =
+    record {
+      kept = kept;
+      version = version;
+      current = running.current;
+      out = running.out;
+      last =
+          running.last;
+      inboxes = running.inboxes;
+      outboxes = running.outboxes;
+    }
 
 abbrev pub running_in : RecordView → ℕ → ModeView → Option RunningNode
 running_in kept version Down = None

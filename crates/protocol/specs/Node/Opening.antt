@@ -19,7 +19,8 @@ use Rattle.record.specs.declared.image.End.TheVariants.{Receives, Sends, Both}
 abbrev pub opening_processes : ℕ → ℕ → List Code → List SavedProcessView
 opening_processes home number [] = []
 opening_processes home number (code ∷ codes) =
-    if code.node == home then record { number = number; standing = NotBegun code.vars } ∷ opening_processes home (suc number) codes else opening_processes home (suc number) codes
+    if code.node == home then record { number = number; standing = NotBegun code.vars }
+    ∷ opening_processes home (suc number) codes else opening_processes home (suc number) codes
 
 -- nothing was received or put: an end at which the node puts, and gets, or not
 abbrev pub opening_end : Bool → Bool → End
@@ -31,20 +32,33 @@ abbrev pub opening_ends : Network → ℕ → ℕ → List Channel → List Save
 opening_ends net home number [] = []
 opening_ends net home number (channel ∷ channels) =
     if channel_on net home (Some channel)
-    then record { channel = number; end = opening_end (port_on net home channel.producer) (port_on net home channel.consumer) } ∷ opening_ends net home (suc number) channels
+    then record
+    { channel = number; end = opening_end (port_on net home channel.producer) (port_on net home channel.consumer) }
+    ∷ opening_ends net home (suc number) channels
     else opening_ends net home (suc number) channels
 
 -- the image of the node of this number, which has its own processes and ends
 abbrev pub opening_image : Network → ℕ → ImageView
-opening_image net home = record { processes = opening_processes home 0 net.codes; ends = opening_ends net home 0 net.channels }
+opening_image net home =
+    record { processes = opening_processes home 0 net.codes; ends = opening_ends net home 0 net.channels }
 
 -- the record of the node of this number, of so many nodes
 abbrev pub opening_record : Network → ℕ → ℕ → RecordView
-opening_record net nodes number = record { node = number; epoch = 0; highest = replicate nodes 0; decision = None; permanent = opening_image net number; tentative = None }
+opening_record net nodes number =
+    record {
+      node = number;
+      epoch = 0;
+      highest = replicate nodes 0;
+      decision = None;
+      permanent =
+          opening_image net number;
+      tentative = None;
+    }
 
 -- an inbox to which nothing has come, and an outbox of which nothing is under way
 abbrev pub new_inbox : ℕ → Inbox
-new_inbox channel = record { channel = channel; window = record { epoch = 0; next = 0 }; log = record { base = 0; items = [] } }
+new_inbox channel =
+    record { channel = channel; window = record { epoch = 0; next = 0 }; log = record { base = 0; items = [] } }
 
 abbrev pub new_outbox : ℕ → Outbox
 new_outbox channel = record { channel = channel; window = record { size = WINDOW; epoch = 0; acknowledged = 0 } }
@@ -63,7 +77,15 @@ running_from net home kept = record {
   version = 0;
   restart = 0;
   armed = [];
-  mode = Runs (record { current = kept.permanent; out = None; last = None; inboxes = opening_inboxes net home; outboxes = opening_outboxes net home });
+  mode = Runs
+      (record {
+        current = kept.permanent;
+        out = None;
+        last = None;
+        inboxes = opening_inboxes net home;
+        outboxes =
+            opening_outboxes net home;
+      });
 }
 
 -- the node of this number, of so many; and as one that runs

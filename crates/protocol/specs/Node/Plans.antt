@@ -1,5 +1,5 @@
--- What an event makes of a node, of all events in one form: whether it can happen, the node afterwards, whether its record is put
--- for that, and what it sends; and how that comes out.
+-- What an event makes of a node, of all events in one form: whether it can happen, the node afterwards, whether its
+-- record is put for that, and what it sends; and how that comes out.
 use Rattle.std.specs.Prelude.{◌≡◌, ◌⊎◌, ℕ, ◌<◌, Bool, true, false, IsTrue, if◌then◌else◌, List, [], Result, Ok, Err}
 use Rattle.std.specs.declared.alloc.AllocError.{AllocError}
 use Rattle.datagram.specs.declared.packet.Packet.{Packet}
@@ -15,8 +15,9 @@ abbrev pub refusal_number : Refusal → ℕ
 refusal_number TooLarge = 22
 refusal_number Spent = 44
 
--- An event that can be made: the node afterwards; whether its record, that of the node afterwards, is put first; whether that may be longer than
--- the one before, so that it may be too large; what is sent; and what is sent in its place where the record is too large.
+-- An event that can be made: the node afterwards; whether its record, that of the node afterwards, is put first;
+-- whether that may be longer than the one before, so that it may be too large; what is sent; and what is sent in its
+-- place where the record is too large.
 pub record Plan : Type 0 where
   pub node : NodeView
   pub puts : Bool
@@ -24,8 +25,8 @@ pub record Plan : Type 0 where
   pub packets : List Packet
   pub refused : List Packet
 
--- What an event comes to: it can't happen; or a number would pass the greatest, which may be seen only behind a look at the device; or it is as
--- planned.
+-- What an event comes to: it can't happen; or a number would pass the greatest, which may be seen only behind a look at
+-- the device; or it is as planned.
 pub data Prospect : Type 0 where
   Undue : Prospect
   Exhausted : (looks : Bool) → Prospect
@@ -53,12 +54,13 @@ unless_spent looks less prospect = if less then prospect else Exhausted looks
 
 -- ---- how it comes out
 
--- A node whose device failed while this record was put, and which may be recovered from the round `restart` on: it is down with the old record
--- or with that one.
+-- A node whose device failed while this record was put, and which may be recovered from the round `restart` on: it is
+-- down with the old record or with that one.
 abbrev pub HasFailedAt : ℕ → RecordView → NodeView → NodeView → Type 0
 HasFailedAt restart next old new = (new ≡ crashed restart old) ⊎ (new ≡ crashed restart (with_kept next old))
 
--- A plan is made; or its record, which grows, is too large, and nothing is done; or the device fails, where there is a record to put.
+-- A plan is made; or its record, which grows, is too large, and nothing is done; or the device fails, where there is a
+-- record to put.
 abbrev pub IsCarriedOut : ℕ → Plan → NodeView → Outcome → NodeView → Type 0
 IsCarriedOut restart plan old outcome.NotDue new = ⊥
 IsCarriedOut restart plan old outcome.Made new = new ≡ plan.node
@@ -66,7 +68,8 @@ IsCarriedOut restart plan old (outcome.Refused TooLarge) new = IsTrue plan.grows
 IsCarriedOut restart plan old (outcome.Refused Spent) new = ⊥
 IsCarriedOut restart plan old outcome.Failed new = IsTrue plan.puts × HasFailedAt restart plan.node.kept old new
 
--- A number would pass the greatest: that is refused, and nothing is done; or the device fails before, where it is looked at.
+-- A number would pass the greatest: that is refused, and nothing is done; or the device fails before, where it is
+-- looked at.
 abbrev pub IsHeldUp : ℕ → Bool → NodeView → Outcome → NodeView → Type 0
 IsHeldUp restart looks old outcome.NotDue new = ⊥
 IsHeldUp restart looks old outcome.Made new = ⊥
@@ -94,8 +97,8 @@ room_for fits Undue = true
 room_for fits (Exhausted looks) = true
 room_for fits (Planned plan) = if plan.puts then fits plan.node.kept else true
 
--- What the cell has to do with that, whose device failed so often before and after: the record has room unless it was refused since it has none,
--- and the device failed exactly where the node went down.
+-- What the cell has to do with that, whose device failed so often before and after: the record has room unless it was
+-- refused since it has none, and the device failed exactly where the node went down.
 abbrev pub IsPut : Bool → ℕ → ℕ → Outcome → Type 0
 IsPut room before after outcome.NotDue = after ≡ before
 IsPut room before after outcome.Made = IsTrue room × (after ≡ before)

@@ -15,11 +15,12 @@ crash_prospect restart node = if_due (not (is_down node.mode)) (becoming (crashe
 
 -- The node has no ends of channels between nodes then: none is restored so far.
 abbrev pub restored_with : RecordView → Option Tentative → ModeView
-restored_with kept None = Runs (record { current = kept.permanent; out = None; last = None; inboxes = []; outboxes = [] })
+restored_with kept None =
+    Runs (record { current = kept.permanent; out = None; last = None; inboxes = []; outboxes = [] })
 restored_with kept (Some held) = InDoubt
 
--- the mode in which a node with this record comes back: with another's tentative image it waits for the verdict, else it runs from the
--- permanent one
+-- the mode in which a node with this record comes back: with another's tentative image it waits for the verdict, else
+-- it runs from the permanent one
 abbrev pub restored_mode : RecordView → ModeView
 restored_mode kept = restored_with kept kept.tentative
 
@@ -34,4 +35,5 @@ restored_from image false = Runs (record { current = image; out = None; last = N
 
 -- a node that is down comes back, if there is a next epoch
 abbrev pub recover_prospect : NodeView → Prospect
-recover_prospect node = if_due (is_down node.mode) (unless_spent true (nat_lt node.kept.epoch MAX_COUNT) (putting false (restored node)))
+recover_prospect node =
+    if_due (is_down node.mode) (unless_spent true (nat_lt node.kept.epoch MAX_COUNT) (putting false (restored node)))

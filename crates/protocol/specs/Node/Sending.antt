@@ -1,5 +1,6 @@
 -- What a node sends to the others.
-use Rattle.std.specs.Prelude.{ℕ, suc, max, not, if◌then◌else◌, List, [], ◌∷◌, ◌++◌, ℤ, take, Option, Some, None, FitsSigned}
+use Rattle.std.specs.Prelude.{ℕ, suc, max, not, if◌then◌else◌, List, [], ◌∷◌, ◌++◌, ℤ, take, Option, Some, None}
+use Rattle.std.specs.Prelude.{FitsSigned}
 use Rattle.std.specs.List.{flat_map}
 use Rattle.kahn_net.specs.Syntax.{Network}
 use Rattle.retained.specs.LogState.{LogState, items_since}
@@ -9,7 +10,8 @@ use Rattle.std.specs.Int.{w64}
 use Rattle.datagram.specs.PacketText.{IsPacket}
 use Rattle.datagram.specs.declared.packet.Packet.{Packet}
 use Rattle.datagram.specs.declared.packet.Body.{Body}
-use Rattle.datagram.specs.declared.packet.Body.TheVariants.{Data, Ack, Kept, Ask, Took, Covered, Refused, Query, Commit, Ended, Settled, Undone}
+use Rattle.datagram.specs.declared.packet.Body.TheVariants.{Data, Ack, Kept, Ask, Took, Covered, Refused, Query, Commit}
+use Rattle.datagram.specs.declared.packet.Body.TheVariants.{Ended, Settled, Undone}
 use Rattle.protocol.specs.Node.Addresses.{producer_node, consumer_node}
 use Rattle.protocol.specs.Node.NodeView.{NodeView, RunningNode, running_of}
 use Rattle.protocol.specs.Node.Modes.{is_none, is_down}
@@ -20,13 +22,25 @@ use Rattle.protocol.specs.declared.links.Outbox.{Outbox}
 -- of a channel from another node: the position that is taken next, and how many items the permanent image received
 abbrev pub inbox_packets : Network → ℕ → ImageView → Inbox → List Packet
 inbox_packets net home permanent inbox =
-    record { from = home; to = producer_node net inbox.channel; body = Ack inbox.channel inbox.window.epoch inbox.window.next }
-    ∷ record { from = home; to = producer_node net inbox.channel; body = Kept inbox.channel (received_of permanent inbox.channel) } ∷ []
+    record {
+      from = home;
+      to = producer_node net inbox.channel;
+      body =
+          Ack inbox.channel inbox.window.epoch inbox.window.next;
+    }
+    ∷ record {
+      from = home;
+      to = producer_node net inbox.channel;
+      body =
+          Kept inbox.channel (received_of permanent inbox.channel);
+    } ∷ []
 
 -- these items of a channel, the first one of this position
 abbrev pub data_packets : ℕ → ℕ → ℕ → ℕ → List ℤ → List Packet
 data_packets home to channel position [] = []
-data_packets home to channel position (item ∷ items) = record { from = home; to = to; body = Data channel position item } ∷ data_packets home to channel (suc position) items
+data_packets home to channel position (item ∷ items) =
+    record { from = home; to = to; body = Data channel position item }
+    ∷ data_packets home to channel (suc position) items
 
 -- the position from which on items are due: what lies before it was acknowledged, or isn't in the log
 abbrev pub first_due : Outbox → LogState → ℕ
@@ -38,14 +52,15 @@ items_due outbox log = take outbox.window.size (items_since log (first_due outbo
 
 abbrev pub log_packets : Network → ℕ → Outbox → Option LogState → List Packet
 log_packets net home outbox None = []
-log_packets net home outbox (Some log) = data_packets home (consumer_node net outbox.channel) outbox.channel (first_due outbox log) (items_due outbox log)
+log_packets net home outbox (Some log) =
+    data_packets home (consumer_node net outbox.channel) outbox.channel (first_due outbox log) (items_due outbox log)
 
 -- of a channel to another node: the items that are due
 abbrev pub outbox_packets : Network → ℕ → ImageView → Outbox → List Packet
 outbox_packets net home current outbox = log_packets net home outbox (log_of current outbox.channel)
 
--- What a node that runs sends: first what it says of the channels that come to it, then items of those that go from it, unless it holds a
--- tentative image; channels ascending.
+-- What a node that runs sends: first what it says of the channels that come to it, then items of those that go from it,
+-- unless it holds a tentative image; channels ascending.
 abbrev pub packets_from : Network → ℕ → Option RunningNode → List Packet
 packets_from net home None = []
 packets_from net home (Some node) =

@@ -1,5 +1,6 @@
 -- A node's record while a checkpoint of its own is taken and decided.
-use Rattle.std.specs.Prelude.{◌≡◌, ℕ, ◌+◌, ◌≤◌, ◌==◌, nat_lt, if◌then◌else◌, Bool, true, false, ◌&&◌, [], Option, Some, None}
+use Rattle.std.specs.Prelude.{◌≡◌, ℕ, ◌+◌, ◌≤◌, ◌==◌, nat_lt, if◌then◌else◌, Bool, true, false, ◌&&◌, [], Option, Some}
+use Rattle.std.specs.Prelude.{None}
 use Rattle.record.specs.ImageView.{ImageView}
 use Rattle.record.specs.Ends.{received_of, base_of, sent_of}
 use Rattle.record.specs.RecordView.{RecordView}
@@ -52,14 +53,16 @@ decided kept = with_decision (held_number kept.tentative) [] kept
 -- how a tentative image is taken, under the next number, if there is one
 abbrev pub start_prospect : ℕ → NodeView → Prospect
 start_prospect number node =
-    if_due (may_start node) (unless_spent false (nat_lt (highest_seen number node.kept) MAX_COUNT) (putting true (with_kept (with_own_now number node) node)))
+    if_due (may_start node)
+    (unless_spent false (nat_lt (highest_seen number node.kept) MAX_COUNT)
+    (putting true (with_kept (with_own_now number node) node)))
 
 -- and how it is made permanent
 abbrev pub decide_prospect : ℕ → NodeView → Prospect
 decide_prospect number node = if_due (may_decide number node) (putting false (with_kept (decided node.kept) node))
 
--- No count of one image is above that of a later one: how many items were received from a channel, how many were put there before its log
--- begins, and how many by now.
+-- No count of one image is above that of a later one: how many items were received from a channel, how many were put
+-- there before its log begins, and how many by now.
 pub record IsBehind (image later : ImageView) : Type 0 where
   pub received : (channel : ℕ) → received_of image channel ≤ received_of later channel
   pub base : (channel : ℕ) → base_of image channel ≤ base_of later channel

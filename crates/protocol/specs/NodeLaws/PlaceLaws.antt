@@ -22,7 +22,8 @@ node_below net p code is =
     let below : code.node < nodes_above net.codes = below_all net.codes p code is in
     omega (arith, below)
 
-few_above : (codes : List Code) → ((p : ℕ) (code : Code) → slice_get codes p ≡ Some code → code.node < MAX_NODES) → nodes_above codes ≤ MAX_NODES
+few_above : (codes : List Code) → ((p : ℕ) (code : Code) → slice_get codes p ≡ Some code → code.node < MAX_NODES)
+    → nodes_above codes ≤ MAX_NODES
 few_above [] few = omega arith
 few_above (x ∷ codes) few =
     let one : x.node < MAX_NODES = few 0 x refl in

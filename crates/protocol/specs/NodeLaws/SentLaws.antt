@@ -22,7 +22,8 @@ log_in (Sends log) has = (log, refl)
 log_in (Both received log) has = (log, refl)
 
 -- the log of a channel on which a process of the node puts is there
-pub log_there : (net : Network) (home : ℕ) (image : ImageView) (c p : ℕ) (channel : Channel) → IsLaidOut net home image → slice_get net.channels c ≡ Some channel → channel.producer ≡ Process p → IsTrue (has_process net home p)
+pub log_there : (net : Network) (home : ℕ) (image : ImageView) (c p : ℕ) (channel : Channel) → IsLaidOut net home image
+    → slice_get net.channels c ≡ Some channel → channel.producer ≡ Process p → IsTrue (has_process net home p)
     → (log : LogState) × (log_of image c ≡ Some log)
 log_there net home image c p channel laid is from here =
     let of = end_there net home image c channel laid is (producer_on net home p channel from here) in
@@ -30,8 +31,10 @@ log_there net home image c p channel laid is from here =
     (log.0, ap log_at of.there ∙ log.1)
 
 -- and counts what the process has put
-pub sent_stands : (net : Network) (home : ℕ) (histories : List (List ℤ)) (made : ℕ → ℕ) (image : ImageView) (c p : ℕ) (channel : Channel) → ImageStands net histories made image → IsLaidOut net home image
-    → slice_get net.channels c ≡ Some channel → channel.producer ≡ Process p → IsTrue (has_process net home p) → sent_of image c ≡ length (sent_on c (acts_of net histories made p))
+pub sent_stands : (net : Network) (home : ℕ) (histories : List (List ℤ)) (made : ℕ → ℕ) (image : ImageView) (c p : ℕ)
+    (channel : Channel) → ImageStands net histories made image → IsLaidOut net home image
+    → slice_get net.channels c ≡ Some channel → channel.producer ≡ Process p → IsTrue (has_process net home p)
+    → sent_of image c ≡ length (sent_on c (acts_of net histories made p))
 sent_stands net home histories made image c p channel stands laid is from here =
     let log = log_there net home image c p channel laid is from here in
     ap sent_in log.1 ∙ sym (log_stands net histories made image c p channel log.0 stands is from log.1).count

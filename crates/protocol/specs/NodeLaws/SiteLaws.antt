@@ -1,10 +1,12 @@
 -- Laws of sites: where a process stands at a point, that is a site of its statements, and no passes remain there.
-use Rattle.std.proofs.Common.{◌≡◌, ℕ, zero, suc, ◌+◌, ◌^◌, ◌<◌, ◌≤◌, Bool, true, false, cond, ℤ, pos, List, [], ◌∷◌, ◌++◌, drop, Option, Some, None, refl, sym, subst, append-nil, arith}
+use Rattle.std.proofs.Common.{◌≡◌, ℕ, zero, suc, ◌+◌, ◌^◌, ◌<◌, ◌≤◌, Bool, true, false, cond, ℤ, pos, List, [], ◌∷◌}
+use Rattle.std.proofs.Common.{◌++◌, drop, Option, Some, None, refl, sym, subst, append-nil, arith}
 use Rattle.std.specs.Prelude.{slice_get, slice_set}
 use Rattle.std.specs.Ordering.{int_eq}
 use Rattle.kahn_net.specs.Streams.{history_of, total}
 use Rattle.kahn_net.specs.Syntax.{Block, Nothing, GetThen, AssignThen, PutThen, StopThen, IfThen, Code, Network}
-use Rattle.kahn_net.specs.Statements.{Point, Step, End, Ended, Waits, Stopped, Trace, point_at, on_get, from_end, then_do, sites_of, choose, value_of, trace_of}
+use Rattle.kahn_net.specs.Statements.{Point, Step, End, Ended, Waits, Stopped, Trace, point_at, on_get, from_end}
+use Rattle.kahn_net.specs.Statements.{then_do, sites_of, choose, value_of, trace_of}
 use Rattle.kahn_net.specs.Processes.{passes, loop_trace, process_trace, Standing, StandsAt, standing_at}
 use Rattle.kahn_net.specs.Processes.Standing.{NotBegun, At, Done}
 use Rattle.kahn_net.specs.Valid.{IsValid, body_units}
@@ -47,13 +49,16 @@ each-drop n (suc m) [] h = tt
 each-drop n (suc m) (x ∷ xs) h = each-drop n m xs h.1
 
 -- what one does after the other
-sites_then : (n : ℕ) (t : Trace) (go : List ℤ → List (List ℤ) → Trace) → HasSites n t → ((v : List ℤ) (u : List (List ℤ)) → HasSites n (go v u)) → HasSites n (then_do t go)
+sites_then : (n : ℕ) (t : Trace) (go : List ℤ → List (List ℤ) → Trace) → HasSites n t
+    → ((v : List ℤ) (u : List (List ℤ)) → HasSites n (go v u)) → HasSites n (then_do t go)
 sites_then n t go h next = at_end t.end h.end
   where
-    at_end : (e : End) → EndBelow n e → HasSites n (record { steps = t.steps ++ (from_end e go).steps; end = (from_end e go).end })
+    at_end : (e : End) → EndBelow n e
+        → HasSites n (record { steps = t.steps ++ (from_end e go).steps; end = (from_end e go).end })
     at_end (Waits s y c) k = record { steps = subst (EachBelow n) (sym (append-nil t.steps)) h.steps; end = k }
     at_end (Stopped y) k = record { steps = subst (EachBelow n) (sym (append-nil t.steps)) h.steps; end = k }
-    at_end (Ended v u) k = let m = next v u in record { steps = each-append n t.steps (go v u).steps h.steps m.steps; end = m.end }
+    at_end (Ended v u) k = let m = next v u in
+        record { steps = each-append n t.steps (go v u).steps h.steps m.steps; end = m.end }
 
 one_of : (P : Trace → Type 0) (b : Bool) (x y : Trace) → P x → P y → P (cond b x y)
 one_of P true x y p q = p
@@ -67,10 +72,12 @@ rest_within : (n site more : ℕ) → site + (more + 1) ≤ n → site + 1 + mor
 rest_within n site more within = omega (arith, within)
 
 -- what statements do
-sites_block : (n site : ℕ) (b : Block) (vars : List ℤ) (unread : List (List ℤ)) → site + sites_of b ≤ n → HasSites n (trace_of site [] b vars unread)
+sites_block : (n site : ℕ) (b : Block) (vars : List ℤ) (unread : List (List ℤ)) → site + sites_of b ≤ n
+    → HasSites n (trace_of site [] b vars unread)
 sites_block n site Nothing vars unread within = record { steps = tt; end = tt }
 sites_block n site (AssignThen x e rest) vars unread within =
-    let r = sites_block n site rest (slice_set vars x (value_of e vars)) unread within in record { steps = r.steps; end = r.end }
+    let r = sites_block n site rest (slice_set vars x (value_of e vars)) unread within in
+    record { steps = r.steps; end = r.end }
 sites_block n site (PutThen e c rest) vars unread within =
     let r = sites_block n (site + 1) rest vars unread (rest_within n site (sites_of rest) within) in
     record { steps = (own_site n site (sites_of rest) within, r.steps); end = r.end }
@@ -82,24 +89,34 @@ sites_block n site (IfThen test first second rest) vars unread within =
     let in_second : site + sites_of first + sites_of second ≤ n = omega (arith, within) in
     let behind : site + sites_of first + sites_of second + sites_of rest ≤ n = omega (arith, within) in
     sites_then n (choose (value_of test vars) one other) (trace_of (site + sites_of first + sites_of second) [] rest)
-    (one_of (HasSites n) (int_eq (value_of test vars) (pos 0)) other one (sites_block n (site + sites_of first) second vars unread in_second) (sites_block n site first vars unread in_first))
+    (one_of (HasSites n) (int_eq (value_of test vars) (pos 0)) other one
+    (sites_block n (site + sites_of first) second vars unread in_second)
+    (sites_block n site first vars unread in_first))
     (λ v u. sites_block n (site + sites_of first + sites_of second) rest v u behind)
 sites_block n site (GetThen x c rest) vars unread within =
-    at_get (history_of unread c) (λ item later. sites_block n (site + 1) rest (slice_set vars x item) (slice_set unread c later) (rest_within n site (sites_of rest) within))
+    at_get (history_of unread c)
+    (λ item later. sites_block n (site + 1) rest (slice_set vars x item) (slice_set unread c later)
+    (rest_within n site (sites_of rest) within))
   where
     own : IsSiteBelow n (point_at site [])
     own = own_site n site (sites_of rest) within
 
-    at_get : (history : List ℤ) → ((item : ℤ) (later : List ℤ) → HasSites n (trace_of (site + 1) [] rest (slice_set vars x item) (slice_set unread c later)))
-        → HasSites n (on_get history (point_at site []) c vars (λ item later. trace_of (site + 1) [] rest (slice_set vars x item) (slice_set unread c later)))
+    at_get : (history : List ℤ)
+        → ((item : ℤ) (later : List ℤ)
+        → HasSites n (trace_of (site + 1) [] rest (slice_set vars x item) (slice_set unread c later)))
+        → HasSites n
+        (on_get history (point_at site []) c vars
+        (λ item later. trace_of (site + 1) [] rest (slice_set vars x item) (slice_set unread c later)))
     at_get [] more = record { steps = tt; end = own }
     at_get (item ∷ later) more = let r = more item later in record { steps = (own, r.steps); end = r.end }
 
 -- whole passes
-sites_passes : (n fuel site : ℕ) (b : Block) (vars : List ℤ) (unread : List (List ℤ)) → site + sites_of b ≤ n → HasSites n (passes fuel site b vars unread)
+sites_passes : (n fuel site : ℕ) (b : Block) (vars : List ℤ) (unread : List (List ℤ)) → site + sites_of b ≤ n
+    → HasSites n (passes fuel site b vars unread)
 sites_passes n zero site b vars unread within = record { steps = tt; end = tt }
 sites_passes n (suc fuel) site b vars unread within =
-    sites_then n (trace_of site [] b vars unread) (passes fuel site b) (sites_block n site b vars unread within) (λ v u. sites_passes n fuel site b v u within)
+    sites_then n (trace_of site [] b vars unread) (passes fuel site b) (sites_block n site b vars unread within)
+    (λ v u. sites_passes n fuel site b v u within)
 
 -- how many sites a process has
 abbrev pub body_sites : Option Block → ℕ
@@ -109,7 +126,8 @@ body_sites (Some body) = sites_of body
 abbrev pub code_sites : Code → ℕ
 code_sites code = sites_of code.prelude + body_sites code.body
 
-sites_loop : (n site : ℕ) (body : Option Block) (vars : List ℤ) (unread : List (List ℤ)) → site + body_sites body ≤ n → HasSites n (loop_trace site body vars unread)
+sites_loop : (n site : ℕ) (body : Option Block) (vars : List ℤ) (unread : List (List ℤ)) → site + body_sites body ≤ n
+    → HasSites n (loop_trace site body vars unread)
 sites_loop n site None vars unread within = record { steps = tt; end = tt }
 sites_loop n site (Some b) vars unread within = sites_passes n (suc (total unread)) site b vars unread within
 
@@ -118,22 +136,27 @@ pub sites_process : (code : Code) (inputs : List (List ℤ)) → HasSites (code_
 sites_process code inputs =
     let prelude : 0 + sites_of code.prelude ≤ code_sites code = omega arith in
     let all : sites_of code.prelude + body_sites code.body ≤ code_sites code = omega arith in
-    sites_then (code_sites code) (trace_of 0 [] code.prelude code.vars inputs) (loop_trace (sites_of code.prelude) code.body) (sites_block (code_sites code) 0 code.prelude code.vars inputs prelude)
+    sites_then (code_sites code) (trace_of 0 [] code.prelude code.vars inputs)
+    (loop_trace (sites_of code.prelude) code.body)
+    (sites_block (code_sites code) 0 code.prelude code.vars inputs prelude)
     (λ v u. sites_loop (code_sites code) (sites_of code.prelude) code.body v u all)
 
-sites_standing : (n : ℕ) (steps : List Step) (end : End) → EachBelow n steps → EndBelow n end → StandsBelow n (standing_at steps end)
+sites_standing : (n : ℕ) (steps : List Step) (end : End) → EachBelow n steps → EndBelow n end
+    → StandsBelow n (standing_at steps end)
 sites_standing n (step ∷ steps) end h k = h.0
 sites_standing n [] (Waits point vars channel) h k = k
 sites_standing n [] (Ended vars unread) h k = tt
 sites_standing n [] (Stopped vars) h k = tt
 
 -- wherever a process stands, the site is one of its own, and no passes remain
-pub site_of_standing : (code : Code) (inputs : List (List ℤ)) (m : ℕ) (standing : Standing) → StandsAt code inputs m standing → StandsBelow (code_sites code) standing
+pub site_of_standing : (code : Code) (inputs : List (List ℤ)) (m : ℕ) (standing : Standing)
+    → StandsAt code inputs m standing → StandsBelow (code_sites code) standing
 site_of_standing code inputs m (NotBegun vars) stands = tt
 site_of_standing code inputs m (At point vars) stands =
     let all = sites_process code inputs in
     subst (StandsBelow (code_sites code)) (sym stands.here)
-    (sites_standing (code_sites code) (drop m (process_trace code inputs).steps) (process_trace code inputs).end (each-drop (code_sites code) m (process_trace code inputs).steps all.steps) all.end)
+    (sites_standing (code_sites code) (drop m (process_trace code inputs).steps) (process_trace code inputs).end
+    (each-drop (code_sites code) m (process_trace code inputs).steps all.steps) all.end)
 site_of_standing code inputs m (Done vars) stands = tt
 
 -- a process of a valid network has few sites
@@ -141,7 +164,8 @@ body_few : (body : Option Block) → body_sites body ≤ body_units body
 body_few None = omega arith
 body_few (Some b) = sites_within b
 
-pub sites_few : (net : Network) (p : ℕ) (code : Code) → IsValid net → slice_get net.codes p ≡ Some code → code_sites code ≤ MAX_UNITS
+pub sites_few : (net : Network) (p : ℕ) (code : Code) → IsValid net → slice_get net.codes p ≡ Some code
+    → code_sites code ≤ MAX_UNITS
 sites_few net p code valid here =
     let one = sites_within code.prelude in
     let other = body_few code.body in
@@ -149,7 +173,8 @@ sites_few net p code valid here =
     omega (arith, one, other, few)
 
 -- so that a site takes 4 bytes
-pub site_short : (net : Network) (p : ℕ) (code : Code) (point : Point) → IsValid net → slice_get net.codes p ≡ Some code → IsSiteBelow (code_sites code) point → point.site < 256 ^ 4
+pub site_short : (net : Network) (p : ℕ) (code : Code) (point : Point) → IsValid net
+    → slice_get net.codes p ≡ Some code → IsSiteBelow (code_sites code) point → point.site < 256 ^ 4
 site_short net p code point valid here below =
     let few = sites_few net p code valid here in
     let lt = below.site in

@@ -1,4 +1,5 @@
--- Laws of sizes: an image of a valid network whose logs keep to their share is within bounds, so that a record of two such images fits.
+-- Laws of sizes: an image of a valid network whose logs keep to their share is within bounds, so that a record of two
+-- such images fits.
 use Rattle.std.proofs.Common.{◌≡◌, ℕ, ◌+◌, ◌<◌, ◌≤◌, ℤ, List, [], length, get_or, Some, None, ◌⊎◌, inl, inr, arith}
 use Rattle.std.specs.Prelude.{slice_get}
 use Rattle.std.proofs.Math.Logic.{∥∥₁_elim}
@@ -28,27 +29,39 @@ use Rattle.protocol.specs.NodeLaws.SharingLaws.{items_fit}
 use Rattle.protocol.specs.NodeLaws.VariableLaws.{variables_stay}
 
 -- each process of an image that stands there has no more variables than a network allows
-variables_few : (net : Network) (home : ℕ) (histories : List (List ℤ)) (made : ℕ → ℕ) (image : ImageView) → IsValid net → IsLaidOut net home image → ImageStands net histories made image
-    → (k : ℕ) (saved : SavedProcessView) → slice_get image.processes k ≡ Some saved → length (variables_of saved.standing) ≤ MAX_VARIABLES
+variables_few : (net : Network) (home : ℕ) (histories : List (List ℤ)) (made : ℕ → ℕ) (image : ImageView) → IsValid net
+    → IsLaidOut net home image → ImageStands net histories made image
+    → (k : ℕ) (saved : SavedProcessView) → slice_get image.processes k ≡ Some saved
+    → length (variables_of saved.standing) ≤ MAX_VARIABLES
 variables_few net home histories made image valid laid stands k saved is = at (slice_get_cases net.codes saved.number).1
   where
     within : saved.number < 0 + length net.codes
-    within = (where_mark (λ (s : SavedProcessView). s.number) (has_process net home) 0 (length net.codes) image.processes k saved laid.processes is).2
+    within =
+        (where_mark (λ (s : SavedProcessView). s.number) (has_process net home) 0 (length net.codes) image.processes k
+        saved laid.processes is).2
 
-    at : ((x : Code) × (saved.number < length net.codes) × (slice_get net.codes saved.number ≡ Some x) × (get_or net.codes saved.number x ≡ x)) ⊎ ((length net.codes ≤ saved.number) × (slice_get net.codes saved.number ≡ None))
+    at : ((x : Code) × (saved.number < length net.codes) × (slice_get net.codes saved.number ≡ Some x)
+        × (get_or net.codes saved.number x ≡ x))
+        ⊎ ((length net.codes ≤ saved.number) × (slice_get net.codes saved.number ≡ None))
         → length (variables_of saved.standing) ≤ MAX_VARIABLES
     at (inl here) =
-        let same = variables_stay here.0 histories (made saved.number) saved.standing (stands.processes k saved here.0 is here.2) in
+        let same =
+        variables_stay here.0 histories (made saved.number) saved.standing
+        (stands.processes k saved here.0 is here.2) in
         let few = (valid.codes saved.number here.0 here.2).variables in
         omega (arith, same, few)
     at (inr past) = absurd (omega (arith, within, past.0))
 
 -- an image of a valid network, whose logs keep to their share, is within the bounds of which a record holds two
-pub image_within : (net : Network) (home : ℕ) (histories : List (List ℤ)) (made : ℕ → ℕ) (image : ImageView) → IsValid net → IsLaidOut net home image → ImageStands net histories made image → LogsAreWithin image
+pub image_within : (net : Network) (home : ℕ) (histories : List (List ℤ)) (made : ℕ → ℕ) (image : ImageView)
+    → IsValid net → IsLaidOut net home image → ImageStands net histories made image → LogsAreWithin image
     → IsImageWithin MAX_RETAINED_ITEMS image
 image_within net home histories made image valid laid stands logs =
-    let processes = where_count (λ (s : SavedProcessView). s.number) (has_process net home) 0 (length net.codes) image.processes laid.processes in
-    let ends = where_count (λ (s : SavedEnd). s.channel) (has_end net home) 0 (length net.channels) image.ends laid.ends in
+    let processes =
+    where_count (λ (s : SavedProcessView). s.number) (has_process net home) 0 (length net.codes) image.processes
+    laid.processes in
+    let ends =
+    where_count (λ (s : SavedEnd). s.channel) (has_end net home) 0 (length net.channels) image.ends laid.ends in
     let codes = valid.process_count in
     let channels = valid.channel_count in
     record {
@@ -59,17 +72,24 @@ image_within net home histories made image valid laid stands logs =
     }
 
 -- and so is a node's current image, however far it has come
-pub current_within : (net : Network) (home : ℕ) (inputs : List (List ℤ)) (node : RunningNode) → IsValid net → IsLaidOut net home node.current → LogsAreWithin node.current → ∥ HasReached net inputs node ∥₁
+pub current_within : (net : Network) (home : ℕ) (inputs : List (List ℤ)) (node : RunningNode) → IsValid net
+    → IsLaidOut net home node.current → LogsAreWithin node.current → ∥ HasReached net inputs node ∥₁
     → IsImageWithin MAX_RETAINED_ITEMS node.current
 current_within net home inputs node valid laid logs reached = record {
   processes =
-      (let count = where_count (λ (s : SavedProcessView). s.number) (has_process net home) 0 (length net.codes) node.current.processes laid.processes in
+      (let count =
+      where_count (λ (s : SavedProcessView). s.number) (has_process net home) 0 (length net.codes)
+      node.current.processes laid.processes in
       let few = valid.process_count in
       omega (arith, count, few));
   variables = λ k saved is.
-      ∥∥₁_elim reached le_prop (λ come. variables_few net home (approximation net inputs come.n) come.current_acts node.current valid laid come.current k saved is);
+      ∥∥₁_elim reached le_prop
+      (λ come. variables_few net home (approximation net inputs come.n) come.current_acts node.current valid laid
+      come.current k saved is);
   ends =
-      (let count = where_count (λ (s : SavedEnd). s.channel) (has_end net home) 0 (length net.channels) node.current.ends laid.ends in
+      (let count =
+      where_count (λ (s : SavedEnd). s.channel) (has_end net home) 0 (length net.channels) node.current.ends
+      laid.ends in
       let few = valid.channel_count in
       omega (arith, count, few));
   items = items_fit node.current (λ k saved log is has. (logs k saved log is has).count);
@@ -78,20 +98,28 @@ current_within net home inputs node valid laid logs reached = record {
 -- The node's records
 
 -- the record of a node before its first event
-pub opening_within : (net : Network) (nodes number : ℕ) → IsValid net → nodes ≤ MAX_NODES → IsRecordWithin MAX_RETAINED_ITEMS (opening_record net nodes number)
+pub opening_within : (net : Network) (nodes number : ℕ) → IsValid net → nodes ≤ MAX_NODES
+    → IsRecordWithin MAX_RETAINED_ITEMS (opening_record net nodes number)
 opening_within net nodes number valid few =
     let reached = reached_opening net [] nodes number in
     record {
-      nodes = (let same : length (opening_record net nodes number).highest ≡ nodes = length-replicate nodes 0 in omega (arith, same, few));
+      nodes = (let same : length (opening_record net nodes number).highest ≡ nodes = length-replicate nodes 0 in
+          omega (arith, same, few));
       decision = λ d is. absurd (cc);
-      permanent = image_within net number (approximation net [] reached.n) reached.permanent_acts (opening_image net number) valid (laid_out_opening net number) reached.permanent (logs_opening net number);
+      permanent =
+          image_within net number (approximation net [] reached.n) reached.permanent_acts (opening_image net number)
+          valid (laid_out_opening net number) reached.permanent (logs_opening net number);
       tentative = λ t is. absurd (cc);
     }
 
 -- the record of a start
-pub own_within : (node : ℕ) (image : ImageView) (kept : RecordView) → IsImageWithin MAX_RETAINED_ITEMS image → IsRecordWithin MAX_RETAINED_ITEMS kept → IsRecordWithin MAX_RETAINED_ITEMS (with_own node image kept)
-own_within node image kept here within = within_tentative MAX_RETAINED_ITEMS kept within node (highest_seen node kept + 1) image here
+pub own_within : (node : ℕ) (image : ImageView) (kept : RecordView) → IsImageWithin MAX_RETAINED_ITEMS image
+    → IsRecordWithin MAX_RETAINED_ITEMS kept → IsRecordWithin MAX_RETAINED_ITEMS (with_own node image kept)
+own_within node image kept here within =
+    within_tentative MAX_RETAINED_ITEMS kept within node (highest_seen node kept + 1) image here
 
 -- the record of a decision
-pub decided_within : (kept : RecordView) → IsRecordWithin MAX_RETAINED_ITEMS kept → IsRecordWithin MAX_RETAINED_ITEMS (decided kept)
-decided_within kept within = within_decision MAX_RETAINED_ITEMS kept within (held_number kept.tentative) [] (omega arith)
+pub decided_within : (kept : RecordView) → IsRecordWithin MAX_RETAINED_ITEMS kept
+    → IsRecordWithin MAX_RETAINED_ITEMS (decided kept)
+decided_within kept within =
+    within_decision MAX_RETAINED_ITEMS kept within (held_number kept.tentative) [] (omega arith)

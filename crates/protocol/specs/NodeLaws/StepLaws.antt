@@ -13,7 +13,8 @@ use Rattle.protocol.specs.Node.Reached.{ImageStands, IsAsFar, HasReached, HasCom
 use Rattle.record.specs.declared.record.Tentative.{Tentative}
 
 -- a node that takes a tentative image of what it has now
-pub reached_start : (net : Network) (inputs : List (List ℤ)) (number : ℕ) (node : RunningNode) → HasReached net inputs node → HasReached net inputs (keeping (with_own number node.current node.kept) node)
+pub reached_start : (net : Network) (inputs : List (List ℤ)) (number : ℕ) (node : RunningNode)
+    → HasReached net inputs node → HasReached net inputs (keeping (with_own number node.current node.kept) node)
 reached_start net inputs number node reached = record {
   n = reached.n;
   permanent_acts = reached.permanent_acts;
@@ -26,13 +27,16 @@ reached_start net inputs number node reached = record {
   current_after = λ p. omega arith;
 }
   where
-    held : (tentative : Tentative) → (with_own number node.current node.kept).tentative ≡ Some tentative → ImageStands net (approximation net inputs reached.n) reached.current_acts tentative.image
+    held : (tentative : Tentative) → (with_own number node.current node.kept).tentative ≡ Some tentative
+        → ImageStands net (approximation net inputs reached.n) reached.current_acts tentative.image
     held tentative is =
         let image : node.current ≡ tentative.image = cc in
-        subst (λ (x : ImageView). ImageStands net (approximation net inputs reached.n) reached.current_acts x) image reached.current
+        subst (λ (x : ImageView). ImageStands net (approximation net inputs reached.n) reached.current_acts x) image
+        reached.current
 
 -- a node whose tentative image becomes permanent, where one is held
-pub reached_decide : (net : Network) (inputs : List (List ℤ)) (node : RunningNode) → HasReached net inputs node → HasReached net inputs (keeping (decided node.kept) node)
+pub reached_decide : (net : Network) (inputs : List (List ℤ)) (node : RunningNode) → HasReached net inputs node
+    → HasReached net inputs (keeping (decided node.kept) node)
 reached_decide net inputs node reached = record {
   n = reached.n;
   permanent_acts = permanent_then node.kept.tentative;
@@ -53,12 +57,14 @@ reached_decide net inputs node reached = record {
     held_after None = reached.held_after
     held_after (Some tentative) = λ p. omega arith
 
-    permanent : (o : Option Tentative) → node.kept.tentative ≡ o → ImageStands net (approximation net inputs reached.n) (permanent_then o) (last_image node.kept.permanent o)
+    permanent : (o : Option Tentative) → node.kept.tentative ≡ o
+        → ImageStands net (approximation net inputs reached.n) (permanent_then o) (last_image node.kept.permanent o)
     permanent None is = reached.permanent
     permanent (Some tentative) is = reached.held tentative is
 
 -- a node that granted a job, or none
-pub reached_grant : (net : Network) (inputs : List (List ℤ)) (job : Option JobView) (node : RunningNode) → HasReached net inputs node → HasReached net inputs (after_grant job node)
+pub reached_grant : (net : Network) (inputs : List (List ℤ)) (job : Option JobView) (node : RunningNode)
+    → HasReached net inputs node → HasReached net inputs (after_grant job node)
 reached_grant net inputs None node reached = reached
 reached_grant net inputs (Some job) node reached = record {
   n = reached.n;
@@ -74,8 +80,10 @@ reached_grant net inputs (Some job) node reached = record {
 
 -- Each leaves the approximation and the acts as they were
 
-pub on_start : (net : Network) (inputs : List (List ℤ)) (number : ℕ) (node : RunningNode) (reached : HasReached net inputs node)
-    → HasComeOn net inputs node (keeping (with_own number node.current node.kept) node) reached (reached_start net inputs number node reached)
+pub on_start : (net : Network) (inputs : List (List ℤ)) (number : ℕ) (node : RunningNode)
+    (reached : HasReached net inputs node)
+    → HasComeOn net inputs node (keeping (with_own number node.current node.kept) node) reached
+    (reached_start net inputs number node reached)
 unfolding reached_start
 on_start net inputs number node reached = record { same = refl; further = λ p. omega arith }
 
@@ -84,7 +92,8 @@ pub on_decide : (net : Network) (inputs : List (List ℤ)) (node : RunningNode) 
 unfolding reached_decide
 on_decide net inputs node reached = record { same = refl; further = λ p. omega arith }
 
-pub on_grant : (net : Network) (inputs : List (List ℤ)) (job : Option JobView) (node : RunningNode) (reached : HasReached net inputs node)
+pub on_grant : (net : Network) (inputs : List (List ℤ)) (job : Option JobView) (node : RunningNode)
+    (reached : HasReached net inputs node)
     → HasComeOn net inputs node (after_grant job node) reached (reached_grant net inputs job node reached)
 unfolding reached_grant
 on_grant net inputs None node reached = record { same = refl; further = λ p. omega arith }

@@ -1,5 +1,6 @@
 -- Which event is next for a node: the first one of a list that is due.
-use Rattle.std.specs.Prelude.{◌==◌, ℕ, ◌%◌, nat_le, nat_lt, Bool, false, ◌&&◌, ◌||◌, not, if◌then◌else◌, List, [], ◌∷◌, length, Option, Some, None, is_some, option_map, slice_get, ℤ}
+use Rattle.std.specs.Prelude.{◌==◌, ℕ, ◌%◌, nat_le, nat_lt, Bool, false, ◌&&◌, ◌||◌, not, if◌then◌else◌, List, [], ◌∷◌}
+use Rattle.std.specs.Prelude.{length, Option, Some, None, is_some, option_map, slice_get, ℤ}
 use Rattle.kahn_net.specs.Syntax.{Network}
 use Rattle.record.specs.ImageView.{ImageView}
 use Rattle.record.specs.Ends.{received_of, sent_of}
@@ -23,7 +24,8 @@ use Rattle.protocol.specs.declared.limits.TheConstants.{MAX_GRANTS}
 abbrev pub counts_rose : ImageView → ImageView → List SavedEnd → Bool
 counts_rose now before [] = false
 counts_rose now before (saved ∷ ends) =
-    (nat_lt (received_of before saved.channel) (received_of now saved.channel) || nat_lt (sent_of before saved.channel) (sent_of now saved.channel)) || counts_rose now before ends
+    (nat_lt (received_of before saved.channel) (received_of now saved.channel) || nat_lt (sent_of before saved.channel)
+    (sent_of now saved.channel)) || counts_rose now before ends
 
 -- a count of what a node has now is above what it is in its permanent image
 abbrev pub has_more : Option RunningNode → Bool
@@ -37,11 +39,14 @@ has_turn nodes round number = nat_lt 0 nodes && (round % nodes == number)
 -- it is this node's turn to begin a checkpoint, it hasn't yet in this round, and has something new to keep
 abbrev pub wants_checkpoint : ℕ → ℕ → StationView → Bool
 wants_checkpoint nodes round station =
-    has_turn nodes round station.number && (not (turns_of round station.turns).started && (may_start station.node && has_more (running_of station.node)))
+    has_turn nodes round station.number &&
+    (not (turns_of round station.turns).started && (may_start station.node && has_more (running_of station.node)))
 
 -- it has sent in this round; what it sent while it held a tentative image doesn't count afterwards
 abbrev pub has_sent : ℕ → StationView → Bool
-has_sent round station = (turns_of round station.turns).sent && not ((turns_of round station.turns).sent_holding && is_none station.node.kept.tentative)
+has_sent round station =
+    (turns_of round station.turns).sent && not
+    ((turns_of round station.turns).sent_holding && is_none station.node.kept.tentative)
 
 -- it is down, and may be recovered by now, where nodes may restart
 abbrev pub may_recover : Bool → ℕ → StationView → Bool
@@ -49,18 +54,20 @@ may_recover restarts round station = restarts && (is_down station.node.mode && n
 
 -- the place of the first packet that is due to a node that is up
 abbrev pub due_place : Traffic → ℕ → StationView → Option ℕ
-due_place traffic round station = if is_down station.node.mode then None else position_from (is_due round) 0 (flights_to traffic station.number)
+due_place traffic round station =
+    if is_down station.node.mode then None else position_from (is_due round) 0 (flights_to traffic station.number)
 
 abbrev pub deliver_or : ℕ → Option ℕ → EventView → EventView
 deliver_or number None other = other
 deliver_or number (Some place) other = ByNode number (event.Deliver place)
 
--- the first that is due where no packet is: an item leaves, a job is granted (64 at most a round), a checkpoint is decided or begun, the node
--- sends, or its turn passes
+-- the first that is due where no packet is: an item leaves, a job is granted (64 at most a round), a checkpoint is
+-- decided or begun, the node sends, or its turn passes
 abbrev pub own_choice : Network → List (List ℤ) → ℕ → ℕ → StationView → EventView
 own_choice net inputs nodes round station =
     if is_some (next_release round station) then Release station.number
-    else (if nat_lt (turns_of round station.turns).granted MAX_GRANTS && is_some (node_job net inputs station.node) then ByNode station.number event.Grant
+    else (if nat_lt (turns_of round station.turns).granted MAX_GRANTS && is_some (node_job net inputs station.node)
+    then ByNode station.number event.Grant
     else (if may_decide station.number station.node then ByNode station.number event.Decide
     else (if wants_checkpoint nodes round station then ByNode station.number event.Start
     else (if not (is_down station.node.mode) && not (has_sent round station) then ByNode station.number event.Send
@@ -74,7 +81,8 @@ station_choice net inputs traffic nodes round station =
 
 abbrev pub choice_of : WorldView → ℕ → Option StationView → EventView
 choice_of world node None = ByNode node event.Idle
-choice_of world node (Some station) = station_choice world.net world.inputs world.traffic (length world.stations) world.round station
+choice_of world node (Some station) =
+    station_choice world.net world.inputs world.traffic (length world.stations) world.round station
 
 -- the event that is next for this node
 abbrev pub choice : WorldView → ℕ → EventView
@@ -82,4 +90,6 @@ choice world node = choice_of world node (slice_get world.stations node)
 
 -- the bytes of the packet at a place of those in flight to a node of the world
 abbrev pub flying_to : WorldView → ℕ → ℕ → Option (List ℕ)
-flying_to world node place = if nat_lt node (length world.stations) then option_map (λ (flight : Flight). flight.packet) (slice_get (flights_to world.traffic node) place) else None
+flying_to world node place =
+    if nat_lt node (length world.stations) then option_map (λ (flight : Flight). flight.packet)
+    (slice_get (flights_to world.traffic node) place) else None

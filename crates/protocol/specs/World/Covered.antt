@@ -15,13 +15,16 @@ abbrev pub AreCovered : Option (List ℕ) → List OutputView → Type 0
 AreCovered left outputs = (j : ℕ) (output : OutputView) → slice_get outputs j ≡ Some output → IsCovered left output
 
 -- whatever a crash at any moment since `old` leaves
-abbrev pub AreCoveredSince : {C : Type 0} → (C → ℕ) → (C → ℕ → Option (List ℕ) → Type 0) → C → C → List OutputView → Type 0
-AreCoveredSince moment left_since old new outputs = (left : Option (List ℕ)) → left_since new (moment old) left → AreCovered left outputs
+abbrev pub AreCoveredSince : {C : Type 0} → (C → ℕ) → (C → ℕ → Option (List ℕ) → Type 0) → C → C → List OutputView
+    → Type 0
+AreCoveredSince moment left_since old new outputs =
+    (left : Option (List ℕ)) → left_since new (moment old) left → AreCovered left outputs
 
 -- a crash leaves a record whose permanent image has put at least as many items on each channel as this one
 pub record LeavesAsMuch (image : ImageView) (left : Option (List ℕ)) : Type 0 where
   pub something : SpellsSome left
-  pub as_much : (kept : RecordView) → Spells kept left → (channel : ℕ) → sent_of image channel ≤ sent_of kept.permanent channel
+  pub as_much : (kept : RecordView) → Spells kept left → (channel : ℕ)
+      → sent_of image channel ≤ sent_of kept.permanent channel
 
 -- a crash leaves a record, and it is one of these two
 pub record LeavesEither (kept next : RecordView) (left : Option (List ℕ)) : Type 0 where

@@ -22,8 +22,8 @@ pub data NetworkAct : Type 0 where
   Repeat : NetworkAct
   Delay : (rounds : ℕ) → NetworkAct
 
--- An event: a deed of a node; a turn that comes back; an item that leaves a node, if its outlet takes it; or an act of the network on the packet at
--- a place of those in flight to a node.
+-- An event: a deed of a node; a turn that comes back; an item that leaves a node, if its outlet takes it; or an act of
+-- the network on the packet at a place of those in flight to a node.
 pub data EventView : Type 0 where
   ByNode : (node : ℕ) → (deed : Deed) → EventView
   Install : (done : DoneView) → EventView

@@ -6,4 +6,5 @@ use Rattle.kahn_net.specs.Streams.{IsPrefix}
 -- the same outputs, and each has what it had, and then more
 pub record EachBegins (old new : List OutputView) : Type 0 where
   pub count : length new ≡ length old
-  pub begins : (j : ℕ) (output later : OutputView) → slice_get old j ≡ Some output → slice_get new j ≡ Some later → (later.channel ≡ output.channel) × IsPrefix output.taken later.taken
+  pub begins : (j : ℕ) (output later : OutputView) → slice_get old j ≡ Some output → slice_get new j ≡ Some later
+      → (later.channel ≡ output.channel) × IsPrefix output.taken later.taken

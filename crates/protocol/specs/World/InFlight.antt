@@ -1,5 +1,6 @@
--- Every packet in flight was sent. Whatever test all packets in flight pass, of the node that they are for and of their bytes, and all packets
--- that are sent pass too, they all pass after each event. So it holds of the test whether a packet was sent ever before: nothing is made up.
+-- Every packet in flight was sent. Whatever test all packets in flight pass, of the node that they are for and of their
+-- bytes, and all packets that are sent pass too, they all pass after each event. So it holds of the test whether a
+-- packet was sent ever before: nothing is made up.
 use Rattle.std.specs.Prelude.{◌≡◌, ℕ, Bool, false, if◌then◌else◌, List, [], Option, Some, All, IsTrue, slice_get}
 use Rattle.record.specs.RecordView.{RecordView}
 use Rattle.wire.specs.Queue.{AllPackets}
@@ -22,11 +23,13 @@ AllSent test sendings = All (λ sending. IsTrue (test sending.to sending.packet)
 
 -- what an event at this station sends, as its answer tells
 abbrev pub sendings_after : Setting → EventView → ReplyView → Option StationView → List Sending
-sendings_after setting event answer station = if has_happened answer then sendings_then setting event answer station else []
+sendings_after setting event answer station =
+    if has_happened answer then sendings_then setting event answer station else []
 
 -- in a world
 abbrev pub sent_in : EventView → WorldView → ReplyView → List Sending
-sent_in event world answer = sendings_after (setting_of world) event answer (slice_get world.stations (event_node event))
+sent_in event world answer =
+    sendings_after (setting_of world) event answer (slice_get world.stations (event_node event))
 
 -- at first all packets in flight pass any test, since there are none
 abbrev pub NothingAtFirst : Type 0
@@ -34,15 +37,23 @@ NothingAtFirst = (test : ℕ → List ℕ → Bool) → AllInFlight test opening
 
 -- whatever an event is, and whatever is answered, it puts nothing in flight but what it sends
 abbrev pub NothingIsMadeUp : Type 0
-NothingIsMadeUp = (test : ℕ → List ℕ → Bool) (setting : Setting) (event : EventView) (answer : ReplyView) (station : Option StationView)
-    → AllInFlight test setting.traffic → AllSent test (sendings_after setting event answer station) → AllInFlight test (traffic_after setting event answer station)
+NothingIsMadeUp =
+    (test : ℕ → List ℕ → Bool) (setting : Setting) (event : EventView) (answer : ReplyView)
+    (station : Option StationView)
+    → AllInFlight test setting.traffic → AllSent test (sendings_after setting event answer station)
+    → AllInFlight test (traffic_after setting event answer station)
 
 -- so in each step of a world
 abbrev pub EachWasSent : Type 0
-EachWasSent = (test : ℕ → List ℕ → Bool) (fits : List (RecordView → Bool)) (event : EventView) (old : WorldView) (answer : ReplyView) (new : WorldView)
-    → IsStep fits event old answer new → AllInFlight test old.traffic → AllSent test (sent_in event old answer) → AllInFlight test new.traffic
+EachWasSent =
+    (test : ℕ → List ℕ → Bool) (fits : List (RecordView → Bool)) (event : EventView) (old : WorldView)
+    (answer : ReplyView) (new : WorldView)
+    → IsStep fits event old answer new → AllInFlight test old.traffic → AllSent test (sent_in event old answer)
+    → AllInFlight test new.traffic
 
 -- and whatever the event, a node that doesn't run sends nothing
 abbrev pub OnlyRunningSend : Type 0
-OnlyRunningSend = (setting : Setting) (event : EventView) (answer : ReplyView) (station : StationView) → is_running station.node.mode ≡ false
+OnlyRunningSend =
+    (setting : Setting) (event : EventView) (answer : ReplyView) (station : StationView)
+    → is_running station.node.mode ≡ false
     → sendings_then setting event answer (Some station) ≡ []

@@ -20,27 +20,33 @@ output_of outlet = record { channel = outlet.channel; taken = outlet.taken }
 abbrev pub outputs_of : List OutletView → List OutputView
 outputs_of outlets = map output_of outlets
 
--- A node that runs: its images are one after another, and stand on one approximation of the histories; what has left is a beginning of what
--- was put there, and its permanent image covers it.
-pub record RunsSoundly (net : Network) (inputs : List (List ℤ)) (node : RunningNode) (outputs : List OutputView) : Type 0 where
+-- A node that runs: its images are one after another, and stand on one approximation of the histories; what has left is
+-- a beginning of what was put there, and its permanent image covers it.
+pub record RunsSoundly (net : Network) (inputs : List (List ℤ)) (node : RunningNode) (outputs : List OutputView) : Type
+    0 where
   pub order : AreInOrder node.kept node.current
   pub sound : IsSound net inputs node outputs
 
--- A station of a network that runs on these inputs: its node can start again from its record, and is sound while it runs.
+-- A station of a network that runs on these inputs: its node can start again from its record, and is sound while it
+-- runs.
 pub record StationInvariant (net : Network) (inputs : List (List ℤ)) (station : StationView) : Type 0 where
   pub kept : RecordIsSound net inputs station.node.kept (outputs_of station.outlets)
-  pub runs : (node : RunningNode) → running_of station.node ≡ Some node → RunsSoundly net inputs node (outputs_of station.outlets)
+  pub runs : (node : RunningNode) → running_of station.node ≡ Some node
+      → RunsSoundly net inputs node (outputs_of station.outlets)
 
 -- the same of each of these stations
 abbrev pub AreSound : Network → List (List ℤ) → List StationView → Type 0
-AreSound net inputs stations = (i : ℕ) (station : StationView) → slice_get stations i ≡ Some station → StationInvariant net inputs station
+AreSound net inputs stations =
+    (i : ℕ) (station : StationView) → slice_get stations i ≡ Some station → StationInvariant net inputs station
 
 -- each of these stations has its place as its number, and the record of the node of that number
 abbrev pub IsNumbered : List StationView → Type 0
-IsNumbered stations = (i : ℕ) (station : StationView) → slice_get stations i ≡ Some station → (station.number ≡ i) × (station.node.kept.node ≡ i)
+IsNumbered stations =
+    (i : ℕ) (station : StationView) → slice_get stations i ≡ Some station
+    → (station.number ≡ i) × (station.node.kept.node ≡ i)
 
--- A world: its network is valid, the inputs fit it, there is one station a node, by their numbers, and each one is sound; and
--- so is what is in flight between them.
+-- A world: its network is valid, the inputs fit it, there is one station a node, by their numbers, and each one is
+-- sound; and so is what is in flight between them.
 pub record WorldInvariant (world : WorldView) : Type 0 where
   pub valid : IsValid world.net
   pub fits : Fits world.net world.inputs

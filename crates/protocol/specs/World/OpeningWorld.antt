@@ -11,7 +11,8 @@ use Rattle.wire.specs.Traffic.{opening_traffic}
 
 -- the outlet is as it was given, and has failed in no round
 abbrev pub opening_outlet : OutletView → OutletView
-opening_outlet outlet = record { channel = outlet.channel; taken = outlet.taken; failed = None; failures = outlet.failures }
+opening_outlet outlet =
+    record { channel = outlet.channel; taken = outlet.taken; failed = None; failures = outlet.failures }
 
 -- of these outlets, those whose channel is an output of the node
 abbrev pub outlets_on : Network → ℕ → List OutletView → List OutletView
@@ -19,13 +20,23 @@ outlets_on net home outlets = filter (λ (outlet : OutletView). is_output net ho
 
 -- the station of the node of this number, of so many, with these outlets; its device has failed so often before
 abbrev pub opening_station : Network → ℕ → ℕ → ℕ → List OutletView → StationView
-opening_station net nodes number failures outlets = record { number = number; node = opening_node net nodes number; failures = failures; outlets = outlets; turns = no_turns 0 }
+opening_station net nodes number failures outlets =
+    record {
+      number = number;
+      node = opening_node net nodes number;
+      failures = failures;
+      outlets = outlets;
+      turns =
+          no_turns 0;
+    }
 
--- the stations of the nodes from this number on, of so many: one for each device that has failed so often before, with those of the outlets
--- that are its node's
+-- the stations of the nodes from this number on, of so many: one for each device that has failed so often before, with
+-- those of the outlets that are its node's
 abbrev pub stations_from : Network → ℕ → ℕ → List ℕ → List OutletView → List StationView
 stations_from net nodes number [] outlets = []
-stations_from net nodes number (failures ∷ rest) outlets = opening_station net nodes number failures (outlets_on net number outlets) ∷ stations_from net nodes (suc number) rest outlets
+stations_from net nodes number (failures ∷ rest) outlets =
+    opening_station net nodes number failures (outlets_on net number outlets)
+    ∷ stations_from net nodes (suc number) rest outlets
 
 -- one station a node, in order of their numbers; `failures` says how often the device of each has failed before
 abbrev pub opening_stations : Network → List ℕ → List OutletView → List StationView
@@ -33,4 +44,12 @@ opening_stations net failures outlets = stations_from net (node_count net) 0 fai
 
 -- the world of those stations, with the outlets of the network's outputs as they were given, and nothing in flight
 abbrev pub opening_world : Network → List (List ℤ) → List ℕ → List OutletView → WorldView
-opening_world net inputs failures outlets = record { net = net; inputs = inputs; stations = opening_stations net failures (map opening_outlet outlets); traffic = opening_traffic; round = 0 }
+opening_world net inputs failures outlets =
+    record {
+      net = net;
+      inputs = inputs;
+      stations =
+          opening_stations net failures (map opening_outlet outlets);
+      traffic = opening_traffic;
+      round = 0;
+    }

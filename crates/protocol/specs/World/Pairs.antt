@@ -7,18 +7,22 @@ use Rattle.protocol.specs.World.Growing.{EachBegins}
 use Rattle.protocol.specs.World.Covered.{AreCoveredSince, LeavesEither}
 
 -- whatever a crash at any moment since `old` leaves is one of these two records
-abbrev pub LeaveEitherSince : {C : Type 0} → (C → ℕ) → (C → ℕ → Option (List ℕ) → Type 0) → C → C → RecordView → RecordView → Type 0
-LeaveEitherSince moment left_since old new kept next = (left : Option (List ℕ)) → left_since new (moment old) left → LeavesEither kept next left
+abbrev pub LeaveEitherSince : {C : Type 0} → (C → ℕ) → (C → ℕ → Option (List ℕ) → Type 0) → C → C → RecordView
+    → RecordView → Type 0
+LeaveEitherSince moment left_since old new kept next =
+    (left : Option (List ℕ)) → left_since new (moment old) left → LeavesEither kept next left
 
--- A cell's clock doesn't go back. Either the cell wasn't touched, or nothing left by the outlets, and whatever a crash at any moment meanwhile
--- leaves is the record that was kept before, or the next one.
-pub record HasMoved {C : Type 0} (moment : C → ℕ) (left_since : C → ℕ → Option (List ℕ) → Type 0) (old new : C) (kept next : RecordView) (before after : List OutletView) : Type 0 where
+-- A cell's clock doesn't go back. Either the cell wasn't touched, or nothing left by the outlets, and whatever a crash
+-- at any moment meanwhile leaves is the record that was kept before, or the next one.
+pub record HasMoved {C : Type 0} (moment : C → ℕ) (left_since : C → ℕ → Option (List ℕ) → Type 0) (old new : C)
+    (kept next : RecordView) (before after : List OutletView) : Type 0 where
   pub later : moment old ≤ moment new
   pub apart : (old ≡ new) ⊎ ((before ≡ after) × LeaveEitherSince moment left_since old new kept next)
 
--- A station's outputs only grew; whatever a crash at any moment meanwhile leaves of its cell covers all that left; and either nothing left
--- or the cell wasn't touched.
-pub record HasGrown {C : Type 0} (moment : C → ℕ) (left_since : C → ℕ → Option (List ℕ) → Type 0) (old new : C) (before after : List OutputView) : Type 0 where
+-- A station's outputs only grew; whatever a crash at any moment meanwhile leaves of its cell covers all that left; and
+-- either nothing left or the cell wasn't touched.
+pub record HasGrown {C : Type 0} (moment : C → ℕ) (left_since : C → ℕ → Option (List ℕ) → Type 0) (old new : C)
+    (before after : List OutputView) : Type 0 where
   pub later : moment old ≤ moment new
   pub begins : EachBegins before after
   pub covered : AreCoveredSince moment left_since old new after

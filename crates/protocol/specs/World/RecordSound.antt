@@ -17,37 +17,46 @@ use Rattle.protocol.specs.Node.Starting.{IsBehind}
 use Rattle.protocol.specs.World.OutputView.{OutputView}
 use Rattle.protocol.specs.World.Sound.{outputs_on}
 
--- an image has the processes and ends of its node, no more was received than there is, its logs are within their limits, and those of outputs go back to
--- what has left
-pub record ImageIsSound (net : Network) (home : ℕ) (inputs : List (List ℤ)) (image : ImageView) (outputs : List OutputView) : Type 0 where
+-- an image has the processes and ends of its node, no more was received than there is, its logs are within their
+-- limits, and those of outputs go back to what has left
+pub record ImageIsSound (net : Network) (home : ℕ) (inputs : List (List ℤ)) (image : ImageView)
+    (outputs : List OutputView) : Type 0 where
   pub laid_out : IsLaidOut net home image
   pub counts : CountsAreWithin net inputs image
   pub logs : LogsAreWithin image
-  pub no_gap : (j : ℕ) (output : OutputView) → slice_get outputs j ≡ Some output → base_of image output.channel ≤ length output.taken
+  pub no_gap : (j : ℕ) (output : OutputView) → slice_get outputs j ≡ Some output
+      → base_of image output.channel ≤ length output.taken
 
 -- an image has put all that has left
 abbrev pub CoversAll : ImageView → List OutputView → Type 0
-CoversAll image outputs = (j : ℕ) (output : OutputView) → slice_get outputs j ≡ Some output → length output.taken ≤ sent_of image output.channel
+CoversAll image outputs =
+    (j : ℕ) (output : OutputView) → slice_get outputs j ≡ Some output
+    → length output.taken ≤ sent_of image output.channel
 
--- The images of a record stand on one approximation of the histories, the tentative one behind the permanent one, and what has left is a
--- beginning of what was put up to the permanent one.
-pub record RecordHasCome (net : Network) (inputs : List (List ℤ)) (kept : RecordView) (outputs : List OutputView) : Type 0 where
+-- The images of a record stand on one approximation of the histories, the tentative one behind the permanent one, and
+-- what has left is a beginning of what was put up to the permanent one.
+pub record RecordHasCome (net : Network) (inputs : List (List ℤ)) (kept : RecordView)
+    (outputs : List OutputView) : Type 0 where
   pub n : ℕ
   pub permanent_acts : ℕ → ℕ
   pub held_acts : ℕ → ℕ
   pub permanent : ImageStands net (approximation net inputs n) permanent_acts kept.permanent
-  pub held : (tentative : Tentative) → kept.tentative ≡ Some tentative → ImageStands net (approximation net inputs n) held_acts tentative.image
+  pub held : (tentative : Tentative) → kept.tentative ≡ Some tentative
+      → ImageStands net (approximation net inputs n) held_acts tentative.image
   pub held_after : IsAsFar permanent_acts held_acts
-  pub released : (j p : ℕ) (output : OutputView) (channel : Channel) → slice_get outputs j ≡ Some output → slice_get net.channels output.channel ≡ Some channel → channel.producer ≡ Process p
+  pub released : (j p : ℕ) (output : OutputView) (channel : Channel) → slice_get outputs j ≡ Some output
+      → slice_get net.channels output.channel ≡ Some channel → channel.producer ≡ Process p
       → IsPrefix output.taken (sent_on output.channel (acts_of net (approximation net inputs n) permanent_acts p))
 
--- All of it: there is an outlet for each output of the record's node, in order, the permanent image covers what has left, the tentative one isn't behind it, no
--- decision waits to be confirmed, since a node alone asks nobody, the record is within the bounds in which it fits `MAX_RECORD_BYTES`, and what
--- is said above.
-pub record RecordIsSound (net : Network) (inputs : List (List ℤ)) (kept : RecordView) (outputs : List OutputView) : Type 0 where
+-- All of it: there is an outlet for each output of the record's node, in order, the permanent image covers what has
+-- left, the tentative one isn't behind it, no decision waits to be confirmed, since a node alone asks nobody, the
+-- record is within the bounds in which it fits `MAX_RECORD_BYTES`, and what is said above.
+pub record RecordIsSound (net : Network) (inputs : List (List ℤ)) (kept : RecordView)
+    (outputs : List OutputView) : Type 0 where
   pub listed : map (λ (output : OutputView). output.channel) outputs ≡ outputs_on net kept.node
   pub permanent : ImageIsSound net kept.node inputs kept.permanent outputs
-  pub held : (tentative : Tentative) → kept.tentative ≡ Some tentative → ImageIsSound net kept.node inputs tentative.image outputs
+  pub held : (tentative : Tentative) → kept.tentative ≡ Some tentative
+      → ImageIsSound net kept.node inputs tentative.image outputs
   pub ahead : (tentative : Tentative) → kept.tentative ≡ Some tentative → IsBehind kept.permanent tentative.image
   pub covered : CoversAll kept.permanent outputs
   pub undecided : kept.decision ≡ None

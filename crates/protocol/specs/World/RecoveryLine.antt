@@ -1,5 +1,6 @@
--- The recovery line of a world: what all nodes restart from, if they crash together. The words of the line are those of the abstract machine
--- (the crate `recovery_line`); here stands how a world is seen there, and what it is for a line to be in order.
+-- The recovery line of a world: what all nodes restart from, if they crash together. The words of the line are those of
+-- the abstract machine (the crate `recovery_line`); here stands how a world is seen there, and what it is for a line to
+-- be in order.
 use Rattle.std.specs.Prelude.{◌≡◌, ℕ, ◌≤◌, List, map, length, Option, Some, None, slice_get}
 use Rattle.kahn_net.specs.Nodes.{IsOnOneNode}
 use Rattle.kahn_net.specs.Syntax.{Network}
@@ -23,7 +24,8 @@ use Rattle.protocol.specs.World.Steps.{Setting, plan_of}
 
 -- ---- the record that an event puts
 
--- The record that an event puts at a station, where it puts one, and else the one that is kept: that of the plan of a deed that can happen.
+-- The record that an event puts at a station, where it puts one, and else the one that is kept: that of the plan of a
+-- deed that can happen.
 abbrev pub next_kept : Setting → EventView → StationView → RecordView
 next_kept setting (ByNode k deed) station = next_record (plan_of setting k deed station).prospect station.node.kept
 next_kept setting (Install done) station = station.node.kept
@@ -34,7 +36,12 @@ next_kept setting (ByNetwork k place act) station = station.node.kept
 
 -- the nodes at the two ends of each channel
 abbrev pub net_seen : Network → Net
-net_seen net = record { producer = λ c. producer_of net (slice_get net.channels c); consumer = λ c. consumer_of net (slice_get net.channels c) }
+net_seen net =
+    record {
+      producer = λ c. producer_of net (slice_get net.channels c);
+      consumer =
+          λ c. consumer_of net (slice_get net.channels c);
+    }
 
 abbrev pub record_or_new : Option RecordView → Record
 record_or_new None = new_record
@@ -54,16 +61,18 @@ records_of stations = map (λ (station : StationView). station.node.kept) statio
 
 -- ---- lines in order
 
--- The line that follows from these records covers what has left these stations: nothing has left that it hasn't put; and nothing is lost that
--- is still to leave. Of a network on one node it is sound: nobody has received what another would have to put again, and nothing is lost that is
--- still to be received either. (Of several nodes that isn't said, as their checkpoints aren't coordinated yet.)
+-- The line that follows from these records covers what has left these stations: nothing has left that it hasn't put;
+-- and nothing is lost that is still to leave. Of a network on one node it is sound: nobody has received what another
+-- would have to put again, and nothing is lost that is still to be received either. (Of several nodes that isn't said,
+-- as their checkpoints aren't coordinated yet.)
 pub record IsLineOf (net : Network) (stations : List StationView) (records : List RecordView) : Type 0 where
   pub sound : IsOnOneNode net → Sound (net_seen net) (effective (records_seen records)) (outlets_seen stations)
   pub covers : Covers (net_seen net) (records_seen records) (outlets_seen stations)
-  pub no_gap : (c p : ℕ) → IsOutput (net_seen net) c p → (effective (records_seen records) p).base c ≤ outlets_seen stations c
+  pub no_gap : (c p : ℕ) → IsOutput (net_seen net) c p
+      → (effective (records_seen records) p).base c ≤ outlets_seen stations c
 
--- What a crash in an event left is in line: the line of these records is one of what had left before the event, and of what has left by its end;
--- and it isn't behind the line before the event.
+-- What a crash in an event left is in line: the line of these records is one of what had left before the event, and of
+-- what has left by its end; and it isn't behind the line before the event.
 pub record AreInLine (net : Network) (before after : List StationView) (records : List RecordView) : Type 0 where
   pub at_first : IsLineOf net before records
   pub at_last : IsLineOf net after records
@@ -71,24 +80,31 @@ pub record AreInLine (net : Network) (before after : List StationView) (records 
 
 -- Lines that follow one another: one that isn't behind a second isn't behind what the second isn't behind.
 abbrev pub LinesFollow : Type 0
-LinesFollow = (first second third : ℕ → Record) → NotBehind first second → NotBehind second third → NotBehind first third
+LinesFollow =
+    (first second third : ℕ → Record) → NotBehind first second → NotBehind second third → NotBehind first third
 
 -- ---- the same of one station
 
--- With this record the part of the line that is of the station of this node is sound and covers what has left: no decision stands, so that its
--- permanent image is the effective one, of a channel between two processes of the node that image has received no more than it put and no less
--- than its log let go of, the log of each output begins no later than the outlet ends, and that image has put all that has left.
+-- With this record the part of the line that is of the station of this node is sound and covers what has left: no
+-- decision stands, so that its permanent image is the effective one, of a channel between two processes of the node
+-- that image has received no more than it put and no less than its log let go of, the log of each output begins no
+-- later than the outlet ends, and that image has put all that has left.
 pub record FitsOutputs (net : Network) (home : ℕ) (outputs : List OutputView) (kept : RecordView) : Type 0 where
   pub undecided : kept.decision ≡ None
-  pub inside : (c : ℕ) → producer_of net (slice_get net.channels c) ≡ Some home → consumer_of net (slice_get net.channels c) ≡ Some home
-      → (base_of kept.permanent c ≤ received_of kept.permanent c) × (received_of kept.permanent c ≤ sent_of kept.permanent c)
-  pub no_gap : (j : ℕ) (output : OutputView) → slice_get outputs j ≡ Some output → base_of kept.permanent output.channel ≤ length output.taken
+  pub inside : (c : ℕ) → producer_of net (slice_get net.channels c) ≡ Some home
+      → consumer_of net (slice_get net.channels c) ≡ Some home
+      → (base_of kept.permanent c ≤ received_of kept.permanent c)
+      × (received_of kept.permanent c ≤ sent_of kept.permanent c)
+  pub no_gap : (j : ℕ) (output : OutputView) → slice_get outputs j ≡ Some output
+      → base_of kept.permanent output.channel ≤ length output.taken
   pub covered : CoversAll kept.permanent outputs
 
--- A crash leaves a record of a station with an event: it fits what had left before and what has left by the end, and its permanent image isn't
--- behind the one of before.
+-- A crash leaves a record of a station with an event: it fits what had left before and what has left by the end, and
+-- its permanent image isn't behind the one of before.
 pub record LeavesInLine (net : Network) (old new : StationView) (left : Option (List ℕ)) : Type 0 where
   pub something : SpellsSome left
-  pub at_first : (kept : RecordView) → Spells kept left → FitsOutputs net old.node.kept.node (outputs_of old.outlets) kept
-  pub at_last : (kept : RecordView) → Spells kept left → FitsOutputs net new.node.kept.node (outputs_of new.outlets) kept
+  pub at_first : (kept : RecordView) → Spells kept left
+      → FitsOutputs net old.node.kept.node (outputs_of old.outlets) kept
+  pub at_last : (kept : RecordView) → Spells kept left
+      → FitsOutputs net new.node.kept.node (outputs_of new.outlets) kept
   pub not_behind : (kept : RecordView) → Spells kept left → IsBehind old.node.kept.permanent kept.permanent

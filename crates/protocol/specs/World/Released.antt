@@ -9,4 +9,5 @@ taken_or (Some outlet) others = outlet.taken
 -- what the outlet of this channel took, nothing where there is none
 abbrev pub released_of : ℕ → List StationView → List ℤ
 released_of channel [] = []
-released_of channel (station ∷ stations) = taken_or (find (λ (outlet : OutletView). outlet.channel == channel) station.outlets) (released_of channel stations)
+released_of channel (station ∷ stations) =
+    taken_or (find (λ (outlet : OutletView). outlet.channel == channel) station.outlets) (released_of channel stations)

@@ -77,8 +77,9 @@ AnswerLeaves (Some reply.Decided) = ⊥
 AnswerLeaves (Some reply.Down) = ⊥
 AnswerLeaves answer = Unit {0}
 
--- No cell was touched by an event, as this answer tells. A crash settles what the cell holds, a recovery looks at the device before it can be
--- refused, and what is prepared is prepared in the cell, so these leave it alone only where they can't happen.
+-- No cell was touched by an event, as this answer tells. A crash settles what the cell holds, a recovery looks at the
+-- device before it can be refused, and what is prepared is prepared in the cell, so these leave it alone only where
+-- they can't happen.
 abbrev pub DeedLeaves : Deed → Option ReplyView → Type 0
 DeedLeaves (event.Crash fill rounds) answer = answer ≡ Some reply.NotDue
 DeedLeaves event.Recover answer = answer ≡ Some reply.NotDue

@@ -4,4 +4,5 @@ use Rattle.ckpt_codec.specs.declared.lengths.TheConstants.{MAX_RECORD_BYTES}
 
 -- of cells with room for so many bytes each, the one of this number, if there is one, has room for the longest record
 abbrev pub HasFullRoom : ℕ → List ℕ → Type 0
-HasFullRoom number capacities = (capacity : ℕ) → slice_get capacities number ≡ Some capacity → MAX_RECORD_BYTES ≤ capacity
+HasFullRoom number capacities =
+    (capacity : ℕ) → slice_get capacities number ≡ Some capacity → MAX_RECORD_BYTES ≤ capacity

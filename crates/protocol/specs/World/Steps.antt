@@ -1,10 +1,12 @@
 -- An event of a world, as a relation of what was before, what is answered, and what is after.
 --
--- A deed of a node has a plan (`plan_of`): the one place in which it is said what a deed makes of its station, what is answered, and what is in
--- flight afterwards. A turn that comes back and an item that leaves are relations of their own, since a job's turn and an outlet are free to come
--- out as they do. An event that can't happen is answered by `NotDue` and changes nothing, and only such an event is. Free besides are the
--- failures of devices alone: which call failed, and whether the record was put all the same.
-use Rattle.std.specs.Prelude.{◌≡◌, ◌⊎◌, ◌==◌, ℕ, ◌+◌, nat_lt, Bool, true, false, ◌&&◌, ◌||◌, not, if◌then◌else◌, ℤ, List, [], ◌∷◌, length, Option, Some, None, slice_get, slice_set, All, map, is_some}
+-- A deed of a node has a plan (`plan_of`): the one place in which it is said what a deed makes of its station, what is
+-- answered, and what is in flight afterwards. A turn that comes back and an item that leaves are relations of their
+-- own, since a job's turn and an outlet are free to come out as they do. An event that can't happen is answered by
+-- `NotDue` and changes nothing, and only such an event is. Free besides are the failures of devices alone: which call
+-- failed, and whether the record was put all the same.
+use Rattle.std.specs.Prelude.{◌≡◌, ◌⊎◌, ◌==◌, ℕ, ◌+◌, nat_lt, Bool, true, false, ◌&&◌, ◌||◌, not, if◌then◌else◌, ℤ}
+use Rattle.std.specs.Prelude.{List, [], ◌∷◌, length, Option, Some, None, slice_get, slice_set, All, map, is_some}
 use Rattle.kahn_net.specs.Syntax.{Network}
 use Rattle.kahn_net.specs.declared.program.Channel.{Channel}
 use Rattle.retained.specs.LogState.{LogState}
@@ -35,7 +37,8 @@ use Rattle.protocol.specs.declared.round_turns.RoundTurns.{RoundTurns}
 use Rattle.protocol.specs.World.DoneView.{DoneView, IsTurnOfJob}
 use Rattle.protocol.specs.World.EventView.{Deed, NetworkAct, EventView, ByNode, ByNetwork, Install, Release, event_node}
 use Rattle.protocol.specs.World.EventView as event
-use Rattle.protocol.specs.World.Replies.{act_reply, answer_by, back_reply, delivery_reply, grant_reply, has_happened, install_reply, outcome_of}
+use Rattle.protocol.specs.World.Replies.{act_reply, answer_by, back_reply, delivery_reply, grant_reply, has_happened}
+use Rattle.protocol.specs.World.Replies.{install_reply, outcome_of}
 use Rattle.protocol.specs.World.ReplyView.{ReplyView}
 use Rattle.protocol.specs.World.ReplyView as reply
 use Rattle.protocol.specs.World.StationView.{OutletView, StationView}
@@ -51,7 +54,8 @@ pub record WorldView : Type 0 where
   pub traffic : Traffic
   pub round : ℕ
 
--- what a station's event finds around it: the network and its inputs, what is in flight, whether nodes may restart, and the round
+-- what a station's event finds around it: the network and its inputs, what is in flight, whether nodes may restart, and
+-- the round
 pub record Setting : Type 0 where
   pub net : Network
   pub inputs : List (List ℤ)
@@ -59,12 +63,14 @@ pub record Setting : Type 0 where
   pub restarts : Bool
   pub round : ℕ
 
--- Nodes may crash and come back in a world of so many nodes: of one alone, since the checkpoints of several aren't coordinated yet.
+-- Nodes may crash and come back in a world of so many nodes: of one alone, since the checkpoints of several aren't
+-- coordinated yet.
 abbrev pub may_restart : ℕ → Bool
 may_restart nodes = nodes == 1
 
 abbrev pub setting_in : Network → List (List ℤ) → Traffic → Bool → ℕ → Setting
-setting_in net inputs traffic restarts round = record { net = net; inputs = inputs; traffic = traffic; restarts = restarts; round = round }
+setting_in net inputs traffic restarts round =
+    record { net = net; inputs = inputs; traffic = traffic; restarts = restarts; round = round }
 
 abbrev pub setting_of : WorldView → Setting
 setting_of world = setting_in world.net world.inputs world.traffic (may_restart (length world.stations)) world.round
@@ -84,8 +90,8 @@ due_bytes round (Some flight) = bytes_when (is_due round flight) flight.packet
 
 -- ---- deeds
 
--- What a deed makes of its station: what it comes to at the node; what is remembered of the round then; what is answered where it is made; and
--- the place of the packet that came, if one did, and is gone.
+-- What a deed makes of its station: what it comes to at the node; what is remembered of the round then; what is
+-- answered where it is made; and the place of the packet that came, if one did, and is gone.
 pub record StationPlan : Type 0 where
   pub prospect : Prospect
   pub turns : RoundTurns
@@ -111,24 +117,30 @@ deliver_plan net place (Some bytes) station = record {
 }
 
 abbrev pub grant_plan : Option JobView → ℕ → StationView → StationPlan
-grant_plan job round station = noting (count_grant (turns_of round station.turns)) (grant_prospect job station.node) (grant_reply job)
+grant_plan job round station =
+    noting (count_grant (turns_of round station.turns)) (grant_prospect job station.node) (grant_reply job)
 
 abbrev pub send_plan : Network → ℕ → StationView → StationPlan
 send_plan net round station =
-    noting (count_send (not (is_none station.node.kept.tentative)) (turns_of round station.turns)) (send_prospect net station.number station.node) reply.Sent
+    noting (count_send (not (is_none station.node.kept.tentative)) (turns_of round station.turns))
+    (send_prospect net station.number station.node) reply.Sent
 
 abbrev pub start_plan : ℕ → StationView → StationPlan
-start_plan round station = noting (count_start (turns_of round station.turns)) (start_prospect station.number station.node) reply.Started
+start_plan round station =
+    noting (count_start (turns_of round station.turns)) (start_prospect station.number station.node) reply.Started
 
 abbrev pub decide_plan : StationView → StationPlan
 decide_plan station = plainly (decide_prospect station.number station.node) reply.Decided station
 
 -- a node crashes, and comes back, where nodes may restart
 abbrev pub crash_plan : Bool → ℕ → StationView → StationPlan
-crash_plan restarts restart station = plainly (if_due restarts (crash_prospect restart station.node)) reply.Crashed station
+crash_plan restarts restart station =
+    plainly (if_due restarts (crash_prospect restart station.node)) reply.Crashed station
 
 abbrev pub recover_plan : Bool → StationView → StationPlan
-recover_plan restarts station = plainly (if_due restarts (recover_prospect station.node)) (back_reply (restored_mode (with_epoch station.node.kept))) station
+recover_plan restarts station =
+    plainly (if_due restarts (recover_prospect station.node))
+    (back_reply (restored_mode (with_epoch station.node.kept))) station
 
 -- a fault is armed for this device call, and for how many rounds it is to keep the node down
 abbrev pub arm_plan : ℕ → ℕ → StationView → StationPlan
@@ -139,19 +151,23 @@ idle_plan round station = noting (count_idle (turns_of round station.turns)) (be
 
 -- the plan of a deed of node k
 abbrev pub plan_of : Setting → ℕ → Deed → StationView → StationPlan
-plan_of setting k (event.Deliver place) station = deliver_plan setting.net place (due_bytes setting.round (flight_at setting k place)) station
-plan_of setting k event.Grant station = grant_plan (node_job setting.net setting.inputs station.node) setting.round station
+plan_of setting k (event.Deliver place) station =
+    deliver_plan setting.net place (due_bytes setting.round (flight_at setting k place)) station
+plan_of setting k event.Grant station =
+    grant_plan (node_job setting.net setting.inputs station.node) setting.round station
 plan_of setting k event.Send station = send_plan setting.net setting.round station
 plan_of setting k event.Start station = start_plan setting.round station
 plan_of setting k event.Decide station = decide_plan station
-plan_of setting k (event.Crash fill rounds) station = crash_plan setting.restarts (round_later setting.round rounds) station
+plan_of setting k (event.Crash fill rounds) station =
+    crash_plan setting.restarts (round_later setting.round rounds) station
 plan_of setting k event.Recover station = recover_plan setting.restarts station
 plan_of setting k (event.Arm fault rounds) station = arm_plan fault.call rounds station
 plan_of setting k event.Idle station = idle_plan setting.round station
 
 -- the same station with its node so, its device having failed so often, and what is remembered of its round
 abbrev pub moved_to : NodeView → ℕ → RoundTurns → StationView → StationView
-moved_to node failures turns station = record { number = station.number; node = node; failures = failures; outlets = station.outlets; turns = turns }
+moved_to node failures turns station =
+    record { number = station.number; node = node; failures = failures; outlets = station.outlets; turns = turns }
 
 -- what is remembered afterwards: all of it stays where nothing happened
 abbrev pub turns_by : RoundTurns → RoundTurns → Outcome → RoundTurns
@@ -160,9 +176,10 @@ turns_by noted turns outcome.Made = noted
 turns_by noted turns (outcome.Refused refusal) = noted
 turns_by noted turns outcome.Failed = noted
 
--- A deed comes out by its plan, as its answer tells. `fits` is what the node's cell has room for, and `call` the device call that failed, where
--- the device did.
-pub record IsPlanned (fits : RecordView → Bool) (round : ℕ) (plan : StationPlan) (old : StationView) (answer : ReplyView) (new : StationView) : Type 0 where
+-- A deed comes out by its plan, as its answer tells. `fits` is what the node's cell has room for, and `call` the device
+-- call that failed, where the device did.
+pub record IsPlanned (fits : RecordView → Bool) (round : ℕ) (plan : StationPlan) (old : StationView)
+    (answer : ReplyView) (new : StationView) : Type 0 where
   pub call : ℕ
   pub step : IsMade (restart_after old.node.armed call round) plan.prospect old.node (outcome_of answer) new.node
   pub put : IsPut (room_for fits plan.prospect) old.failures new.failures (outcome_of answer)
@@ -174,7 +191,8 @@ pub record IsPlanned (fits : RecordView → Bool) (round : ℕ) (plan : StationP
 -- ---- turns that come back, and items that leave
 
 -- what came back is a turn of its job's own code, and is taken in where it is of the job that is out
-pub record IsInstalled (channels : List Channel) (done : DoneView) (old : StationView) (answer : ReplyView) (new : StationView) : Type 0 where
+pub record IsInstalled (channels : List Channel) (done : DoneView) (old : StationView) (answer : ReplyView)
+    (new : StationView) : Type 0 where
   pub turn : ∥ IsTurnOfJob done.job done.after done.taken done.sent ∥₁
   pub applied : Bool
   pub step : IsInstall channels done.job done.after done.taken done.sent old.node applied new.node
@@ -188,24 +206,30 @@ has_failed_in round (Some failed) = failed == round
 
 -- the permanent image covers an item that an outlet hasn't got, and the outlet didn't fail in this round
 abbrev pub is_waiting : RecordView → ℕ → OutletView → Bool
-is_waiting kept round outlet = not (has_failed_in round outlet.failed) && nat_lt (length outlet.taken) (sent_of kept.permanent outlet.channel)
+is_waiting kept round outlet =
+    not (has_failed_in round outlet.failed) && nat_lt (length outlet.taken) (sent_of kept.permanent outlet.channel)
 
 -- the place of the first outlet with an item to take, the first of the list having this place
 abbrev pub first_waiting : RecordView → ℕ → ℕ → List OutletView → Option ℕ
 first_waiting kept round place [] = None
-first_waiting kept round place (outlet ∷ outlets) = if is_waiting kept round outlet then Some place else first_waiting kept round (place + 1) outlets
+first_waiting kept round place (outlet ∷ outlets) =
+    if is_waiting kept round outlet then Some place else first_waiting kept round (place + 1) outlets
 
 -- where the next item of a station would leave, if its node runs
 abbrev pub next_release : ℕ → StationView → Option ℕ
-next_release round station = if is_running station.node.mode then first_waiting station.node.kept round 0 station.outlets else None
+next_release round station =
+    if is_running station.node.mode then first_waiting station.node.kept round 0 station.outlets else None
 
 -- the outlet was handed the next item of this log: it took it, or failed and took it or didn't
-pub record IsHanded (round : ℕ) (log : Option LogState) (outlet : OutletView) (answer : ReplyView) (later : OutletView) : Type 0 where
+pub record IsHanded (round : ℕ) (log : Option LogState) (outlet : OutletView) (answer : ReplyView)
+    (later : OutletView) : Type 0 where
   pub channel : later.channel ≡ outlet.channel
   pub came : ((answer ≡ reply.Released outlet.channel (length later.taken))
-      × TookNext log outlet.taken later.taken × (length later.taken ≡ length outlet.taken + 1) × (later.failed ≡ outlet.failed) × (later.failures ≡ outlet.failures))
+      × TookNext log outlet.taken later.taken × (length later.taken ≡ length outlet.taken + 1)
+      × (later.failed ≡ outlet.failed) × (later.failures ≡ outlet.failures))
       ⊎ ((answer ≡ reply.OutletFailed)
-      × ((later.taken ≡ outlet.taken) ⊎ TookNext log outlet.taken later.taken) × (later.failed ≡ Some round) × (later.failures ≡ outlet.failures + 1))
+      × ((later.taken ≡ outlet.taken) ⊎ TookNext log outlet.taken later.taken) × (later.failed ≡ Some round)
+      × (later.failures ≡ outlet.failures + 1))
 
 -- and the log lets go of what the outlet has
 abbrev pub released_to : OutletView → ℕ → OutletView → StationView → StationView
@@ -232,40 +256,52 @@ IsRelease round (Some place) old answer new = IsReleaseAt round place old answer
 
 -- an event of this station, or of the network at it
 abbrev pub IsStationStep : Setting → (RecordView → Bool) → EventView → StationView → ReplyView → StationView → Type 0
-IsStationStep setting fits (ByNode k deed) old answer new = IsPlanned fits setting.round (plan_of setting k deed old) old answer new
+IsStationStep setting fits (ByNode k deed) old answer new =
+    IsPlanned fits setting.round (plan_of setting k deed old) old answer new
 IsStationStep setting fits (Install done) old answer new = IsInstalled setting.net.channels done old answer new
-IsStationStep setting fits (Release k) old answer new = IsRelease setting.round (next_release setting.round old) old answer new
-IsStationStep setting fits (ByNetwork k place act) old answer new = (answer ≡ act_reply (is_some (flight_at setting k place))) × (new ≡ old)
+IsStationStep setting fits (Release k) old answer new =
+    IsRelease setting.round (next_release setting.round old) old answer new
+IsStationStep setting fits (ByNetwork k place act) old answer new =
+    (answer ≡ act_reply (is_some (flight_at setting k place))) × (new ≡ old)
 
 -- at the station of this place
-pub record IsActAt (setting : Setting) (place : ℕ) (fits : RecordView → Bool) (station : StationView) (event : EventView) (old : List StationView) (answer : ReplyView) (new : List StationView) : Type 0 where
+pub record IsActAt (setting : Setting) (place : ℕ) (fits : RecordView → Bool) (station : StationView)
+    (event : EventView) (old : List StationView) (answer : ReplyView) (new : List StationView) : Type 0 where
   pub later : StationView
   pub step : IsStationStep setting fits event station answer later
   pub stations : new ≡ slice_set old place later
 
 -- and where there may be none
-abbrev pub IsActOf : Setting → ℕ → Option (RecordView → Bool) → Option StationView → EventView → List StationView → ReplyView → List StationView → Type 0
-IsActOf setting place (Some fits) (Some station) event old answer new = IsActAt setting place fits station event old answer new
+abbrev pub IsActOf : Setting → ℕ → Option (RecordView → Bool) → Option StationView → EventView → List StationView
+    → ReplyView → List StationView → Type 0
+IsActOf setting place (Some fits) (Some station) event old answer new =
+    IsActAt setting place fits station event old answer new
 IsActOf setting place (Some fits) None event old answer new = (answer ≡ reply.NotDue) × (new ≡ old)
 IsActOf setting place None station event old answer new = (answer ≡ reply.NotDue) × (new ≡ old)
 
 -- an event at the station of this place; `fits` is, of each station, what its node's cell has room for
-abbrev pub IsAct : Setting → ℕ → List (RecordView → Bool) → EventView → List StationView → ReplyView → List StationView → Type 0
-IsAct setting place fits event old answer new = IsActOf setting place (slice_get fits place) (slice_get old place) event old answer new
+abbrev pub IsAct : Setting → ℕ → List (RecordView → Bool) → EventView → List StationView → ReplyView → List StationView
+    → Type 0
+IsAct setting place fits event old answer new =
+    IsActOf setting place (slice_get fits place) (slice_get old place) event old answer new
 
 -- ---- the round
 
 -- a round need not wait for this node: it has idled, or it is down and not to be recovered yet, or not at all
 abbrev pub is_done_with : Bool → ℕ → StationView → Bool
-is_done_with restarts round station = (turns_of round station.turns).idled || (is_down station.node.mode && (not restarts || nat_lt round station.node.restart))
+is_done_with restarts round station =
+    (turns_of round station.turns).idled ||
+    (is_down station.node.mode && (not restarts || nat_lt round station.node.restart))
 
 abbrev pub are_done_with : Bool → ℕ → List StationView → Bool
 are_done_with restarts round [] = true
-are_done_with restarts round (station ∷ stations) = is_done_with restarts round station && are_done_with restarts round stations
+are_done_with restarts round (station ∷ stations) =
+    is_done_with restarts round station && are_done_with restarts round stations
 
 -- the round after this answer: after an idle node it advances if it need wait for nobody
 abbrev pub round_after : ReplyView → ℕ → List StationView → ℕ
-round_after reply.Idled round stations = if are_done_with (may_restart (length stations)) round stations then next_number round else round
+round_after reply.Idled round stations =
+    if are_done_with (may_restart (length stations)) round stations then next_number round else round
 round_after answer round stations = round
 
 -- ---- what is in flight afterwards
@@ -299,7 +335,8 @@ sendings_then setting (ByNetwork k place act) answer station = []
 -- what it takes away of what is in flight, or makes of it
 abbrev pub traffic_then : Setting → EventView → Option StationView → Traffic
 traffic_then setting (ByNode k deed) None = setting.traffic
-traffic_then setting (ByNode k deed) (Some station) = traffic_left setting.traffic k (plan_of setting k deed station).came
+traffic_then setting (ByNode k deed) (Some station) =
+    traffic_left setting.traffic k (plan_of setting k deed station).came
 traffic_then setting (Install done) station = setting.traffic
 traffic_then setting (Release k) station = setting.traffic
 traffic_then setting (ByNetwork k place act) station = traffic_acted act setting.traffic k place
@@ -307,10 +344,12 @@ traffic_then setting (ByNetwork k place act) station = traffic_acted act setting
 -- so all of it: without the packet that came, and with what was sent
 abbrev pub traffic_after : Setting → EventView → ReplyView → Option StationView → Traffic
 traffic_after setting event answer station =
-    if has_happened answer then all_sent setting.round (sendings_then setting event answer station) (traffic_then setting event station) else setting.traffic
+    if has_happened answer then all_sent setting.round (sendings_then setting event answer station)
+    (traffic_then setting event station) else setting.traffic
 
 -- ---- one event of a world
-pub record IsStep (fits : List (RecordView → Bool)) (event : EventView) (old : WorldView) (answer : ReplyView) (new : WorldView) : Type 0 where
+pub record IsStep (fits : List (RecordView → Bool)) (event : EventView) (old : WorldView) (answer : ReplyView)
+    (new : WorldView) : Type 0 where
   pub net : new.net ≡ old.net
   pub inputs : new.inputs ≡ old.inputs
   pub act : IsAct (setting_of old) (event_node event) fits event old.stations answer new.stations

@@ -5,7 +5,8 @@ use Rattle.protocol.specs.declared.limits.TheConstants.{MAX_GRANTS}
 
 -- nothing yet in this round
 abbrev pub no_turns : ℕ → RoundTurns
-no_turns round = record { round = round; granted = 0; started = false; sent = false; sent_holding = false; idled = false }
+no_turns round =
+    record { round = round; granted = 0; started = false; sent = false; sent_holding = false; idled = false }
 
 -- what is remembered of this round: nothing, where it is of another one
 abbrev pub turns_of : ℕ → RoundTurns → RoundTurns
@@ -13,13 +14,50 @@ turns_of round turns = if turns.round == round then turns else no_turns round
 
 -- 64 jobs at most are counted
 abbrev pub count_grant : RoundTurns → RoundTurns
-count_grant turns = record { round = turns.round; granted = if nat_lt turns.granted MAX_GRANTS then turns.granted + 1 else turns.granted; started = turns.started; sent = turns.sent; sent_holding = turns.sent_holding; idled = turns.idled }
+count_grant turns =
+    record {
+      round = turns.round;
+      granted =
+          if nat_lt turns.granted MAX_GRANTS then turns.granted + 1 else turns.granted;
+      started = turns.started;
+      sent =
+          turns.sent;
+      sent_holding = turns.sent_holding;
+      idled = turns.idled;
+    }
 
 abbrev pub count_start : RoundTurns → RoundTurns
-count_start turns = record { round = turns.round; granted = turns.granted; started = true; sent = turns.sent; sent_holding = turns.sent_holding; idled = turns.idled }
+count_start turns =
+    record {
+      round = turns.round;
+      granted = turns.granted;
+      started = true;
+      sent = turns.sent;
+      sent_holding =
+          turns.sent_holding;
+      idled = turns.idled;
+    }
 
 abbrev pub count_send : Bool → RoundTurns → RoundTurns
-count_send holding turns = record { round = turns.round; granted = turns.granted; started = turns.started; sent = true; sent_holding = holding; idled = turns.idled }
+count_send holding turns =
+    record {
+      round = turns.round;
+      granted = turns.granted;
+      started = turns.started;
+      sent = true;
+      sent_holding =
+          holding;
+      idled = turns.idled;
+    }
 
 abbrev pub count_idle : RoundTurns → RoundTurns
-count_idle turns = record { round = turns.round; granted = turns.granted; started = turns.started; sent = turns.sent; sent_holding = turns.sent_holding; idled = true }
+count_idle turns =
+    record {
+      round = turns.round;
+      granted = turns.granted;
+      started = turns.started;
+      sent = turns.sent;
+      sent_holding =
+          turns.sent_holding;
+      idled = true;
+    }

@@ -13,7 +13,10 @@ use Rattle.protocol.specs.World.Sound.{IsSound}
 
 module _ (net : Network) (inputs : List (List ℤ)) (valid : IsValid net) where
   -- the record of a start of a node that runs
-  pub own_bounded : (outputs : List OutputView) (number : ℕ) (node : RunningNode) → IsSound net inputs node outputs → IsRecordWithin MAX_RETAINED_ITEMS node.kept
+  pub own_bounded : (outputs : List OutputView) (number : ℕ) (node : RunningNode) → IsSound net inputs node outputs
+      → IsRecordWithin MAX_RETAINED_ITEMS node.kept
       → IsRecordWithin MAX_RETAINED_ITEMS (with_own number node.current node.kept)
   own_bounded outputs number node sound kept =
-      own_within number node.current node.kept (current_within net node.kept.node inputs node valid sound.kept.laid_out sound.kept.logs (∥∥₁_map sound.come (λ come. come.reached))) kept
+      own_within number node.current node.kept
+      (current_within net node.kept.node inputs node valid sound.kept.laid_out sound.kept.logs
+      (∥∥₁_map sound.come (λ come. come.reached))) kept

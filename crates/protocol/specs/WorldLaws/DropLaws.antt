@@ -11,7 +11,8 @@ use Rattle.protocol.specs.World.Replies.{act_reply, answer_by, install_reply, ou
 use Rattle.protocol.specs.World.ReplyView.{ReplyView}
 use Rattle.protocol.specs.World.ReplyView as reply
 use Rattle.protocol.specs.World.StationView.{StationView}
-use Rattle.protocol.specs.World.Steps.{IsAct, IsActOf, IsRelease, IsStationStep, Setting, WorldView, flight_at, next_release, plan_of, setting_of}
+use Rattle.protocol.specs.World.Steps.{IsAct, IsActOf, IsRelease, IsStationStep, Setting, WorldView, flight_at}
+use Rattle.protocol.specs.World.Steps.{next_release, plan_of, setting_of}
 use Rattle.protocol.specs.World.Traffic.{TrafficIsSound}
 use Rattle.protocol.specs.WorldLaws.DeedLaws.{deed_is, is_dropped}
 
@@ -28,9 +29,11 @@ act_is : (there : Bool) → is_dropped (act_reply there) ≡ false
 act_is true = refl
 act_is false = refl
 
-release_is : (round : ℕ) (place : Option ℕ) (old : StationView) (answer : ReplyView) (new : StationView) → IsRelease round place old answer new → is_dropped answer ≡ false
+release_is : (round : ℕ) (place : Option ℕ) (old : StationView) (answer : ReplyView) (new : StationView)
+    → IsRelease round place old answer new → is_dropped answer ≡ false
 release_is round None old answer new step = ap is_dropped step.0
-release_is round (Some place) old answer new step = ⊎_elim (λ left. ap is_dropped left.0) (λ failed. ap is_dropped failed.0) step.handed.came
+release_is round (Some place) old answer new step =
+    ⊎_elim (λ left. ap is_dropped left.0) (λ failed. ap is_dropped failed.0) step.handed.came
 
 by_outcome : (made : ReplyView) (came : Outcome) → is_dropped made ≡ false → is_dropped (answer_by made came) ≡ false
 by_outcome made outcome.NotDue other = refl
@@ -41,23 +44,36 @@ by_outcome made outcome.Failed other = refl
 -- ---- events
 
 module _ (setting : Setting) (flying : TrafficIsSound setting.net setting.inputs setting.traffic) where
-  station_hears : (room : RecordView → Bool) (e : EventView) (old : StationView) (answer : ReplyView) (new : StationView) → old.number ≡ event_node e → IsStationStep setting room e old answer new → ¬ (IsDropped answer)
+  station_hears : (room : RecordView → Bool) (e : EventView) (old : StationView) (answer : ReplyView)
+      (new : StationView) → old.number ≡ event_node e → IsStationStep setting room e old answer new
+      → ¬ (IsDropped answer)
   station_hears room (ByNode k deed) old answer new here step =
-      not_so answer (ap is_dropped step.answers ∙ by_outcome (plan_of setting k deed old).answer (outcome_of answer) (deed_is setting flying k deed old here))
-  station_hears room (Install done) old answer new here step = not_so answer (ap is_dropped step.answers ∙ install_is step.applied)
-  station_hears room (Release k) old answer new here step = not_so answer (release_is setting.round (next_release setting.round old) old answer new step)
-  station_hears room (ByNetwork k place act) old answer new here step = not_so answer (ap is_dropped step.0 ∙ act_is (is_some (flight_at setting k place)))
+      not_so answer
+      (ap is_dropped step.answers
+      ∙ by_outcome (plan_of setting k deed old).answer (outcome_of answer) (deed_is setting flying k deed old here))
+  station_hears room (Install done) old answer new here step =
+      not_so answer (ap is_dropped step.answers ∙ install_is step.applied)
+  station_hears room (Release k) old answer new here step =
+      not_so answer (release_is setting.round (next_release setting.round old) old answer new step)
+  station_hears room (ByNetwork k place act) old answer new here step =
+      not_so answer (ap is_dropped step.0 ∙ act_is (is_some (flight_at setting k place)))
 
   -- at the station of this place, where there is one
-  place_hears : (place : ℕ) (room : Option (RecordView → Bool)) (station : Option StationView) (e : EventView) (old : List StationView) (answer : ReplyView) (new : List StationView)
-      → ((s : StationView) → station ≡ Some s → s.number ≡ event_node e) → IsActOf setting place room station e old answer new → ¬ (IsDropped answer)
+  place_hears : (place : ℕ) (room : Option (RecordView → Bool)) (station : Option StationView) (e : EventView)
+      (old : List StationView) (answer : ReplyView) (new : List StationView)
+      → ((s : StationView) → station ≡ Some s → s.number ≡ event_node e)
+      → IsActOf setting place room station e old answer new → ¬ (IsDropped answer)
   place_hears place None station e old answer new here act = not_so answer (ap is_dropped act.0)
   place_hears place (Some room) None e old answer new here act = not_so answer (ap is_dropped act.0)
-  place_hears place (Some room) (Some s) e old answer new here act = station_hears room e s answer act.later (here s refl) act.step
+  place_hears place (Some room) (Some s) e old answer new here act =
+      station_hears room e s answer act.later (here s refl) act.step
 
 -- No event at the station of its node is answered so.
-pub never_dropped : (world : WorldView) (setting : Setting) (rooms : List (RecordView → Bool)) (number : ℕ) (e : EventView) (answer : ReplyView) (new : List StationView)
-    → WorldInvariant world → setting ≡ setting_of world → number ≡ event_node e → IsAct setting number rooms e world.stations answer new → ¬ (IsDropped answer)
+pub never_dropped : (world : WorldView) (setting : Setting) (rooms : List (RecordView → Bool)) (number : ℕ)
+    (e : EventView) (answer : ReplyView) (new : List StationView)
+    → WorldInvariant world → setting ≡ setting_of world → number ≡ event_node e
+    → IsAct setting number rooms e world.stations answer new → ¬ (IsDropped answer)
 never_dropped world setting rooms number e answer new inv same_setting same_number act =
-    place_hears (setting_of world) inv.traffic number (slice_get rooms number) (slice_get world.stations number) e world.stations answer new (λ s there. (inv.numbered number s there).0 ∙ same_number)
+    place_hears (setting_of world) inv.traffic number (slice_get rooms number) (slice_get world.stations number) e
+    world.stations answer new (λ s there. (inv.numbered number s there).0 ∙ same_number)
     (subst (λ (s : Setting). IsAct s number rooms e world.stations answer new) same_setting act)

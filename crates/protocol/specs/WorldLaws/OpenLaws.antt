@@ -1,5 +1,6 @@
 -- A station before its first event: nothing was done, and nothing has left.
-use Rattle.std.proofs.Common.{◌≡◌, ℕ, zero, suc, ◌+◌, ◌≤◌, ◌&&◌, Bool, true, false, eqb, cond, ℤ, List, [], ◌∷◌, length, take, map, Some, option_map, refl, sym, ap, subst, ◌∙◌, arith}
+use Rattle.std.proofs.Common.{◌≡◌, ℕ, zero, suc, ◌+◌, ◌≤◌, ◌&&◌, Bool, true, false, eqb, cond, ℤ, List, [], ◌∷◌, length}
+use Rattle.std.proofs.Common.{take, map, Some, option_map, refl, sym, ap, subst, ◌∙◌, arith}
 use Rattle.std.specs.Prelude.{slice_get, find, filter}
 use Rattle.protocol.specs.Node.Layout.{numbers_where, port_on, channel_on}
 use Rattle.kahn_net.specs.Approximations.{approximation}
@@ -14,7 +15,8 @@ use Rattle.protocol.specs.Node.Opening.{opening_end, opening_ends, opening_image
 use Rattle.protocol.specs.NodeLaws.ImageLaws.{map_got}
 use Rattle.protocol.specs.NodeLaws.PlaceLaws.{nodes_few}
 use Rattle.protocol.specs.NodeLaws.SizeLaws.{opening_within}
-use Rattle.protocol.specs.NodeLaws.OpeningLaws.{reached_opening, laid_out_opening, counts_opening, logs_opening, links_opening, inboxes_opening}
+use Rattle.protocol.specs.NodeLaws.OpeningLaws.{reached_opening, laid_out_opening, counts_opening, logs_opening}
+use Rattle.protocol.specs.NodeLaws.OpeningLaws.{links_opening, inboxes_opening}
 use Rattle.record.specs.declared.image.SavedEnd.{SavedEnd}
 use Rattle.protocol.specs.Node.Starting.{AreInOrder}
 use Rattle.protocol.specs.World.Invariant.{output_of, outputs_of, RunsSoundly, StationInvariant, WorldInvariant}
@@ -27,7 +29,8 @@ use Rattle.protocol.specs.Node.NodeView.{RunningNode}
 use Rattle.protocol.specs.World.OpeningWorld.{opening_outlet, outlets_on, opening_station, stations_from, opening_world}
 use Rattle.protocol.specs.World.OutputView.{OutputView}
 use Rattle.protocol.specs.World.StationView.{OutletView, StationView}
-use Rattle.protocol.specs.World.Sound.{goes_outside, leaves_from, is_output, output_channels, outputs_on, HasCome, IsSound}
+use Rattle.protocol.specs.World.Sound.{goes_outside, leaves_from, is_output, output_channels, outputs_on, HasCome}
+use Rattle.protocol.specs.World.Sound.{IsSound}
 use Rattle.kahn_net.specs.Streams.{IsPrefix}
 
 -- nothing has left of any output
@@ -40,17 +43,33 @@ end_begins true true = refl
 end_begins true false = refl
 end_begins false gets = refl
 
-begins_from : (net : Network) (home number c : ℕ) (channels : List Channel) → base_in (log_at (option_map (λ (s : SavedEnd). s.end) (find (λ (s : SavedEnd). eqb s.channel c) (opening_ends net home number channels)))) ≡ 0
+begins_from : (net : Network) (home number c : ℕ) (channels : List Channel)
+    → base_in
+    (log_at (option_map (λ (s : SavedEnd). s.end)
+    (find (λ (s : SavedEnd). eqb s.channel c) (opening_ends net home number channels)))) ≡ 0
 begins_from net home number c [] = refl
-begins_from net home number c (x ∷ channels) = at (channel_on net home (Some x)) (eqb number c) (begins_from net home (suc number) c channels)
+begins_from net home number c (x ∷ channels) =
+    at (channel_on net home (Some x)) (eqb number c) (begins_from net home (suc number) c channels)
   where
-    at : (a b : Bool) → base_in (log_at (option_map (λ (s : SavedEnd). s.end) (find (λ (s : SavedEnd). eqb s.channel c) (opening_ends net home (suc number) channels)))) ≡ 0
+    at : (a b : Bool)
+        → base_in
+        (log_at (option_map (λ (s : SavedEnd). s.end)
+        (find (λ (s : SavedEnd). eqb s.channel c) (opening_ends net home (suc number) channels)))) ≡ 0
         → base_in (log_at (option_map (λ (s : SavedEnd). s.end) (find (λ (s : SavedEnd). eqb s.channel c)
-        (cond a (record { channel = number; end = opening_end (port_on net home x.producer) (port_on net home x.consumer) } ∷ opening_ends net home (suc number) channels) (opening_ends net home (suc number) channels))))) ≡ 0
+        (cond a (record
+        { channel = number; end = opening_end (port_on net home x.producer) (port_on net home x.consumer) }
+        ∷ opening_ends net home (suc number) channels) (opening_ends net home (suc number) channels))))) ≡ 0
     at false b later = later
     at true b later = by_number (eqb number c)
       where
-        by_number : (b : Bool) → base_in (log_at (option_map (λ (s : SavedEnd). s.end) (cond b (Some (record { channel = number; end = opening_end (port_on net home x.producer) (port_on net home x.consumer) })) (find (λ (s : SavedEnd). eqb s.channel c) (opening_ends net home (suc number) channels))))) ≡ 0
+        by_number : (b : Bool)
+            → base_in
+            (log_at (option_map (λ (s : SavedEnd). s.end)
+            (cond b (Some
+            (record {
+              channel = number;
+              end = opening_end (port_on net home x.producer) (port_on net home x.consumer);
+            })) (find (λ (s : SavedEnd). eqb s.channel c) (opening_ends net home (suc number) channels))))) ≡ 0
         by_number true = end_begins (port_on net home x.producer) (port_on net home x.consumer)
         by_number false = later
 
@@ -69,10 +88,17 @@ module _ (net : Network) (inputs : List (List ℤ)) (nodes number : ℕ) (output
       nothing : (taken whole : List ℤ) → taken ≡ [] → IsPrefix taken whole
       nothing taken whole e = e ∙ ap (λ (t : List ℤ). take (length t) whole) (sym e)
 
-  pub sound_opened : map (λ (output : OutputView). output.channel) outputs ≡ outputs_on net number → NothingLeft outputs → IsSound net inputs (opening_running net nodes number) outputs
+  pub sound_opened : map (λ (output : OutputView). output.channel) outputs ≡ outputs_on net number
+      → NothingLeft outputs → IsSound net inputs (opening_running net nodes number) outputs
   sound_opened listed none = record {
     listed = listed;
-    kept = record { laid_out = laid_out_opening net number; counts = counts_opening net number inputs; logs = logs_opening net number; links = links_opening net nodes number };
+    kept = record {
+      laid_out = laid_out_opening net number;
+      counts = counts_opening net number inputs;
+      logs =
+          logs_opening net number;
+      links = links_opening net nodes number;
+    };
     covered = λ j output is. (
         let count : length output.taken ≡ 0 = ap (length {A = ℤ}) (none j output is) in
         let base = no_base output.channel in
@@ -81,11 +107,19 @@ module _ (net : Network) (inputs : List (List ℤ)) (nodes number : ℕ) (output
   }
 
 -- the images of an opening node are one after another, being the same
-order_opened : (net : Network) (nodes number : ℕ) → AreInOrder (opening_running net nodes number).kept (opening_running net nodes number).current
-order_opened net nodes number = record { current_ahead = behind_itself (opening_image net number); held_ahead = λ held is. absurd (cc); held_behind = λ held is. absurd (cc) }
+order_opened : (net : Network) (nodes number : ℕ)
+    → AreInOrder (opening_running net nodes number).kept (opening_running net nodes number).current
+order_opened net nodes number =
+    record {
+      current_ahead = behind_itself (opening_image net number);
+      held_ahead =
+          λ held is. absurd (cc);
+      held_behind = λ held is. absurd (cc);
+    }
 
 -- its image may be started from again
-image_opened : (net : Network) (inputs : List (List ℤ)) (number : ℕ) (outputs : List OutputView) → ImageIsSound net number inputs (opening_image net number) outputs
+image_opened : (net : Network) (inputs : List (List ℤ)) (number : ℕ) (outputs : List OutputView)
+    → ImageIsSound net number inputs (opening_image net number) outputs
 image_opened net inputs number outputs = record {
   laid_out = laid_out_opening net number;
   counts = counts_opening net number inputs;
@@ -93,15 +127,24 @@ image_opened net inputs number outputs = record {
   no_gap = λ j output is. (let base = no_base net inputs 1 number outputs output.channel in omega (arith, base));
 }
 
-opens_soundly : (net : Network) (inputs : List (List ℤ)) (nodes number : ℕ) (outputs : List OutputView) → map (λ (output : OutputView). output.channel) outputs ≡ outputs_on net number → NothingLeft outputs
+opens_soundly : (net : Network) (inputs : List (List ℤ)) (nodes number : ℕ) (outputs : List OutputView)
+    → map (λ (output : OutputView). output.channel) outputs ≡ outputs_on net number → NothingLeft outputs
     → RunsSoundly net inputs (opening_running net nodes number) outputs
-opens_soundly net inputs nodes number outputs listed none = record { order = order_opened net nodes number; sound = sound_opened net inputs nodes number outputs listed none }
+opens_soundly net inputs nodes number outputs listed none =
+    record { order = order_opened net nodes number; sound = sound_opened net inputs nodes number outputs listed none }
 
-station_opened : (net : Network) (inputs : List (List ℤ)) (nodes number failures : ℕ) (outlets : List OutletView) → IsValid net → nodes ≤ MAX_NODES
-    → map (λ (output : OutputView). output.channel) (outputs_of outlets) ≡ outputs_on net number → NothingLeft (outputs_of outlets) → StationInvariant net inputs (opening_station net nodes number failures outlets)
+station_opened : (net : Network) (inputs : List (List ℤ)) (nodes number failures : ℕ) (outlets : List OutletView)
+    → IsValid net → nodes ≤ MAX_NODES
+    → map (λ (output : OutputView). output.channel) (outputs_of outlets) ≡ outputs_on net number
+    → NothingLeft (outputs_of outlets)
+    → StationInvariant net inputs (opening_station net nodes number failures outlets)
 station_opened net inputs nodes number failures outlets valid few listed none = record {
-  kept = record_of net inputs (outputs_of outlets) (opening_running net nodes number) refl (opening_within net nodes number valid few) (image_opened net inputs number (outputs_of outlets)) (λ tentative is. absurd (cc)) runs.order runs.sound;
-  runs = λ node is. (let same : opening_running net nodes number ≡ node = cc in subst (λ (n : RunningNode). RunsSoundly net inputs n (outputs_of outlets)) same runs);
+  kept = record_of net inputs (outputs_of outlets) (opening_running net nodes number) refl
+      (opening_within net nodes number valid few) (image_opened net inputs number (outputs_of outlets))
+      (λ tentative is. absurd (cc)) runs.order runs.sound;
+  runs = λ node
+      is. (let same : opening_running net nodes number ≡ node = cc in
+      subst (λ (n : RunningNode). RunsSoundly net inputs n (outputs_of outlets)) same runs);
 }
   where
     runs : RunsSoundly net inputs (opening_running net nodes number) (outputs_of outlets)
@@ -111,55 +154,85 @@ station_opened net inputs nodes number failures outlets valid few listed none = 
 
 -- are of its outputs' channels
 channels_on : (net : Network) (home : ℕ) (outlets : List OutletView)
-    → map (λ (output : OutputView). output.channel) (outputs_of (outlets_on net home outlets)) ≡ filter (is_output net home) (map (λ (output : OutputView). output.channel) (outputs_of outlets))
+    → map (λ (output : OutputView). output.channel) (outputs_of (outlets_on net home outlets))
+    ≡ filter (is_output net home) (map (λ (output : OutputView). output.channel) (outputs_of outlets))
 channels_on net home [] = refl
 channels_on net home (x ∷ outlets) = at (is_output net home x.channel) (channels_on net home outlets)
   where
-    at : (b : Bool) → map (λ (output : OutputView). output.channel) (outputs_of (outlets_on net home outlets)) ≡ filter (is_output net home) (map (λ (output : OutputView). output.channel) (outputs_of outlets))
-        → map (λ (output : OutputView). output.channel) (outputs_of (cond b (x ∷ outlets_on net home outlets) (outlets_on net home outlets)))
-        ≡ cond b (x.channel ∷ filter (is_output net home) (map (λ (output : OutputView). output.channel) (outputs_of outlets))) (filter (is_output net home) (map (λ (output : OutputView). output.channel) (outputs_of outlets)))
+    at : (b : Bool)
+        → map (λ (output : OutputView). output.channel) (outputs_of (outlets_on net home outlets))
+        ≡ filter (is_output net home) (map (λ (output : OutputView). output.channel) (outputs_of outlets))
+        → map (λ (output : OutputView). output.channel)
+        (outputs_of (cond b (x ∷ outlets_on net home outlets) (outlets_on net home outlets)))
+        ≡ cond b
+        (x.channel
+        ∷ filter (is_output net home) (map (λ (output : OutputView). output.channel) (outputs_of outlets)))
+        (filter (is_output net home) (map (λ (output : OutputView). output.channel) (outputs_of outlets)))
     at true rest = ap (λ (numbers : List ℕ). x.channel ∷ numbers) rest
     at false rest = rest
 
 -- and of all outputs those are, in order
-outputs_are : (net : Network) (home number : ℕ) (channels : List Channel) → ((j : ℕ) → slice_get net.channels (number + j) ≡ slice_get channels j)
-    → filter (is_output net home) (output_channels number channels) ≡ numbers_where (is_output net home) number (length channels)
+outputs_are : (net : Network) (home number : ℕ) (channels : List Channel)
+    → ((j : ℕ) → slice_get net.channels (number + j) ≡ slice_get channels j)
+    → filter (is_output net home) (output_channels number channels)
+    ≡ numbers_where (is_output net home) number (length channels)
 outputs_are net home number [] all = refl
 outputs_are net home number (x ∷ channels) all =
-    at (goes_outside x.consumer) refl (outputs_are net home (suc number) channels (λ j. (let sum : suc number + j ≡ number + suc j = omega arith in ap (slice_get net.channels) sum ∙ all (suc j))))
+    at (goes_outside x.consumer) refl
+    (outputs_are net home (suc number) channels
+    (λ j. (let sum : suc number + j ≡ number + suc j = omega arith in
+    ap (slice_get net.channels) sum ∙ all (suc j))))
   where
     test : is_output net home number ≡ (goes_outside x.consumer && port_on net home x.producer)
-    test = (let sum : number ≡ number + 0 = omega arith in ap (leaves_from net home) (ap (slice_get net.channels) sum ∙ all 0))
+    test = (let sum : number ≡ number + 0 = omega arith in
+        ap (leaves_from net home) (ap (slice_get net.channels) sum ∙ all 0))
 
-    at : (b : Bool) → goes_outside x.consumer ≡ b → filter (is_output net home) (output_channels (suc number) channels) ≡ numbers_where (is_output net home) (suc number) (length channels)
-        → filter (is_output net home) (cond b (number ∷ output_channels (suc number) channels) (output_channels (suc number) channels))
-        ≡ cond (is_output net home number) (number ∷ numbers_where (is_output net home) (suc number) (length channels)) (numbers_where (is_output net home) (suc number) (length channels))
+    at : (b : Bool) → goes_outside x.consumer ≡ b
+        → filter (is_output net home) (output_channels (suc number) channels)
+        ≡ numbers_where (is_output net home) (suc number) (length channels)
+        → filter (is_output net home)
+        (cond b (number ∷ output_channels (suc number) channels) (output_channels (suc number) channels))
+        ≡ cond (is_output net home number) (number ∷ numbers_where (is_output net home) (suc number) (length channels))
+        (numbers_where (is_output net home) (suc number) (length channels))
     at false stays rest =
-        rest ∙ ap (λ (b : Bool). cond b (number ∷ numbers_where (is_output net home) (suc number) (length channels)) (numbers_where (is_output net home) (suc number) (length channels)))
+        rest ∙ ap
+        (λ (b : Bool). cond b (number ∷ numbers_where (is_output net home) (suc number) (length channels))
+        (numbers_where (is_output net home) (suc number) (length channels)))
         (sym (test ∙ ap (λ (b : Bool). b && port_on net home x.producer) stays))
     at true goes rest = by (is_output net home number)
       where
-        by : (b : Bool) → cond b (number ∷ filter (is_output net home) (output_channels (suc number) channels)) (filter (is_output net home) (output_channels (suc number) channels))
-            ≡ cond b (number ∷ numbers_where (is_output net home) (suc number) (length channels)) (numbers_where (is_output net home) (suc number) (length channels))
+        by : (b : Bool)
+            → cond b (number ∷ filter (is_output net home) (output_channels (suc number) channels))
+            (filter (is_output net home) (output_channels (suc number) channels))
+            ≡ cond b (number ∷ numbers_where (is_output net home) (suc number) (length channels))
+            (numbers_where (is_output net home) (suc number) (length channels))
         by true = ap (λ (numbers : List ℕ). number ∷ numbers) rest
         by false = rest
 
-own_listed : (net : Network) (home : ℕ) (outlets : List OutletView) → map (λ (output : OutputView). output.channel) (outputs_of outlets) ≡ output_channels 0 net.channels
+own_listed : (net : Network) (home : ℕ) (outlets : List OutletView)
+    → map (λ (output : OutputView). output.channel) (outputs_of outlets) ≡ output_channels 0 net.channels
     → map (λ (output : OutputView). output.channel) (outputs_of (outlets_on net home outlets)) ≡ outputs_on net home
 own_listed net home outlets listed =
-    channels_on net home outlets ∙ (ap (filter (is_output net home)) listed ∙ outputs_are net home 0 net.channels (λ j. (let sum : 0 + j ≡ j = omega arith in ap (slice_get net.channels) sum)))
+    channels_on net home outlets
+    ∙ (ap (filter (is_output net home)) listed
+    ∙ outputs_are net home 0 net.channels
+    (λ j. (let sum : 0 + j ≡ j = omega arith in ap (slice_get net.channels) sum)))
 
 -- what passes a test stands in the whole list
-filter_from : {A : Type 0} (test : A → Bool) (xs : List A) (j : ℕ) (x : A) → slice_get (filter test xs) j ≡ Some x → (k : ℕ) × (slice_get xs k ≡ Some x)
+filter_from : {A : Type 0} (test : A → Bool) (xs : List A) (j : ℕ) (x : A) → slice_get (filter test xs) j ≡ Some x
+    → (k : ℕ) × (slice_get xs k ≡ Some x)
 filter_from test [] j x is = absurd (cc)
 filter_from {A} test (y ∷ xs) j x is = at (test y) j is (λ i there. filter_from test xs i x there)
   where
-    at : (b : Bool) (j : ℕ) → slice_get (cond b (y ∷ filter test xs) (filter test xs)) j ≡ Some x → ((i : ℕ) → slice_get (filter test xs) i ≡ Some x → (k : ℕ) × (slice_get xs k ≡ Some x)) → (k : ℕ) × (slice_get (y ∷ xs) k ≡ Some x)
+    at : (b : Bool) (j : ℕ) → slice_get (cond b (y ∷ filter test xs) (filter test xs)) j ≡ Some x
+        → ((i : ℕ) → slice_get (filter test xs) i ≡ Some x → (k : ℕ) × (slice_get xs k ≡ Some x))
+        → (k : ℕ) × (slice_get (y ∷ xs) k ≡ Some x)
     at false j is later = let rest = later j is in (suc rest.0, rest.1)
     at true zero is later = (0, is)
     at true (suc j) is later = let rest = later j is in (suc rest.0, rest.1)
 
-own_nothing : (net : Network) (home : ℕ) (outlets : List OutletView) → NothingLeft (outputs_of outlets) → NothingLeft (outputs_of (outlets_on net home outlets))
+own_nothing : (net : Network) (home : ℕ) (outlets : List OutletView) → NothingLeft (outputs_of outlets)
+    → NothingLeft (outputs_of (outlets_on net home outlets))
 own_nothing net home outlets none j output is =
     let outlet = map_got output_of (outlets_on net home outlets) j output is in
     let there = filter_from (λ (o : OutletView). is_output net home o.channel) outlets j outlet.0 outlet.1 in
@@ -168,7 +241,8 @@ own_nothing net home outlets none j output is =
 -- The stations of a world that opens
 
 -- each is an opening station, of the node of its place
-pub station_from : (net : Network) (nodes number : ℕ) (failures : List ℕ) (outlets : List OutletView) (i : ℕ) (station : StationView) → slice_get (stations_from net nodes number failures outlets) i ≡ Some station
+pub station_from : (net : Network) (nodes number : ℕ) (failures : List ℕ) (outlets : List OutletView) (i : ℕ)
+    (station : StationView) → slice_get (stations_from net nodes number failures outlets) i ≡ Some station
     → (before : ℕ) × (station ≡ opening_station net nodes (number + i) before (outlets_on net (number + i) outlets))
 station_from net nodes number [] outlets i station is = absurd (cc)
 station_from net nodes number (before ∷ failures) outlets zero station is =
@@ -180,30 +254,47 @@ station_from net nodes number (before ∷ failures) outlets (suc i) station is =
     let sum : suc number + i ≡ number + suc i = omega arith in
     (rest.0, rest.1 ∙ ap (λ (n : ℕ). opening_station net nodes n rest.0 (outlets_on net n outlets)) sum)
 
-count_from : (net : Network) (nodes number : ℕ) (failures : List ℕ) (outlets : List OutletView) → length (stations_from net nodes number failures outlets) ≡ length failures
+count_from : (net : Network) (nodes number : ℕ) (failures : List ℕ) (outlets : List OutletView)
+    → length (stations_from net nodes number failures outlets) ≡ length failures
 count_from net nodes number [] outlets = refl
 count_from net nodes number (before ∷ failures) outlets = ap suc (count_from net nodes (suc number) failures outlets)
 
 -- what is true of a world is true of an opening one, of which nothing has left
-pub world_opened : (net : Network) (inputs : List (List ℤ)) (failures : List ℕ) (outlets : List OutletView) → IsValid net → Fits net inputs → length failures ≡ node_count net
-    → map (λ (output : OutputView). output.channel) (outputs_of (map opening_outlet outlets)) ≡ output_channels 0 net.channels → NothingLeft (outputs_of (map opening_outlet outlets))
+pub world_opened : (net : Network) (inputs : List (List ℤ)) (failures : List ℕ) (outlets : List OutletView)
+    → IsValid net → Fits net inputs → length failures ≡ node_count net
+    → map (λ (output : OutputView). output.channel) (outputs_of (map opening_outlet outlets))
+    ≡ output_channels 0 net.channels → NothingLeft (outputs_of (map opening_outlet outlets))
     → WorldInvariant (opening_world net inputs failures outlets)
 world_opened net inputs failures outlets valid fits each listed none = record {
   valid = valid;
   fits = fits;
   count = count_from net (node_count net) 0 failures (map opening_outlet outlets) ∙ each;
-  numbered = λ i station is. numbered i station (station_from net (node_count net) 0 failures (map opening_outlet outlets) i station is);
+  numbered =
+      λ i station is. numbered i station
+      (station_from net (node_count net) 0 failures (map opening_outlet outlets) i station is);
   traffic = traffic_opened net inputs;
-  stations = λ i station is. at i station (station_from net (node_count net) 0 failures (map opening_outlet outlets) i station is);
+  stations =
+      λ i station is. at i station
+      (station_from net (node_count net) 0 failures (map opening_outlet outlets) i station is);
 }
   where
-    numbered : (i : ℕ) (station : StationView) → (before : ℕ) × (station ≡ opening_station net (node_count net) (0 + i) before (outlets_on net (0 + i) (map opening_outlet outlets))) → (station.number ≡ i) × (station.node.kept.node ≡ i)
+    numbered : (i : ℕ) (station : StationView)
+        → (before : ℕ)
+        × (station
+        ≡ opening_station net (node_count net) (0 + i) before (outlets_on net (0 + i) (map opening_outlet outlets)))
+        → (station.number ≡ i) × (station.node.kept.node ≡ i)
     numbered i station r =
         let sum : 0 + i ≡ i = omega arith in
         (ap (λ (s : StationView). s.number) r.1 ∙ sum, ap (λ (s : StationView). s.node.kept.node) r.1 ∙ sum)
 
-    at : (i : ℕ) (station : StationView) → (before : ℕ) × (station ≡ opening_station net (node_count net) (0 + i) before (outlets_on net (0 + i) (map opening_outlet outlets))) → StationInvariant net inputs station
+    at : (i : ℕ) (station : StationView)
+        → (before : ℕ)
+        × (station
+        ≡ opening_station net (node_count net) (0 + i) before (outlets_on net (0 + i) (map opening_outlet outlets)))
+        → StationInvariant net inputs station
     at i station r =
         subst (StationInvariant net inputs) (sym r.1)
-        (station_opened net inputs (node_count net) (0 + i) r.0 (outlets_on net (0 + i) (map opening_outlet outlets)) valid (nodes_few net valid)
-        (own_listed net (0 + i) (map opening_outlet outlets) listed) (own_nothing net (0 + i) (map opening_outlet outlets) none))
+        (station_opened net inputs (node_count net) (0 + i) r.0 (outlets_on net (0 + i) (map opening_outlet outlets))
+        valid (nodes_few net valid)
+        (own_listed net (0 + i) (map opening_outlet outlets) listed)
+        (own_nothing net (0 + i) (map opening_outlet outlets) none))

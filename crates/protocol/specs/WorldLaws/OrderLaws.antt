@@ -23,30 +23,38 @@ behind_then image later last a b = record {
 
 -- Nodes
 
-pub order_granted : (job : Option JobView) (node : RunningNode) → AreInOrder node.kept node.current → AreInOrder (after_grant job node).kept (after_grant job node).current
+pub order_granted : (job : Option JobView) (node : RunningNode) → AreInOrder node.kept node.current
+    → AreInOrder (after_grant job node).kept (after_grant job node).current
 order_granted None node order = order
 order_granted (Some job) node order = order
 
 -- where the node has gone on since
-pub order_ahead : (kept : RecordView) (current later : ImageView) → IsBehind current later → AreInOrder kept current → AreInOrder kept later
+pub order_ahead : (kept : RecordView) (current later : ImageView) → IsBehind current later → AreInOrder kept current
+    → AreInOrder kept later
 order_ahead kept current later more order = record {
   current_ahead = behind_then kept.permanent current later order.current_ahead more;
   held_ahead = order.held_ahead;
   held_behind = λ held is. behind_then held.image current later (order.held_behind held is) more;
 }
 
-pub order_own : (number : ℕ) (kept : RecordView) (current : ImageView) → AreInOrder kept current → AreInOrder (with_own number current kept) current
+pub order_own : (number : ℕ) (kept : RecordView) (current : ImageView) → AreInOrder kept current
+    → AreInOrder (with_own number current kept) current
 order_own number kept current order = record {
   current_ahead = order.current_ahead;
-  held_ahead = λ held is. (let same : current ≡ held.image = cc in subst (IsBehind kept.permanent) same order.current_ahead);
-  held_behind = λ held is. (let same : current ≡ held.image = cc in subst (λ (i : ImageView). IsBehind i current) same (behind_itself current));
+  held_ahead =
+      λ held is. (let same : current ≡ held.image = cc in subst (IsBehind kept.permanent) same order.current_ahead);
+  held_behind =
+      λ held is. (let same : current ≡ held.image = cc in
+      subst (λ (i : ImageView). IsBehind i current) same (behind_itself current));
 }
 
-order_last : (kept : RecordView) (o : Option Tentative) (current : ImageView) → kept.tentative ≡ o → AreInOrder kept current → IsBehind (last_image kept.permanent o) current
+order_last : (kept : RecordView) (o : Option Tentative) (current : ImageView) → kept.tentative ≡ o
+    → AreInOrder kept current → IsBehind (last_image kept.permanent o) current
 order_last kept None current is order = order.current_ahead
 order_last kept (Some held) current is order = order.held_behind held is
 
-pub order_decided : (kept : RecordView) (current : ImageView) → AreInOrder kept current → AreInOrder (decided kept) current
+pub order_decided : (kept : RecordView) (current : ImageView) → AreInOrder kept current
+    → AreInOrder (decided kept) current
 order_decided kept current order = record {
   current_ahead = order_last kept kept.tentative current refl order;
   held_ahead = λ other e. absurd (cc);

@@ -1,5 +1,6 @@
 -- What is true of a record stays so: as images are taken and become permanent, as items leave, and over a crash.
-use Rattle.std.proofs.Common.{◌≡◌, ◌⊎◌, inl, inr, ℕ, zero, suc, ◌<◌, ◌≤◌, Bool, true, false, ◌&&◌, cond, eqb, ℤ, List, [], ◌∷◌, length, map, take, get_or, Option, Some, None, refl, sym, ap, subst, ◌∙◌, arith}
+use Rattle.std.proofs.Common.{◌≡◌, ◌⊎◌, inl, inr, ℕ, zero, suc, ◌<◌, ◌≤◌, Bool, true, false, ◌&&◌, cond, eqb, ℤ, List}
+use Rattle.std.proofs.Common.{[], ◌∷◌, length, map, take, get_or, Option, Some, None, refl, sym, ap, subst, ◌∙◌, arith}
 use Rattle.std.specs.Prelude.{slice_get, not, IsTrue}
 use Rattle.std.proofs.Math.Logic.{∥∥₁_map}
 use Rattle.std.proofs.lemmas.List.{take-take}
@@ -21,7 +22,8 @@ use Rattle.record.specs.declared.record.Tentative.{Tentative}
 use Rattle.ckpt_codec.specs.SizeLaws.{IsRecordWithin, within_epoch}
 use Rattle.ckpt_codec.specs.declared.lengths.TheConstants.{MAX_RETAINED_ITEMS}
 use Rattle.protocol.specs.Node.NodeView.{RunningNode}
-use Rattle.protocol.specs.Node.Layout.{numbers_where, has_process, port_on, port_away, comes_in, goes_out, is_incoming, is_outgoing, AllHere}
+use Rattle.protocol.specs.Node.Layout.{numbers_where, has_process, port_on, port_away, comes_in, goes_out, is_incoming}
+use Rattle.protocol.specs.Node.Layout.{is_outgoing, AllHere}
 use Rattle.protocol.specs.Node.Reached.{ImageStands, LinksAreLaidOut, acts_of}
 use Rattle.protocol.specs.NodeLaws.ReleaseLaws.{acts_grow}
 use Rattle.protocol.specs.NodeLaws.SentLaws.{sent_stands}
@@ -35,27 +37,34 @@ use Rattle.protocol.specs.WorldLaws.OutputLaws.{output_from}
 
 -- of two beginnings of one list, the shorter is a beginning of the longer
 prefix_within : (xs ys zs : List ℤ) → IsPrefix xs zs → IsPrefix ys zs → length xs ≤ length ys → IsPrefix xs ys
-prefix_within xs ys zs a b shorter = a ∙ (sym (take-take (length xs) (length ys) zs shorter) ∙ ap (take (length xs)) (sym b))
+prefix_within xs ys zs a b shorter =
+    a ∙ (sym (take-take (length xs) (length ys) zs shorter) ∙ ap (take (length xs)) (sym b))
 
 -- the process that puts on a channel is on the node, where all are
-pub producer_here : (net : Network) (home c p : ℕ) (channel : Channel) → IsValid net → AllHere net home → slice_get net.channels c ≡ Some channel → channel.producer ≡ Process p → IsTrue (has_process net home p)
+pub producer_here : (net : Network) (home c p : ℕ) (channel : Channel) → IsValid net → AllHere net home
+    → slice_get net.channels c ≡ Some channel → channel.producer ≡ Process p → IsTrue (has_process net home p)
 producer_here net home c p channel valid here is from = at (slice_get_cases net.codes p).1
   where
-    at : ((x : Code) × (p < length net.codes) × (slice_get net.codes p ≡ Some x) × (get_or net.codes p x ≡ x)) ⊎ ((length net.codes ≤ p) × (slice_get net.codes p ≡ None)) → IsTrue (has_process net home p)
+    at : ((x : Code) × (p < length net.codes) × (slice_get net.codes p ≡ Some x) × (get_or net.codes p x ≡ x))
+        ⊎ ((length net.codes ≤ p) × (slice_get net.codes p ≡ None)) → IsTrue (has_process net home p)
     at (inl there) = here p there.0 there.2
     at (inr past) = (let below = valid.producer_is_here c p channel is from in absurd (omega (arith, below, past.0)))
 
-pub consumer_here : (net : Network) (home c p : ℕ) (channel : Channel) → IsValid net → AllHere net home → slice_get net.channels c ≡ Some channel → channel.consumer ≡ Process p → IsTrue (has_process net home p)
+pub consumer_here : (net : Network) (home c p : ℕ) (channel : Channel) → IsValid net → AllHere net home
+    → slice_get net.channels c ≡ Some channel → channel.consumer ≡ Process p → IsTrue (has_process net home p)
 consumer_here net home c p channel valid here is to = at (slice_get_cases net.codes p).1
   where
-    at : ((x : Code) × (p < length net.codes) × (slice_get net.codes p ≡ Some x) × (get_or net.codes p x ≡ x)) ⊎ ((length net.codes ≤ p) × (slice_get net.codes p ≡ None)) → IsTrue (has_process net home p)
+    at : ((x : Code) × (p < length net.codes) × (slice_get net.codes p ≡ Some x) × (get_or net.codes p x ≡ x))
+        ⊎ ((length net.codes ≤ p) × (slice_get net.codes p ≡ None)) → IsTrue (has_process net home p)
     at (inl there) = here p there.0 there.2
     at (inr past) = (let below = valid.consumer_is_here c p channel is to in absurd (omega (arith, below, past.0)))
 
 -- where all processes are on the node, no channel comes from another one, or goes there
 none_where : (test : ℕ → Bool) (first count : ℕ) → ((n : ℕ) → test n ≡ false) → numbers_where test first count ≡ []
 none_where test first zero fails = refl
-none_where test first (suc count) fails = ap (λ (b : Bool). cond b (first ∷ numbers_where test (suc first) count) (numbers_where test (suc first) count)) (fails first) ∙ none_where test (suc first) count fails
+none_where test first (suc count) fails =
+    ap (λ (b : Bool). cond b (first ∷ numbers_where test (suc first) count) (numbers_where test (suc first) count))
+    (fails first) ∙ none_where test (suc first) count fails
 
 never_both : (a b : Bool) → b ≡ false → (a && b) ≡ false
 never_both true b is = is
@@ -64,28 +73,35 @@ never_both false b is = refl
 nothing_comes : (net : Network) (home : ℕ) → IsValid net → AllHere net home → (c : ℕ) → is_incoming net home c ≡ false
 nothing_comes net home valid here c = at (slice_get net.channels c) refl
   where
-    by_port : (channel : Channel) → slice_get net.channels c ≡ Some channel → (port : Port) → channel.producer ≡ port → port_away net home port ≡ false
+    by_port : (channel : Channel) → slice_get net.channels c ≡ Some channel → (port : Port) → channel.producer ≡ port
+        → port_away net home port ≡ false
     by_port channel on Outside from = refl
     by_port channel on (Process q) from = ap not (producer_here net home c q channel valid here on from)
 
     at : (o : Option Channel) → slice_get net.channels c ≡ o → comes_in net home o ≡ false
     at None on = refl
-    at (Some channel) on = never_both (port_on net home channel.consumer) (port_away net home channel.producer) (by_port channel on channel.producer refl)
+    at (Some channel) on =
+        never_both (port_on net home channel.consumer) (port_away net home channel.producer)
+        (by_port channel on channel.producer refl)
 
 nothing_goes : (net : Network) (home : ℕ) → IsValid net → AllHere net home → (c : ℕ) → is_outgoing net home c ≡ false
 nothing_goes net home valid here c = at (slice_get net.channels c) refl
   where
-    by_port : (channel : Channel) → slice_get net.channels c ≡ Some channel → (port : Port) → channel.consumer ≡ port → port_away net home port ≡ false
+    by_port : (channel : Channel) → slice_get net.channels c ≡ Some channel → (port : Port) → channel.consumer ≡ port
+        → port_away net home port ≡ false
     by_port channel on Outside to = refl
     by_port channel on (Process q) to = ap not (consumer_here net home c q channel valid here on to)
 
     at : (o : Option Channel) → slice_get net.channels c ≡ o → goes_out net home o ≡ false
     at None on = refl
-    at (Some channel) on = never_both (port_on net home channel.producer) (port_away net home channel.consumer) (by_port channel on channel.consumer refl)
+    at (Some channel) on =
+        never_both (port_on net home channel.producer) (port_away net home channel.consumer)
+        (by_port channel on channel.consumer refl)
 
 module _ (net : Network) (inputs : List (List ℤ)) (outputs : List OutputView) where
   -- what a node that runs has now may be taken
-  pub current_sound : (node : RunningNode) → IsSound net inputs node outputs → ImageIsSound net node.kept.node inputs node.current outputs
+  pub current_sound : (node : RunningNode) → IsSound net inputs node outputs
+      → ImageIsSound net node.kept.node inputs node.current outputs
   current_sound node sound = record {
     laid_out = sound.kept.laid_out;
     counts = sound.kept.counts;
@@ -94,7 +110,11 @@ module _ (net : Network) (inputs : List (List ℤ)) (outputs : List OutputView) 
   }
 
   -- what has left a node that runs is a beginning of what was put up to its permanent image
-  come_of : (node : RunningNode) → map (λ (output : OutputView). output.channel) outputs ≡ outputs_on net node.kept.node → ImageIsSound net node.kept.node inputs node.kept.permanent outputs → ((j : ℕ) (output : OutputView) → slice_get outputs j ≡ Some output → length output.taken ≤ sent_of node.kept.permanent output.channel)
+  come_of : (node : RunningNode)
+      → map (λ (output : OutputView). output.channel) outputs ≡ outputs_on net node.kept.node
+      → ImageIsSound net node.kept.node inputs node.kept.permanent outputs
+      → ((j : ℕ) (output : OutputView) → slice_get outputs j ≡ Some output
+      → length output.taken ≤ sent_of node.kept.permanent output.channel)
       → HasCome net inputs node outputs → RecordHasCome net inputs node.kept outputs
   come_of node listed image covered come = record {
     n = come.reached.n;
@@ -107,15 +127,24 @@ module _ (net : Network) (inputs : List (List ℤ)) (outputs : List OutputView) 
         let histories = approximation net inputs come.reached.n in
         let before = sent_on output.channel (acts_of net histories come.reached.permanent_acts p) in
         let now = sent_on output.channel (acts_of net histories come.reached.current_acts p) in
-        let count : sent_of node.kept.permanent output.channel ≡ length before = sent_stands net node.kept.node histories come.reached.permanent_acts node.kept.permanent output.channel p channel come.reached.permanent image.laid_out on from (output_from net node.kept.node outputs listed j output is p channel on from) in
+        let count : sent_of node.kept.permanent output.channel ≡ length before =
+        sent_stands net node.kept.node histories come.reached.permanent_acts node.kept.permanent output.channel p
+        channel come.reached.permanent image.laid_out on from
+        (output_from net node.kept.node outputs listed j output is p channel on from) in
         let few = covered j output is in
-        let far : come.reached.permanent_acts p ≤ come.reached.current_acts p = (let a = come.reached.held_after p in let b = come.reached.current_after p in omega (arith, a, b)) in
-        prefix_within output.taken before now (come.released j p output channel is on from) (acts_grow net histories come.reached.permanent_acts come.reached.current_acts output.channel p far) (omega (arith, few, count)));
+        let far : come.reached.permanent_acts p ≤ come.reached.current_acts p =
+        (let a = come.reached.held_after p in let b = come.reached.current_after p in omega (arith, a, b)) in
+        prefix_within output.taken before now (come.released j p output channel is on from)
+        (acts_grow net histories come.reached.permanent_acts come.reached.current_acts output.channel p far)
+        (omega (arith, few, count)));
   }
 
   -- so the record of a node that runs is sound where its images are, no decision stands in it, and it is within bounds
-  pub record_of : (node : RunningNode) → node.kept.decision ≡ None → IsRecordWithin MAX_RETAINED_ITEMS node.kept → ImageIsSound net node.kept.node inputs node.kept.permanent outputs
-      → ((tentative : Tentative) → node.kept.tentative ≡ Some tentative → ImageIsSound net node.kept.node inputs tentative.image outputs) → AreInOrder node.kept node.current → IsSound net inputs node outputs → RecordIsSound net inputs node.kept outputs
+  pub record_of : (node : RunningNode) → node.kept.decision ≡ None → IsRecordWithin MAX_RETAINED_ITEMS node.kept
+      → ImageIsSound net node.kept.node inputs node.kept.permanent outputs
+      → ((tentative : Tentative) → node.kept.tentative ≡ Some tentative
+      → ImageIsSound net node.kept.node inputs tentative.image outputs) → AreInOrder node.kept node.current
+      → IsSound net inputs node outputs → RecordIsSound net inputs node.kept outputs
   record_of node undecided bounded permanent held order sound = record {
     listed = sound.listed;
     permanent = permanent;
@@ -124,29 +153,38 @@ module _ (net : Network) (inputs : List (List ℤ)) (outputs : List OutputView) 
     covered = λ j output is. (sound.covered j output is).covered;
     undecided = undecided;
     bounded = bounded;
-    come = ∥∥₁_map sound.come (come_of node sound.listed permanent (λ j output is. (sound.covered j output is).covered));
+    come = ∥∥₁_map sound.come
+        (come_of node sound.listed permanent (λ j output is. (sound.covered j output is).covered));
   }
 
   -- a start
-  pub record_own : (number : ℕ) (kept : RecordView) (image : ImageView) → ImageIsSound net kept.node inputs image outputs → RecordIsSound net inputs kept outputs
-      → (tentative : Tentative) → (with_own number image kept).tentative ≡ Some tentative → ImageIsSound net kept.node inputs tentative.image outputs
-  record_own number kept image sound record_sound tentative is = let same : image ≡ tentative.image = cc in subst (λ (i : ImageView). ImageIsSound net kept.node inputs i outputs) same sound
+  pub record_own : (number : ℕ) (kept : RecordView) (image : ImageView)
+      → ImageIsSound net kept.node inputs image outputs → RecordIsSound net inputs kept outputs
+      → (tentative : Tentative) → (with_own number image kept).tentative ≡ Some tentative
+      → ImageIsSound net kept.node inputs tentative.image outputs
+  record_own number kept image sound record_sound tentative is = let same : image ≡ tentative.image = cc in
+      subst (λ (i : ImageView). ImageIsSound net kept.node inputs i outputs) same sound
 
   -- the last image of a record
-  last_sound : (kept : RecordView) → RecordIsSound net inputs kept outputs → (o : Option Tentative) → kept.tentative ≡ o → ImageIsSound net kept.node inputs (last_image kept.permanent o) outputs
+  last_sound : (kept : RecordView) → RecordIsSound net inputs kept outputs → (o : Option Tentative)
+      → kept.tentative ≡ o → ImageIsSound net kept.node inputs (last_image kept.permanent o) outputs
   last_sound kept sound None is = sound.permanent
   last_sound kept sound (Some held) is = sound.held held is
 
-  pub last_more : (kept : RecordView) → RecordIsSound net inputs kept outputs → (o : Option Tentative) → kept.tentative ≡ o → IsBehind kept.permanent (last_image kept.permanent o)
+  pub last_more : (kept : RecordView) → RecordIsSound net inputs kept outputs → (o : Option Tentative)
+      → kept.tentative ≡ o → IsBehind kept.permanent (last_image kept.permanent o)
   last_more kept sound None is = behind_itself kept.permanent
   last_more kept sound (Some held) is = sound.ahead held is
 
-  come_decided : (kept : RecordView) → (o : Option Tentative) → kept.tentative ≡ o → RecordHasCome net inputs kept outputs → RecordHasCome net inputs (decided kept) outputs
+  come_decided : (kept : RecordView) → (o : Option Tentative) → kept.tentative ≡ o
+      → RecordHasCome net inputs kept outputs → RecordHasCome net inputs (decided kept) outputs
   come_decided kept None is come = record {
     n = come.n;
     permanent_acts = come.permanent_acts;
     held_acts = come.permanent_acts;
-    permanent = subst (λ (t : Option Tentative). ImageStands net (approximation net inputs come.n) come.permanent_acts (last_image kept.permanent t)) (sym is) come.permanent;
+    permanent =
+        subst (λ (t : Option Tentative). ImageStands net (approximation net inputs come.n) come.permanent_acts
+        (last_image kept.permanent t)) (sym is) come.permanent;
     held = λ tentative e. absurd (cc);
     held_after = λ p. omega arith;
     released = come.released;
@@ -155,29 +193,40 @@ module _ (net : Network) (inputs : List (List ℤ)) (outputs : List OutputView) 
     n = come.n;
     permanent_acts = come.held_acts;
     held_acts = come.held_acts;
-    permanent = subst (λ (t : Option Tentative). ImageStands net (approximation net inputs come.n) come.held_acts (last_image kept.permanent t)) (sym is) (come.held held is);
+    permanent =
+        subst (λ (t : Option Tentative). ImageStands net (approximation net inputs come.n) come.held_acts
+        (last_image kept.permanent t)) (sym is) (come.held held is);
     held = λ tentative e. absurd (cc);
     held_after = λ p. omega arith;
     released = λ j p output channel there on from.
-        prefix_trans output.taken (sent_on output.channel (acts_of net (approximation net inputs come.n) come.permanent_acts p)) (sent_on output.channel (acts_of net (approximation net inputs come.n) come.held_acts p))
-        (come.released j p output channel there on from) (acts_grow net (approximation net inputs come.n) come.permanent_acts come.held_acts output.channel p (come.held_after p));
+        prefix_trans output.taken
+        (sent_on output.channel (acts_of net (approximation net inputs come.n) come.permanent_acts p))
+        (sent_on output.channel (acts_of net (approximation net inputs come.n) come.held_acts p))
+        (come.released j p output channel there on from)
+        (acts_grow net (approximation net inputs come.n) come.permanent_acts come.held_acts output.channel p
+        (come.held_after p));
   }
 
   -- a decision
-  pub record_decided : (kept : RecordView) → RecordIsSound net inputs kept outputs → RecordIsSound net inputs (decided kept) outputs
+  pub record_decided : (kept : RecordView) → RecordIsSound net inputs kept outputs
+      → RecordIsSound net inputs (decided kept) outputs
   record_decided kept sound = record {
     listed = sound.listed;
     permanent = last_sound kept sound kept.tentative refl;
     held = λ tentative e. absurd (cc);
     ahead = λ tentative e. absurd (cc);
-    covered = λ j output is. (let few = sound.covered j output is in let more = (last_more kept sound kept.tentative refl).sent output.channel in omega (arith, few, more));
+    covered =
+        λ j output
+        is. (let few = sound.covered j output is in let more =
+        (last_more kept sound kept.tentative refl).sent output.channel in omega (arith, few, more));
     undecided = sound.undecided;
     bounded = decided_within kept sound.bounded;
     come = ∥∥₁_map sound.come (come_decided kept kept.tentative refl);
   }
 
   -- a new epoch
-  still_held : (node : ℕ) (o : Option Tentative) (tentative : Tentative) → without_own node o ≡ Some tentative → o ≡ Some tentative
+  still_held : (node : ℕ) (o : Option Tentative) (tentative : Tentative) → without_own node o ≡ Some tentative
+      → o ≡ Some tentative
   still_held node None tentative is = is
   still_held node (Some held) tentative is = at (eqb held.initiator node) is
     where
@@ -185,7 +234,8 @@ module _ (net : Network) (inputs : List (List ℤ)) (outputs : List OutputView) 
       at true e = absurd (cc)
       at false e = e
 
-  come_epoch : (kept : RecordView) → RecordHasCome net inputs kept outputs → RecordHasCome net inputs (with_epoch kept) outputs
+  come_epoch : (kept : RecordView) → RecordHasCome net inputs kept outputs
+      → RecordHasCome net inputs (with_epoch kept) outputs
   come_epoch kept come = record {
     n = come.n;
     permanent_acts = come.permanent_acts;
@@ -196,7 +246,8 @@ module _ (net : Network) (inputs : List (List ℤ)) (outputs : List OutputView) 
     released = come.released;
   }
 
-  pub record_epoch : (kept : RecordView) → RecordIsSound net inputs kept outputs → RecordIsSound net inputs (with_epoch kept) outputs
+  pub record_epoch : (kept : RecordView) → RecordIsSound net inputs kept outputs
+      → RecordIsSound net inputs (with_epoch kept) outputs
   record_epoch kept sound = record {
     listed = sound.listed;
     permanent = sound.permanent;
@@ -215,9 +266,20 @@ module _ (net : Network) (inputs : List (List ℤ)) (outputs : List OutputView) 
   not_some (Some t) held free is = cc
 
   abbrev pub restarted : RecordView → ℕ → RunningNode
-  restarted kept version = record { kept = kept; version = version; current = kept.permanent; out = None; last = None; inboxes = []; outboxes = [] }
+  restarted kept version =
+      record {
+        kept = kept;
+        version = version;
+        current = kept.permanent;
+        out = None;
+        last = None;
+        inboxes =
+            [];
+        outboxes = [];
+      }
 
-  come_restarted : (kept : RecordView) (version : ℕ) → kept.tentative ≡ None → RecordHasCome net inputs kept outputs → HasCome net inputs (restarted kept version) outputs
+  come_restarted : (kept : RecordView) (version : ℕ) → kept.tentative ≡ None → RecordHasCome net inputs kept outputs
+      → HasCome net inputs (restarted kept version) outputs
   come_restarted kept version free come = record {
     reached = record {
       n = come.n;
@@ -236,18 +298,29 @@ module _ (net : Network) (inputs : List (List ℤ)) (outputs : List OutputView) 
   }
 
   -- it has no ends of channels between nodes, since all processes are on the node
-  links_restarted : (kept : RecordView) (version : ℕ) → IsValid net → AllHere net kept.node → LinksAreLaidOut net kept.node (restarted kept version)
+  links_restarted : (kept : RecordView) (version : ℕ) → IsValid net → AllHere net kept.node
+      → LinksAreLaidOut net kept.node (restarted kept version)
   links_restarted kept version valid here = record {
-    incoming = sym (none_where (is_incoming net kept.node) 0 (length net.channels) (nothing_comes net kept.node valid here));
-    outgoing = sym (none_where (is_outgoing net kept.node) 0 (length net.channels) (nothing_goes net kept.node valid here));
+    incoming =
+        sym (none_where (is_incoming net kept.node) 0 (length net.channels) (nothing_comes net kept.node valid here));
+    outgoing =
+        sym (none_where (is_outgoing net kept.node) 0 (length net.channels) (nothing_goes net kept.node valid here));
     inboxes = λ k inbox is. absurd (cc);
   }
 
-  pub restarted_sound : (kept : RecordView) (version : ℕ) → IsValid net → AllHere net kept.node → kept.tentative ≡ None → RecordIsSound net inputs kept outputs → IsSound net inputs (restarted kept version) outputs
+  pub restarted_sound : (kept : RecordView) (version : ℕ) → IsValid net → AllHere net kept.node → kept.tentative ≡ None
+      → RecordIsSound net inputs kept outputs → IsSound net inputs (restarted kept version) outputs
   restarted_sound kept version valid here free sound = record {
     listed = sound.listed;
-    kept = record { laid_out = sound.permanent.laid_out; counts = sound.permanent.counts; logs = sound.permanent.logs; links = links_restarted kept version valid here };
-    covered = λ j output is. record { no_gap = sound.permanent.no_gap j output is; covered = sound.covered j output is };
+    kept = record {
+      laid_out = sound.permanent.laid_out;
+      counts = sound.permanent.counts;
+      logs = sound.permanent.logs;
+      links =
+          links_restarted kept version valid here;
+    };
+    covered =
+        λ j output is. record { no_gap = sound.permanent.no_gap j output is; covered = sound.covered j output is };
     come = ∥∥₁_map sound.come (come_restarted kept version free);
   }
 

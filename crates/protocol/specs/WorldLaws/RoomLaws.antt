@@ -1,5 +1,6 @@
 -- No event of a node is refused as too large, where its cell has room for the longest record.
-use Rattle.std.proofs.Common.{◌≡◌, ⊎_elim, ℕ, zero, suc, ◌≤◌, Bool, true, false, cond, ℤ, List, [], ◌∷◌, length, map, Option, Some, None, option_map, refl, sym, ap, subst, ◌∙◌, arith}
+use Rattle.std.proofs.Common.{◌≡◌, ⊎_elim, ℕ, zero, suc, ◌≤◌, Bool, true, false, cond, ℤ, List, [], ◌∷◌, length, map}
+use Rattle.std.proofs.Common.{Option, Some, None, option_map, refl, sym, ap, subst, ◌∙◌, arith}
 use Rattle.std.specs.Prelude.{nat_le, slice_get, is_some}
 use Rattle.std.proofs.lemmas.Bool.{le-leb, and_from}
 use Rattle.kahn_net.specs.Syntax.{Network}
@@ -19,7 +20,8 @@ use Rattle.protocol.specs.World.ReplyView.{ReplyView}
 use Rattle.protocol.specs.World.ReplyView as reply
 use Rattle.protocol.specs.World.Roomy.{HasFullRoom}
 use Rattle.protocol.specs.World.StationView.{StationView}
-use Rattle.protocol.specs.World.Steps.{IsAct, IsActOf, IsRelease, IsStationStep, Setting, WorldView, flight_at, next_release, plan_of, setting_of}
+use Rattle.protocol.specs.World.Steps.{IsAct, IsActOf, IsRelease, IsStationStep, Setting, WorldView, flight_at}
+use Rattle.protocol.specs.World.Steps.{next_release, plan_of, setting_of}
 use Rattle.protocol.specs.WorldLaws.DeedLaws.{deed_sound}
 use Rattle.protocol.specs.WorldLaws.PlanLaws.{IsSoundProspect, IsSoundSetting, IsSoundStation}
 use Rattle.protocol.specs.WorldLaws.StepKeeps.{world_station, world_sure}
@@ -29,18 +31,21 @@ spelled_is_long : (kept : RecordView) → spelled_length kept ≡ record_length 
 unfolding spelled_length
 spelled_is_long kept = length-record kept
 
-pub bounded_is_short : (kept : RecordView) → IsRecordWithin MAX_RETAINED_ITEMS kept → spelled_length kept ≤ MAX_RECORD_BYTES
+pub bounded_is_short : (kept : RecordView) → IsRecordWithin MAX_RETAINED_ITEMS kept
+    → spelled_length kept ≤ MAX_RECORD_BYTES
 bounded_is_short kept within =
     let few : record_length kept ≤ MAX_RECORD_BYTES = record_fits kept within in
     let long : spelled_length kept ≡ record_length kept = spelled_is_long kept in
     omega (arith, few, long)
 
 -- a record within its bounds fits a cell with room for the longest one
-bounded_fits : (capacity : ℕ) (kept : RecordView) → MAX_RECORD_BYTES ≤ capacity → IsRecordWithin MAX_RETAINED_ITEMS kept → fits_in capacity kept ≡ true
+bounded_fits : (capacity : ℕ) (kept : RecordView) → MAX_RECORD_BYTES ≤ capacity
+    → IsRecordWithin MAX_RETAINED_ITEMS kept → fits_in capacity kept ≡ true
 bounded_fits capacity kept room within =
     let short : spelled_length kept ≤ MAX_RECORD_BYTES = bounded_is_short kept within in
     let there : spelled_length kept ≤ capacity = omega (arith, short, room) in
-    and_from (nat_le (spelled_length kept) MAX_RECORD_BYTES) (nat_le (spelled_length kept) capacity) (le-leb (spelled_length kept) MAX_RECORD_BYTES short) (le-leb (spelled_length kept) capacity there)
+    and_from (nat_le (spelled_length kept) MAX_RECORD_BYTES) (nat_le (spelled_length kept) capacity)
+    (le-leb (spelled_length kept) MAX_RECORD_BYTES short) (le-leb (spelled_length kept) capacity there)
 
 -- ---- answers
 
@@ -56,7 +61,8 @@ acted_fits false large = cc
 is_not : (one answer : ReplyView) → answer ≡ one → ¬ (IsTooLarge one) → ¬ (IsTooLarge answer)
 is_not one answer is other large = other (sym is ∙ large)
 
-release_fits : (round : ℕ) (place : Option ℕ) (old : StationView) (answer : ReplyView) (new : StationView) → IsRelease round place old answer new → ¬ (IsTooLarge answer)
+release_fits : (round : ℕ) (place : Option ℕ) (old : StationView) (answer : ReplyView) (new : StationView)
+    → IsRelease round place old answer new → ¬ (IsTooLarge answer)
 release_fits round None old answer new step = is_not reply.NotDue answer step.0 (λ large. cc)
 release_fits round (Some place) old answer new step =
     ⊎_elim (λ left. is_not (reply.Released step.outlet.channel (length step.later.taken)) answer left.0 (λ large. cc))
@@ -65,7 +71,8 @@ release_fits round (Some place) old answer new step =
 -- ---- events
 
 -- the record of a sound plan has room where there is room for the longest record
-prospect_fits : (net : Network) (inputs : List (List ℤ)) (capacity : ℕ) → MAX_RECORD_BYTES ≤ capacity → (old : StationView) (prospect : Prospect) → IsSoundProspect net inputs old prospect
+prospect_fits : (net : Network) (inputs : List (List ℤ)) (capacity : ℕ) → MAX_RECORD_BYTES ≤ capacity
+    → (old : StationView) (prospect : Prospect) → IsSoundProspect net inputs old prospect
     → room_for (fits_in capacity) prospect ≡ true
 prospect_fits net inputs capacity room old Undue sound = refl
 prospect_fits net inputs capacity room old (Exhausted looks) sound = refl
@@ -76,31 +83,46 @@ prospect_fits net inputs capacity room old (Planned plan) sound = at plan.puts
     at false = refl
 
 module _ (setting : Setting) (sure : IsSoundSetting setting) (capacity : ℕ) (room : MAX_RECORD_BYTES ≤ capacity) where
-  pub station_fits : (e : EventView) (old : StationView) (answer : ReplyView) (new : StationView) → IsSoundStation setting old → IsStationStep setting (fits_in capacity) e old answer new → ¬ (IsTooLarge answer)
+  pub station_fits : (e : EventView) (old : StationView) (answer : ReplyView) (new : StationView)
+      → IsSoundStation setting old → IsStationStep setting (fits_in capacity) e old answer new → ¬ (IsTooLarge answer)
   station_fits (ByNode k deed) old answer new sound step = λ large.
       let prospect = (plan_of setting k deed old).prospect in
-      let put : IsPut (room_for (fits_in capacity) prospect) old.failures new.failures (outcome.Refused TooLarge) = subst (IsPut (room_for (fits_in capacity) prospect) old.failures new.failures) (ap outcome_of large) step.put in
+      let put : IsPut (room_for (fits_in capacity) prospect) old.failures new.failures (outcome.Refused TooLarge) =
+      subst (IsPut (room_for (fits_in capacity) prospect) old.failures new.failures) (ap outcome_of large)
+      step.put in
       let none : room_for (fits_in capacity) prospect ≡ false = put.0 in
-      let some : room_for (fits_in capacity) prospect ≡ true = prospect_fits setting.net setting.inputs capacity room old prospect (deed_sound setting sure old sound k deed) in
+      let some : room_for (fits_in capacity) prospect ≡ true =
+      prospect_fits setting.net setting.inputs capacity room old prospect
+      (deed_sound setting sure old sound k deed) in
       absurd (cc)
-  station_fits (Install done) old answer new sound step = is_not (install_reply step.applied) answer step.answers (install_fits step.applied)
-  station_fits (Release k) old answer new sound step = release_fits setting.round (next_release setting.round old) old answer new step
-  station_fits (ByNetwork k place act) old answer new sound step = is_not (act_reply (is_some (flight_at setting k place))) answer step.0 (acted_fits (is_some (flight_at setting k place)))
+  station_fits (Install done) old answer new sound step =
+      is_not (install_reply step.applied) answer step.answers (install_fits step.applied)
+  station_fits (Release k) old answer new sound step =
+      release_fits setting.round (next_release setting.round old) old answer new step
+  station_fits (ByNetwork k place act) old answer new sound step =
+      is_not (act_reply (is_some (flight_at setting k place))) answer step.0
+      (acted_fits (is_some (flight_at setting k place)))
 
 module _ (setting : Setting) (sure : IsSoundSetting setting) where
   -- at the station of this place, where there is one
-  place_fits : (place : ℕ) (capacity : Option ℕ) (station : Option StationView) (e : EventView) (old : List StationView) (answer : ReplyView) (new : List StationView)
-      → ((n : ℕ) → capacity ≡ Some n → MAX_RECORD_BYTES ≤ n) → ((s : StationView) → station ≡ Some s → IsSoundStation setting s)
+  place_fits : (place : ℕ) (capacity : Option ℕ) (station : Option StationView) (e : EventView)
+      (old : List StationView) (answer : ReplyView) (new : List StationView)
+      → ((n : ℕ) → capacity ≡ Some n → MAX_RECORD_BYTES ≤ n)
+      → ((s : StationView) → station ≡ Some s → IsSoundStation setting s)
       → IsActOf setting place (option_map fits_in capacity) station e old answer new → ¬ (IsTooLarge answer)
   place_fits place None station e old answer new room sound act = is_not reply.NotDue answer act.0 (λ large. cc)
   place_fits place (Some n) None e old answer new room sound act = is_not reply.NotDue answer act.0 (λ large. cc)
-  place_fits place (Some n) (Some s) e old answer new room sound act = station_fits setting sure n (room n refl) e s answer act.later (sound s refl) act.step
+  place_fits place (Some n) (Some s) e old answer new room sound act =
+      station_fits setting sure n (room n refl) e s answer act.later (sound s refl) act.step
 
-  act_fits : (place : ℕ) (capacities : List ℕ) (e : EventView) (old : List StationView) (answer : ReplyView) (new : List StationView) → HasFullRoom place capacities
-      → ((s : StationView) → slice_get old place ≡ Some s → IsSoundStation setting s) → IsAct setting place (map fits_in capacities) e old answer new → ¬ (IsTooLarge answer)
+  act_fits : (place : ℕ) (capacities : List ℕ) (e : EventView) (old : List StationView) (answer : ReplyView)
+      (new : List StationView) → HasFullRoom place capacities
+      → ((s : StationView) → slice_get old place ≡ Some s → IsSoundStation setting s)
+      → IsAct setting place (map fits_in capacities) e old answer new → ¬ (IsTooLarge answer)
   act_fits place capacities e old answer new room sound act =
       place_fits place (slice_get capacities place) (slice_get old place) e old answer new room sound
-      (subst (λ (o : Option (RecordView → Bool)). IsActOf setting place o (slice_get old place) e old answer new) (got capacities place) act)
+      (subst (λ (o : Option (RecordView → Bool)). IsActOf setting place o (slice_get old place) e old answer new)
+      (got capacities place) act)
     where
       got : (xs : List ℕ) (k : ℕ) → slice_get (map fits_in xs) k ≡ option_map fits_in (slice_get xs k)
       got [] k = refl
@@ -108,16 +130,25 @@ module _ (setting : Setting) (sure : IsSoundSetting setting) where
       got (x ∷ xs) (suc k) = got xs k
 
 -- the rooms of cells, by what each has room for
-pub rooms_of : {S : Type 0} (capacity : S → ℕ) (xs : List S) → map (λ (x : S). fits_in (capacity x)) xs ≡ map fits_in (map capacity xs)
+pub rooms_of : {S : Type 0} (capacity : S → ℕ) (xs : List S)
+    → map (λ (x : S). fits_in (capacity x)) xs ≡ map fits_in (map capacity xs)
 rooms_of capacity [] = refl
-rooms_of capacity (x ∷ xs) = ap (λ (rest : List (RecordView → Bool)). fits_in (capacity x) ∷ rest) (rooms_of capacity xs)
+rooms_of capacity (x ∷ xs) =
+    ap (λ (rest : List (RecordView → Bool)). fits_in (capacity x) ∷ rest) (rooms_of capacity xs)
 
--- An event at the station of this number is never refused as too large, where that one's cell has room for the longest record.
-pub never_too_large : {S : Type 0} (world : WorldView) (setting : Setting) (capacity : S → ℕ) (stations : List S) (number place : ℕ) (e : EventView) (answer : ReplyView) (new : List StationView)
+-- An event at the station of this number is never refused as too large, where that one's cell has room for the longest
+-- record.
+pub never_too_large : {S : Type 0} (world : WorldView) (setting : Setting) (capacity : S → ℕ) (stations : List S)
+    (number place : ℕ) (e : EventView) (answer : ReplyView) (new : List StationView)
     → WorldInvariant world → setting ≡ setting_of world → number ≡ place → HasFullRoom place (map capacity stations)
-    → IsAct setting number (map (λ (s : S). fits_in (capacity s)) stations) e world.stations answer new → ¬ (IsTooLarge answer)
+    → IsAct setting number (map (λ (s : S). fits_in (capacity s)) stations) e world.stations answer new
+    → ¬ (IsTooLarge answer)
 never_too_large {S} world setting capacity stations number place e answer new inv same_setting same_number room act =
-    act_fits (setting_of world) (world_sure world inv) place (map capacity stations) e world.stations answer new room (world_station world inv place)
-    (subst (λ (rooms : List (RecordView → Bool)). IsAct (setting_of world) place rooms e world.stations answer new) (rooms_of capacity stations)
-    (subst (λ (n : ℕ). IsAct (setting_of world) n (map (λ (s : S). fits_in (capacity s)) stations) e world.stations answer new) same_number
-    (subst (λ (s : Setting). IsAct s number (map (λ (s : S). fits_in (capacity s)) stations) e world.stations answer new) same_setting act)))
+    act_fits (setting_of world) (world_sure world inv) place (map capacity stations) e world.stations answer new room
+    (world_station world inv place)
+    (subst (λ (rooms : List (RecordView → Bool)). IsAct (setting_of world) place rooms e world.stations answer new)
+    (rooms_of capacity stations)
+    (subst (λ (n : ℕ). IsAct (setting_of world) n (map (λ (s : S). fits_in (capacity s)) stations) e world.stations
+    answer new) same_number
+    (subst (λ (s : Setting). IsAct s number (map (λ (s : S). fits_in (capacity s)) stations) e world.stations answer
+    new) same_setting act)))

@@ -1,5 +1,7 @@
 -- What a sound node sends is right: it may be spelled, it names what there is, and its items belong.
-use Rattle.std.proofs.Common.{◌≡◌, ◌≢◌, ◌⊎◌, inl, inr, ℕ, zero, suc, ◌+◌, ◌-◌, ◌<◌, ◌≤◌, Bool, true, false, eqb, cond, ℤ, List, [], ◌∷◌, length, take, drop, get_or, Option, Some, None, refl, sym, ap, subst, ◌∙◌, arith}
+use Rattle.std.proofs.Common.{◌≡◌, ◌≢◌, ◌⊎◌, inl, inr, ℕ, zero, suc, ◌+◌, ◌-◌, ◌<◌, ◌≤◌, Bool, true, false, eqb, cond}
+use Rattle.std.proofs.Common.{ℤ, List, [], ◌∷◌, length, take, drop, get_or, Option, Some, None, refl, sym, ap, subst}
+use Rattle.std.proofs.Common.{◌∙◌, arith}
 use Rattle.std.specs.Prelude.{◌&&◌, not, All, IsTrue, option_map, slice_get}
 use Rattle.std.specs.List.{flat_map}
 use Rattle.std.proofs.Math.Logic.{∥∥₁_map}
@@ -22,11 +24,14 @@ use Rattle.record.specs.ImageView.{ImageView}
 use Rattle.record.specs.declared.image.End.{End}
 use Rattle.datagram.specs.declared.packet.Body.TheVariants.{Data, Ack, Kept}
 use Rattle.datagram.specs.declared.packet.Packet.{Packet}
-use Rattle.protocol.specs.Node.Addresses.{address, port_node, producer_node, consumer_node, ends_run, runs_between, names_right}
-use Rattle.protocol.specs.Node.Layout.{producer_of, consumer_of, is_incoming, is_on, is_outgoing, comes_in, goes_out, port_away, port_on}
+use Rattle.protocol.specs.Node.Addresses.{address, port_node, producer_node, consumer_node, ends_run, runs_between}
+use Rattle.protocol.specs.Node.Addresses.{names_right}
+use Rattle.protocol.specs.Node.Layout.{producer_of, consumer_of, is_incoming, is_on, is_outgoing, comes_in, goes_out}
+use Rattle.protocol.specs.Node.Layout.{port_away, port_on}
 use Rattle.protocol.specs.Node.NodeView.{RunningNode}
 use Rattle.protocol.specs.Node.Reached.{InboxIsSound, LinksAreLaidOut, acts_of}
-use Rattle.protocol.specs.Node.Sending.{inbox_packets, data_packets, first_due, items_due, log_packets, outbox_packets, packets_from, IsWritable}
+use Rattle.protocol.specs.Node.Sending.{inbox_packets, data_packets, first_due, items_due, log_packets, outbox_packets}
+use Rattle.protocol.specs.Node.Sending.{packets_from, IsWritable}
 use Rattle.protocol.specs.Node.Modes.{is_none}
 use Rattle.protocol.specs.NodeLaws.ImageLaws.{entry_of}
 use Rattle.protocol.specs.NodeLaws.NumberedLaws.{where_mark}
@@ -45,9 +50,11 @@ pub record IsSendable (net : Network) (inputs : List (List ℤ)) (packet : Packe
 
 -- ---- lists
 
-all_of : {A B : Type 0} (P : B → Type 0) (f : A → List B) (xs : List A) → ((k : ℕ) (x : A) → slice_get xs k ≡ Some x → All P (f x)) → All P (flat_map f xs)
+all_of : {A B : Type 0} (P : B → Type 0) (f : A → List B) (xs : List A)
+    → ((k : ℕ) (x : A) → slice_get xs k ≡ Some x → All P (f x)) → All P (flat_map f xs)
 all_of P f [] each = All-nil P
-all_of P f (x ∷ xs) each = All-append P (f x) (flat_map f xs) (each 0 x refl) (all_of P f xs (λ k y is. each (suc k) y is))
+all_of P f (x ∷ xs) each =
+    All-append P (f x) (flat_map f xs) (each 0 x refl) (all_of P f xs (λ k y is. each (suc k) y is))
 
 got_drop : (k : ℕ) (xs : List ℤ) (j n : ℕ) → n ≡ k + j → slice_get (drop k xs) j ≡ slice_get xs n
 got_drop zero xs j n sum = (let same : j ≡ n = omega (arith, sum) in ap (slice_get xs) same)
@@ -56,7 +63,8 @@ got_drop (suc k) (x ∷ xs) j zero sum = absurd (omega (arith, sum))
 got_drop (suc k) (x ∷ xs) j (suc n) sum = got_drop k xs j n (omega (arith, sum))
 
 got_take : (k : ℕ) (xs : List ℤ) (j : ℕ) (x : ℤ) → slice_get (take k xs) j ≡ Some x → slice_get xs j ≡ Some x
-got_take k xs j x is = prefix_item (take k xs) xs j x (prefix_of (record { rest = drop k xs; is = sym (take-append-drop k xs) })) is
+got_take k xs j x is =
+    prefix_item (take k xs) xs j x (prefix_of (record { rest = drop k xs; is = sym (take-append-drop k xs) })) is
 
 -- ---- the nodes at the ends of a channel
 
@@ -82,19 +90,22 @@ module _ (net : Network) (valid : IsValid net) (home : ℕ) where
           let below = (valid.codes q code is).node in
           omega (arith, same, below)
 
-  is_apart : (here there : Port) → port_on net home here ≡ true → port_away net home there ≡ true → ((p : ℕ) → there ≡ Process p → p < length net.codes) → IsApart net home there
+  is_apart : (here there : Port) → port_on net home here ≡ true → port_away net home there ≡ true
+      → ((p : ℕ) → there ≡ Process p → p < length net.codes) → IsApart net home there
   is_apart here Outside on away within = absurd (cc)
   is_apart here (Process p) on away within = at (slice_get_cases net.codes p).1
     where
       differs : (code : Code) → not (eqb code.node home) ≡ true → home ≢ code.node
       differs code away same = (let e : eqb code.node home ≡ true = eq-eqb code.node home (sym same) in absurd (cc))
 
-      at : ((x : Code) × (p < length net.codes) × (slice_get net.codes p ≡ Some x) × (get_or net.codes p x ≡ x)) ⊎ ((length net.codes ≤ p) × (slice_get net.codes p ≡ None)) → IsApart net home (Process p)
+      at : ((x : Code) × (p < length net.codes) × (slice_get net.codes p ≡ Some x) × (get_or net.codes p x ≡ x))
+          ⊎ ((length net.codes ≤ p) × (slice_get net.codes p ≡ None)) → IsApart net home (Process p)
       at (inr past) = (let here = within p refl in let out = past.0 in absurd (omega (arith, here, out)))
       at (inl found) =
           let code = found.0 in
           let node : port_node net (Process p) ≡ code.node = ap address_of found.2 in
-          let off : not (eqb code.node home) ≡ true = sym (ap (λ (o : Option Code). not (is_on home o)) found.2) ∙ away in
+          let off : not (eqb code.node home) ≡ true =
+          sym (ap (λ (o : Option Code). not (is_on home o)) found.2) ∙ away in
           let below : code.node < MAX_NODES = (valid.codes p code found.2).node in
           record {
             on = ap (λ (o : Option Code). is_on (address_of o) o) found.2 ∙ eq-eqb code.node code.node refl;
@@ -131,13 +142,20 @@ module _ (net : Network) (valid : IsValid net) (home : ℕ) where
   comes_from : (c : ℕ) → is_incoming net home c ≡ true → IsFrom c
   comes_from c comes = at (slice_get_cases net.channels c).1
     where
-      at : ((x : Channel) × (c < length net.channels) × (slice_get net.channels c ≡ Some x) × (get_or net.channels c x ≡ x)) ⊎ ((length net.channels ≤ c) × (slice_get net.channels c ≡ None)) → IsFrom c
-      at (inr past) = (let none : comes_in net home None ≡ true = sym (ap (comes_in net home) past.1) ∙ comes in absurd (cc))
+      at : ((x : Channel) × (c < length net.channels) × (slice_get net.channels c ≡ Some x)
+          × (get_or net.channels c x ≡ x)) ⊎ ((length net.channels ≤ c) × (slice_get net.channels c ≡ None)) → IsFrom c
+      at (inr past) =
+          (let none : comes_in net home None ≡ true = sym (ap (comes_in net home) past.1) ∙ comes in absurd (cc))
       at (inl found) =
           let channel = found.0 in
-          let both = and_parts (port_on net home channel.consumer) (port_away net home channel.producer) (sym (ap (comes_in net home) found.2) ∙ comes) in
-          let side = is_apart channel.consumer channel.producer both.0 both.1 (λ p from. valid.producer_is_here c p channel found.2 from) in
-          let node : producer_node net c ≡ port_node net channel.producer = ap (λ (o : Option Channel). address (producer_of net o)) found.2 in
+          let both =
+          and_parts (port_on net home channel.consumer) (port_away net home channel.producer)
+          (sym (ap (comes_in net home) found.2) ∙ comes) in
+          let side =
+          is_apart channel.consumer channel.producer both.0 both.1
+          (λ p from. valid.producer_is_here c p channel found.2 from) in
+          let node : producer_node net c ≡ port_node net channel.producer =
+          ap (λ (o : Option Channel). address (producer_of net o)) found.2 in
           let few = valid.channel_count in
           let there = found.1 in
           let below = side.below in
@@ -147,8 +165,12 @@ module _ (net : Network) (valid : IsValid net) (home : ℕ) where
             home_below = side.home_below;
             apart = λ same. side.apart (same ∙ node);
             runs = ap (λ (n : ℕ). runs_between net n home c) node
-                ∙ both_true (not (eqb (port_node net channel.producer) home)) (ends_run net (port_node net channel.producer) home (slice_get net.channels c)) (not_same (port_node net channel.producer) home (λ same. side.apart (sym same)))
-                (ap (ends_run net (port_node net channel.producer) home) found.2 ∙ both_true (port_on net (port_node net channel.producer) channel.producer) (port_on net home channel.consumer) side.on both.0);
+                ∙ both_true (not (eqb (port_node net channel.producer) home))
+                (ends_run net (port_node net channel.producer) home (slice_get net.channels c))
+                (not_same (port_node net channel.producer) home (λ same. side.apart (sym same)))
+                (ap (ends_run net (port_node net channel.producer) home) found.2
+                ∙ both_true (port_on net (port_node net channel.producer) channel.producer)
+                (port_on net home channel.consumer) side.on both.0);
           }
 
   put_by : {p : Port} (port : Port) → p ≡ port → port_on net home port ≡ true → (q : ℕ) × (p ≡ Process q)
@@ -158,14 +180,21 @@ module _ (net : Network) (valid : IsValid net) (home : ℕ) where
   goes_to : (c : ℕ) → is_outgoing net home c ≡ true → IsTo c
   goes_to c goes = at (slice_get_cases net.channels c).1
     where
-      at : ((x : Channel) × (c < length net.channels) × (slice_get net.channels c ≡ Some x) × (get_or net.channels c x ≡ x)) ⊎ ((length net.channels ≤ c) × (slice_get net.channels c ≡ None)) → IsTo c
-      at (inr past) = (let none : goes_out net home None ≡ true = sym (ap (goes_out net home) past.1) ∙ goes in absurd (cc))
+      at : ((x : Channel) × (c < length net.channels) × (slice_get net.channels c ≡ Some x)
+          × (get_or net.channels c x ≡ x)) ⊎ ((length net.channels ≤ c) × (slice_get net.channels c ≡ None)) → IsTo c
+      at (inr past) =
+          (let none : goes_out net home None ≡ true = sym (ap (goes_out net home) past.1) ∙ goes in absurd (cc))
       at (inl found) =
           let channel = found.0 in
-          let both = and_parts (port_on net home channel.producer) (port_away net home channel.consumer) (sym (ap (goes_out net home) found.2) ∙ goes) in
-          let side = is_apart channel.producer channel.consumer both.0 both.1 (λ p to. valid.consumer_is_here c p channel found.2 to) in
+          let both =
+          and_parts (port_on net home channel.producer) (port_away net home channel.consumer)
+          (sym (ap (goes_out net home) found.2) ∙ goes) in
+          let side =
+          is_apart channel.producer channel.consumer both.0 both.1
+          (λ p to. valid.consumer_is_here c p channel found.2 to) in
           let put = put_by channel.producer refl both.0 in
-          let node : consumer_node net c ≡ port_node net channel.consumer = ap (λ (o : Option Channel). address (consumer_of net o)) found.2 in
+          let node : consumer_node net c ≡ port_node net channel.consumer =
+          ap (λ (o : Option Channel). address (consumer_of net o)) found.2 in
           let few = valid.channel_count in
           let there = found.1 in
           let below = side.below in
@@ -179,14 +208,19 @@ module _ (net : Network) (valid : IsValid net) (home : ℕ) where
             on = found.2;
             from = put.1;
             runs = ap (λ (n : ℕ). runs_between net home n c) node
-                ∙ both_true (not (eqb home (port_node net channel.consumer))) (ends_run net home (port_node net channel.consumer) (slice_get net.channels c)) (not_same home (port_node net channel.consumer) side.apart)
-                (ap (ends_run net home (port_node net channel.consumer)) found.2 ∙ both_true (port_on net home channel.producer) (port_on net (port_node net channel.consumer) channel.consumer) both.0 side.on);
+                ∙ both_true (not (eqb home (port_node net channel.consumer)))
+                (ends_run net home (port_node net channel.consumer) (slice_get net.channels c))
+                (not_same home (port_node net channel.consumer) side.apart)
+                (ap (ends_run net home (port_node net channel.consumer)) found.2
+                ∙ both_true (port_on net home channel.producer)
+                (port_on net (port_node net channel.consumer) channel.consumer) both.0 side.on);
           }
 
 -- ---- what is sent
 
 module _ (net : Network) (inputs : List (List ℤ)) (valid : IsValid net) (home : ℕ) where
-  answers_sendable : (permanent current : ImageView) (inbox : Inbox) → IsFrom net valid home inbox.channel → InboxIsSound current inbox → received_of permanent inbox.channel ≤ received_of current inbox.channel
+  answers_sendable : (permanent current : ImageView) (inbox : Inbox) → IsFrom net valid home inbox.channel
+      → InboxIsSound current inbox → received_of permanent inbox.channel ≤ received_of current inbox.channel
       → All (IsSendable net inputs) (inbox_packets net home permanent inbox)
   answers_sendable permanent current inbox from sound behind =
       let number = from.number in
@@ -196,22 +230,41 @@ module _ (net : Network) (inputs : List (List ℤ)) (valid : IsValid net) (home 
       let next = sound.next in
       let last = sound.last in
       let to = producer_node net inbox.channel in
-      All-cons (IsSendable net inputs) (record { from = home; to = to; body = Ack inbox.channel inbox.window.epoch inbox.window.next }) (record { from = home; to = to; body = Kept inbox.channel (received_of permanent inbox.channel) } ∷ [])
+      All-cons (IsSendable net inputs)
+      (record { from = home; to = to; body = Ack inbox.channel inbox.window.epoch inbox.window.next })
+      (record { from = home; to = to; body = Kept inbox.channel (received_of permanent inbox.channel) } ∷ [])
       (record {
-        writable = λ fits. record { from = omega (arith, home_below); to = omega (arith, below); apart = from.apart; body = (omega (arith, number), sound.epoch, omega (arith, next, last)) };
+        writable =
+            λ fits. record {
+              from = omega (arith, home_below);
+              to = omega (arith, below);
+              apart = from.apart;
+              body =
+                  (omega (arith, number), sound.epoch, omega (arith, next, last));
+            };
         names = from.runs;
         sound = tt;
       })
-      (All-cons (IsSendable net inputs) (record { from = home; to = to; body = Kept inbox.channel (received_of permanent inbox.channel) }) []
+      (All-cons (IsSendable net inputs)
+      (record { from = home; to = to; body = Kept inbox.channel (received_of permanent inbox.channel) }) []
       (record {
-        writable = λ fits. record { from = omega (arith, home_below); to = omega (arith, below); apart = from.apart; body = (omega (arith, number), omega (arith, behind, begins, last)) };
+        writable =
+            λ fits. record {
+              from = omega (arith, home_below);
+              to = omega (arith, below);
+              apart = from.apart;
+              body =
+                  (omega (arith, number), omega (arith, behind, begins, last));
+            };
         names = from.runs;
         sound = tt;
       })
       (All-nil (IsSendable net inputs)))
 
   -- items of a channel
-  items_sendable : (to channel position : ℕ) (items : List ℤ) → ((j : ℕ) (item : ℤ) (n : ℕ) → slice_get items j ≡ Some item → n ≡ position + j → IsSendable net inputs (record { from = home; to = to; body = Data channel n item }))
+  items_sendable : (to channel position : ℕ) (items : List ℤ)
+      → ((j : ℕ) (item : ℤ) (n : ℕ) → slice_get items j ≡ Some item → n ≡ position + j
+      → IsSendable net inputs (record { from = home; to = to; body = Data channel n item }))
       → All (IsSendable net inputs) (data_packets home to channel position items)
   items_sendable to channel position [] each = All-nil (IsSendable net inputs)
   items_sendable to channel position (item ∷ items) each =
@@ -219,8 +272,11 @@ module _ (net : Network) (inputs : List (List ℤ)) (valid : IsValid net) (home 
       (items_sendable to channel (suc position) items (λ j x n is sum. each (suc j) x n is (omega (arith, sum))))
 
   -- an item of a log belongs
-  logged_belongs : (n : ℕ) (made : ℕ → ℕ) (c q : ℕ) (channel : Channel) (log : LogState) → slice_get net.channels c ≡ Some channel → channel.producer ≡ Process q → IsLogOf log (sent_on c (acts_of net (approximation net inputs n) made q))
-      → (k position : ℕ) (item : ℤ) → slice_get log.items k ≡ Some item → position ≡ log.base + k → Belongs net inputs c position item
+  logged_belongs : (n : ℕ) (made : ℕ → ℕ) (c q : ℕ) (channel : Channel) (log : LogState)
+      → slice_get net.channels c ≡ Some channel → channel.producer ≡ Process q
+      → IsLogOf log (sent_on c (acts_of net (approximation net inputs n) made q))
+      → (k position : ℕ) (item : ℤ) → slice_get log.items k ≡ Some item → position ≡ log.base + k
+      → Belongs net inputs c position item
   logged_belongs n made c q channel log on from of k position item is sum =
       let put : List ℤ = sent_on c (acts_of net (approximation net inputs n) made q) in
       record {
@@ -230,32 +286,47 @@ module _ (net : Network) (inputs : List (List ℤ)) (valid : IsValid net) (home 
       }
 
   -- the items of a log that are due
-  due_sendable : (current : ImageView) (outbox : Outbox) (log : LogState) → IsTo net valid home outbox.channel → log_end log ≤ MAX_COUNT
-      → ((k position : ℕ) (item : ℤ) → slice_get log.items k ≡ Some item → position ≡ log.base + k → ∥ Belongs net inputs outbox.channel position item ∥₁)
+  due_sendable : (current : ImageView) (outbox : Outbox) (log : LogState) → IsTo net valid home outbox.channel
+      → log_end log ≤ MAX_COUNT
+      → ((k position : ℕ) (item : ℤ) → slice_get log.items k ≡ Some item → position ≡ log.base + k
+      → ∥ Belongs net inputs outbox.channel position item ∥₁)
       → All (IsSendable net inputs) (log_packets net home outbox (Some log))
-  due_sendable current outbox log to last belongs = items_sendable (consumer_node net outbox.channel) outbox.channel (first_due outbox log) (items_due outbox log) each
+  due_sendable current outbox log to last belongs =
+      items_sendable (consumer_node net outbox.channel) outbox.channel (first_due outbox log) (items_due outbox log)
+      each
     where
       each : (j : ℕ) (item : ℤ) (n : ℕ) → slice_get (items_due outbox log) j ≡ Some item → n ≡ first_due outbox log + j
-          → IsSendable net inputs (record { from = home; to = consumer_node net outbox.channel; body = Data outbox.channel n item })
+          → IsSendable net inputs
+          (record { from = home; to = consumer_node net outbox.channel; body = Data outbox.channel n item })
       each j item n is sum =
           let since = got_take outbox.window.size (items_since log (first_due outbox log)) j item is in
           let skip : ℕ = first_due outbox log - log.base in
-          let there : slice_get log.items (skip + j) ≡ Some item = sym (got_drop skip log.items j (skip + j) refl) ∙ since in
+          let there : slice_get log.items (skip + j) ≡ Some item =
+          sym (got_drop skip log.items j (skip + j) refl) ∙ since in
           let within : skip + j < length log.items = slice_get_within log.items (skip + j) item there in
           let place : n ≡ log.base + (skip + j) = omega (arith, sum) in
           let number = to.number in
           let below = to.below in
           let home_below = to.home_below in
           record {
-            writable = λ fits. record { from = omega (arith, home_below); to = omega (arith, below); apart = to.apart; body = (omega (arith, number), omega (arith, place, within, last), fits) };
+            writable =
+                λ fits. record {
+                  from = omega (arith, home_below);
+                  to = omega (arith, below);
+                  apart = to.apart;
+                  body =
+                      (omega (arith, number), omega (arith, place, within, last), fits);
+                };
             names = to.runs;
             sound = belongs (skip + j) n item there place;
           }
 
   -- all of it, of a node that runs
-  pub running_sendable : (outputs : List OutputView) (node : RunningNode) → node.kept.node ≡ home → RunsSoundly net inputs node outputs → All (IsSendable net inputs) (packets_from net home (Some node))
+  pub running_sendable : (outputs : List OutputView) (node : RunningNode) → node.kept.node ≡ home
+      → RunsSoundly net inputs node outputs → All (IsSendable net inputs) (packets_from net home (Some node))
   running_sendable outputs node named runs =
-      All-append (IsSendable net inputs) (flat_map (inbox_packets net home node.kept.permanent) node.inboxes) _ answers (items (is_none node.kept.tentative))
+      All-append (IsSendable net inputs) (flat_map (inbox_packets net home node.kept.permanent) node.inboxes) _ answers
+      (items (is_none node.kept.tentative))
     where
       links : LinksAreLaidOut net home node
       links = subst (λ (h : ℕ). LinksAreLaidOut net h node) named runs.sound.kept.links
@@ -263,10 +334,14 @@ module _ (net : Network) (inputs : List (List ℤ)) (valid : IsValid net) (home 
       answers : All (IsSendable net inputs) (flat_map (inbox_packets net home node.kept.permanent) node.inboxes)
       answers = all_of (IsSendable net inputs) (inbox_packets net home node.kept.permanent) node.inboxes
           (λ k inbox is. (
-          let mark = where_mark (λ (i : Inbox). i.channel) (is_incoming net home) 0 (length net.channels) node.inboxes k inbox links.incoming is in
-          answers_sendable node.kept.permanent node.current inbox (comes_from net valid home inbox.channel mark.0) (links.inboxes k inbox is) (runs.order.current_ahead.received inbox.channel)))
+          let mark =
+          where_mark (λ (i : Inbox). i.channel) (is_incoming net home) 0 (length net.channels) node.inboxes k inbox
+          links.incoming is in
+          answers_sendable node.kept.permanent node.current inbox (comes_from net valid home inbox.channel mark.0)
+          (links.inboxes k inbox is) (runs.order.current_ahead.received inbox.channel)))
 
-      by_log : (outbox : Outbox) → IsTo net valid home outbox.channel → (o : Option LogState) → log_of node.current outbox.channel ≡ o → All (IsSendable net inputs) (log_packets net home outbox o)
+      by_log : (outbox : Outbox) → IsTo net valid home outbox.channel → (o : Option LogState)
+          → log_of node.current outbox.channel ≡ o → All (IsSendable net inputs) (log_packets net home outbox o)
       by_log outbox to None has = All-nil (IsSendable net inputs)
       by_log outbox to (Some log) has = due_sendable node.current outbox log to (last_of log has) belongs
         where
@@ -274,16 +349,23 @@ module _ (net : Network) (inputs : List (List ℤ)) (valid : IsValid net) (home 
           last_of log has =
               let found = log_entry node.current outbox.channel log has in
               let entry = entry_of node.current outbox.channel found.0 found.1 in
-              (runs.sound.kept.logs entry.place entry.saved log entry.is (ap (λ (e : End). log_at (Some e)) entry.is_end ∙ found.2)).last
+              (runs.sound.kept.logs entry.place entry.saved log entry.is
+              (ap (λ (e : End). log_at (Some e)) entry.is_end ∙ found.2)).last
 
-          belongs : (k position : ℕ) (item : ℤ) → slice_get log.items k ≡ Some item → position ≡ log.base + k → ∥ Belongs net inputs outbox.channel position item ∥₁
+          belongs : (k position : ℕ) (item : ℤ) → slice_get log.items k ≡ Some item → position ≡ log.base + k
+              → ∥ Belongs net inputs outbox.channel position item ∥₁
           belongs k position item is sum = ∥∥₁_map runs.sound.come
-              (λ come. logged_belongs come.reached.n come.reached.current_acts outbox.channel to.q to.channel log to.on to.from
-              (log_stands net (approximation net inputs come.reached.n) come.reached.current_acts node.current outbox.channel to.q to.channel log come.reached.current to.on to.from has) k position item is sum)
+              (λ come. logged_belongs come.reached.n come.reached.current_acts outbox.channel to.q to.channel log to.on
+              to.from
+              (log_stands net (approximation net inputs come.reached.n) come.reached.current_acts node.current
+              outbox.channel to.q to.channel log come.reached.current to.on to.from has) k position item is sum)
 
-      items : (free : Bool) → All (IsSendable net inputs) (cond free (flat_map (outbox_packets net home node.current) node.outboxes) [])
+      items : (free : Bool)
+          → All (IsSendable net inputs) (cond free (flat_map (outbox_packets net home node.current) node.outboxes) [])
       items false = All-nil (IsSendable net inputs)
       items true = all_of (IsSendable net inputs) (outbox_packets net home node.current) node.outboxes
           (λ k outbox is. (
-          let mark = where_mark (λ (o : Outbox). o.channel) (is_outgoing net home) 0 (length net.channels) node.outboxes k outbox links.outgoing is in
+          let mark =
+          where_mark (λ (o : Outbox). o.channel) (is_outgoing net home) 0 (length net.channels) node.outboxes k
+          outbox links.outgoing is in
           by_log outbox (goes_to net valid home outbox.channel mark.0) (log_of node.current outbox.channel) refl))

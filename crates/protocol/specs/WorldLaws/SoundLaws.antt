@@ -10,7 +10,8 @@ use Rattle.protocol.specs.Node.Reached.{InboxesStand, IsJobOf}
 use Rattle.protocol.specs.NodeLaws.LinkLaws.{links_kept}
 use Rattle.protocol.specs.Node.Starting.{with_own, decided, IsBehind}
 use Rattle.protocol.specs.Node.Modes.{keeping}
-use Rattle.protocol.specs.NodeLaws.StepLaws.{reached_start, reached_decide, reached_grant, on_start, on_decide, on_grant}
+use Rattle.protocol.specs.NodeLaws.StepLaws.{reached_start, reached_decide, reached_grant, on_start, on_decide}
+use Rattle.protocol.specs.NodeLaws.StepLaws.{on_grant}
 use Rattle.protocol.specs.Node.Choosing.{next_job, after_grant}
 use Rattle.protocol.specs.NodeLaws.GrantLaws.{job_granted}
 use Rattle.protocol.specs.NodeLaws.ReleaseLaws.{beginning_stays}
@@ -18,51 +19,108 @@ use Rattle.protocol.specs.World.OutputView.{OutputView}
 use Rattle.protocol.specs.World.Sound.{HasCome, IsSound}
 
 module _ (net : Network) (inputs : List (List ℤ)) (outputs : List OutputView) where
-  come_start : (number : ℕ) (old : RunningNode) → HasCome net inputs old outputs → HasCome net inputs (keeping (with_own number old.current old.kept) old) outputs
+  come_start : (number : ℕ) (old : RunningNode) → HasCome net inputs old outputs
+      → HasCome net inputs (keeping (with_own number old.current old.kept) old) outputs
   come_start number old come = record {
     reached = reached_start net inputs number old come.reached;
-    inboxes = subst (λ (m : ℕ). InboxesStand (approximation net inputs m) old.inboxes) (sym (on_start net inputs number old come.reached).same) come.inboxes;
+    inboxes =
+        subst (λ (m : ℕ). InboxesStand (approximation net inputs m) old.inboxes)
+        (sym (on_start net inputs number old come.reached).same) come.inboxes;
     out = come.out;
-    released = λ j p output channel h at from. beginning_stays net inputs old _ come.reached _ output.channel p output.taken (on_start net inputs number old come.reached) (come.released j p output channel h at from);
+    released =
+        λ j p output channel h at from. beginning_stays net inputs old _ come.reached _ output.channel p output.taken
+        (on_start net inputs number old come.reached) (come.released j p output channel h at from);
   }
 
   -- a start
-  pub stored_sound : (number : ℕ) (old : RunningNode) → IsSound net inputs old outputs → IsSound net inputs (keeping (with_own number old.current old.kept) old) outputs
-  stored_sound number old sound = record { listed = sound.listed; kept = record { laid_out = sound.kept.laid_out; counts = sound.kept.counts; logs = sound.kept.logs; links = links_kept net old.kept.node old.version _ _ _ old sound.kept.links }; covered = λ j output h. let at = sound.covered j output h in record { no_gap = at.no_gap; covered = at.covered }; come = ∥∥₁_map sound.come (come_start number old) }
+  pub stored_sound : (number : ℕ) (old : RunningNode) → IsSound net inputs old outputs
+      → IsSound net inputs (keeping (with_own number old.current old.kept) old) outputs
+  stored_sound number old sound =
+      record {
+        listed = sound.listed;
+        kept =
+            record {
+              laid_out = sound.kept.laid_out;
+              counts = sound.kept.counts;
+              logs = sound.kept.logs;
+              links =
+                  links_kept net old.kept.node old.version _ _ _ old sound.kept.links;
+            };
+        covered = λ j output h. let at =
+            sound.covered j output h in record { no_gap = at.no_gap; covered = at.covered };
+        come =
+            ∥∥₁_map sound.come (come_start number old);
+      }
 
-  come_grant : (job : Option JobView) (old : RunningNode) → next_job net inputs old ≡ job → IsSound net inputs old outputs → HasCome net inputs old outputs → HasCome net inputs (after_grant job old) outputs
+  come_grant : (job : Option JobView) (old : RunningNode) → next_job net inputs old ≡ job
+      → IsSound net inputs old outputs → HasCome net inputs old outputs
+      → HasCome net inputs (after_grant job old) outputs
   come_grant None old is sound come = come
   come_grant (Some job) old is sound come = record {
     reached = reached_grant net inputs (Some job) old come.reached;
-    inboxes = subst (λ (m : ℕ). InboxesStand (approximation net inputs m) old.inboxes) (sym (on_grant net inputs (Some job) old come.reached).same) come.inboxes;
-    out = λ other h. subst (IsJobOf net inputs old.current old.inboxes) (same job other h) (job_granted net old.kept.node inputs old job sound.kept.laid_out is);
-    released = λ j p output channel h at from. beginning_stays net inputs old _ come.reached _ output.channel p output.taken (on_grant net inputs (Some job) old come.reached) (come.released j p output channel h at from);
+    inboxes =
+        subst (λ (m : ℕ). InboxesStand (approximation net inputs m) old.inboxes)
+        (sym (on_grant net inputs (Some job) old come.reached).same) come.inboxes;
+    out = λ other h. subst (IsJobOf net inputs old.current old.inboxes) (same job other h)
+        (job_granted net old.kept.node inputs old job sound.kept.laid_out is);
+    released =
+        λ j p output channel h at from. beginning_stays net inputs old _ come.reached _ output.channel p output.taken
+        (on_grant net inputs (Some job) old come.reached) (come.released j p output channel h at from);
   }
     where
       same : (a b : JobView) → Some a ≡ Some b → a ≡ b
       same a b e = cc
 
   -- whatever was granted
-  pub granted_sound : (job : Option JobView) (old : RunningNode) → next_job net inputs old ≡ job → IsSound net inputs old outputs → IsSound net inputs (after_grant job old) outputs
+  pub granted_sound : (job : Option JobView) (old : RunningNode) → next_job net inputs old ≡ job
+      → IsSound net inputs old outputs → IsSound net inputs (after_grant job old) outputs
   granted_sound None old is sound = sound
-  granted_sound (Some job) old is sound = record { listed = sound.listed; kept = record { laid_out = sound.kept.laid_out; counts = sound.kept.counts; logs = sound.kept.logs; links = links_kept net old.kept.node old.version _ _ _ old sound.kept.links }; covered = λ j output h. let at = sound.covered j output h in record { no_gap = at.no_gap; covered = at.covered }; come = ∥∥₁_map sound.come (come_grant (Some job) old is sound) }
+  granted_sound (Some job) old is sound =
+      record {
+        listed = sound.listed;
+        kept =
+            record {
+              laid_out = sound.kept.laid_out;
+              counts = sound.kept.counts;
+              logs = sound.kept.logs;
+              links =
+                  links_kept net old.kept.node old.version _ _ _ old sound.kept.links;
+            };
+        covered = λ j output h. let at =
+            sound.covered j output h in record { no_gap = at.no_gap; covered = at.covered };
+        come =
+            ∥∥₁_map sound.come (come_grant (Some job) old is sound);
+      }
 
-  come_decide : (old : RunningNode) → HasCome net inputs old outputs → HasCome net inputs (keeping (decided old.kept) old) outputs
+  come_decide : (old : RunningNode) → HasCome net inputs old outputs
+      → HasCome net inputs (keeping (decided old.kept) old) outputs
   come_decide old come = record {
     reached = reached_decide net inputs old come.reached;
-    inboxes = subst (λ (m : ℕ). InboxesStand (approximation net inputs m) old.inboxes) (sym (on_decide net inputs old come.reached).same) come.inboxes;
+    inboxes =
+        subst (λ (m : ℕ). InboxesStand (approximation net inputs m) old.inboxes)
+        (sym (on_decide net inputs old come.reached).same) come.inboxes;
     out = come.out;
-    released = λ j p output channel h at from. beginning_stays net inputs old _ come.reached _ output.channel p output.taken (on_decide net inputs old come.reached) (come.released j p output channel h at from);
+    released =
+        λ j p output channel h at from. beginning_stays net inputs old _ come.reached _ output.channel p output.taken
+        (on_decide net inputs old come.reached) (come.released j p output channel h at from);
   }
 
   -- a decision
-  pub decided_sound : (old : RunningNode) → IsBehind old.kept.permanent (decided old.kept).permanent → IsSound net inputs old outputs → IsSound net inputs (keeping (decided old.kept) old) outputs
+  pub decided_sound : (old : RunningNode) → IsBehind old.kept.permanent (decided old.kept).permanent
+      → IsSound net inputs old outputs → IsSound net inputs (keeping (decided old.kept) old) outputs
   decided_sound old ahead sound = record {
     listed = sound.listed;
-    kept = record { laid_out = sound.kept.laid_out; counts = sound.kept.counts; logs = sound.kept.logs; links = links_kept net old.kept.node old.version _ _ _ old sound.kept.links };
+    kept = record {
+      laid_out = sound.kept.laid_out;
+      counts = sound.kept.counts;
+      logs = sound.kept.logs;
+      links =
+          links_kept net old.kept.node old.version _ _ _ old sound.kept.links;
+    };
     covered = λ j output h.
         let at = sound.covered j output h in
-        let more : sent_of old.kept.permanent output.channel ≤ sent_of (decided old.kept).permanent output.channel = ahead.sent output.channel in
+        let more : sent_of old.kept.permanent output.channel ≤ sent_of (decided old.kept).permanent output.channel =
+        ahead.sent output.channel in
         record { no_gap = at.no_gap; covered = omega (arith, at.covered, more) };
     come = ∥∥₁_map sound.come (come_decide old);
   }

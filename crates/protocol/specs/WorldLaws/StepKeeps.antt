@@ -1,5 +1,6 @@
 -- One law: whatever event happens, what is true of a world stays so.
-use Rattle.std.proofs.Common.{◌≡◌, ◌≢◌, ◌⊎◌, inl, inr, ℕ, zero, suc, ◌<◌, ◌≤◌, Bool, true, false, cond, List, ℤ, [], ◌∷◌, length, map, get_or, Option, Some, None, refl, sym, ap, subst, ◌∙◌, arith}
+use Rattle.std.proofs.Common.{◌≡◌, ◌≢◌, ◌⊎◌, inl, inr, ℕ, zero, suc, ◌<◌, ◌≤◌, Bool, true, false, cond, List, ℤ, []}
+use Rattle.std.proofs.Common.{◌∷◌, length, map, get_or, Option, Some, None, refl, sym, ap, subst, ◌∙◌, arith}
 use Rattle.std.specs.Prelude.{All, slice_get, slice_set}
 use Rattle.std.proofs.lemmas.List.{map-set}
 use Rattle.std.proofs.lemmas.List.Elements.{All-map, All-nil}
@@ -23,7 +24,8 @@ use Rattle.protocol.specs.Node.ArmedRestarts.{restart_after}
 use Rattle.protocol.specs.Node.Installing.{turned, IsOut, IsInstall}
 use Rattle.protocol.specs.Node.Layout.{is_on, AllHere}
 use Rattle.protocol.specs.Node.Modes.{is_running}
-use Rattle.protocol.specs.Node.NodeView.{NodeView, ModeView, Runs, RunningView, RunningNode, running_node, running_in, running_of, on_mode, on_running}
+use Rattle.protocol.specs.Node.NodeView.{NodeView, ModeView, Runs, RunningView, RunningNode, running_node, running_in}
+use Rattle.protocol.specs.Node.NodeView.{running_of, on_mode, on_running}
 use Rattle.protocol.specs.Node.Plans.{Plan, Prospect, Undue, Exhausted, Planned, packets_by, plan_packets}
 use Rattle.protocol.specs.Node.Starting.{AreInOrder}
 use Rattle.protocol.specs.Node.Trimming.{with_current, current_log, cut_at, trimmed_node, HasNext, TookNext}
@@ -36,7 +38,8 @@ use Rattle.protocol.specs.declared.outcome.Refusal.TheVariants.{TooLarge, Spent}
 use Rattle.protocol.specs.World.DoneView.{DoneView, IsTurnOfJob}
 use Rattle.protocol.specs.World.EventView.{NetworkAct, EventView, ByNode, ByNetwork, Install, Release, event_node}
 use Rattle.protocol.specs.World.EventView as event
-use Rattle.protocol.specs.World.Invariant.{output_of, outputs_of, AreSound, IsNumbered, RunsSoundly, StationInvariant, WorldInvariant}
+use Rattle.protocol.specs.World.Invariant.{output_of, outputs_of, AreSound, IsNumbered, RunsSoundly, StationInvariant}
+use Rattle.protocol.specs.World.Invariant.{WorldInvariant}
 use Rattle.protocol.specs.World.OutputView.{OutputView}
 use Rattle.protocol.specs.World.RecordSound.{ImageIsSound, RecordIsSound}
 use Rattle.protocol.specs.World.Replies.{has_happened, outcome_of}
@@ -44,47 +47,68 @@ use Rattle.protocol.specs.World.ReplyView.{ReplyView}
 use Rattle.protocol.specs.World.ReplyView as reply
 use Rattle.protocol.specs.World.Sound.{IsSound}
 use Rattle.protocol.specs.World.StationView.{StationView}
-use Rattle.protocol.specs.World.Steps.{IsActOf, IsAct, IsRelease, IsReleaseAt, IsStationStep, IsStep, Setting, WorldView, first_waiting, may_restart, moved_to, next_release, plan_of, round_after, sending_of, sendings_then, setting_of, traffic_acted, traffic_after, traffic_left, traffic_then}
+use Rattle.protocol.specs.World.Steps.{IsActOf, IsAct, IsRelease, IsReleaseAt, IsStationStep, IsStep, Setting}
+use Rattle.protocol.specs.World.Steps.{WorldView, first_waiting, may_restart, moved_to, next_release, plan_of}
+use Rattle.protocol.specs.World.Steps.{round_after, sending_of, sendings_then, setting_of, traffic_acted, traffic_after}
+use Rattle.protocol.specs.World.Steps.{traffic_left, traffic_then}
 use Rattle.protocol.specs.World.Traffic.{SendingIsSound, TrafficIsSound}
-use Rattle.protocol.specs.WorldLaws.HandedLaws.{next_waits, next_there, took_or_not, took_begins, took_one, took_goes_on}
+use Rattle.protocol.specs.WorldLaws.HandedLaws.{next_waits, next_there, took_or_not, took_begins, took_one}
+use Rattle.protocol.specs.WorldLaws.HandedLaws.{took_goes_on}
 use Rattle.protocol.specs.WorldLaws.KeptLaws.{step_node, step_number}
 use Rattle.protocol.specs.WorldLaws.LeaveLaws.{sound_released}
 use Rattle.protocol.specs.WorldLaws.OrderLaws.{order_ahead}
 use Rattle.protocol.specs.WorldLaws.OutputLaws.{map_at, set_cases}
 use Rattle.protocol.specs.WorldLaws.DeedLaws.{deed_sound}
-use Rattle.protocol.specs.WorldLaws.PlanLaws.{IsSoundPlan, IsSoundProspect, IsSoundSetting, IsSoundStation, made_keeps, moved_keeps, ran, runs_at, runs_now, same_keeps}
+use Rattle.protocol.specs.WorldLaws.PlanLaws.{IsSoundPlan, IsSoundProspect, IsSoundSetting, IsSoundStation, made_keeps}
+use Rattle.protocol.specs.WorldLaws.PlanLaws.{moved_keeps, ran, runs_at, runs_now, same_keeps}
 use Rattle.protocol.specs.WorldLaws.RecordLaws.{record_of}
 use Rattle.protocol.specs.WorldLaws.SendLaws.{IsSendable}
-use Rattle.protocol.specs.WorldLaws.TrafficLaws.{all_sent_sound, delayed_sound, gone_sound, repeated_sound, spelled_sound}
+use Rattle.protocol.specs.WorldLaws.TrafficLaws.{all_sent_sound, delayed_sound, gone_sound, repeated_sound}
+use Rattle.protocol.specs.WorldLaws.TrafficLaws.{spelled_sound}
 use Rattle.protocol.specs.WorldLaws.TurnLaws.{sound_done}
 
 module _ (net : Network) (inputs : List (List ℤ)) where
   -- A turn that comes back
 
-  turn_keeps : (done : DoneView) (old : StationView) (applied : Bool) (node : NodeView) → IsValid net → Fits net inputs → StationInvariant net inputs old → ∥ IsTurnOfJob done.job done.after done.taken done.sent ∥₁
-      → IsInstall net.channels done.job done.after done.taken done.sent old.node applied node → StationInvariant net inputs (moved_to node old.failures old.turns old)
-  turn_keeps done old false node valid fits inv turn step = subst (λ (n : NodeView). StationInvariant net inputs (moved_to n old.failures old.turns old)) (sym step.1) (moved_keeps net inputs old.node old.failures old.turns old inv.kept inv.runs)
-  turn_keeps done old true node valid fits inv turn step = subst (λ (n : NodeView). StationInvariant net inputs (moved_to n old.failures old.turns old)) (sym step.1) (moved_keeps net inputs _ old.failures old.turns old inv.kept runs)
+  turn_keeps : (done : DoneView) (old : StationView) (applied : Bool) (node : NodeView) → IsValid net → Fits net inputs
+      → StationInvariant net inputs old → ∥ IsTurnOfJob done.job done.after done.taken done.sent ∥₁
+      → IsInstall net.channels done.job done.after done.taken done.sent old.node applied node
+      → StationInvariant net inputs (moved_to node old.failures old.turns old)
+  turn_keeps done old false node valid fits inv turn step =
+      subst (λ (n : NodeView). StationInvariant net inputs (moved_to n old.failures old.turns old)) (sym step.1)
+      (moved_keeps net inputs old.node old.failures old.turns old inv.kept inv.runs)
+  turn_keeps done old true node valid fits inv turn step =
+      subst (λ (n : NodeView). StationInvariant net inputs (moved_to n old.failures old.turns old)) (sym step.1)
+      (moved_keeps net inputs _ old.failures old.turns old inv.kept runs)
     where
       change : RunningView → RunningView
       change = turned net.channels done.job.process done.after done.taken done.sent
 
-      runs : (run : RunningNode) → running_of (on_running (turned net.channels done.job.process done.after done.taken done.sent) old.node) ≡ Some run → RunsSoundly net inputs run (outputs_of old.outlets)
+      runs : (run : RunningNode)
+          → running_of (on_running (turned net.channels done.job.process done.after done.taken done.sent) old.node)
+          ≡ Some run → RunsSoundly net inputs run (outputs_of old.outlets)
       runs run is =
-          let before = ran old.node.kept old.node.version (turned net.channels done.job.process done.after done.taken done.sent) old.node.mode run is in
+          let before =
+          ran old.node.kept old.node.version (turned net.channels done.job.process done.after done.taken done.sent)
+          old.node.mode run is in
           let now = running_node old.node.kept old.node.version before.0 in
           let sound = runs_at net inputs old inv before.0 before.1 in
           let out : now.out ≡ Some done.job = subst (λ (m : ModeView). IsOut done.job m) before.1 step.0 in
           subst (λ (n : RunningNode). RunsSoundly net inputs n (outputs_of old.outlets)) before.2
           (record {
-            order = order_ahead now.kept now.current _ (behind_installed net.channels done.job.process done.after done.taken done.sent now.current) sound.order;
-            sound = sound_done net inputs valid now (outputs_of old.outlets) done.job done.after done.taken done.sent fits sound.sound out turn;
+            order = order_ahead now.kept now.current
+                _ (behind_installed net.channels done.job.process done.after done.taken done.sent now.current)
+                sound.order;
+            sound = sound_done net inputs valid now (outputs_of old.outlets) done.job done.after done.taken done.sent
+                fits sound.sound out turn;
           })
 
   -- An item that leaves
 
   -- a log that goes back to what has left goes back to what has left by now
-  image_set : (home : ℕ) (image : ImageView) (outputs : List OutputView) (j : ℕ) (x y : OutputView) → slice_get outputs j ≡ Some x → y.channel ≡ x.channel → length x.taken ≤ length y.taken → ImageIsSound net home inputs image outputs
+  image_set : (home : ℕ) (image : ImageView) (outputs : List OutputView) (j : ℕ) (x y : OutputView)
+      → slice_get outputs j ≡ Some x → y.channel ≡ x.channel → length x.taken ≤ length y.taken
+      → ImageIsSound net home inputs image outputs
       → ImageIsSound net home inputs image (slice_set outputs j y)
   image_set home image outputs j x y there channel longer sound = record {
     laid_out = sound.laid_out;
@@ -93,17 +117,24 @@ module _ (net : Network) (inputs : List (List ℤ)) where
     no_gap = λ i output is. at i output (set_cases outputs j i y output is);
   }
     where
-      at : (i : ℕ) (output : OutputView) → ((i ≡ j) × (y ≡ output)) ⊎ ((i ≢ j) × (slice_get outputs i ≡ Some output)) → base_of image output.channel ≤ length output.taken
+      at : (i : ℕ) (output : OutputView) → ((i ≡ j) × (y ≡ output)) ⊎ ((i ≢ j) × (slice_get outputs i ≡ Some output))
+          → base_of image output.channel ≤ length output.taken
       at i output (inr other) = sound.no_gap i output other.1
       at i output (inl here) =
           let gap = sound.no_gap j x there in
           let base : base_of image y.channel ≡ base_of image x.channel = ap (base_of image) channel in
           subst (λ (o : OutputView). base_of image o.channel ≤ length o.taken) here.1 (omega (arith, gap, base, longer))
 
-  release_at : (round place : ℕ) (running : RunningView) (old : StationView) (answer : ReplyView) (new : StationView) → old.node.mode ≡ Runs running → next_release round old ≡ Some place → StationInvariant net inputs old
+  release_at : (round place : ℕ) (running : RunningView) (old : StationView) (answer : ReplyView) (new : StationView)
+      → old.node.mode ≡ Runs running → next_release round old ≡ Some place → StationInvariant net inputs old
       → IsReleaseAt round place old answer new → StationInvariant net inputs new
   release_at round place running old answer new mode next inv step =
-      same_keeps net inputs _ new step.same (record { kept = subst (RecordIsSound net inputs old.node.kept) (sym outputs) kept; runs = λ run is. subst (RunsSoundly net inputs run) (sym outputs) (runs run is) })
+      same_keeps net inputs _ new step.same
+      (record {
+        kept = subst (RecordIsSound net inputs old.node.kept) (sym outputs) kept;
+        runs =
+            λ run is. subst (RunsSoundly net inputs run) (sym outputs) (runs run is);
+      })
     where
       before : RunningNode
       before = running_node old.node.kept old.node.version running
@@ -112,30 +143,38 @@ module _ (net : Network) (inputs : List (List ℤ)) where
       was = runs_at net inputs old inv running mode
 
       node : RunningNode
-      node = with_current (trimmed_image step.outlet.channel (length step.later.taken) running.current) (running_node old.node.kept old.node.version running)
+      node = with_current (trimmed_image step.outlet.channel (length step.later.taken) running.current)
+          (running_node old.node.kept old.node.version running)
 
       log_now : current_log step.outlet.channel old.node.mode ≡ log_of running.current step.outlet.channel
       log_now = ap (current_log step.outlet.channel) mode
 
-      took : (step.later.taken ≡ step.outlet.taken) ⊎ TookNext (log_of running.current step.outlet.channel) step.outlet.taken step.later.taken
-      took = subst (λ (log : Option LogState). (step.later.taken ≡ step.outlet.taken) ⊎ TookNext log step.outlet.taken step.later.taken) log_now
+      took : (step.later.taken ≡ step.outlet.taken)
+          ⊎ TookNext (log_of running.current step.outlet.channel) step.outlet.taken step.later.taken
+      took = subst
+          (λ (log : Option LogState). (step.later.taken ≡ step.outlet.taken)
+          ⊎ TookNext log step.outlet.taken step.later.taken) log_now
           (took_or_not round (current_log step.outlet.channel old.node.mode) step.outlet answer step.later step.handed)
 
       more : length step.outlet.taken < sent_of old.node.kept.permanent step.outlet.channel
       more = next_waits round place old step.outlet next step.there
 
       covers : length step.later.taken ≤ sent_of old.node.kept.permanent step.outlet.channel
-      covers = let one = took_one (log_of running.current step.outlet.channel) step.outlet.taken step.later.taken took in omega (arith, one, more)
+      covers = let one =
+          took_one (log_of running.current step.outlet.channel) step.outlet.taken step.later.taken took in
+          omega (arith, one, more)
 
       order : AreInOrder old.node.kept (trimmed_image step.outlet.channel (length step.later.taken) running.current)
-      order = order_ahead old.node.kept running.current (trimmed_image step.outlet.channel (length step.later.taken) running.current)
+      order = order_ahead old.node.kept running.current
+          (trimmed_image step.outlet.channel (length step.later.taken) running.current)
           (behind_trimmed step.outlet.channel (length step.later.taken) running.current) was.order
 
       there : slice_get (outputs_of old.outlets) place ≡ Some (output_of step.outlet)
       there = map_at output_of old.outlets place step.outlet step.there
 
       has : HasNext (log_of running.current step.outlet.channel) (length step.outlet.taken)
-      has = subst (λ (log : Option LogState). HasNext log (length step.outlet.taken)) log_now (next_there net inputs old round place step.outlet inv next step.there)
+      has = subst (λ (log : Option LogState). HasNext log (length step.outlet.taken)) log_now
+          (next_there net inputs old round place step.outlet inv next step.there)
 
       logged : log_of running.current step.outlet.channel ≢ None
       logged none = subst (λ (o : Option LogState). HasNext o (length step.outlet.taken)) none has
@@ -149,68 +188,117 @@ module _ (net : Network) (inputs : List (List ℤ)) where
       more_items : length step.outlet.taken ≤ length step.later.taken
       more_items = prefix_length step.outlet.taken step.later.taken longer
 
-      outputs : outputs_of (slice_set old.outlets place step.later) ≡ slice_set (outputs_of old.outlets) place (record { channel = step.outlet.channel; taken = step.later.taken })
-      outputs = map-set output_of old.outlets place step.later ∙ ap (λ (c : ℕ). slice_set (outputs_of old.outlets) place (record { channel = c; taken = step.later.taken })) step.handed.channel
+      outputs : outputs_of (slice_set old.outlets place step.later)
+          ≡ slice_set (outputs_of old.outlets) place
+          (record { channel = step.outlet.channel; taken = step.later.taken })
+      outputs =
+          map-set output_of old.outlets place step.later
+          ∙ ap (λ (c : ℕ). slice_set (outputs_of old.outlets) place (record { channel = c; taken = step.later.taken }))
+          step.handed.channel
 
-      sound : IsSound net inputs (with_current (trimmed_image step.outlet.channel (length step.later.taken) running.current) (running_node old.node.kept old.node.version running))
-          (slice_set (outputs_of old.outlets) place (record { channel = step.outlet.channel; taken = step.later.taken }))
-      sound = sound_released net inputs (running_node old.node.kept old.node.version running) (outputs_of old.outlets) place (output_of step.outlet) step.later.taken was.sound there longer covers
-          (λ log history. took_goes_on (log_of running.current step.outlet.channel) step.outlet.taken step.later.taken history log has took) logged
+      sound : IsSound net inputs
+          (with_current (trimmed_image step.outlet.channel (length step.later.taken) running.current)
+          (running_node old.node.kept old.node.version running))
+          (slice_set (outputs_of old.outlets) place
+          (record { channel = step.outlet.channel; taken = step.later.taken }))
+      sound = sound_released net inputs (running_node old.node.kept old.node.version running) (outputs_of old.outlets)
+          place (output_of step.outlet) step.later.taken was.sound there longer covers
+          (λ log history. took_goes_on (log_of running.current step.outlet.channel) step.outlet.taken step.later.taken
+          history log has took) logged
 
-      kept : RecordIsSound net inputs old.node.kept (slice_set (outputs_of old.outlets) place (record { channel = step.outlet.channel; taken = step.later.taken }))
-      kept = record_of net inputs _ (with_current (trimmed_image step.outlet.channel (length step.later.taken) running.current) (running_node old.node.kept old.node.version running)) inv.kept.undecided inv.kept.bounded
-          (image_set old.node.kept.node old.node.kept.permanent (outputs_of old.outlets) place (output_of step.outlet) (record { channel = step.outlet.channel; taken = step.later.taken }) there refl more_items inv.kept.permanent)
-          (λ tentative is. image_set old.node.kept.node tentative.image (outputs_of old.outlets) place (output_of step.outlet) (record { channel = step.outlet.channel; taken = step.later.taken }) there refl more_items (inv.kept.held tentative is)) order sound
+      kept : RecordIsSound net inputs old.node.kept
+          (slice_set (outputs_of old.outlets) place
+          (record { channel = step.outlet.channel; taken = step.later.taken }))
+      kept = record_of net inputs
+          _ (with_current (trimmed_image step.outlet.channel (length step.later.taken) running.current)
+          (running_node old.node.kept old.node.version running)) inv.kept.undecided inv.kept.bounded
+          (image_set old.node.kept.node old.node.kept.permanent (outputs_of old.outlets) place (output_of step.outlet)
+          (record { channel = step.outlet.channel; taken = step.later.taken }) there refl more_items
+          inv.kept.permanent)
+          (λ tentative is. image_set old.node.kept.node tentative.image (outputs_of old.outlets) place
+          (output_of step.outlet) (record { channel = step.outlet.channel; taken = step.later.taken }) there refl
+          more_items (inv.kept.held tentative is)) order sound
 
-      runs : (run : RunningNode) → running_of (trimmed_node step.outlet.channel (length step.later.taken) old.node) ≡ Some run
-          → RunsSoundly net inputs run (slice_set (outputs_of old.outlets) place (record { channel = step.outlet.channel; taken = step.later.taken }))
+      runs : (run : RunningNode)
+          → running_of (trimmed_node step.outlet.channel (length step.later.taken) old.node) ≡ Some run
+          → RunsSoundly net inputs run
+          (slice_set (outputs_of old.outlets) place
+          (record { channel = step.outlet.channel; taken = step.later.taken }))
       runs run is =
-          let whole : running_in old.node.kept old.node.version (on_mode (cut_at step.outlet.channel (length step.later.taken)) (Runs running)) ≡ Some run =
-          sym (ap (λ (m : ModeView). running_in old.node.kept old.node.version (on_mode (cut_at step.outlet.channel (length step.later.taken)) m)) mode) ∙ is in
-          let same : with_current (trimmed_image step.outlet.channel (length step.later.taken) running.current) (running_node old.node.kept old.node.version running) ≡ run = cc in
-          subst (λ (n : RunningNode). RunsSoundly net inputs n (slice_set (outputs_of old.outlets) place (record { channel = step.outlet.channel; taken = step.later.taken }))) same (record { order = order; sound = sound })
+          let whole : running_in old.node.kept old.node.version
+          (on_mode (cut_at step.outlet.channel (length step.later.taken)) (Runs running)) ≡ Some run =
+          sym (ap (λ (m : ModeView). running_in old.node.kept old.node.version
+          (on_mode (cut_at step.outlet.channel (length step.later.taken)) m)) mode) ∙ is in
+          let same : with_current (trimmed_image step.outlet.channel (length step.later.taken) running.current)
+          (running_node old.node.kept old.node.version running) ≡ run = cc in
+          subst (λ (n : RunningNode). RunsSoundly net inputs n
+          (slice_set (outputs_of old.outlets) place
+          (record { channel = step.outlet.channel; taken = step.later.taken }))) same
+          (record { order = order; sound = sound })
 
-  release_keeps : (round place : ℕ) (old : StationView) (answer : ReplyView) (new : StationView) → next_release round old ≡ Some place → StationInvariant net inputs old → IsReleaseAt round place old answer new → StationInvariant net inputs new
+  release_keeps : (round place : ℕ) (old : StationView) (answer : ReplyView) (new : StationView)
+      → next_release round old ≡ Some place → StationInvariant net inputs old → IsReleaseAt round place old answer new
+      → StationInvariant net inputs new
   release_keeps round place old answer new next inv step = at (is_running old.node.mode) refl next
     where
-      at : (b : Bool) → is_running old.node.mode ≡ b → cond b (first_waiting old.node.kept round 0 old.outlets) None ≡ Some place → StationInvariant net inputs new
+      at : (b : Bool) → is_running old.node.mode ≡ b
+          → cond b (first_waiting old.node.kept round 0 old.outlets) None ≡ Some place → StationInvariant net inputs new
       at false test e = absurd (cc)
-      at true test e = let runs = runs_now old.node.mode test in release_at round place runs.0 old answer new runs.1 next inv step
+      at true test e = let runs = runs_now old.node.mode test in
+          release_at round place runs.0 old answer new runs.1 next inv step
 
-  release_or_not : (round : ℕ) (o : Option ℕ) (old : StationView) (answer : ReplyView) (new : StationView) → next_release round old ≡ o → StationInvariant net inputs old → IsRelease round o old answer new → StationInvariant net inputs new
+  release_or_not : (round : ℕ) (o : Option ℕ) (old : StationView) (answer : ReplyView) (new : StationView)
+      → next_release round old ≡ o → StationInvariant net inputs old → IsRelease round o old answer new
+      → StationInvariant net inputs new
   release_or_not round None old answer new next inv step = same_keeps net inputs old new step.1 inv
-  release_or_not round (Some place) old answer new next inv step = release_keeps round place old answer new next inv step
+  release_or_not round (Some place) old answer new next inv step =
+      release_keeps round place old answer new next inv step
 
   -- Stations of a list
 
-  set_keeps : (xs : List StationView) (place : ℕ) (y : StationView) → AreSound net inputs xs → StationInvariant net inputs y → AreSound net inputs (slice_set xs place y)
+  set_keeps : (xs : List StationView) (place : ℕ) (y : StationView) → AreSound net inputs xs
+      → StationInvariant net inputs y → AreSound net inputs (slice_set xs place y)
   set_keeps [] place y sound later i station is = absurd (cc)
-  set_keeps (x ∷ xs) zero y sound later zero station is = let same : y ≡ station = cc in subst (StationInvariant net inputs) same later
+  set_keeps (x ∷ xs) zero y sound later zero station is = let same : y ≡ station = cc in
+      subst (StationInvariant net inputs) same later
   set_keeps (x ∷ xs) zero y sound later (suc i) station is = sound (suc i) station is
   set_keeps (x ∷ xs) (suc place) y sound later zero station is = sound zero station is
-  set_keeps (x ∷ xs) (suc place) y sound later (suc i) station is = set_keeps xs place y (λ j s there. sound (suc j) s there) later i station is
+  set_keeps (x ∷ xs) (suc place) y sound later (suc i) station is =
+      set_keeps xs place y (λ j s there. sound (suc j) s there) later i station is
 
 -- Each event of a station
 module _ (setting : Setting) (sure : IsSoundSetting setting) where
-  pub station_keeps : (fits : RecordView → Bool) (e : EventView) (old : StationView) (answer : ReplyView) (new : StationView) → IsSoundStation setting old
+  pub station_keeps : (fits : RecordView → Bool) (e : EventView) (old : StationView) (answer : ReplyView)
+      (new : StationView) → IsSoundStation setting old
       → IsStationStep setting fits e old answer new → StationInvariant setting.net setting.inputs new
   station_keeps fits (ByNode k deed) old answer new sound step =
       same_keeps setting.net setting.inputs _ new step.same
-      (made_keeps setting.net setting.inputs old (restart_after old.node.armed step.call setting.round) (plan_of setting k deed old).prospect (outcome_of answer) new.node new.failures _ sound.inv
+      (made_keeps setting.net setting.inputs old (restart_after old.node.armed step.call setting.round)
+      (plan_of setting k deed old).prospect (outcome_of answer) new.node new.failures _ sound.inv
       (deed_sound setting sure old sound k deed) step.step)
   station_keeps fits (Install done) old answer new sound step =
-      same_keeps setting.net setting.inputs _ new step.same (turn_keeps setting.net setting.inputs done old step.applied new.node sure.valid sure.fits sound.inv step.turn step.step)
-  station_keeps fits (Release k) old answer new sound step = release_or_not setting.net setting.inputs setting.round (next_release setting.round old) old answer new refl sound.inv step
-  station_keeps fits (ByNetwork k place act) old answer new sound step = same_keeps setting.net setting.inputs old new step.1 sound.inv
+      same_keeps setting.net setting.inputs _ new step.same
+      (turn_keeps setting.net setting.inputs done old step.applied new.node sure.valid sure.fits sound.inv
+      step.turn step.step)
+  station_keeps fits (Release k) old answer new sound step =
+      release_or_not setting.net setting.inputs setting.round (next_release setting.round old) old answer new refl
+      sound.inv step
+  station_keeps fits (ByNetwork k place act) old answer new sound step =
+      same_keeps setting.net setting.inputs old new step.1 sound.inv
 
-  act_keeps : (place : ℕ) (room : Option (RecordView → Bool)) (o : Option StationView) (e : EventView) (old : List StationView) (answer : ReplyView) (new : List StationView) → slice_get old place ≡ o
-      → ((station : StationView) → slice_get old place ≡ Some station → IsSoundStation setting station) → AreSound setting.net setting.inputs old
+  act_keeps : (place : ℕ) (room : Option (RecordView → Bool)) (o : Option StationView) (e : EventView)
+      (old : List StationView) (answer : ReplyView) (new : List StationView) → slice_get old place ≡ o
+      → ((station : StationView) → slice_get old place ≡ Some station → IsSoundStation setting station)
+      → AreSound setting.net setting.inputs old
       → IsActOf setting place room o e old answer new → AreSound setting.net setting.inputs new
-  act_keeps place None o e old answer new there here sound act = subst (AreSound setting.net setting.inputs) (sym act.1) sound
-  act_keeps place (Some room) None e old answer new there here sound act = subst (AreSound setting.net setting.inputs) (sym act.1) sound
+  act_keeps place None o e old answer new there here sound act =
+      subst (AreSound setting.net setting.inputs) (sym act.1) sound
+  act_keeps place (Some room) None e old answer new there here sound act =
+      subst (AreSound setting.net setting.inputs) (sym act.1) sound
   act_keeps place (Some room) (Some station) e old answer new there here sound act =
       subst (AreSound setting.net setting.inputs) (sym act.stations)
-      (set_keeps setting.net setting.inputs old place act.later sound (station_keeps room e station answer act.later (here station there) act.step))
+      (set_keeps setting.net setting.inputs old place act.later sound
+      (station_keeps room e station answer act.later (here station there) act.step))
 
 -- there are as many as before
 set_length : (xs : List StationView) (place : ℕ) (y : StationView) → length (slice_set xs place y) ≡ length xs
@@ -218,102 +306,140 @@ set_length [] place y = refl
 set_length (x ∷ xs) zero y = refl
 set_length (x ∷ xs) (suc place) y = ap suc (set_length xs place y)
 
-act_length : (setting : Setting) (place : ℕ) (room : Option (RecordView → Bool)) (o : Option StationView) (e : EventView) (old : List StationView) (answer : ReplyView) (new : List StationView)
+act_length : (setting : Setting) (place : ℕ) (room : Option (RecordView → Bool)) (o : Option StationView)
+    (e : EventView) (old : List StationView) (answer : ReplyView) (new : List StationView)
     → IsActOf setting place room o e old answer new → length new ≡ length old
 act_length setting place None o e old answer new act = ap (length {A = StationView}) act.1
 act_length setting place (Some room) None e old answer new act = ap (length {A = StationView}) act.1
-act_length setting place (Some room) (Some station) e old answer new act = ap (length {A = StationView}) act.stations ∙ set_length old place act.later
+act_length setting place (Some room) (Some station) e old answer new act =
+    ap (length {A = StationView}) act.stations ∙ set_length old place act.later
 
 -- each has its number still
-set_numbered : (xs : List StationView) (place : ℕ) (x y : StationView) → IsNumbered xs → slice_get xs place ≡ Some x → y.number ≡ x.number → y.node.kept.node ≡ x.node.kept.node → IsNumbered (slice_set xs place y)
+set_numbered : (xs : List StationView) (place : ℕ) (x y : StationView) → IsNumbered xs → slice_get xs place ≡ Some x
+    → y.number ≡ x.number → y.node.kept.node ≡ x.node.kept.node → IsNumbered (slice_set xs place y)
 set_numbered xs place x y numbered there number node i station is = at (set_cases xs place i y station is)
   where
-    at : ((i ≡ place) × (y ≡ station)) ⊎ ((i ≢ place) × (slice_get xs i ≡ Some station)) → (station.number ≡ i) × (station.node.kept.node ≡ i)
+    at : ((i ≡ place) × (y ≡ station)) ⊎ ((i ≢ place) × (slice_get xs i ≡ Some station))
+        → (station.number ≡ i) × (station.node.kept.node ≡ i)
     at (inr other) = numbered i station other.1
     at (inl here) =
         let before = numbered place x there in
-        subst (λ (s : StationView). (s.number ≡ i) × (s.node.kept.node ≡ i)) here.1 (number ∙ (before.0 ∙ sym here.0), node ∙ (before.1 ∙ sym here.0))
+        subst (λ (s : StationView). (s.number ≡ i) × (s.node.kept.node ≡ i)) here.1
+        (number ∙ (before.0 ∙ sym here.0), node ∙ (before.1 ∙ sym here.0))
 
-act_numbered : (setting : Setting) (sure : IsSoundSetting setting) (place : ℕ) (room : Option (RecordView → Bool)) (o : Option StationView) (e : EventView) (old : List StationView) (answer : ReplyView) (new : List StationView)
-    → slice_get old place ≡ o → ((station : StationView) → slice_get old place ≡ Some station → IsSoundStation setting station) → IsNumbered old → IsActOf setting place room o e old answer new → IsNumbered new
+act_numbered : (setting : Setting) (sure : IsSoundSetting setting) (place : ℕ) (room : Option (RecordView → Bool))
+    (o : Option StationView) (e : EventView) (old : List StationView) (answer : ReplyView) (new : List StationView)
+    → slice_get old place ≡ o
+    → ((station : StationView) → slice_get old place ≡ Some station → IsSoundStation setting station)
+    → IsNumbered old → IsActOf setting place room o e old answer new → IsNumbered new
 act_numbered setting sure place None o e old answer new there here numbered act = subst IsNumbered (sym act.1) numbered
-act_numbered setting sure place (Some room) None e old answer new there here numbered act = subst IsNumbered (sym act.1) numbered
+act_numbered setting sure place (Some room) None e old answer new there here numbered act =
+    subst IsNumbered (sym act.1) numbered
 act_numbered setting sure place (Some room) (Some station) e old answer new there here numbered act =
     subst IsNumbered (sym act.stations)
-    (set_numbered old place station act.later numbered there (step_number setting room e station answer act.later act.step) (step_node setting sure room e station answer act.later (here station there) act.step))
+    (set_numbered old place station act.later numbered there
+    (step_number setting room e station answer act.later act.step)
+    (step_node setting sure room e station answer act.later (here station there) act.step))
 
 -- ---- what is in flight
 
 -- packets that are sent are sound where they may be
 module _ (net : Network) (inputs : List (List ℤ)) where
-  sending_sound : (packet : Packet) → IsPacket packet → IsSendable net inputs packet → SendingIsSound net inputs (sending_of packet)
-  sending_sound packet allowed may = spelled_sound net inputs packet (packet_text packet) (record { allowed = allowed; spelled = refl }) may.names may.sound
+  sending_sound : (packet : Packet) → IsPacket packet → IsSendable net inputs packet
+      → SendingIsSound net inputs (sending_of packet)
+  sending_sound packet allowed may =
+      spelled_sound net inputs packet (packet_text packet) (record { allowed = allowed; spelled = refl }) may.names
+      may.sound
 
-  sendings_sound : (packets : List Packet) → All (IsSendable net inputs) packets → All IsPacket packets → All (SendingIsSound net inputs) (map sending_of packets)
-  sendings_sound packets may allowed = All-map (SendingIsSound net inputs) sending_of packets (λ k d within. sending_sound (get_or packets k d) (allowed k d within) (may k d within))
+  sendings_sound : (packets : List Packet) → All (IsSendable net inputs) packets → All IsPacket packets
+      → All (SendingIsSound net inputs) (map sending_of packets)
+  sendings_sound packets may allowed =
+      All-map (SendingIsSound net inputs) sending_of packets
+      (λ k d within. sending_sound (get_or packets k d) (allowed k d within) (may k d within))
 
-  plan_sendable : (old : StationView) (plan : Plan) → IsSoundPlan net inputs old plan → (outcome : Outcome) → All (IsSendable net inputs) (plan_packets plan outcome)
+  plan_sendable : (old : StationView) (plan : Plan) → IsSoundPlan net inputs old plan → (outcome : Outcome)
+      → All (IsSendable net inputs) (plan_packets plan outcome)
   plan_sendable old plan sound outcome.NotDue = All-nil (IsSendable net inputs)
   plan_sendable old plan sound outcome.Made = sound.sendable
   plan_sendable old plan sound (outcome.Refused TooLarge) = sound.refusable
   plan_sendable old plan sound (outcome.Refused Spent) = All-nil (IsSendable net inputs)
   plan_sendable old plan sound outcome.Failed = All-nil (IsSendable net inputs)
 
-  sendable : (old : StationView) (prospect : Prospect) → IsSoundProspect net inputs old prospect → (outcome : Outcome) → All (IsSendable net inputs) (packets_by prospect outcome)
+  sendable : (old : StationView) (prospect : Prospect) → IsSoundProspect net inputs old prospect → (outcome : Outcome)
+      → All (IsSendable net inputs) (packets_by prospect outcome)
   sendable old Undue sound outcome = All-nil (IsSendable net inputs)
   sendable old (Exhausted looks) sound outcome = All-nil (IsSendable net inputs)
   sendable old (Planned plan) sound outcome = plan_sendable old plan sound outcome
 
-  left_sound : (traffic : Traffic) (k : ℕ) (came : Option ℕ) → TrafficIsSound net inputs traffic → TrafficIsSound net inputs (traffic_left traffic k came)
+  left_sound : (traffic : Traffic) (k : ℕ) (came : Option ℕ) → TrafficIsSound net inputs traffic
+      → TrafficIsSound net inputs (traffic_left traffic k came)
   left_sound traffic k None flying = flying
   left_sound traffic k (Some place) flying = gone_sound net inputs traffic k place flying
 
-  acted_sound : (act : NetworkAct) (traffic : Traffic) (k place : ℕ) → TrafficIsSound net inputs traffic → TrafficIsSound net inputs (traffic_acted act traffic k place)
+  acted_sound : (act : NetworkAct) (traffic : Traffic) (k place : ℕ) → TrafficIsSound net inputs traffic
+      → TrafficIsSound net inputs (traffic_acted act traffic k place)
   acted_sound event.Lose traffic k place flying = gone_sound net inputs traffic k place flying
   acted_sound event.Repeat traffic k place flying = repeated_sound net inputs traffic k place flying
   acted_sound (event.Delay rounds) traffic k place flying = delayed_sound net inputs traffic k place rounds flying
 
 -- whatever happens to it
-module _ (setting : Setting) (sure : IsSoundSetting setting) (place : ℕ) (old : List StationView) (answer : ReplyView) (new : List StationView) where
+module _ (setting : Setting) (sure : IsSoundSetting setting) (place : ℕ) (old : List StationView) (answer : ReplyView)
+    (new : List StationView) where
   not_due : answer ≡ reply.NotDue → has_happened answer ≡ true → ⊥
   not_due is happened = (let none : has_happened answer ≡ false = ap has_happened is in absurd (cc))
 
-  then_sound : (e : EventView) (o : Option StationView) → TrafficIsSound setting.net setting.inputs (traffic_then setting e o)
+  then_sound : (e : EventView) (o : Option StationView)
+      → TrafficIsSound setting.net setting.inputs (traffic_then setting e o)
   then_sound (ByNode k deed) None = sure.traffic
-  then_sound (ByNode k deed) (Some station) = left_sound setting.net setting.inputs setting.traffic k (plan_of setting k deed station).came sure.traffic
+  then_sound (ByNode k deed) (Some station) =
+      left_sound setting.net setting.inputs setting.traffic k (plan_of setting k deed station).came sure.traffic
   then_sound (Install done) o = sure.traffic
   then_sound (Release k) o = sure.traffic
   then_sound (ByNetwork k at act) o = acted_sound setting.net setting.inputs act setting.traffic k at sure.traffic
 
-  sent_sound : (e : EventView) (room : Option (RecordView → Bool)) (o : Option StationView) → ((station : StationView) → o ≡ Some station → IsSoundStation setting station)
-      → has_happened answer ≡ true → IsActOf setting place room o e old answer new → All (SendingIsSound setting.net setting.inputs) (sendings_then setting e answer o)
+  sent_sound : (e : EventView) (room : Option (RecordView → Bool)) (o : Option StationView)
+      → ((station : StationView) → o ≡ Some station → IsSoundStation setting station)
+      → has_happened answer ≡ true → IsActOf setting place room o e old answer new
+      → All (SendingIsSound setting.net setting.inputs) (sendings_then setting e answer o)
   sent_sound (ByNode k deed) room None sound happened act = All-nil (SendingIsSound setting.net setting.inputs)
   sent_sound (ByNode k deed) None (Some station) sound happened act = absurd (not_due act.0 happened)
   sent_sound (ByNode k deed) (Some room) (Some station) sound happened act =
-      sendings_sound setting.net setting.inputs (packets_by (plan_of setting k deed station).prospect (outcome_of answer))
-      (sendable setting.net setting.inputs station (plan_of setting k deed station).prospect (deed_sound setting sure station (sound station refl) k deed) (outcome_of answer)) act.step.allowed
+      sendings_sound setting.net setting.inputs
+      (packets_by (plan_of setting k deed station).prospect (outcome_of answer))
+      (sendable setting.net setting.inputs station (plan_of setting k deed station).prospect
+      (deed_sound setting sure station (sound station refl) k deed) (outcome_of answer)) act.step.allowed
   sent_sound (Install done) room o sound happened act = All-nil (SendingIsSound setting.net setting.inputs)
   sent_sound (Release k) room o sound happened act = All-nil (SendingIsSound setting.net setting.inputs)
   sent_sound (ByNetwork k at act) room o sound happened step = All-nil (SendingIsSound setting.net setting.inputs)
 
-  traffic_keeps : (e : EventView) (room : Option (RecordView → Bool)) (o : Option StationView) → ((station : StationView) → o ≡ Some station → IsSoundStation setting station)
-      → IsActOf setting place room o e old answer new → TrafficIsSound setting.net setting.inputs (traffic_after setting e answer o)
+  traffic_keeps : (e : EventView) (room : Option (RecordView → Bool)) (o : Option StationView)
+      → ((station : StationView) → o ≡ Some station → IsSoundStation setting station)
+      → IsActOf setting place room o e old answer new
+      → TrafficIsSound setting.net setting.inputs (traffic_after setting e answer o)
   traffic_keeps e room o sound act = at (has_happened answer) refl
     where
-      at : (b : Bool) → has_happened answer ≡ b → TrafficIsSound setting.net setting.inputs (cond b (all_sent setting.round (sendings_then setting e answer o) (traffic_then setting e o)) setting.traffic)
+      at : (b : Bool) → has_happened answer ≡ b
+          → TrafficIsSound setting.net setting.inputs
+          (cond b (all_sent setting.round (sendings_then setting e answer o) (traffic_then setting e o))
+          setting.traffic)
       at false none = sure.traffic
-      at true happened = all_sent_sound setting.net setting.inputs setting.round (sendings_then setting e answer o) (traffic_then setting e o) (then_sound e o) (sent_sound e room o sound happened act)
+      at true happened =
+          all_sent_sound setting.net setting.inputs setting.round (sendings_then setting e answer o)
+          (traffic_then setting e o) (then_sound e o) (sent_sound e room o sound happened act)
 
 -- ---- a world
 
 -- where nodes may restart there is but one
-pub all_here : (net : Network) (stations : List StationView) → length stations ≡ node_count net → IsNumbered stations → (place : ℕ) (station : StationView) → slice_get stations place ≡ Some station → may_restart (length stations) ≡ true → AllHere net station.node.kept.node
+pub all_here : (net : Network) (stations : List StationView) → length stations ≡ node_count net → IsNumbered stations
+    → (place : ℕ) (station : StationView) → slice_get stations place ≡ Some station
+    → may_restart (length stations) ≡ true → AllHere net station.node.kept.node
 all_here net stations count numbered place station there alone p code is =
     let one : length stations ≡ 1 = eqb-true (length stations) 1 alone in
     let within = slice_get_within stations place station there in
     let first : place ≡ 0 = omega (arith, one, within) in
     let below = node_below net p code is in
-    let node : code.node ≡ station.node.kept.node = (let named = (numbered place station there).1 in omega (arith, one, count, below, first, named)) in
+    let node : code.node ≡ station.node.kept.node =
+    (let named = (numbered place station there).1 in omega (arith, one, count, below, first, named)) in
     ap (is_on station.node.kept.node) is ∙ eq-eqb code.node station.node.kept.node node
 
 -- a sound world's setting is sound
@@ -321,7 +447,8 @@ pub world_sure : (world : WorldView) → WorldInvariant world → IsSoundSetting
 world_sure world inv = record { valid = inv.valid; fits = inv.fits; traffic = inv.traffic }
 
 -- and so is each of its stations
-pub world_station : (world : WorldView) → WorldInvariant world → (place : ℕ) (station : StationView) → slice_get world.stations place ≡ Some station → IsSoundStation (setting_of world) station
+pub world_station : (world : WorldView) → WorldInvariant world → (place : ℕ) (station : StationView)
+    → slice_get world.stations place ≡ Some station → IsSoundStation (setting_of world) station
 world_station world inv place station there = record {
   inv = inv.stations place station there;
   named = (let named = inv.numbered place station there in named.1 ∙ sym named.0);
@@ -329,36 +456,57 @@ world_station world inv place station there = record {
 }
 
 -- whatever event happens, and whatever is answered
-pub step_keeps : (rooms : List (RecordView → Bool)) (e : EventView) (old : WorldView) (answer : ReplyView) (new : WorldView) → WorldInvariant old → IsStep rooms e old answer new → WorldInvariant new
+pub step_keeps : (rooms : List (RecordView → Bool)) (e : EventView) (old : WorldView) (answer : ReplyView)
+    (new : WorldView) → WorldInvariant old → IsStep rooms e old answer new → WorldInvariant new
 step_keeps rooms e old answer new inv step =
     let setting = setting_of old in
     let sure = world_sure old inv in
     let room = slice_get rooms (event_node e) in
     let found = slice_get old.stations (event_node e) in
-    let stations = act_keeps setting sure (event_node e) room found e old.stations answer new.stations refl (world_station old inv (event_node e)) inv.stations step.act in
-    let count : length new.stations ≡ length old.stations = act_length setting (event_node e) room found e old.stations answer new.stations step.act in
+    let stations =
+    act_keeps setting sure (event_node e) room found e old.stations answer new.stations refl
+    (world_station old inv (event_node e)) inv.stations step.act in
+    let count : length new.stations ≡ length old.stations =
+    act_length setting (event_node e) room found e old.stations answer new.stations step.act in
     let flying : TrafficIsSound old.net old.inputs (traffic_after setting e answer found) =
-    traffic_keeps setting sure (event_node e) old.stations answer new.stations e room found (λ station there. world_station old inv (event_node e) station there) step.act in
-    let flown : TrafficIsSound old.net old.inputs new.traffic = subst (TrafficIsSound old.net old.inputs) (sym step.traffic) flying in
+    traffic_keeps setting sure (event_node e) old.stations answer new.stations e room found
+    (λ station there. world_station old inv (event_node e) station there) step.act in
+    let flown : TrafficIsSound old.net old.inputs new.traffic =
+    subst (TrafficIsSound old.net old.inputs) (sym step.traffic) flying in
     record {
       valid = subst IsValid (sym step.net) inv.valid;
-      fits = subst (λ (n : Network). Fits n new.inputs) (sym step.net) (subst (Fits old.net) (sym step.inputs) inv.fits);
+      fits = subst (λ (n : Network). Fits n new.inputs) (sym step.net)
+          (subst (Fits old.net) (sym step.inputs) inv.fits);
       count = count ∙ (inv.count ∙ sym (ap node_count step.net));
-      numbered = act_numbered setting sure (event_node e) room found e old.stations answer new.stations refl (world_station old inv (event_node e)) inv.numbered step.act;
-      stations = subst (λ (n : Network). AreSound n new.inputs new.stations) (sym step.net) (subst (λ (i : List (List ℤ)). AreSound old.net i new.stations) (sym step.inputs) stations);
-      traffic = subst (λ (n : Network). TrafficIsSound n new.inputs new.traffic) (sym step.net) (subst (λ (i : List (List ℤ)). TrafficIsSound old.net i new.traffic) (sym step.inputs) flown);
+      numbered =
+          act_numbered setting sure (event_node e) room found e old.stations answer new.stations refl
+          (world_station old inv (event_node e)) inv.numbered step.act;
+      stations =
+          subst (λ (n : Network). AreSound n new.inputs new.stations) (sym step.net)
+          (subst (λ (i : List (List ℤ)). AreSound old.net i new.stations) (sym step.inputs) stations);
+      traffic =
+          subst (λ (n : Network). TrafficIsSound n new.inputs new.traffic) (sym step.net)
+          (subst (λ (i : List (List ℤ)). TrafficIsSound old.net i new.traffic) (sym step.inputs) flown);
     }
 
 -- the same of an event at the station of this number
-pub act_keeps_world : (rooms : List (RecordView → Bool)) (e : EventView) (old : WorldView) (answer : ReplyView) (setting : Setting) (number round : ℕ) (stations : List StationView) (traffic : Traffic) → WorldInvariant old
+pub act_keeps_world : (rooms : List (RecordView → Bool)) (e : EventView) (old : WorldView) (answer : ReplyView)
+    (setting : Setting) (number round : ℕ) (stations : List StationView) (traffic : Traffic) → WorldInvariant old
     → setting ≡ setting_of old → number ≡ event_node e → IsAct setting number rooms e old.stations answer stations
-    → traffic ≡ traffic_after setting e answer (slice_get old.stations number) → round ≡ round_after answer old.round stations
-    → WorldInvariant (record { net = old.net; inputs = old.inputs; stations = stations; traffic = traffic; round = round })
+    → traffic ≡ traffic_after setting e answer (slice_get old.stations number)
+    → round ≡ round_after answer old.round stations
+    → WorldInvariant
+    (record { net = old.net; inputs = old.inputs; stations = stations; traffic = traffic; round = round })
 act_keeps_world rooms e old answer setting number round stations traffic inv same_setting same_number act flown later =
-    step_keeps rooms e old answer (record { net = old.net; inputs = old.inputs; stations = stations; traffic = traffic; round = round }) inv (record {
+    step_keeps rooms e old answer
+    (record { net = old.net; inputs = old.inputs; stations = stations; traffic = traffic; round = round }) inv
+    (record {
       net = refl;
       inputs = refl;
-      act = subst (λ (n : ℕ). IsAct (setting_of old) n rooms e old.stations answer stations) same_number (subst (λ (s : Setting). IsAct s number rooms e old.stations answer stations) same_setting act);
-      traffic = flown ∙ (ap (λ (s : Setting). traffic_after s e answer (slice_get old.stations number)) same_setting ∙ ap (λ (n : ℕ). traffic_after (setting_of old) e answer (slice_get old.stations n)) same_number);
+      act = subst (λ (n : ℕ). IsAct (setting_of old) n rooms e old.stations answer stations) same_number
+          (subst (λ (s : Setting). IsAct s number rooms e old.stations answer stations) same_setting act);
+      traffic =
+          flown ∙ (ap (λ (s : Setting). traffic_after s e answer (slice_get old.stations number)) same_setting
+          ∙ ap (λ (n : ℕ). traffic_after (setting_of old) e answer (slice_get old.stations n)) same_number);
       round = later;
     })

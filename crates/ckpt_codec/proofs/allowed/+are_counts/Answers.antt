@@ -5,7 +5,8 @@ use Rattle.ckpt_codec.proofs.Testing.{Tests, counts_not, counts_then}
 use Rattle.ckpt_codec.proofs.allowed.+are_counts.Goals as goal
 
 pub returns-then-not-is_count : goal.returns-then-not-is_count
-returns-then-not-is_count t c = counts_not c.args.entries.now _ _ c.in-len1-up.len_at_least c.is_count.ensures c.if-not-is_count.true
+returns-then-not-is_count t c =
+    counts_not c.args.entries.now _ _ c.in-len1-up.len_at_least c.is_count.ensures c.if-not-is_count.true
 
 pub returns : goal.returns
 returns t c =

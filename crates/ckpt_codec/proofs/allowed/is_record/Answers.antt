@@ -1,22 +1,28 @@
-use Rattle.ckpt_codec.proofs.Testing.{record_no_head, record_no_entries, record_no_decision, record_no_image, record_then}
+use Rattle.ckpt_codec.proofs.Testing.{record_no_head, record_no_entries, record_no_decision, record_no_image}
+use Rattle.ckpt_codec.proofs.Testing.{record_then}
 use Rattle.ckpt_codec.proofs.allowed.is_record.Goals as goal
 
 pub returns-then-not-is_head : goal.returns-then-not-is_head
 returns-then-not-is_head c = record_no_head c.args.kept.now _ c.is_head.ensures.stands c.if-not-is_head.true
 
 pub returns-then-not-entries_stand : goal.returns-then-not-entries_stand
-returns-then-not-entries_stand c = record_no_entries c.args.kept.now _ c.is_head.ensures.stands c.if-not-is_head.false _ c.entries_stand.ensures c.if-not-entries_stand.true
+returns-then-not-entries_stand c =
+    record_no_entries c.args.kept.now _ c.is_head.ensures.stands c.if-not-is_head.false _ c.entries_stand.ensures
+    c.if-not-entries_stand.true
 
 pub returns-then-not-decision_stands : goal.returns-then-not-decision_stands
 returns-then-not-decision_stands c =
-    record_no_decision c.args.kept.now _ c.is_head.ensures.stands c.if-not-is_head.false _ c.entries_stand.ensures c.if-not-entries_stand.false _ c.decision_stands.ensures c.if-not-decision_stands.true
+    record_no_decision c.args.kept.now _ c.is_head.ensures.stands c.if-not-is_head.false _ c.entries_stand.ensures
+    c.if-not-entries_stand.false _ c.decision_stands.ensures c.if-not-decision_stands.true
 
 pub returns-then-not-permanent_stands : goal.returns-then-not-permanent_stands
 returns-then-not-permanent_stands c =
-    record_no_image c.args.kept.now _ c.is_head.ensures.stands c.if-not-is_head.false _ c.entries_stand.ensures c.if-not-entries_stand.false _ c.decision_stands.ensures c.if-not-decision_stands.false
+    record_no_image c.args.kept.now _ c.is_head.ensures.stands c.if-not-is_head.false _ c.entries_stand.ensures
+    c.if-not-entries_stand.false _ c.decision_stands.ensures c.if-not-decision_stands.false
     _ c.permanent_stands.ensures c.if-not-permanent_stands.true
 
 pub returns : goal.returns
 returns c =
-    record_then c.args.kept.now _ c.is_head.ensures.stands c.if-not-is_head.false _ c.entries_stand.ensures c.if-not-entries_stand.false _ c.decision_stands.ensures c.if-not-decision_stands.false
+    record_then c.args.kept.now _ c.is_head.ensures.stands c.if-not-is_head.false _ c.entries_stand.ensures
+    c.if-not-entries_stand.false _ c.decision_stands.ensures c.if-not-decision_stands.false
     _ c.permanent_stands.ensures _ c.if-not-permanent_stands.false c.tentative_stands.ensures

@@ -13,9 +13,14 @@ returns c =
     let like = option_copied c.args.like in
     let all = c.args.image.now.processes in
     let how_many = wanted (λ (i : ImageView). length i.processes) like in
-    field_then (wanted_or how_many (at_most 1 MAX_PROCESSES (length all))) (processes_fields (processes_in like) 0 all) _ _
+    field_then (wanted_or how_many (at_most 1 MAX_PROCESSES (length all))) (processes_fields (processes_in like) 0 all)
+    _ _
     (as_found c.wanted_processes.result how_many (at_most 1 MAX_PROCESSES (length all)) _ c.wanted_processes.ensures
-    (subst (λ n. IsTrue c.length_stands.result ↔ IsAllowed (wanted_or c.wanted_processes.result (at_most 1 MAX_PROCESSES n))) (long ∙ ap (λ (i : ImageView). length i.processes) c.image.view_is) c.length_stands.ensures)) c.if-not-length_stands.false
+    (subst (λ n. IsTrue c.length_stands.result
+    ↔ IsAllowed (wanted_or c.wanted_processes.result (at_most 1 MAX_PROCESSES n)))
+    (long ∙ ap (λ (i : ImageView). length i.processes) c.image.view_is) c.length_stands.ensures))
+    c.if-not-length_stands.false
     (subst (λ fs. Tests c.are_processes.result fs) (processes_listed (processes_in like) 0 all)
     (subst (λ ls. Tests c.are_processes.result (processes_fields (Some ls) 0 all)) c.processes_of.ensures
-    (subst (λ xs. Tests c.are_processes.result (processes_fields (Some c.processes_of.result.now) 0 xs)) (c.as_slice.ensures.value ∙ ap (λ (i : ImageView). i.processes) c.image.view_is) c.are_processes.ensures)))
+    (subst (λ xs. Tests c.are_processes.result (processes_fields (Some c.processes_of.result.now) 0 xs))
+    (c.as_slice.ensures.value ∙ ap (λ (i : ImageView). i.processes) c.image.view_is) c.are_processes.ensures)))

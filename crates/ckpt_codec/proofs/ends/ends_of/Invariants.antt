@@ -7,5 +7,7 @@ use Rattle.ckpt_codec.proofs.ends.ends_of.Given as goal
 
 abbrev pub invariant-loop-place : goal.invariant-loop-place
 invariant-loop-place l =
-    (behind l.ends.items (so_many (end_like (ends_in (option_copied l.like))) past_end (l.count - l.place) (l.place, l.least) l.rest) ≡ ends_at (ends_in (option_copied l.like)) l.count l.bytes)
+    (behind l.ends.items
+    (so_many (end_like (ends_in (option_copied l.like))) past_end (l.count - l.place) (l.place, l.least) l.rest)
+    ≡ ends_at (ends_in (option_copied l.like)) l.count l.bytes)
     × AreOrdered (ends_in (option_copied l.like)) l.ends.items l.place l.least

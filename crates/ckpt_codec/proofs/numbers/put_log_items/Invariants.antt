@@ -7,4 +7,5 @@ use Rattle.ckpt_codec.proofs.numbers.put_log_items.Given as goal
 
 abbrev pub invariant-loop-position : goal.invariant-loop-position
 invariant-loop-position l =
-    (l.out.items ≡ l.fn.out.items ++ flat_map item_text (take (l.position - l.log.base) l.log.items)) × All (FitsSigned w64) (take (l.position - l.log.base) l.log.items)
+    (l.out.items ≡ l.fn.out.items ++ flat_map item_text (take (l.position - l.log.base) l.log.items))
+    × All (FitsSigned w64) (take (l.position - l.log.base) l.log.items)

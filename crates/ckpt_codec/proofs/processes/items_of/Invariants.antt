@@ -4,4 +4,6 @@ use Rattle.ckpt_codec.proofs.Loop.{behind}
 use Rattle.ckpt_codec.proofs.processes.items_of.Given as goal
 
 abbrev pub invariant-loop : goal.invariant-loop
-invariant-loop l = behind l.items.items (so_many (each_as item_at) unchanged (l.count - l.counter) tt l.rest) ≡ items_at l.count l.bytes
+invariant-loop l =
+    behind l.items.items (so_many (each_as item_at) unchanged (l.count - l.counter) tt l.rest)
+    ≡ items_at l.count l.bytes

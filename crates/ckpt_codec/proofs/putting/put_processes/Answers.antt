@@ -6,6 +6,9 @@ use Rattle.ckpt_codec.proofs.putting.put_processes.Goals as goal
 pub loop-process-preserved : goal.loop-process-preserved
 loop-process-preserved c =
     let lt : c.loop-process.process-index < length c.args.processes.now = omega arith in (
-      put_more process_text c.args.processes.now c.loop-process.process-index c.args.out.now.items c.loop-process.out.items c.put_process.new.out.items c.process-item.result lt c.process-item.is c.loop-process.invariant.0 c.in_ok-put_process.ensures.put,
-      all_more HasItems c.args.processes.now c.loop-process.process-index c.process-item.result lt c.process-item.is c.loop-process.invariant.1 c.in_ok-put_process.ensures.fit,
+      put_more process_text c.args.processes.now c.loop-process.process-index c.args.out.now.items
+          c.loop-process.out.items c.put_process.new.out.items c.process-item.result lt c.process-item.is
+          c.loop-process.invariant.0 c.in_ok-put_process.ensures.put,
+      all_more HasItems c.args.processes.now c.loop-process.process-index c.process-item.result lt c.process-item.is
+          c.loop-process.invariant.1 c.in_ok-put_process.ensures.fit,
     )

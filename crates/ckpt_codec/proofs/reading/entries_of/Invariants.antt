@@ -4,4 +4,6 @@ use Rattle.ckpt_codec.proofs.Loop.{behind}
 use Rattle.ckpt_codec.proofs.reading.entries_of.Given as goal
 
 abbrev pub invariant-loop : goal.invariant-loop
-invariant-loop l = behind l.entries.items (so_many (each_as count_at) unchanged (l.count - l.counter) tt l.rest) ≡ entries_at l.count l.bytes
+invariant-loop l =
+    behind l.entries.items (so_many (each_as count_at) unchanged (l.count - l.counter) tt l.rest)
+    ≡ entries_at l.count l.bytes

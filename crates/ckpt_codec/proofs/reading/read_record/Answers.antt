@@ -3,13 +3,17 @@ use Rattle.ckpt_codec.proofs.Exactness.{is_spelled, is_read, is_caused, is_refus
 use Rattle.ckpt_codec.proofs.reading.read_record.Goals as goal
 
 pub returns-clause-found : goal.returns-clause-found
-returns-clause-found c = is_spelled c.args.bytes.now c.whole_of.result (λ i. omega (arith, c.type_inv.bytes i)) c.whole_of.ensures
+returns-clause-found c =
+    is_spelled c.args.bytes.now c.whole_of.result (λ i. omega (arith, c.type_inv.bytes i)) c.whole_of.ensures
 
 pub returns-clause-only : goal.returns-clause-only
 returns-clause-only c = λ kept text. is_read c.args.bytes.now c.whole_of.result kept c.whole_of.ensures text
 
 pub returns-clause-cause : goal.returns-clause-cause
-returns-clause-cause c = is_caused c.args.bytes.now c.whole_of.result (λ i. omega (arith, c.type_inv.bytes i)) c.whole_of.ensures
+returns-clause-cause c =
+    is_caused c.args.bytes.now c.whole_of.result (λ i. omega (arith, c.type_inv.bytes i)) c.whole_of.ensures
 
 pub returns-clause-each : goal.returns-clause-each
-returns-clause-each c = λ fault cause. is_refused c.args.bytes.now c.whole_of.result fault (λ i. omega (arith, c.type_inv.bytes i)) c.whole_of.ensures cause
+returns-clause-each c =
+    λ fault cause. is_refused c.args.bytes.now c.whole_of.result fault (λ i. omega (arith, c.type_inv.bytes i))
+    c.whole_of.ensures cause

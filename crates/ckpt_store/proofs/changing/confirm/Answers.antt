@@ -11,4 +11,5 @@ pub put_changed-requires-clause-record : goal.put_changed-requires-clause-record
 put_changed-requires-clause-record g c =
     let kept = c.in-Some.kept in
     let made = c.settle-undo.ensures.next ∙ ap (λ d. with_unsettled d kept) c.in-Ok.ensures in
-    subst IsRecord (sym made) (allowed_confirmed kept c.args.number c.args.node (c.requires.holds kept (sym c.in-Some.ensures.value)).allowed)
+    subst IsRecord (sym made)
+    (allowed_confirmed kept c.args.number c.args.node (c.requires.holds kept (sym c.in-Some.ensures.value)).allowed)

@@ -12,4 +12,6 @@ put_changed-requires-clause-record g c =
     let node : c.kept.inside.node ≡ kept.node = ap (λ (r : RecordView). r.node) c.kept.view_is in
     let there : is_held c.kept.inside.node c.args.number kept.tentative ≡ true = search rules in
     let held = subst (λ n. is_held n c.args.number kept.tentative ≡ true) node there in
-    subst IsRecord (sym c.decide-undo.ensures.next) (allowed_decision kept c.args.number c.args.participants.items (c.requires.kept.holds kept is).allowed held (c.requires.others kept is).allowed)
+    subst IsRecord (sym c.decide-undo.ensures.next)
+    (allowed_decision kept c.args.number c.args.participants.items (c.requires.kept.holds kept is).allowed held
+    (c.requires.others kept is).allowed)

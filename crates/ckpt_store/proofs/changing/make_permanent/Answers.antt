@@ -6,4 +6,5 @@ use Rattle.ckpt_store.proofs.changing.make_permanent.Goals as goal
 pub put_changed-requires-clause-record : goal.put_changed-requires-clause-record
 put_changed-requires-clause-record g c =
     let kept = c.in-Some.kept in
-    subst IsRecord (sym c.promote-undo.ensures.next) (allowed_permanent kept (c.requires.holds kept (sym c.in-Some.ensures.value)).allowed)
+    subst IsRecord (sym c.promote-undo.ensures.next)
+    (allowed_permanent kept (c.requires.holds kept (sym c.in-Some.ensures.value)).allowed)

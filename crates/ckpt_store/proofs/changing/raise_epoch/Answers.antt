@@ -8,5 +8,7 @@ use Rattle.ckpt_store.proofs.changing.raise_epoch.Goals as goal
 pub put_changed-requires-clause-record : goal.put_changed-requires-clause-record
 put_changed-requires-clause-record g c =
     let kept = c.in-Some.kept in
-    let less = subst (λ n. n < MAX_COUNT) (ap (λ (r : RecordView). r.epoch) c.kept.view_is) c.if-kept-ge-MAX_COUNT.false in
-    subst IsRecord (sym c.raise-undo.ensures.next) (allowed_epoch kept (c.requires.holds kept (sym c.in-Some.ensures.value)).allowed less)
+    let less =
+    subst (λ n. n < MAX_COUNT) (ap (λ (r : RecordView). r.epoch) c.kept.view_is) c.if-kept-ge-MAX_COUNT.false in
+    subst IsRecord (sym c.raise-undo.ensures.next)
+    (allowed_epoch kept (c.requires.holds kept (sym c.in-Some.ensures.value)).allowed less)

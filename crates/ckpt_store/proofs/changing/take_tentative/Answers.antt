@@ -14,8 +14,13 @@ returns-in-Some-refusal_to_take-clause-change g c =
     let fault = c.in-Some-refusal_to_take.fault in
     let is = sym c.in-Some.ensures.value in
     let due = sym c.refusal_to_take.ensures ∙ c.in-Some-refusal_to_take.is in
-    subst (λ o. IsChange g.C.StableCell (refusal_to_take c.args.initiator c.args.number) (with_tentative c.args.initiator c.args.number c.args.image) c.args.cell.now c.args.cell.now o (Some kept) {T = Unit {0}} (Err fault)) (sym is)
-    (change_refused g.C.StableCell (refusal_to_take c.args.initiator c.args.number) (with_tentative c.args.initiator c.args.number c.args.image) c.args.cell.now (Some kept) fault (g.met.C.StableCell.only_now c.args.cell.now) (take_of_record c.args.initiator c.args.number kept fault due) due)
+    subst (λ o. IsChange g.C.StableCell (refusal_to_take c.args.initiator c.args.number)
+    (with_tentative c.args.initiator c.args.number c.args.image) c.args.cell.now c.args.cell.now o (Some kept)
+    {T = Unit {0}} (Err fault)) (sym is)
+    (change_refused g.C.StableCell (refusal_to_take c.args.initiator c.args.number)
+    (with_tentative c.args.initiator c.args.number c.args.image) c.args.cell.now (Some kept) fault
+    (g.met.C.StableCell.only_now c.args.cell.now) (take_of_record c.args.initiator c.args.number kept fault due)
+    due)
 
 pub take-undo-requires-clause-record : goal.take-undo-requires-clause-record
 take-undo-requires-clause-record g c = (c.requires.kept.holds c.in-Some.kept (sym c.in-Some.ensures.value)).allowed
@@ -24,6 +29,9 @@ pub put_changed-requires-clause-record : goal.put_changed-requires-clause-record
 put_changed-requires-clause-record g c =
     let kept = c.in-Some.kept in
     let is = sym c.in-Some.ensures.value in
-    let fine : refusal_to_take c.args.initiator c.args.number kept ≡ None = sym c.refusal_to_take.ensures ∙ c.in_default-refusal_to_take.is in
+    let fine : refusal_to_take c.args.initiator c.args.number kept ≡ None =
+    sym c.refusal_to_take.ensures ∙ c.in_default-refusal_to_take.is in
     let may = may_take c.args.initiator c.args.number kept fine in
-    subst IsRecord (sym c.take-undo.ensures.next) (allowed_tentative kept c.args.initiator c.args.number c.args.image (c.requires.kept.holds kept is).allowed (c.requires.listed kept is) may.above may.fits (c.requires.like kept is).allowed)
+    subst IsRecord (sym c.take-undo.ensures.next)
+    (allowed_tentative kept c.args.initiator c.args.number c.args.image (c.requires.kept.holds kept is).allowed
+    (c.requires.listed kept is) may.above may.fits (c.requires.like kept is).allowed)

@@ -15,5 +15,8 @@ returns-in-Err-clause-reload g c =
     let old = c.args.cell.now in
     let mid = c.reopen.new.self in
     let fine = c.if-is_err.ensures.value in
-    reload_refused C old mid c.load.new.cell c.in-Err.fault c.requires.leaves (g.met.C.StableCell.value_may_stay old) (λ left le might. g.met.C.StableCell.includes_now mid (C.moment old) left le might)
-    (at_ok c.reopen.result fine c.reopen.ensures.ready) c.reopen.ensures.same_value c.reopen.ensures.same_setup (at_ok c.reopen.result fine c.reopen.ensures.cause.otherwise) c.reopen.ensures.any_moment c.in-Err.ensures.load _ refl
+    reload_refused C old mid c.load.new.cell c.in-Err.fault c.requires.leaves (g.met.C.StableCell.value_may_stay old)
+    (λ left le might. g.met.C.StableCell.includes_now mid (C.moment old) left le might)
+    (at_ok c.reopen.result fine c.reopen.ensures.ready) c.reopen.ensures.same_value c.reopen.ensures.same_setup
+    (at_ok c.reopen.result fine c.reopen.ensures.cause.otherwise) c.reopen.ensures.any_moment c.in-Err.ensures.load
+    _ refl

@@ -12,8 +12,10 @@ returns-in_err-put g c =
     let old = c.args.cell.now in
     let p = err_from_is_err_and c.from_residual-in_err-put.result c.from_residual-in_err-put.ensures.1 in
     let put = c.in_err-put.ensures in
-    let text : IsRecordText next c.as_slice.result.now = subst (IsRecordText next) (sym c.as_slice.ensures.value) c.in_ok-bytes.ensures in
+    let text : IsRecordText next c.as_slice.result.now =
+    subst (IsRecordText next) (sym c.as_slice.ensures.value) c.in_ok-bytes.ensures in
     let found : c.has_room.result ≡ true = search rules in
-    let fits : fits_in (C.capacity old) next ≡ true = ap (λ n. has_room (C.capacity old) n) (sym c.spelled_length.ensures) ∙ sym c.has_room.ensures ∙ found in
+    let fits : fits_in (C.capacity old) next ≡ true =
+    ap (λ n. has_room (C.capacity old) n) (sym c.spelled_length.ensures) ∙ sym c.has_room.ensures ∙ found in
     rw (p.1, p.2) (put_refused C next old c.put.new.self c.as_slice.result.now text fits c.requires.ready
     put.any_moment put.same_setup c.in_err-put.field-0.0 put.too_large put.unchanged put.cause)

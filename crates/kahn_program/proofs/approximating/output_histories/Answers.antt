@@ -5,4 +5,5 @@ use Rattle.kahn_program.proofs.approximating.output_histories.Goals as goal
 
 pub loop-number-preserved : goal.loop-number-preserved
 loop-number-preserved c =
-    streams_next (λ (channel : ℕ). history_of c.args.histories.now channel) c.args.channels.now c.loop-number.number _ _ _ _ (search rules) c.loop-number.invariant c.in_ok-add_history.ensures
+    streams_next (λ (channel : ℕ). history_of c.args.histories.now channel) c.args.channels.now c.loop-number.number
+    _ _ _ _ (search rules) c.loop-number.invariant c.in_ok-add_history.ensures

@@ -6,5 +6,6 @@ use Rattle.kahn_program.proofs.approximating.output_histories.Given as goal
 -- what was listed, and then what is to come
 abbrev pub invariant-loop-number : goal.invariant-loop-number
 invariant-loop-number l =
-    l.streams.items ++ map (λ (channel : ℕ). history_of l.histories channel) (output_channels l.number (drop l.number l.channels))
+    l.streams.items
+    ++ map (λ (channel : ℕ). history_of l.histories channel) (output_channels l.number (drop l.number l.channels))
     ≡ map (λ (channel : ℕ). history_of l.histories channel) (output_channels 0 l.channels)

@@ -7,4 +7,5 @@ use Rattle.kahn_program.proofs.approximating.report_of_approximation.Goals as go
 pub report-requires : goal.report-requires
 report-requires c =
     ap (length {A = List ℤ}) (c.deref-2.ensures.value ∙ c.in-Ok-output_histories.ensures)
-    ∙ (counted_streams (λ (channel : ℕ). history_of c.as_slice.result.now channel) 0 c.deref.result.now ∙ ap output_count c.deref.ensures.value)
+    ∙ (counted_streams (λ (channel : ℕ). history_of c.as_slice.result.now channel) 0 c.deref.result.now
+    ∙ ap output_count c.deref.ensures.value)

@@ -17,7 +17,8 @@ returns-in-Ok-apply-clause-follows c =
       done_view c.in-Ok.done,
       ap job_view c.in-Ok.ensures,
       reply_view c.in-Ok-apply.field-0,
-      in_room (λ taken. taken) (λ outlet. 0) old.stations.items (Install (done_view c.in-Ok.done)) (world_of old) (world_of new) (reply_view c.in-Ok-apply.field-0) refl c.in-Ok-apply.ensures.step,
+      in_room (λ taken. taken) (λ outlet. 0) old.stations.items (Install (done_view c.in-Ok.done)) (world_of old)
+          (world_of new) (reply_view c.in-Ok-apply.field-0) refl c.in-Ok-apply.ensures.step,
     )
 
 pub returns : goal.returns

@@ -7,5 +7,7 @@ use Rattle.kahn_program.proofs.network_run.have_left.Goals as goal
 
 pub loop-number-preserved : goal.loop-number-preserved
 loop-number-preserved c =
-    all_next (λ (channel : ℕ). released_of channel (world_of c.args.world.now).stations) (λ (stream : List ℤ). nat_le c.args.items (length stream))
-    c.args.channels.now c.loop-number.number _ c.has_left.result _ c.loop-number-test.true c.loop-number.invariant c.has_left.ensures c.if-not-has_left.false
+    all_next (λ (channel : ℕ). released_of channel (world_of c.args.world.now).stations)
+    (λ (stream : List ℤ). nat_le c.args.items (length stream))
+    c.args.channels.now c.loop-number.number _ c.has_left.result _ c.loop-number-test.true c.loop-number.invariant
+    c.has_left.ensures c.if-not-has_left.false

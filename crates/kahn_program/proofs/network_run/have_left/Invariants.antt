@@ -9,5 +9,8 @@ use Rattle.kahn_program.proofs.network_run.have_left.Given as goal
 -- as those that weren't looked at yet
 abbrev pub invariant-loop-number : goal.invariant-loop-number
 invariant-loop-number l =
-    list_all (λ (stream : List ℤ). nat_le l.items (length stream)) (map (λ (channel : ℕ). released_of channel (world_of l.world).stations) (output_channels l.number (drop l.number l.channels)))
-    ≡ list_all (λ (stream : List ℤ). nat_le l.items (length stream)) (map (λ (channel : ℕ). released_of channel (world_of l.world).stations) (output_channels 0 l.channels))
+    list_all (λ (stream : List ℤ). nat_le l.items (length stream))
+    (map (λ (channel : ℕ). released_of channel (world_of l.world).stations)
+    (output_channels l.number (drop l.number l.channels)))
+    ≡ list_all (λ (stream : List ℤ). nat_le l.items (length stream))
+    (map (λ (channel : ℕ). released_of channel (world_of l.world).stations) (output_channels 0 l.channels))

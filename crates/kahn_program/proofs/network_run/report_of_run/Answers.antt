@@ -13,10 +13,13 @@ use Rattle.kahn_program.proofs.network_run.report_of_run.Goals as goal
 
 pub report-requires : goal.report-requires
 report-requires c =
-    let f = λ (channel : ℕ). first_items c.cut-cut.result (released_of channel (world_of c.take_turns.new.world).stations) in
+    let f = λ (channel : ℕ). first_items c.cut-cut.result
+    (released_of channel (world_of c.take_turns.new.world).stations) in
     ap (length {A = List ℤ}) (c.deref-3.ensures.value ∙ c.in-Ok-streams.ensures)
     ∙ (counted_streams f 0 c.as_slice-channels.result.now
-    ∙ ap output_count (c.as_slice-channels.ensures.value ∙ ap (λ (n : Net). n.program.channels.items) (c.deref.ensures ∙ sym c.deref-2.ensures)))
+    ∙ ap output_count
+    (c.as_slice-channels.ensures.value
+    ∙ ap (λ (n : Net). n.program.channels.items) (c.deref.ensures ∙ sym c.deref-2.ensures)))
 
 pub returns-in-Ok-report-clause-ok : goal.returns-in-Ok-report-clause-ok
 returns-in-Ok-report-clause-ok c =
@@ -26,23 +29,40 @@ returns-in-Ok-report-clause-ok c =
     let shared = c.in-Ok-try_clone.ensures ∙ c.in-Ok-new.ensures.ok in
     let seen : c.deref-2.result.now ≡ net = c.deref-2.ensures ∙ c.in-Ok-new.ensures.ok in
     let told = c.is_whole-complete.result in
-    let network : network_of now.net.value.program ≡ network_of net.program = ap (λ a. network_of a.value.program) (c.take_turns.ensures.same.0 ∙ c.in-Ok-new-3.ensures.same.0) ∙ ap (λ (n : Net). network_of n.program) shared in
-    let items : now.inputs.value ≡ c.args.inputs = ap (λ a. a.value) (c.take_turns.ensures.same.1 ∙ c.in-Ok-new-3.ensures.same.1) ∙ c.in-Ok-new-2.ensures.ok in
-    let run = run_of (world_of now) (network_of net.program) c.args.inputs c.complete.result network items now.sound c.complete.ensures.whole in
-    let given : c.as_slice-channels.result.now ≡ net.program.channels.items = c.as_slice-channels.ensures.value ∙ ap (λ (n : Net). n.program.channels.items) (c.deref.ensures ∙ c.in-Ok-new.ensures.ok) in
-    let opened = opens_first _ _ (λ outlet. refl) (network_of net.program) _ c.args.inputs _ c.in-Ok.outputs.items (world_of first) (ap (λ (n : Net). network_of n.program) shared) c.in-Ok-new-2.ensures.ok
-    _ (c.in-Ok-empty_disks.ensures.unfailed ∙ ap (λ (n : ℕ). replicate n 0) c.node_count-nodes.ensures.count) c.in-Ok-new-3.ensures.opening c.in-Ok.ensures.listed c.in-Ok.ensures.empty in
-    let last = last_world (network_of net.program) c.args.inputs c.as_slice-channels.result.now c.args.rounds c.node_count-nodes.result c.args.items (world_of first) (world_of now) given c.node_count-nodes.ensures.count opened c.in_ok-take_turns.ensures.came in
-    reported net c.args.inputs c.as_slice-channels.result.now c.args.rounds c.args.items c.cut-cut.result c.in-Ok-streams.streams.items (world_of now) c.in-Ok-report.bytes.items c.complete.result told
+    let network : network_of now.net.value.program ≡ network_of net.program =
+    ap (λ a. network_of a.value.program) (c.take_turns.ensures.same.0 ∙ c.in-Ok-new-3.ensures.same.0)
+    ∙ ap (λ (n : Net). network_of n.program) shared in
+    let items : now.inputs.value ≡ c.args.inputs =
+    ap (λ a. a.value) (c.take_turns.ensures.same.1 ∙ c.in-Ok-new-3.ensures.same.1) ∙ c.in-Ok-new-2.ensures.ok in
+    let run =
+    run_of (world_of now) (network_of net.program) c.args.inputs c.complete.result network items now.sound
+    c.complete.ensures.whole in
+    let given : c.as_slice-channels.result.now ≡ net.program.channels.items =
+    c.as_slice-channels.ensures.value
+    ∙ ap (λ (n : Net). n.program.channels.items) (c.deref.ensures ∙ c.in-Ok-new.ensures.ok) in
+    let opened =
+    opens_first _ _ (λ outlet. refl) (network_of net.program) _ c.args.inputs _ c.in-Ok.outputs.items
+    (world_of first) (ap (λ (n : Net). network_of n.program) shared) c.in-Ok-new-2.ensures.ok
+    _ (c.in-Ok-empty_disks.ensures.unfailed ∙ ap (λ (n : ℕ). replicate n 0) c.node_count-nodes.ensures.count)
+    c.in-Ok-new-3.ensures.opening c.in-Ok.ensures.listed c.in-Ok.ensures.empty in
+    let last =
+    last_world (network_of net.program) c.args.inputs c.as_slice-channels.result.now c.args.rounds
+    c.node_count-nodes.result c.args.items (world_of first) (world_of now) given c.node_count-nodes.ensures.count
+    opened c.in_ok-take_turns.ensures.came in
+    reported net c.args.inputs c.as_slice-channels.result.now c.args.rounds c.args.items c.cut-cut.result
+    c.in-Ok-streams.streams.items (world_of now) c.in-Ok-report.bytes.items c.complete.result told
     given
     c.cut-cut.ensures
     c.in-Ok-streams.ensures
     c.is_whole-complete.ensures
-    (c.in-Ok-report.ensures ∙ (ap (λ (n : Net). report_text n.program.channels.items n.channel_names.items c.deref-3.result.now told) seen
-    ∙ ap (λ (l : List (List ℤ)). report_text net.program.channels.items net.channel_names.items l told) c.deref-3.ensures.value))
+    (c.in-Ok-report.ensures
+    ∙ (ap (λ (n : Net). report_text n.program.channels.items n.channel_names.items c.deref-3.result.now told) seen
+    ∙ ap (λ (l : List (List ℤ)). report_text net.program.channels.items net.channel_names.items l told)
+    c.deref-3.ensures.value))
     run c.complete.ensures.quiet last
 
 pub new-requires-3-clause-each : goal.new-requires-3-clause-each
 new-requires-3-clause-each c =
     let shared = c.in-Ok-try_clone.ensures ∙ c.in-Ok-new.ensures.ok in
-    c.in-Ok-empty_disks.ensures.each ∙ (c.node_count-nodes.ensures.count ∙ sym (ap (λ (n : Net). node_count (network_of n.program)) shared))
+    c.in-Ok-empty_disks.ensures.each
+    ∙ (c.node_count-nodes.ensures.count ∙ sym (ap (λ (n : Net). node_count (network_of n.program)) shared))

@@ -15,12 +15,15 @@ returns-in-Ok-clause-turn c =
     let view = world_of old in
     let later = world_of c.apply.new.self in
     let answer = reply_view c.in-Ok.answer in
-    let step = subst (λ (event : EventView). IsStep (rooms old.stations.items) event view answer later) c.pick-event.ensures c.in-Ok.ensures.step in
+    let step =
+    subst (λ (event : EventView). IsStep (rooms old.stations.items) event view answer later) c.pick-event.ensures
+    c.in-Ok.ensures.step in
     on_ok_weaker c.follow.result
     (λ follows. record {
       answer = answer;
       between = later;
-      step = in_room (λ taken. taken) (λ outlet. 0) old.stations.items (choice view c.args.node) view later answer refl step;
+      step = in_room (λ taken. taken) (λ outlet. 0) old.stations.items (choice view c.args.node) view later answer refl
+          step;
       follows = follows;
     })
     c.follow.ensures.follows

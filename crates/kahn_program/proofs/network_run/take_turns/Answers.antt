@@ -9,7 +9,13 @@ loop-turn-init c = record { same = (refl, refl); came = refl }
 
 pub loop-turn-preserved : goal.loop-turn-preserved
 loop-turn-preserved c = record {
-  same = (c.take_turn.ensures.same.0 ∙ c.loop-turn.invariant.same.0, c.take_turn.ensures.same.1 ∙ c.loop-turn.invariant.same.1);
-  came = more_turns _ c.args.nodes c.loop-turn.turn _ _ _ c.loop-turn.invariant.came (sym c.is_over.ensures ∙ c.if-is_over.false)
-      (subst (λ (n : ℕ). IsWorldTurn n (world_of c.loop-turn.world) (world_of c.take_turn.new.world)) c.turn_node.ensures c.in_ok-take_turn.ensures.turn);
+  same = (
+    c.take_turn.ensures.same.0 ∙ c.loop-turn.invariant.same.0,
+    c.take_turn.ensures.same.1
+        ∙ c.loop-turn.invariant.same.1,
+  );
+  came = more_turns _ c.args.nodes c.loop-turn.turn _ _ _ c.loop-turn.invariant.came
+      (sym c.is_over.ensures ∙ c.if-is_over.false)
+      (subst (λ (n : ℕ). IsWorldTurn n (world_of c.loop-turn.world) (world_of c.take_turn.new.world))
+      c.turn_node.ensures c.in_ok-take_turn.ensures.turn);
 }

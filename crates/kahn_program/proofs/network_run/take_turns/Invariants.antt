@@ -9,5 +9,6 @@ use Rattle.kahn_program.proofs.network_run.take_turns.Given as goal
 abbrev pub invariant-loop-turn : goal.invariant-loop-turn
 invariant-loop-turn l = record {
   same : (l.world.net ≡ l.fn.world.net) × (l.world.inputs ≡ l.fn.world.inputs);
-  came : CameTo (is_over (output_channels 0 l.channels) l.rounds l.items) l.nodes l.turn (world_of l.fn.world) (world_of l.world);
+  came : CameTo (is_over (output_channels 0 l.channels) l.rounds l.items) l.nodes l.turn (world_of l.fn.world)
+      (world_of l.world);
 }

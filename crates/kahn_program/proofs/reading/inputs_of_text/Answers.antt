@@ -10,13 +10,17 @@ pub returns-in-Err-clause-err : goal.returns-in-Err-clause-err
 returns-in-Err-clause-err c = bad_lines c.in-Err.fault c.in-Err.ensures.err c.text_failure.ensures
 
 pub returns-in-Err-clause-accepted : goal.returns-in-Err-clause-accepted
-returns-in-Err-clause-accepted c = λ good. c.text_failure.ensures ∙ ap (text_failure_of source.Inputs) (c.in-Err.ensures.only good.lines good.text)
+returns-in-Err-clause-accepted c =
+    λ good. c.text_failure.ensures ∙ ap (text_failure_of source.Inputs) (c.in-Err.ensures.only good.lines good.text)
 
 pub returns-in-Err-bind-clause-err : goal.returns-in-Err-bind-clause-err
-returns-in-Err-bind-clause-err c = bad_inputs _ c.in-Err-bind.fault c.in-Ok.ensures.ok c.in-Err-bind.ensures.fault c.net_failure.ensures
+returns-in-Err-bind-clause-err c =
+    bad_inputs _ c.in-Err-bind.fault c.in-Ok.ensures.ok c.in-Err-bind.ensures.fault c.net_failure.ensures
 
 pub returns-in-Err-bind-clause-accepted : goal.returns-in-Err-bind-clause-accepted
 returns-in-Err-bind-clause-accepted c = λ good.
     let net = c.args.net.now in
-    let bound = subst (λ (lines : List InputTree). Binds net.channel_names.items (network_of net.program) lines good.lists) (sym (c.in-Ok.ensures.only good.lines good.text)) good.bound in
+    let bound =
+    subst (λ (lines : List InputTree). Binds net.channel_names.items (network_of net.program) lines good.lists)
+    (sym (c.in-Ok.ensures.only good.lines good.text)) good.bound in
     c.net_failure.ensures ∙ ap (net_failure_of source.Inputs) (c.in-Err-bind.ensures.accepted good.lists bound)

@@ -15,13 +15,16 @@ pub returns-clause-err : goal.returns-clause-err
 returns-clause-err g c =
     let known : Option (List ℕ) = option_and_then g.R.Read.remaining c.args.reader in
     IfErr-weaker c.net_of_text.result (IsNetTextFailure c.deref.result.now) (IsNetFailure known)
-    (λ failure bad. net_refused (of_known known c.deref.result.now (λ (bytes : List ℕ). IsNetTextFailure bytes failure) (search rules) bad))
+    (λ failure bad. net_refused
+    (of_known known c.deref.result.now (λ (bytes : List ℕ). IsNetTextFailure bytes failure) (search rules) bad))
     c.net_of_text.ensures.err
 
 pub returns-in_err-text-clause-accepted : goal.returns-in_err-text-clause-accepted
 returns-in_err-text-clause-accepted g c = λ bytes is utf8 good.
     let p = err_from_is_err_and c.from_residual.result c.from_residual.ensures.1 in
-    rw (p.1, p.2) (outside_of source.Net (option_and_then g.R.Read.remaining c.args.reader) bytes _ is utf8 c.in_err-text.ensures.err)
+    rw (p.1, p.2)
+    (outside_of source.Net (option_and_then g.R.Read.remaining c.args.reader) bytes _ is utf8
+    c.in_err-text.ensures.err)
 
 pub returns-clause-accepted : goal.returns-clause-accepted
 returns-clause-accepted g c = λ bytes is utf8 good.

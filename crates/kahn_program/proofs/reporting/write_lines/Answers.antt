@@ -21,19 +21,34 @@ loop-number-preserved c =
           let s = w.index-streams-next in
           let more = count_at cs i _ Outside here w.in-Outside.is in
           let left : j < length ss = omega (arith, more, before.count) in
-          let lines = lines_at cs ns (drop j ss) i _ n.result Outside here (omega (arith, here, c.requires.names)) w.in-Outside.is in
-          let line = line_at (get_or ns i n.result) ss j s.result (output_lines (drop (i + 1) cs) (drop (i + 1) ns)) left in
-          let same = ap (λ (x : NameTree). output_line x (get_or ss j s.result)) (sym n.is) ∙ ap (output_line n.result) (sym s.is) in
+          let lines =
+          lines_at cs ns (drop j ss) i _ n.result Outside here (omega (arith, here, c.requires.names))
+          w.in-Outside.is in
+          let line =
+          line_at (get_or ns i n.result) ss j s.result (output_lines (drop (i + 1) cs) (drop (i + 1) ns)) left in
+          let same =
+          ap (λ (x : NameTree). output_line x (get_or ss j s.result)) (sym n.is)
+          ∙ ap (output_line n.result) (sym s.is) in
           record {
             count = omega (arith, more, before.count, w.next-is);
-            written = rw (w.next-is, w.text-is) (written_more (string_bytes c.loop-number.text) (string_bytes w.write_line.new.text) (output_line n.result s.result) _ _ _ w.in_ok-write_line.ensures (lines ∙ (line ∙ ap (λ (x : List ℕ). x ++ output_lines (drop (i + 1) cs) (drop (i + 1) ns) (drop (j + 1) ss)) same)) before.written);
+            written =
+                rw (w.next-is, w.text-is)
+                (written_more (string_bytes c.loop-number.text) (string_bytes w.write_line.new.text)
+                (output_line n.result s.result) _ _ _ w.in_ok-write_line.ensures
+                (lines ∙ (line
+                ∙ ap (λ (x : List ℕ). x ++ output_lines (drop (i + 1) cs) (drop (i + 1) ns) (drop (j + 1) ss)) same))
+                before.written);
           }
       | in_default w ↦
           let more = count_at cs i _ (Process w.in_default.field-0) here w.in_default.is in
           let none : NameTree = record { text = []; line = 0 } in
-          let lines = lines_at cs ns (drop j ss) i _ none (Process w.in_default.field-0) here (omega (arith, here, c.requires.names)) w.in_default.is in
+          let lines =
+          lines_at cs ns (drop j ss) i _ none (Process w.in_default.field-0) here
+          (omega (arith, here, c.requires.names)) w.in_default.is in
           record {
             count = omega (arith, more, before.count, w.next-is);
-            written = rw (w.next-is, w.text-is) (ap (λ (x : List ℕ). string_bytes c.loop-number.text ++ x) (sym lines) ∙ before.written);
+            written =
+                rw (w.next-is, w.text-is)
+                (ap (λ (x : List ℕ). string_bytes c.loop-number.text ++ x) (sym lines) ∙ before.written);
           }
     ]

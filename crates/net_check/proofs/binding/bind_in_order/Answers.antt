@@ -15,8 +15,13 @@ pub loop-line-preserved : goal.loop-line-preserved
 loop-line-preserved c =
     let i = c.loop-line.invariant in
     record {
-      bound = subst (λ (xs : List InputTree). AreBound c.args.net.now.channel_names.items (network_of c.args.net.now.program) xs c.bind_line.new.self.lists.items c.bind_line.new.self.named.items) (sym (map-append input_tree c.loop-line.yielded (c.in-Some.line ∷ [])))
-          (bound_push c.args.net.now.channel_names.items (network_of c.args.net.now.program) (map input_tree c.loop-line.yielded) (input_tree c.in-Some.line) _ _ _ _ c.args.net.now.channels_differ i.bound c.in_ok-bind_line.ensures.ok);
+      bound = subst
+          (λ (xs : List InputTree). AreBound c.args.net.now.channel_names.items (network_of c.args.net.now.program) xs
+          c.bind_line.new.self.lists.items c.bind_line.new.self.named.items)
+          (sym (map-append input_tree c.loop-line.yielded (c.in-Some.line ∷ [])))
+          (bound_push c.args.net.now.channel_names.items (network_of c.args.net.now.program)
+          (map input_tree c.loop-line.yielded) (input_tree c.in-Some.line) _ _ _ _ c.args.net.now.channels_differ
+          i.bound c.in_ok-bind_line.ensures.ok);
       lines = lines_next c.loop-line.yielded _ _ c.in-Some.line _ (c.in-Some.ensures.steps).0 i.lines;
     }
 
@@ -24,24 +29,47 @@ pub returns-in_err-bind_line-clause-fault : goal.returns-in_err-bind_line-clause
 returns-in_err-bind_line-clause-fault c =
     let i = c.loop-line.invariant in
     let p = err_from_is_err_and c.from_residual-in_err-bind_line.result c.from_residual-in_err-bind_line.ensures.1 in
-    rw (p.1, p.2) (line_fault_in _ _ (map input_tree c.loop-line.yielded) (input_tree c.in-Some.line) _ _ _ _ _ (line_at c.loop-line.yielded _ _ c.in-Some.line _ (c.in-Some.ensures.steps).0 i.lines) i.bound c.in_err-bind_line.ensures.err)
+    rw (p.1, p.2)
+    (line_fault_in _ _ (map input_tree c.loop-line.yielded) (input_tree c.in-Some.line)
+    _ _ _ _ _ (line_at c.loop-line.yielded _ _ c.in-Some.line _ (c.in-Some.ensures.steps).0 i.lines) i.bound
+    c.in_err-bind_line.ensures.err)
 
 pub returns-clause-bound : goal.returns-clause-bound
 returns-clause-bound c =
     let gives = c.into_iter-line-iterator.ensures.into_iter_gives in
-    let end = YieldsList-end (YieldsList-from_vec {s = c.into_iter-line-iterator.result} c.args.inputs.lines.items gives.0 (gives.1 ∙ c.args.inputs.lines.ok.0)) c.loop-line.yielded c.loop-line.line-iterator c.loop-line.yielded_by c.next.result c.next.new.self c.in-None.is c.next.ensures.steps in
-    let e : map input_tree c.loop-line.yielded ≡ inputs_tree c.args.inputs = ap (λ (xs : List InputLine). map input_tree xs) (sym (map_same c.loop-line.yielded) ∙ end.0) in
-    let b = subst (λ (xs : List InputTree). AreBound c.args.net.now.channel_names.items (network_of c.args.net.now.program) xs c.loop-line.binding.lists.items c.loop-line.binding.named.items) e c.loop-line.invariant.bound in
-    let all = subst (λ (xs : List Channel). AreNamed xs c.loop-line.binding.named.items) c.deref.ensures.value (subst (λ (xs : List Bool). AreNamed c.deref.result.now xs) c.deref-2.ensures.value c.if-not-are_inputs_named.ensures) in
+    let end =
+    YieldsList-end
+    (YieldsList-from_vec {s = c.into_iter-line-iterator.result} c.args.inputs.lines.items gives.0
+    (gives.1 ∙ c.args.inputs.lines.ok.0)) c.loop-line.yielded c.loop-line.line-iterator c.loop-line.yielded_by
+    c.next.result c.next.new.self c.in-None.is c.next.ensures.steps in
+    let e : map input_tree c.loop-line.yielded ≡ inputs_tree c.args.inputs =
+    ap (λ (xs : List InputLine). map input_tree xs) (sym (map_same c.loop-line.yielded) ∙ end.0) in
+    let b = subst
+    (λ (xs : List InputTree). AreBound c.args.net.now.channel_names.items (network_of c.args.net.now.program) xs
+    c.loop-line.binding.lists.items c.loop-line.binding.named.items) e c.loop-line.invariant.bound in
+    let all =
+    subst (λ (xs : List Channel). AreNamed xs c.loop-line.binding.named.items) c.deref.ensures.value
+    (subst (λ (xs : List Bool). AreNamed c.deref.result.now xs) c.deref-2.ensures.value
+    c.if-not-are_inputs_named.ensures) in
     let binds = all_bound _ _ _ _ _ b all in
     rw c.from_lists.ensures binds
 
 pub returns-clause-fitting : goal.returns-clause-fitting
 returns-clause-fitting c =
     let gives = c.into_iter-line-iterator.ensures.into_iter_gives in
-    let end = YieldsList-end (YieldsList-from_vec {s = c.into_iter-line-iterator.result} c.args.inputs.lines.items gives.0 (gives.1 ∙ c.args.inputs.lines.ok.0)) c.loop-line.yielded c.loop-line.line-iterator c.loop-line.yielded_by c.next.result c.next.new.self c.in-None.is c.next.ensures.steps in
-    let e : map input_tree c.loop-line.yielded ≡ inputs_tree c.args.inputs = ap (λ (xs : List InputLine). map input_tree xs) (sym (map_same c.loop-line.yielded) ∙ end.0) in
-    let b = subst (λ (xs : List InputTree). AreBound c.args.net.now.channel_names.items (network_of c.args.net.now.program) xs c.loop-line.binding.lists.items c.loop-line.binding.named.items) e c.loop-line.invariant.bound in
-    let all = subst (λ (xs : List Channel). AreNamed xs c.loop-line.binding.named.items) c.deref.ensures.value (subst (λ (xs : List Bool). AreNamed c.deref.result.now xs) c.deref-2.ensures.value c.if-not-are_inputs_named.ensures) in
+    let end =
+    YieldsList-end
+    (YieldsList-from_vec {s = c.into_iter-line-iterator.result} c.args.inputs.lines.items gives.0
+    (gives.1 ∙ c.args.inputs.lines.ok.0)) c.loop-line.yielded c.loop-line.line-iterator c.loop-line.yielded_by
+    c.next.result c.next.new.self c.in-None.is c.next.ensures.steps in
+    let e : map input_tree c.loop-line.yielded ≡ inputs_tree c.args.inputs =
+    ap (λ (xs : List InputLine). map input_tree xs) (sym (map_same c.loop-line.yielded) ∙ end.0) in
+    let b = subst
+    (λ (xs : List InputTree). AreBound c.args.net.now.channel_names.items (network_of c.args.net.now.program) xs
+    c.loop-line.binding.lists.items c.loop-line.binding.named.items) e c.loop-line.invariant.bound in
+    let all =
+    subst (λ (xs : List Channel). AreNamed xs c.loop-line.binding.named.items) c.deref.ensures.value
+    (subst (λ (xs : List Bool). AreNamed c.deref.result.now xs) c.deref-2.ensures.value
+    c.if-not-are_inputs_named.ensures) in
     let binds = all_bound _ _ _ _ _ b all in
     rw c.from_lists.ensures (bound_fits _ _ _ _ binds b.few)

@@ -16,20 +16,35 @@ returns-in_err-channels-clause-fault c =
     let p = err_from_is_err_and c.from_residual-in_err-channels.result c.from_residual-in_err-channels.ensures.1 in
     let d = c.in_ok-declared.ensures in
     let ends = c.in_ok-resolved.resolved.ends in
-    rw (p.1, p.2) (end_fault_in (net_tree c.args.text) c.in_ok-declared.declared.channels.items (map process_tree c.in_ok-declared.declared.processes.items) (map code_of c.in_ok-resolved.resolved.processes.items) ends.producers ends.consumers _ d.channels d.processes d.declared c.in_ok-resolved.ensures.ok
-    (subst (λ (xs : List ChannelText). EndFaultAmong xs ends.producers ends.consumers c.in_err-channels.field-0.0) c.deref-2.ensures.value c.in_err-channels.ensures.err))
+    rw (p.1, p.2)
+    (end_fault_in (net_tree c.args.text) c.in_ok-declared.declared.channels.items
+    (map process_tree c.in_ok-declared.declared.processes.items)
+    (map code_of c.in_ok-resolved.resolved.processes.items) ends.producers ends.consumers _ d.channels d.processes
+    d.declared c.in_ok-resolved.ensures.ok
+    (subst (λ (xs : List ChannelText). EndFaultAmong xs ends.producers ends.consumers c.in_err-channels.field-0.0)
+    c.deref-2.ensures.value c.in_err-channels.ensures.err))
 
 pub invariant_of-result : goal.invariant_of-result
 invariant_of-result c =
     let d = c.in_ok-declared.ensures in
     let ends = c.in_ok-resolved.resolved.ends in
     let r = c.in_ok-resolved.ensures.ok in
-    let fit = subst (λ (xs : List ProcessText). (p : ℕ) (process : ProcessTree) → slice_get (map process_tree xs) p ≡ Some process → IsFit process) c.deref.ensures.value c.in_ok-check_all_limits.ensures.ok in
-    let j = subst (λ (xs : List ChannelText). AreJoined xs ends.producers ends.consumers c.in_ok-channels.channels.items) c.deref-2.ensures.value c.in_ok-channels.ensures.ok in
+    let fit =
+    subst (λ (xs : List ProcessText). (p : ℕ) (process : ProcessTree)
+    → slice_get (map process_tree xs) p ≡ Some process → IsFit process) c.deref.ensures.value
+    c.in_ok-check_all_limits.ensures.ok in
+    let j = subst
+    (λ (xs : List ChannelText). AreJoined xs ends.producers ends.consumers c.in_ok-channels.channels.items)
+    c.deref-2.ensures.value c.in_ok-channels.ensures.ok in
     record {
       valid = valid _ _ _ _ _ _ d.declared r fit j;
-      channels_named = ap length c.in_ok-channel_names.ensures ∙ length-map c.in_ok-declared.declared.channels.items (λ (x : ChannelText). x.name) ∙ sym j.count;
-      processes_named = ap length c.in_ok-process_names.ensures ∙ length-map (map process_tree c.in_ok-declared.declared.processes.items) (λ (x : ProcessTree). x.name) ∙ sym r.count ∙ length-map c.in_ok-resolved.resolved.processes.items code_of;
+      channels_named =
+          ap length c.in_ok-channel_names.ensures
+          ∙ length-map c.in_ok-declared.declared.channels.items (λ (x : ChannelText). x.name) ∙ sym j.count;
+      processes_named =
+          ap length c.in_ok-process_names.ensures
+          ∙ length-map (map process_tree c.in_ok-declared.declared.processes.items) (λ (x : ProcessTree). x.name)
+          ∙ sym r.count ∙ length-map c.in_ok-resolved.resolved.processes.items code_of;
       channels_differ = subst AllDifferent (sym c.in_ok-channel_names.ensures) d.declared.channels_differ;
       processes_differ = subst AllDifferent (sym c.in_ok-process_names.ensures) d.declared.processes_differ;
     }
@@ -39,6 +54,12 @@ returns-clause-resolved c =
     let d = c.in_ok-declared.ensures in
     let ends = c.in_ok-resolved.resolved.ends in
     let r = c.in_ok-resolved.ensures.ok in
-    let fit = subst (λ (xs : List ProcessText). (p : ℕ) (process : ProcessTree) → slice_get (map process_tree xs) p ≡ Some process → IsFit process) c.deref.ensures.value c.in_ok-check_all_limits.ensures.ok in
-    let j = subst (λ (xs : List ChannelText). AreJoined xs ends.producers ends.consumers c.in_ok-channels.channels.items) c.deref-2.ensures.value c.in_ok-channels.ensures.ok in
-    rw (c.in_ok-channel_names.ensures, c.in_ok-process_names.ensures) (resolves _ _ _ _ _ _ d.declared r fit j (net_tree c.args.text) d.channels d.processes)
+    let fit =
+    subst (λ (xs : List ProcessText). (p : ℕ) (process : ProcessTree)
+    → slice_get (map process_tree xs) p ≡ Some process → IsFit process) c.deref.ensures.value
+    c.in_ok-check_all_limits.ensures.ok in
+    let j = subst
+    (λ (xs : List ChannelText). AreJoined xs ends.producers ends.consumers c.in_ok-channels.channels.items)
+    c.deref-2.ensures.value c.in_ok-channels.ensures.ok in
+    rw (c.in_ok-channel_names.ensures, c.in_ok-process_names.ensures)
+    (resolves _ _ _ _ _ _ d.declared r fit j (net_tree c.args.text) d.channels d.processes)

@@ -5,4 +5,6 @@ use Rattle.net_check.proofs.Fitting.{past_units}
 use Rattle.net_check.proofs.limits.check_limits.Goals as goal
 
 pub returns-then-not-has_few_units-clause-err : goal.returns-then-not-has_few_units-clause-err
-returns-then-not-has_few_units-clause-err c = λ text p h. many_units p (process_tree c.args.process.now) h (past_units c.has_few_units.result _ c.has_few_units.ensures.1 c.if-not-has_few_units.true) refl
+returns-then-not-has_few_units-clause-err c =
+    λ text p h. many_units p (process_tree c.args.process.now) h
+    (past_units c.has_few_units.result _ c.has_few_units.ensures.1 c.if-not-has_few_units.true) refl

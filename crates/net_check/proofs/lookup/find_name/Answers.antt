@@ -4,10 +4,15 @@ use Rattle.net_check.proofs.Places.{name_reads_at, name_reads_apart, name_reads_
 use Rattle.net_check.proofs.lookup.find_name.Goals as goal
 
 pub returns-then-is_same-clause-found : goal.returns-then-is_same-clause-found
-returns-then-is_same-clause-found c = name_reads_at c.args.names.now c.loop-i.i c.index-names-i.result _ (omega arith) c.index-names-i.is (c.is_same.ensures.0 c.if-is_same.true)
+returns-then-is_same-clause-found c =
+    name_reads_at c.args.names.now c.loop-i.i c.index-names-i.result _ (omega arith) c.index-names-i.is
+    (c.is_same.ensures.0 c.if-is_same.true)
 
 pub loop-i-preserved : goal.loop-i-preserved
-loop-i-preserved c = below_more _ _ c.loop-i.invariant (name_reads_apart c.args.names.now c.loop-i.i c.index-names-i.result _ (omega arith) c.index-names-i.is (λ e. false≢true (sym c.if-is_same.false ∙ c.is_same.ensures.1 e)))
+loop-i-preserved c =
+    below_more _ _ c.loop-i.invariant
+    (name_reads_apart c.args.names.now c.loop-i.i c.index-names-i.result _ (omega arith) c.index-names-i.is
+    (λ e. false≢true (sym c.if-is_same.false ∙ c.is_same.ensures.1 e)))
 
 pub returns-clause-found : goal.returns-clause-found
 returns-clause-found c = λ i h. c.loop-i.invariant i (let w = name_reads_within c.args.names.now i _ h in omega arith) h

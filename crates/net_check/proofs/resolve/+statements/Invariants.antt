@@ -9,7 +9,10 @@ use Rattle.net_check.proofs.resolve.+statements.Given as goal
 
 abbrev pub invariant-resolve_statements-loop-statement : goal.invariant-resolve_statements-loop-statement
 invariant-resolve_statements-loop-statement l = record {
-  resolved : ResolvesBlock (channel_names l.scope.channels.now) (variable_names l.scope.variables.now) (block_tree (take l.statement-index l.statements)) (block_of l.resolved.items);
-  puts : Claims l.scope.channels.now Input l.scope.process (λ c. block_puts c (block_of l.resolved.items)) l.initial.ends.producers l.ends.producers;
-  gets : Claims l.scope.channels.now Output l.scope.process (λ c. block_gets c (block_of l.resolved.items)) l.initial.ends.consumers l.ends.consumers;
+  resolved : ResolvesBlock (channel_names l.scope.channels.now) (variable_names l.scope.variables.now)
+      (block_tree (take l.statement-index l.statements)) (block_of l.resolved.items);
+  puts : Claims l.scope.channels.now Input l.scope.process (λ c. block_puts c (block_of l.resolved.items))
+      l.initial.ends.producers l.ends.producers;
+  gets : Claims l.scope.channels.now Output l.scope.process (λ c. block_gets c (block_of l.resolved.items))
+      l.initial.ends.consumers l.ends.consumers;
 }

@@ -5,5 +5,7 @@ use Rattle.net_check.proofs.resolve.resolve.Goals as goal
 
 pub resolve_all-requires : goal.resolve_all-requires
 resolve_all-requires c p process h =
-    let r = c.requires.ready p process (subst (λ (xs : List ProcessText). slice_get (map process_tree xs) p ≡ Some process) c.deref-2.ensures.value h) in
+    let r = c.requires.ready p process
+    (subst (λ (xs : List ProcessText). slice_get (map process_tree xs) p ≡ Some process) c.deref-2.ensures.value
+    h) in
     let n = r.node in omega arith

@@ -11,12 +11,15 @@ resolve_process-requires-clause-node c =
     let ps = c.args.processes.now in
     let i = c.loop-number.number in
     let p = c.index-processes-number.result in
-    c.requires i (process_tree p) (got_map process_tree ps i p (got_at ps i p (omega arith) c.index-processes-number.is))
+    c.requires i (process_tree p)
+    (got_map process_tree ps i p (got_at ps i p (omega arith) c.index-processes-number.is))
 
 pub returns-in_err-next-clause-err : goal.returns-in_err-next-clause-err
 returns-in_err-next-clause-err c =
     let p = err_from_is_err_and c.from_residual-in_err-next.result c.from_residual-in_err-next.ensures.1 in
-    rw (p.1, p.2) (process_fault _ c.args.processes.now c.loop-number.number c.index-processes-number.result _ _ _ _ (omega arith) c.index-processes-number.is c.loop-number.invariant.resolved c.in_err-next.ensures.err)
+    rw (p.1, p.2)
+    (process_fault _ c.args.processes.now c.loop-number.number c.index-processes-number.result
+    _ _ _ _ (omega arith) c.index-processes-number.is c.loop-number.invariant.resolved c.in_err-next.ensures.err)
 
 pub loop-number-preserved : goal.loop-number-preserved
 loop-number-preserved c =
@@ -24,5 +27,8 @@ loop-number-preserved c =
     let out = c.in_ok-push.ensures.items in
     record {
       count = ap length out ∙ length_push _ _ ∙ ap (λ (k : _). k + 1) inv.count;
-      resolved = rw out (resolved_more _ c.args.processes.now c.loop-number.number c.index-processes-number.result c.loop-number.resolved.items c.in_ok-next.next _ _ _ _ (omega arith) c.index-processes-number.is (sym inv.count) inv.resolved c.in_ok-next.ensures.ok c.in_ok-next.ensures.puts c.in_ok-next.ensures.gets);
+      resolved =
+          rw out (resolved_more _ c.args.processes.now c.loop-number.number c.index-processes-number.result
+          c.loop-number.resolved.items c.in_ok-next.next _ _ _ _ (omega arith) c.index-processes-number.is
+          (sym inv.count) inv.resolved c.in_ok-next.ensures.ok c.in_ok-next.ensures.puts c.in_ok-next.ensures.gets);
     }

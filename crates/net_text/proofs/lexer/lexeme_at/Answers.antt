@@ -26,8 +26,13 @@ returns-then-is_ascii_digit-clause-some c =
 
 pub returns-in-Some-clause-some : goal.returns-in-Some-clause-some
 returns-in-Some-clause-some c =
-    let found = c.in-Some.ensures in
-    (found.within, longest_symbol c.in-Some.symbol c.in-Some.len c.args.rest.now found (sym c.if-starts_word.ensures) (sym c.if-is_ascii_digit.ensures.value), found.spelled)
+    let found = c.in-Some.ensures in (
+      found.within,
+      longest_symbol c.in-Some.symbol c.in-Some.len c.args.rest.now found (sym c.if-starts_word.ensures)
+          (sym c.if-is_ascii_digit.ensures.value),
+      found.spelled,
+    )
 
 pub returns-in-None-clause-none : goal.returns-in-None-clause-none
-returns-in-None-clause-none c = no_lexeme c.args.rest.now c.in-None.ensures (sym c.if-starts_word.ensures) (sym c.if-is_ascii_digit.ensures.value)
+returns-in-None-clause-none c =
+    no_lexeme c.args.rest.now c.in-None.ensures (sym c.if-starts_word.ensures) (sym c.if-is_ascii_digit.ensures.value)

@@ -7,4 +7,5 @@ returns-in-Some c = two_longest c.in-Some.symbol c.args.rest.now c.in-Some.ensur
 
 pub returns-in-Some-single_symbol : goal.returns-in-Some-single_symbol
 returns-in-Some-single_symbol c =
-    one_longest c.in-Some-single_symbol.symbol c.args.rest.now (omega (arith, false-eqb _ 0 c.if-is_empty.ensures)) c.in-Some-single_symbol.ensures c.in_default.ensures
+    one_longest c.in-Some-single_symbol.symbol c.args.rest.now (omega (arith, false-eqb _ 0 c.if-is_empty.ensures))
+    c.in-Some-single_symbol.ensures c.in_default.ensures

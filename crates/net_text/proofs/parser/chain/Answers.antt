@@ -10,5 +10,6 @@ pub returns : goal.returns
 returns c =
     let some : 0 < length c.args.links.items = search rules in
     let kept : c.in_ok-new.field-0.value ≡ c.args.first = search rules in
-    chain_tree c.in_ok-new.field-0 c.args.links ∙ chain_made (expr_tree c.in_ok-new.field-0.value) c.args.links.items some
+    chain_tree c.in_ok-new.field-0 c.args.links
+    ∙ chain_made (expr_tree c.in_ok-new.field-0.value) c.args.links.items some
     ∙ ap (λ (e : ExprText). chain_of (expr_tree e) (map link_tree c.args.links.items)) kept

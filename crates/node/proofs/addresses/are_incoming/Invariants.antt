@@ -6,5 +6,6 @@ use Rattle.protocol.specs.Node.Layout.{is_incoming}
 use Rattle.node.proofs.addresses.are_incoming.Given as goal
 
 abbrev pub invariant-loop-need : goal.invariant-loop-need
-invariant-loop-need l = list_all (λ (need : Need). is_incoming (network_of l.net.program) l.home need.channel) (drop l.need-index l.needs)
+invariant-loop-need l =
+    list_all (λ (need : Need). is_incoming (network_of l.net.program) l.home need.channel) (drop l.need-index l.needs)
     ≡ list_all (λ (need : Need). is_incoming (network_of l.net.program) l.home need.channel) l.needs

@@ -17,4 +17,7 @@ returns-clause-store g c = record {
 
 pub returns-clause-state : goal.returns-clause-state
 returns-clause-state g c = λ kept.
-    c.stop.ensures kept ∙ ap (λ (n : ℕ). crashed n (node_view kept c.args.state.now)) (c.restart_after-restart.ensures ∙ ap (λ (call : ℕ). restart_after c.args.state.now.armed.items call c.args.round) c.failed_call.ensures)
+    c.stop.ensures kept
+    ∙ ap (λ (n : ℕ). crashed n (node_view kept c.args.state.now))
+    (c.restart_after-restart.ensures
+    ∙ ap (λ (call : ℕ). restart_after c.args.state.now.armed.items call c.args.round) c.failed_call.ensures)

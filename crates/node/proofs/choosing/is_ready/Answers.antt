@@ -7,33 +7,50 @@ use Rattle.node.proofs.choosing.is_ready.Goals as goal
 
 pub next_act-requires : goal.next_act-requires
 next_act-requires c =
-    units_few (network_of c.args.net.now.program) c.saved.inside.number (code_of c.in-Some.process.now) c.args.net.now.valid
-    (code_found c.args.net.now.program c.deref.result.now c.from.result c.saved.inside.number c.in-Some.process.now c.deref.ensures.value c.from.ensures c.in-Some.ensures.lookup.3.0 c.in-Some.ensures.lookup.1)
+    units_few (network_of c.args.net.now.program) c.saved.inside.number (code_of c.in-Some.process.now)
+    c.args.net.now.valid
+    (code_found c.args.net.now.program c.deref.result.now c.from.result c.saved.inside.number c.in-Some.process.now
+    c.deref.ensures.value c.from.ensures c.in-Some.ensures.lookup.3.0 c.in-Some.ensures.lookup.1)
 
 pub returns-in-Begin : goal.returns-in-Begin
 returns-in-Begin c =
-    ready_at c.args.net.now.program c.args.inputs.now c.args.image.now c.args.inboxes.now c.deref.result.now c.from.result c.saved.inside.number c.in-Some.process.now (standing_of c.saved.inside.state) _ c.next_act.result _
-    c.deref.ensures.value c.from.ensures c.in-Some.ensures.lookup.3.0 c.in-Some.ensures.lookup.1 c.next_act.ensures c.in-Begin.is c.saved.view_is
+    ready_at c.args.net.now.program c.args.inputs.now c.args.image.now c.args.inboxes.now c.deref.result.now
+    c.from.result c.saved.inside.number c.in-Some.process.now (standing_of c.saved.inside.state)
+    _ c.next_act.result _
+    c.deref.ensures.value c.from.ensures c.in-Some.ensures.lookup.3.0 c.in-Some.ensures.lookup.1 c.next_act.ensures
+    c.in-Begin.is c.saved.view_is
 
 pub returns-in-Get : goal.returns-in-Get
 returns-in-Get c =
-    item_on _ (network_of c.args.net.now.program) _ c.args.image.now c.args.inboxes.now _ _ c.has_item.ensures c.deref-in-Get.ensures.value
-    ∙ ready_at c.args.net.now.program c.args.inputs.now c.args.image.now c.args.inboxes.now c.deref.result.now c.from.result c.saved.inside.number c.in-Some.process.now (standing_of c.saved.inside.state) _ c.next_act.result _
-    c.deref.ensures.value c.from.ensures c.in-Some.ensures.lookup.3.0 c.in-Some.ensures.lookup.1 c.next_act.ensures c.in-Get.is c.saved.view_is
+    item_on _ (network_of c.args.net.now.program) _ c.args.image.now c.args.inboxes.now _ _ c.has_item.ensures
+    c.deref-in-Get.ensures.value
+    ∙ ready_at c.args.net.now.program c.args.inputs.now c.args.image.now c.args.inboxes.now c.deref.result.now
+    c.from.result c.saved.inside.number c.in-Some.process.now (standing_of c.saved.inside.state)
+    _ c.next_act.result _
+    c.deref.ensures.value c.from.ensures c.in-Some.ensures.lookup.3.0 c.in-Some.ensures.lookup.1 c.next_act.ensures
+    c.in-Get.is c.saved.view_is
 
 pub returns-in-Put : goal.returns-in-Put
 returns-in-Put c =
     room_on _ (network_of c.args.net.now.program) c.args.image.now _ _ c.has_room.ensures c.deref-in-Put.ensures.value
-    ∙ ready_at c.args.net.now.program c.args.inputs.now c.args.image.now c.args.inboxes.now c.deref.result.now c.from.result c.saved.inside.number c.in-Some.process.now (standing_of c.saved.inside.state) _ c.next_act.result _
-    c.deref.ensures.value c.from.ensures c.in-Some.ensures.lookup.3.0 c.in-Some.ensures.lookup.1 c.next_act.ensures c.in-Put.is c.saved.view_is
+    ∙ ready_at c.args.net.now.program c.args.inputs.now c.args.image.now c.args.inboxes.now c.deref.result.now
+    c.from.result c.saved.inside.number c.in-Some.process.now (standing_of c.saved.inside.state)
+    _ c.next_act.result _
+    c.deref.ensures.value c.from.ensures c.in-Some.ensures.lookup.3.0 c.in-Some.ensures.lookup.1 c.next_act.ensures
+    c.in-Put.is c.saved.view_is
 
 pub returns-in-Nothing : goal.returns-in-Nothing
 returns-in-Nothing c =
-    ready_at c.args.net.now.program c.args.inputs.now c.args.image.now c.args.inboxes.now c.deref.result.now c.from.result c.saved.inside.number c.in-Some.process.now (standing_of c.saved.inside.state) _ c.next_act.result _
-    c.deref.ensures.value c.from.ensures c.in-Some.ensures.lookup.3.0 c.in-Some.ensures.lookup.1 c.next_act.ensures c.in-Nothing.is c.saved.view_is
+    ready_at c.args.net.now.program c.args.inputs.now c.args.image.now c.args.inboxes.now c.deref.result.now
+    c.from.result c.saved.inside.number c.in-Some.process.now (standing_of c.saved.inside.state)
+    _ c.next_act.result _
+    c.deref.ensures.value c.from.ensures c.in-Some.ensures.lookup.3.0 c.in-Some.ensures.lookup.1 c.next_act.ensures
+    c.in-Nothing.is c.saved.view_is
 
 pub returns-in-None : goal.returns-in-None
 returns-in-None c =
-    not_ready (network_of c.args.net.now.program) c.args.inputs.now c.args.image.now c.args.inboxes.now c.saved.inside.number (standing_of c.saved.inside.state) _
-    (code_not_found c.args.net.now.program c.deref.result.now c.from.result c.saved.inside.number c.deref.ensures.value c.from.ensures c.in-None.ensures.lookup.3)
+    not_ready (network_of c.args.net.now.program) c.args.inputs.now c.args.image.now c.args.inboxes.now
+    c.saved.inside.number (standing_of c.saved.inside.state) _
+    (code_not_found c.args.net.now.program c.deref.result.now c.from.result c.saved.inside.number c.deref.ensures.value
+    c.from.ensures c.in-None.ensures.lookup.3)
     c.saved.view_is

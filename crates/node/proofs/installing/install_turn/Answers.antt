@@ -15,7 +15,9 @@ push_sent-requires-clause-takes c = λ k saved from h.
 pub count_all-requires : goal.count_all-requires
 count_all-requires c = λ k saved h.
     counts_kept _ _ _ _ c.image.inside.ends.items _
-    (λ j one g. (c.requires j one (subst (λ (image : ImageView). slice_get image.ends j ≡ Some one) c.image.view_is g)).received)
+    (λ j one
+    g. (c.requires j one
+    (subst (λ (image : ImageView). slice_get image.ends j ≡ Some one) c.image.view_is g)).received)
     k saved (subst (λ (ends : List SavedEnd). slice_get ends k ≡ Some saved) c.in_ok-push_sent.ensures.ok h)
 
 -- the ends stay those of their channels
@@ -24,6 +26,7 @@ invariant_of-image-inside-2 c = (
   subst (λ (ends : List SavedEnd). AreAscending ends) (sym c.count_all.ensures)
       (ascend_changed (saved_counted c.args.channels.now c.args.process c.args.taken.now) (λ e. refl) _
       (subst (λ (ends : List SavedEnd). AreAscending ends) (sym c.in_ok-push_sent.ensures.ok)
-      (ascend_changed (saved_pushed c.args.channels.now c.args.process c.args.sent.now) (λ e. refl) c.image.inside.ends.items c.image.inside.ordered))),
+      (ascend_changed (saved_pushed c.args.channels.now c.args.process c.args.sent.now) (λ e. refl)
+      c.image.inside.ends.items c.image.inside.ordered))),
   tt,
 )

@@ -8,5 +8,6 @@ use Rattle.node.proofs.nodes.node_count.Goals as goal
 pub returns-clause-few : goal.returns-clause-few
 returns-clause-few c =
     let all = c.loop-process.invariant in
-    let few : node_count (network_of c.args.net.now.program) ≤ MAX_NODES = nodes_few (network_of c.args.net.now.program) c.args.net.now.valid in
+    let few : node_count (network_of c.args.net.now.program) ≤ MAX_NODES =
+    nodes_few (network_of c.args.net.now.program) c.args.net.now.valid in
     omega (arith, all, few)

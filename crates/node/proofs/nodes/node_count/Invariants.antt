@@ -5,4 +5,6 @@ use Rattle.node.proofs.nodes.node_count.Given as goal
 
 -- the nodes of the processes that were looked at, and of those that weren't
 abbrev pub invariant-loop-process : goal.invariant-loop-process
-invariant-loop-process l = max l.count (nodes_above (map code_of (drop l.process-index l.process-items))) ≡ node_count (network_of l.net.program)
+invariant-loop-process l =
+    max l.count (nodes_above (map code_of (drop l.process-index l.process-items)))
+    ≡ node_count (network_of l.net.program)

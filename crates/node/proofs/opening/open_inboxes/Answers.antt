@@ -12,9 +12,11 @@ loop-number-preserved c =
     let count = c.len-number-end.ensures in
     elim c.if-is_incoming.branch [
       | then-is_incoming+in_ok-push w ↦
-          taken_next new_inbox (is_incoming (network_of c.args.net.now.program) c.args.home) _ _ _ c.loop-number.number _ (omega (arith, below, count)) c.loop-number.invariant
+          taken_next new_inbox (is_incoming (network_of c.args.net.now.program) c.args.home) _ _ _ c.loop-number.number
+          _ (omega (arith, below, count)) c.loop-number.invariant
           (sym c.is_incoming.ensures ∙ w.if-is_incoming.true) (search rules)
       | else-is_incoming w ↦
-          passed_next new_inbox (is_incoming (network_of c.args.net.now.program) c.args.home) _ _ _ c.loop-number.number _ (omega (arith, below, count)) c.loop-number.invariant
+          passed_next new_inbox (is_incoming (network_of c.args.net.now.program) c.args.home)
+          _ _ _ c.loop-number.number _ (omega (arith, below, count)) c.loop-number.invariant
           (sym c.is_incoming.ensures ∙ w.if-is_incoming.false) (search rules)
     ]

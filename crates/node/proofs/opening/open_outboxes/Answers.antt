@@ -12,9 +12,11 @@ loop-number-preserved c =
     let count = c.len-number-end.ensures in
     elim c.if-is_outgoing.branch [
       | then-is_outgoing+in_ok-push w ↦
-          taken_next new_outbox (is_outgoing (network_of c.args.net.now.program) c.args.home) _ _ _ c.loop-number.number _ (omega (arith, below, count)) c.loop-number.invariant
+          taken_next new_outbox (is_outgoing (network_of c.args.net.now.program) c.args.home)
+          _ _ _ c.loop-number.number _ (omega (arith, below, count)) c.loop-number.invariant
           (sym c.is_outgoing.ensures ∙ w.if-is_outgoing.true) (search rules)
       | else-is_outgoing w ↦
-          passed_next new_outbox (is_outgoing (network_of c.args.net.now.program) c.args.home) _ _ _ c.loop-number.number _ (omega (arith, below, count)) c.loop-number.invariant
+          passed_next new_outbox (is_outgoing (network_of c.args.net.now.program) c.args.home)
+          _ _ _ c.loop-number.number _ (omega (arith, below, count)) c.loop-number.invariant
           (sym c.is_outgoing.ensures ∙ w.if-is_outgoing.false) (search rules)
     ]

@@ -7,4 +7,7 @@ use Rattle.node.proofs.opening.open_outboxes.Given as goal
 -- what is listed, and then what is to come
 abbrev pub invariant-loop-number : goal.invariant-loop-number
 invariant-loop-number l =
-    l.outboxes.items ++ map new_outbox (numbers_where (is_outgoing (network_of l.net.program) l.home) l.number (length l.net.program.channels.items - l.number)) ≡ opening_outboxes (network_of l.net.program) l.home
+    l.outboxes.items
+    ++ map new_outbox
+    (numbers_where (is_outgoing (network_of l.net.program) l.home) l.number
+    (length l.net.program.channels.items - l.number)) ≡ opening_outboxes (network_of l.net.program) l.home

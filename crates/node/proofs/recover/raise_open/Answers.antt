@@ -11,13 +11,19 @@ pub returns-in-Ok-raise_epoch : goal.returns-in-Ok-raise_epoch
 returns-in-Ok-raise_epoch g c =
     let C = g.C.StableCell in
     let met = g.met.C.StableCell in
-    raised C met.includes_now met.value_may_stay met.settled c.args.store.now c.requires.settled c.requires.known c.raise_epoch.new.self c.in-Ok-copy.image
-    (c.in-Ok-copy.ensures ∙ (ap (λ (r : RecordView). r.permanent) c.kept.view_is ∙ ap (λ (r : RecordView). r.permanent) (sym c.in-Ok.ensures.1)))
-    (subst (λ (r : Result (Unit {0}) StoreFault). Changes refusal_to_raise with_epoch c.args.store.now c.raise_epoch.new.self r) c.in-Ok-raise_epoch.is c.raise_epoch.ensures)
+    raised C met.includes_now met.value_may_stay met.settled c.args.store.now c.requires.settled c.requires.known
+    c.raise_epoch.new.self c.in-Ok-copy.image
+    (c.in-Ok-copy.ensures
+    ∙ (ap (λ (r : RecordView). r.permanent) c.kept.view_is
+    ∙ ap (λ (r : RecordView). r.permanent) (sym c.in-Ok.ensures.1)))
+    (subst (λ (r : Result (Unit {0}) StoreFault). Changes refusal_to_raise with_epoch c.args.store.now
+    c.raise_epoch.new.self r) c.in-Ok-raise_epoch.is c.raise_epoch.ensures)
 
 pub returns-in-Err : goal.returns-in-Err
 returns-in-Err g c =
     let C = g.C.StableCell in
     let met = g.met.C.StableCell in
-    refused_so C met.includes_now met.value_may_stay met.settled c.args.store.now c.requires.settled c.requires.known met.only_now c.raise_epoch.new.self c.in-Err.fault
-    (subst (λ (r : Result (Unit {0}) StoreFault). Changes refusal_to_raise with_epoch c.args.store.now c.raise_epoch.new.self r) c.in-Err.is c.raise_epoch.ensures)
+    refused_so C met.includes_now met.value_may_stay met.settled c.args.store.now c.requires.settled c.requires.known
+    met.only_now c.raise_epoch.new.self c.in-Err.fault
+    (subst (λ (r : Result (Unit {0}) StoreFault). Changes refusal_to_raise with_epoch c.args.store.now
+    c.raise_epoch.new.self r) c.in-Err.is c.raise_epoch.ensures)

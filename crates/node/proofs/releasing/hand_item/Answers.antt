@@ -7,4 +7,5 @@ returns-then-taken-end-clause-item g c =
 
 pub returns-then-taken-end-clause-failed_item : goal.returns-then-taken-end-clause-failed_item
 returns-then-taken-end-clause-failed_item g c =
-    handed_or_not c.args.log.now c.len-taken.result _ _ c.release.result c.len-taken.ensures c.requires c.release.ensures.failed
+    handed_or_not c.args.log.now c.len-taken.result _ _ c.release.result c.len-taken.ensures c.requires
+    c.release.ensures.failed

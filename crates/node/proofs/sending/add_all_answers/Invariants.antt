@@ -5,4 +5,7 @@ use Rattle.protocol.specs.Node.Sending.{inbox_packets}
 use Rattle.node.proofs.sending.add_all_answers.Given as goal
 
 abbrev pub invariant-loop-inbox : goal.invariant-loop-inbox
-invariant-loop-inbox l = l.packets.items ≡ l.fn.packets.items ++ flat_map (inbox_packets (network_of l.net.program) l.home l.permanent) (take l.inbox-index l.inboxes)
+invariant-loop-inbox l =
+    l.packets.items
+    ≡ l.fn.packets.items
+    ++ flat_map (inbox_packets (network_of l.net.program) l.home l.permanent) (take l.inbox-index l.inboxes)

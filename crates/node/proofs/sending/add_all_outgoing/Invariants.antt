@@ -5,4 +5,7 @@ use Rattle.protocol.specs.Node.Sending.{outbox_packets}
 use Rattle.node.proofs.sending.add_all_outgoing.Given as goal
 
 abbrev pub invariant-loop-outbox : goal.invariant-loop-outbox
-invariant-loop-outbox l = l.packets.items ≡ l.fn.packets.items ++ flat_map (outbox_packets (network_of l.net.program) l.home l.current) (take l.outbox-index l.outboxes)
+invariant-loop-outbox l =
+    l.packets.items
+    ≡ l.fn.packets.items
+    ++ flat_map (outbox_packets (network_of l.net.program) l.home l.current) (take l.outbox-index l.outboxes)

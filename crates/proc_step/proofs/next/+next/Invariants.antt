@@ -8,8 +8,10 @@ use Rattle.proc_step.proofs.next.+next.Given as goal
 abbrev pub invariant-act_at-loop-statement : goal.invariant-act_at-loop-statement
 invariant-act_at-loop-statement l = record {
   above : l.number ≤ l.site;
-  few : l.number + sites_of (block_of (drop l.statement-index l.statements)) ≡ l.first + sites_of (block_of l.statements);
-  same : next_on l.number (block_of (drop l.statement-index l.statements)) l.site ≡ next_on l.first (block_of l.statements) l.site;
+  few : l.number + sites_of (block_of (drop l.statement-index l.statements))
+      ≡ l.first + sites_of (block_of l.statements);
+  same : next_on l.number (block_of (drop l.statement-index l.statements)) l.site
+      ≡ next_on l.first (block_of l.statements) l.site;
 }
 
 abbrev pub decreases-act_in : goal.decreases-act_in

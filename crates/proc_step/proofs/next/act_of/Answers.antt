@@ -12,4 +12,6 @@ count_sites-sites-requires c =
 pub act_at-requires-in-Some-clause-few : goal.act_at-requires-in-Some-clause-few
 act_at-requires-in-Some-clause-few c =
     let code = code_of c.args.process.now in
-    few_in_body code.prelude _ (block_of c.in-Some.body.items) code.body c.count_sites-sites.result (ap body_of c.in-Some.is) (ap block_of c.deref-in-Some.ensures.value) (c.count_sites-sites.ensures ∙ ap sites_of (ap block_of c.deref.ensures.value)) c.requires
+    few_in_body code.prelude _ (block_of c.in-Some.body.items) code.body c.count_sites-sites.result
+    (ap body_of c.in-Some.is) (ap block_of c.deref-in-Some.ensures.value)
+    (c.count_sites-sites.ensures ∙ ap sites_of (ap block_of c.deref.ensures.value)) c.requires

@@ -7,7 +7,9 @@ loop-items-preserved c =
     let i = c.loop-items.invariant in
     let s = c.in-Some.ensures.steps in
     record {
-      counted = counted_more c.loop-items.taken.items c.push.new.self.items _ c.in-Some.items.now c.in-Some.left.now _ _ _ _ s.0 s.1 (rw (c.len.ensures, c.len-in-loop-items.ensures) at c.in_ok-push.ensures.items) i.counted;
+      counted =
+          counted_more c.loop-items.taken.items c.push.new.self.items _ c.in-Some.items.now c.in-Some.left.now
+          _ _ _ _ s.0 s.1 (rw (c.len.ensures, c.len-in-loop-items.ensures) at c.in_ok-push.ensures.items) i.counted;
       count = omega (arith, i.count, ap (length {A = List ℤ}) s.0, ap (length {A = List ℤ}) s.1);
       fewer = fewer_later c.in-Some.items.now c.in-Some.left.now _ _ _ _ s.0 s.1 i.fewer;
     }

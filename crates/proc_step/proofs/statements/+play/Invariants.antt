@@ -7,8 +7,11 @@ use Rattle.proc_step.proofs.statements.+play.Given as goal
 
 abbrev pub invariant-play_statements-loop-statement : goal.invariant-play_statements-loop-statement
 invariant-play_statements-loop-statement l = record {
-  leads : LeadsTo (trace_of l.number [] (block_of (drop l.statement-index l.statements)) l.variables l.unread) l.unread l.sent (trace_of l.first [] (block_of l.statements) l.initial.variables l.initial.unread) l.initial.unread l.initial.sent l.room;
-  few : l.number + sites_of (block_of (drop l.statement-index l.statements)) ≡ l.first + sites_of (block_of l.statements);
+  leads : LeadsTo (trace_of l.number [] (block_of (drop l.statement-index l.statements)) l.variables l.unread) l.unread
+      l.sent (trace_of l.first [] (block_of l.statements) l.initial.variables l.initial.unread) l.initial.unread
+      l.initial.sent l.room;
+  few : l.number + sites_of (block_of (drop l.statement-index l.statements))
+      ≡ l.first + sites_of (block_of l.statements);
   rooms : length l.sent ≡ length l.room;
 }
 

@@ -10,7 +10,10 @@ abbrev pub invariant-resume_statements-loop-index : goal.invariant-resume_statem
 invariant-resume_statements-loop-index l = record {
   above : l.number ≤ l.site;
   few : l.number + sites_of (block_of (drop l.index l.statements)) ≡ l.first + sites_of (block_of l.statements);
-  leads : (inner : List ℕ) → LeadsTo (trace_on l.number [] (block_of (drop l.index l.statements)) l.site inner l.variables l.unread) l.unread l.sent (trace_on l.first [] (block_of l.statements) l.site inner l.initial.variables l.initial.unread) l.initial.unread l.initial.sent l.room;
+  leads : (inner : List ℕ)
+      → LeadsTo (trace_on l.number [] (block_of (drop l.index l.statements)) l.site inner l.variables l.unread)
+      l.unread l.sent (trace_on l.first [] (block_of l.statements) l.site inner l.initial.variables l.initial.unread)
+      l.initial.unread l.initial.sent l.room;
   rooms : length l.sent ≡ length l.room;
 }
 

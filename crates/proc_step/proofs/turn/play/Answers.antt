@@ -28,18 +28,25 @@ returns-in-RanOut c =
           let k = w.play_statements.new in
           IfOk-weaker c.play_body.result _ _
           (λ last part.
-          then_loop (trace_from code (standing_in a.mode.now a.variables.now) a.unread.now) (trace_of 0 [] (block_of w.deref-in-NotBegun.result.now) a.variables.now a.unread.now) loop a.room.now a.unread.now a.sent.now
-          w.in_ok-flow-in-NotBegun.flow m.flow k.variables m.variables k.unread m.unread k.sent m.sent last n.variables n.unread n.sent
+          then_loop (trace_from code (standing_in a.mode.now a.variables.now) a.unread.now)
+          (trace_of 0 [] (block_of w.deref-in-NotBegun.result.now) a.variables.now a.unread.now) loop a.room.now
+          a.unread.now a.sent.now
+          w.in_ok-flow-in-NotBegun.flow m.flow k.variables m.variables k.unread m.unread k.sent m.sent last n.variables
+          n.unread n.sent
           (ap (λ (x : Mode). trace_from code (standing_in x a.variables.now) a.unread.now) w.in-NotBegun.is
-          ∙ ap (λ (b : Block). then_do (trace_of 0 [] b a.variables.now a.unread.now) loop) (ap block_of (sym w.deref-in-NotBegun.ensures.value)))
+          ∙ ap (λ (b : Block). then_do (trace_of 0 [] b a.variables.now a.unread.now) loop)
+          (ap block_of (sym w.deref-in-NotBegun.ensures.value)))
           w.flow-is c.in-RanOut.is w.variables-is w.unread-is w.sent-is w.in_ok-flow-in-NotBegun.ensures.part part)
           c.play_body.ensures.part
       | in-At+in_ok-flow-in-At w ↦
           let k = w.resume_pass.new in
           IfOk-weaker c.play_body.result _ _
           (λ last part.
-          then_loop (trace_from code (standing_in a.mode.now a.variables.now) a.unread.now) (code_on code (point_of w.in-At.place) a.variables.now a.unread.now) loop a.room.now a.unread.now a.sent.now
-          w.in_ok-flow-in-At.flow m.flow k.variables m.variables k.unread m.unread k.sent m.sent last n.variables n.unread n.sent
+          then_loop (trace_from code (standing_in a.mode.now a.variables.now) a.unread.now)
+          (code_on code (point_of w.in-At.place) a.variables.now a.unread.now) loop a.room.now a.unread.now
+          a.sent.now
+          w.in_ok-flow-in-At.flow m.flow k.variables m.variables k.unread m.unread k.sent m.sent last n.variables
+          n.unread n.sent
           (ap (λ (x : Mode). trace_from code (standing_in x a.variables.now) a.unread.now) w.in-At.is)
           w.flow-is c.in-RanOut.is w.variables-is w.unread-is w.sent-is w.in_ok-flow-in-At.ensures.part part)
           c.play_body.ensures.part

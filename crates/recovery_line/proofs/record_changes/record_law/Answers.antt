@@ -1,4 +1,5 @@
-use Rattle.recovery_line.proofs.Observing.{taking_moves, deciding_moves, settling_moves, dropping_moves, confirming_moves, epoch_drops_own, epoch_is_not_seen}
+use Rattle.recovery_line.proofs.Observing.{taking_moves, deciding_moves, settling_moves, dropping_moves}
+use Rattle.recovery_line.proofs.Observing.{confirming_moves, epoch_drops_own, epoch_is_not_seen}
 use Rattle.recovery_line.proofs.record_changes.record_law.Goals as goal
 
 pub returns-clause-takes : goal.returns-clause-takes

@@ -1,4 +1,7 @@
-use Rattle.recovery_line.proofs.Theorems.{line_is_sound, line_covers, line_never_falls_back, commits_while_held, stays_committed, holders_are_named, ended_is_over, stays_over, over_stays_out, takers_are_needed, no_smaller_set, no_smaller_decision, asks_for_needs, takes_where_needed}
+use Rattle.recovery_line.proofs.Theorems.{line_is_sound, line_covers, line_never_falls_back, commits_while_held}
+use Rattle.recovery_line.proofs.Theorems.{stays_committed, holders_are_named, ended_is_over, stays_over, over_stays_out}
+use Rattle.recovery_line.proofs.Theorems.{takers_are_needed, no_smaller_set, no_smaller_decision, asks_for_needs}
+use Rattle.recovery_line.proofs.Theorems.{takes_where_needed}
 use Rattle.recovery_line.proofs.runs.every_run_law.Goals as goal
 
 pub returns-clause-line_is_sound : goal.returns-clause-line_is_sound

@@ -5,6 +5,7 @@ use Rattle.sector_disk.proofs.sectors.fill_doubtful.Goals.{then-doubtful, else-d
 
 pub loop-k-preserved : goal.loop-k-preserved
 loop-k-preserved c = elim c.if-doubtful.branch [
-  | then-doubtful w ↦ fills _ _ _ _ _ _ c.loop-k.invariant w.if-doubtful.true (omega (arith, c.loop-k-test.true, c.loop-k.invariant.size, c.requires)) (w.bytes-is ∙ w.fill_range.ensures)
+  | then-doubtful w ↦ fills _ _ _ _ _ _ c.loop-k.invariant w.if-doubtful.true
+      (omega (arith, c.loop-k-test.true, c.loop-k.invariant.size, c.requires)) (w.bytes-is ∙ w.fill_range.ensures)
   | else-doubtful w ↦ skips _ _ _ _ _ _ c.loop-k.invariant w.if-doubtful.false w.bytes-is
 ]

@@ -9,5 +9,7 @@ use Rattle.stream_eq.proofs.evaluate.+value.Goals as goal
 pub loop-link-init : goal.loop-link-init
 loop-link-init t c =
     let f : FitsSigned w64 c.value-total.result = search rules in
-    value_starts c.args.expr.now c.in-Chain.first c.in-Chain.links c.deref-link-items.result.now c.args.variables.now _ c.in-Chain.is c.deref-link-items.ensures.value
-    (to_z-of_z w64 c.value-total.result f ∙ c.value-total.ensures ∙ ap (λ (e : Expr). value_of (tree_of e) c.args.variables.now) c.deref-in-Chain.ensures)
+    value_starts c.args.expr.now c.in-Chain.first c.in-Chain.links c.deref-link-items.result.now c.args.variables.now
+    _ c.in-Chain.is c.deref-link-items.ensures.value
+    (to_z-of_z w64 c.value-total.result f ∙ c.value-total.ensures
+    ∙ ap (λ (e : Expr). value_of (tree_of e) c.args.variables.now) c.deref-in-Chain.ensures)

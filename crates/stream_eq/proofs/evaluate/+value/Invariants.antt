@@ -4,4 +4,6 @@ use Rattle.kahn_net.specs.Syntax.{links_of, tree_of}
 use Rattle.stream_eq.proofs.evaluate.+value.Given as goal
 
 abbrev pub invariant-loop-link : goal.invariant-loop-link
-invariant-loop-link l = value_along (links_of (drop l.link-index l.link-items)) l.variables l.total ≡ value_of (tree_of l.fn.expr) l.fn.variables
+invariant-loop-link l =
+    value_along (links_of (drop l.link-index l.link-items)) l.variables l.total
+    ≡ value_of (tree_of l.fn.expr) l.fn.variables

@@ -19,9 +19,12 @@ play_statement-returns-then-is_zero-clause-played t c =
     IfOk-weaker c.play_statements.result _ _
     (λ ended played site left.
     let there = played (site + sites_of a) left in
-    let same = ap (λ (b : Block). trace_of (site + sites_of a) left b vars unread) (ap block_of (sym c.deref.ensures.value)) in
-    subst (λ (x : Trace). IsPlayed x c.args.sent.now c.play_statements.new.sent ended c.play_statements.new.variables c.play_statements.new.unread)
-    (sym (takes_second c.args.statement.now c.in-If.test c.in-If.first c.in-If.second c.in-If.is site left vars unread c.if-is_zero.ensures ∙ same)) there)
+    let same =
+    ap (λ (b : Block). trace_of (site + sites_of a) left b vars unread) (ap block_of (sym c.deref.ensures.value)) in
+    subst (λ (x : Trace). IsPlayed x c.args.sent.now c.play_statements.new.sent ended c.play_statements.new.variables
+    c.play_statements.new.unread)
+    (sym (takes_second c.args.statement.now c.in-If.test c.in-If.first c.in-If.second c.in-If.is site left vars unread
+    c.if-is_zero.ensures ∙ same)) there)
     c.play_statements.ensures.played
 
 pub play_statement-returns-then-is_zero-clause-long : goal.play_statement-returns-then-is_zero-clause-long
@@ -29,9 +32,11 @@ play_statement-returns-then-is_zero-clause-long t c h site left =
     let a = block_of c.in-If.first.items in
     let vars = c.args.variables.now in
     let unread = c.args.unread.now in
-    let same = ap (λ (b : Block). trace_of (site + sites_of a) left b vars unread) (ap block_of (sym c.deref.ensures.value)) in
+    let same =
+    ap (λ (b : Block). trace_of (site + sites_of a) left b vars unread) (ap block_of (sym c.deref.ensures.value)) in
     subst (λ (x : Trace). GoesPast c.args.limits.now (put_after x.steps c.args.sent.now))
-    (sym (takes_second c.args.statement.now c.in-If.test c.in-If.first c.in-If.second c.in-If.is site left vars unread c.if-is_zero.ensures ∙ same))
+    (sym (takes_second c.args.statement.now c.in-If.test c.in-If.first c.in-If.second c.in-If.is site left vars unread
+    c.if-is_zero.ensures ∙ same))
     (c.play_statements.ensures.long h (site + sites_of a) left)
 
 pub play_statement-returns-else-is_zero-clause-played : goal.play_statement-returns-else-is_zero-clause-played
@@ -40,18 +45,23 @@ play_statement-returns-else-is_zero-clause-played t c =
     let unread = c.args.unread.now in
     IfOk-weaker c.play_statements-else-is_zero.result _ _
     (λ ended played site left.
-    let same = ap (λ (b : Block). trace_of site left b vars unread) (ap block_of (sym c.deref-else-is_zero.ensures.value)) in
-    subst (λ (x : Trace). IsPlayed x c.args.sent.now c.play_statements-else-is_zero.new.sent ended c.play_statements-else-is_zero.new.variables c.play_statements-else-is_zero.new.unread)
-    (sym (takes_first c.args.statement.now c.in-If.test c.in-If.first c.in-If.second c.in-If.is site left vars unread c.if-is_zero.ensures ∙ same)) (played site left))
+    let same =
+    ap (λ (b : Block). trace_of site left b vars unread) (ap block_of (sym c.deref-else-is_zero.ensures.value)) in
+    subst (λ (x : Trace). IsPlayed x c.args.sent.now c.play_statements-else-is_zero.new.sent ended
+    c.play_statements-else-is_zero.new.variables c.play_statements-else-is_zero.new.unread)
+    (sym (takes_first c.args.statement.now c.in-If.test c.in-If.first c.in-If.second c.in-If.is site left vars unread
+    c.if-is_zero.ensures ∙ same)) (played site left))
     c.play_statements-else-is_zero.ensures.played
 
 pub play_statement-returns-else-is_zero-clause-long : goal.play_statement-returns-else-is_zero-clause-long
 play_statement-returns-else-is_zero-clause-long t c h site left =
     let vars = c.args.variables.now in
     let unread = c.args.unread.now in
-    let same = ap (λ (b : Block). trace_of site left b vars unread) (ap block_of (sym c.deref-else-is_zero.ensures.value)) in
+    let same =
+    ap (λ (b : Block). trace_of site left b vars unread) (ap block_of (sym c.deref-else-is_zero.ensures.value)) in
     subst (λ (x : Trace). GoesPast c.args.limits.now (put_after x.steps c.args.sent.now))
-    (sym (takes_first c.args.statement.now c.in-If.test c.in-If.first c.in-If.second c.in-If.is site left vars unread c.if-is_zero.ensures ∙ same))
+    (sym (takes_first c.args.statement.now c.in-If.test c.in-If.first c.in-If.second c.in-If.is site left vars unread
+    c.if-is_zero.ensures ∙ same))
     (c.play_statements-else-is_zero.ensures.long h site left)
 
 pub play_statements-returns-in_err-play_statement-clause-long : goal.play_statements-returns-in_err-play_statement-clause-long
@@ -60,14 +70,19 @@ play_statements-returns-in_err-play_statement-clause-long t c =
     let ss = c.args.statements.now in
     let i = c.loop-statement.statement-index in
     let here = block_at ss i c.statement-item.result c.loop-statement-test.true c.statement-item.is in
-    rw (p.1, p.2) (λ h site left. past_behind c.statement-item.result (block_of (drop (i + 1) ss)) c.args.limits.now (going_at (c.loop-statement.invariant.going site left) here) (c.in_err-play_statement.ensures.long (other_err _ _ h)))
+    rw (p.1, p.2)
+    (λ h site left. past_behind c.statement-item.result (block_of (drop (i + 1) ss)) c.args.limits.now
+    (going_at (c.loop-statement.invariant.going site left) here)
+    (c.in_err-play_statement.ensures.long (other_err _ _ h)))
 
 pub play_statements-returns-then-not-branch-clause-played : goal.play_statements-returns-then-not-branch-clause-played
 play_statements-returns-then-not-branch-clause-played t c site left =
     let ss = c.args.statements.now in
     let i = c.loop-statement.statement-index in
     let here = block_at ss i c.statement-item.result c.loop-statement-test.true c.statement-item.is in
-    stays c.statement-item.result (block_of (drop (i + 1) ss)) (going_at (c.loop-statement.invariant.going site left) here) c.in_ok-play_statement.ensures.played c.if-not-branch.true
+    stays c.statement-item.result (block_of (drop (i + 1) ss))
+    (going_at (c.loop-statement.invariant.going site left) here) c.in_ok-play_statement.ensures.played
+    c.if-not-branch.true
 
 pub play_statements-loop-statement-preserved : goal.play_statements-loop-statement-preserved
 play_statements-loop-statement-preserved t c =
@@ -78,5 +93,6 @@ play_statements-loop-statement-preserved t c =
     record {
       count = before.count ∙ sym c.play_statement.auto.sent;
       within = λ l. c.in_ok-play_statement.ensures.within (before.within l);
-      going = λ site left. goes_further c.statement-item.result (block_of (drop (i + 1) ss)) (going_at (before.going site left) here) c.in_ok-play_statement.ensures.played c.if-not-branch.false;
+      going = λ site left. goes_further c.statement-item.result (block_of (drop (i + 1) ss))
+          (going_at (before.going site left) here) c.in_ok-play_statement.ensures.played c.if-not-branch.false;
     }

@@ -9,5 +9,7 @@ abbrev pub invariant-play_statements-loop-statement : goal.invariant-play_statem
 invariant-play_statements-loop-statement l = record {
   count : length l.limits ≡ length l.sent;
   within : IsWithin l.limits l.initial.sent → IsWithin l.limits l.sent;
-  going : (site : ℕ) (left : List ℕ) → Going (trace_of site left (block_of l.statements) l.initial.variables l.initial.unread) l.initial.sent (block_of (drop l.statement-index l.statements)) l.variables l.unread l.sent;
+  going : (site : ℕ) (left : List ℕ)
+      → Going (trace_of site left (block_of l.statements) l.initial.variables l.initial.unread) l.initial.sent
+      (block_of (drop l.statement-index l.statements)) l.variables l.unread l.sent;
 }

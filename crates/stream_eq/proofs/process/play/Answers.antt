@@ -17,7 +17,9 @@ returns-in_err-ended-clause-long c =
     let sent = c.args.sent.now in
     let e = c.in_err-ended.ensures in
     let same = trace_at _ code.prelude _ code.vars unread (ap block_of c.deref.ensures.value) c.requires.first in
-    rw (p.1, p.2) (λ h. past_then c.args.limits.now (trace_of 0 [] code.prelude code.vars unread) (loop_trace (sites_of code.prelude) code.body) sent
+    rw (p.1, p.2)
+    (λ h. past_then c.args.limits.now (trace_of 0 [] code.prelude code.vars unread)
+    (loop_trace (sites_of code.prelude) code.body) sent
     (subst (λ (t : Trace). GoesPast c.args.limits.now (put_after t.steps sent)) same (e.long (other_err _ _ h) 0 [])))
 
 pub returns-clause-played : goal.returns-clause-played
@@ -26,10 +28,15 @@ returns-clause-played c =
     let unread = c.args.unread.now in
     let sent = c.args.sent.now in
     let mid = c.play_statements.new in
-    let first = played_at _ code.prelude _ code.vars unread sent mid.sent c.in_ok-ended.ended mid.variables mid.unread (ap block_of c.deref.ensures.value) c.requires.first (c.in_ok-ended.ensures.played 0 []) in
-    let loop = loop_at (sites_of code.prelude) code.body _ (block_of c.in-Some.body.items) mid.variables mid.unread (ap body_of c.in-Some.is) (ap block_of c.deref-2.ensures.value) in
+    let first =
+    played_at _ code.prelude _ code.vars unread sent mid.sent c.in_ok-ended.ended mid.variables mid.unread
+    (ap block_of c.deref.ensures.value) c.requires.first (c.in_ok-ended.ensures.played 0 []) in
+    let loop =
+    loop_at (sites_of code.prelude) code.body _ (block_of c.in-Some.body.items) mid.variables mid.unread
+    (ap body_of c.in-Some.is) (ap block_of c.deref-2.ensures.value) in
     on_ok_weaker c.play_loop.result
-    (λ h. ended_then (trace_of 0 [] code.prelude code.vars unread) (loop_trace (sites_of code.prelude) code.body) sent mid.sent c.play_loop.new.sent c.in_ok-ended.ended mid.variables mid.unread c.if-not-ended.false first
+    (λ h. ended_then (trace_of 0 [] code.prelude code.vars unread) (loop_trace (sites_of code.prelude) code.body) sent
+    mid.sent c.play_loop.new.sent c.in_ok-ended.ended mid.variables mid.unread c.if-not-ended.false first
     (h (sites_of code.prelude) ∙ ap (λ (t : Trace). put_after t.steps mid.sent) loop))
     c.play_loop.ensures.played
 
@@ -39,7 +46,14 @@ returns-clause-long c h =
     let unread = c.args.unread.now in
     let sent = c.args.sent.now in
     let mid = c.play_statements.new in
-    let first = played_at _ code.prelude _ code.vars unread sent mid.sent c.in_ok-ended.ended mid.variables mid.unread (ap block_of c.deref.ensures.value) c.requires.first (c.in_ok-ended.ensures.played 0 []) in
-    let loop = loop_at (sites_of code.prelude) code.body _ (block_of c.in-Some.body.items) mid.variables mid.unread (ap body_of c.in-Some.is) (ap block_of c.deref-2.ensures.value) in
-    then_past c.args.limits.now (trace_of 0 [] code.prelude code.vars unread) (loop_trace (sites_of code.prelude) code.body) sent mid.sent c.in_ok-ended.ended mid.variables mid.unread c.if-not-ended.false first
-    (subst (λ (t : Trace). GoesPast c.args.limits.now (put_after t.steps mid.sent)) loop (c.play_loop.ensures.long h (sites_of code.prelude)))
+    let first =
+    played_at _ code.prelude _ code.vars unread sent mid.sent c.in_ok-ended.ended mid.variables mid.unread
+    (ap block_of c.deref.ensures.value) c.requires.first (c.in_ok-ended.ensures.played 0 []) in
+    let loop =
+    loop_at (sites_of code.prelude) code.body _ (block_of c.in-Some.body.items) mid.variables mid.unread
+    (ap body_of c.in-Some.is) (ap block_of c.deref-2.ensures.value) in
+    then_past c.args.limits.now (trace_of 0 [] code.prelude code.vars unread)
+    (loop_trace (sites_of code.prelude) code.body) sent mid.sent c.in_ok-ended.ended mid.variables mid.unread
+    c.if-not-ended.false first
+    (subst (λ (t : Trace). GoesPast c.args.limits.now (put_after t.steps mid.sent)) loop
+    (c.play_loop.ensures.long h (sites_of code.prelude)))

@@ -15,11 +15,14 @@ returns-in_err-play_statements-clause-long c =
     let b = block_of c.args.body.now in
     let e = c.in_err-play_statements.ensures in
     rw (p.1, p.2) (λ h site. subst (GoesPast c.args.limits.now) (c.loop.invariant.leads site)
-    (past_then c.args.limits.now (trace_of site [] b c.loop.variables c.loop.unread) (passes (total c.loop.unread) site b) c.loop.sent (e.long (other_err _ _ h) site [])))
+    (past_then c.args.limits.now (trace_of site [] b c.loop.variables c.loop.unread)
+    (passes (total c.loop.unread) site b) c.loop.sent (e.long (other_err _ _ h) site [])))
 
 pub loop-smaller : goal.loop-smaller
 loop-smaller c =
-    smaller 0 (block_of c.args.body.now) c.loop.variables c.play_statements.new.variables c.loop.unread c.play_statements.new.unread c.loop.sent c.play_statements.new.sent c.in_ok-play_statements.field-0 c.if-branch.true c.requires.passing (c.in_ok-play_statements.ensures.played 0 [])
+    smaller 0 (block_of c.args.body.now) c.loop.variables c.play_statements.new.variables c.loop.unread
+    c.play_statements.new.unread c.loop.sent c.play_statements.new.sent c.in_ok-play_statements.field-0
+    c.if-branch.true c.requires.passing (c.in_ok-play_statements.ensures.played 0 [])
 
 pub loop-preserved : goal.loop-preserved
 loop-preserved c =
@@ -28,5 +31,7 @@ loop-preserved c =
     record {
       count = before.count ∙ sym c.play_statements.auto.sent;
       within = λ l. e.within (before.within l);
-      leads = λ site. goes_on site (block_of c.args.body.now) c.loop.variables c.play_statements.new.variables c.loop.unread c.play_statements.new.unread c.loop.sent c.play_statements.new.sent c.in_ok-play_statements.field-0 c.if-branch.true c.requires.passing (e.played site []) ∙ before.leads site;
+      leads = λ site. goes_on site (block_of c.args.body.now) c.loop.variables c.play_statements.new.variables
+          c.loop.unread c.play_statements.new.unread c.loop.sent c.play_statements.new.sent
+          c.in_ok-play_statements.field-0 c.if-branch.true c.requires.passing (e.played site []) ∙ before.leads site;
     }

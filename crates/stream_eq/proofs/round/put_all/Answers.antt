@@ -11,7 +11,9 @@ use Rattle.stream_eq.proofs.round.put_all.Goals as goal
 
 pub put_outputs-requires-clause-passing : goal.put_outputs-requires-clause-passing
 put_outputs-requires-clause-passing c =
-    c.requires.passing c.loop-process.process-index (code_of c.process-item.result) (code_at c.args.processes.now c.loop-process.process-index c.process-item.result c.loop-process-test.true c.process-item.is)
+    c.requires.passing c.loop-process.process-index (code_of c.process-item.result)
+    (code_at c.args.processes.now c.loop-process.process-index c.process-item.result c.loop-process-test.true
+    c.process-item.is)
 
 pub returns-in_err-put_outputs-clause-long : goal.returns-in_err-put_outputs-clause-long
 returns-in_err-put_outputs-clause-long c =
@@ -19,6 +21,10 @@ returns-in_err-put_outputs-clause-long c =
     let ps = c.args.processes.now in
     let i = c.loop-process.process-index in
     let histories = c.args.histories.now in
-    let more = all_more ps i c.process-item.result histories c.loop-process.after c.loop-process-test.true c.process-item.is ∙ c.loop-process.invariant.leads in
+    let more =
+    all_more ps i c.process-item.result histories c.loop-process.after c.loop-process-test.true c.process-item.is
+    ∙ c.loop-process.invariant.leads in
     rw (p.1, p.2) (λ h. subst (GoesPast c.args.limits.now) more
-    (past_all c.args.limits.now (map code_of (drop (i + 1) ps)) histories (put_after (process_trace (code_of c.process-item.result) histories).steps c.loop-process.after) (c.in_err-put_outputs.ensures.long (other_err _ _ h))))
+    (past_all c.args.limits.now (map code_of (drop (i + 1) ps)) histories
+    (put_after (process_trace (code_of c.process-item.result) histories).steps c.loop-process.after)
+    (c.in_err-put_outputs.ensures.long (other_err _ _ h))))

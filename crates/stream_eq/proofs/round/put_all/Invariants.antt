@@ -8,5 +8,6 @@ abbrev pub invariant-loop-process : goal.invariant-loop-process
 invariant-loop-process l = record {
   count : length l.limits ≡ length l.after;
   within : IsWithin l.limits l.initial.after → IsWithin l.limits l.after;
-  leads : put_by_all (map code_of (drop l.process-index l.processes)) l.histories l.after ≡ put_by_all (map code_of l.processes) l.histories l.initial.after;
+  leads : put_by_all (map code_of (drop l.process-index l.processes)) l.histories l.after
+      ≡ put_by_all (map code_of l.processes) l.histories l.initial.after;
 }

@@ -10,10 +10,19 @@ returns-in-Ok-clause-answer c =
     let valid = c.args.net.now.valid in
     let inputs = c.args.inputs.now in
     let histories = c.args.histories.now in
-    let after = c.deref-in-Ok.ensures.value ∙ c.in-Ok.ensures.next in
-    (λ h. next_is_solution net valid inputs histories (c.are_same.ensures.0 h ∙ after), λ s. c.are_same.ensures.1 (solution_is_next net valid inputs histories s ∙ sym after))
+    let after = c.deref-in-Ok.ensures.value ∙ c.in-Ok.ensures.next in (
+      λ h. next_is_solution net valid inputs histories (c.are_same.ensures.0 h ∙ after),
+      λ s. c.are_same.ensures.1
+          (solution_is_next net valid inputs histories s ∙ sym after),
+    )
 
 pub returns-in-Err-Long-clause-answer : goal.returns-in-Err-Long-clause-answer
 returns-in-Err-Long-clause-answer c =
-    let net = network_of c.args.net.now.program in
-    (λ h. absurd (cc), λ s. absurd (solution_within net c.args.net.now.valid c.args.inputs.now c.args.histories.now c.deref.result.now (c.deref.ensures.value ∙ c.in_ok-limits.ensures) (c.in-Err-Long.ensures.long (ap Err c.in-Err-Long.field-0-is)) s))
+    let net = network_of c.args.net.now.program in (
+      λ h. absurd (cc),
+      λ s. absurd
+          (solution_within net c.args.net.now.valid c.args.inputs.now c.args.histories.now c.deref.result.now
+          (c.deref.ensures.value ∙ c.in_ok-limits.ensures)
+          (c.in-Err-Long.ensures.long (ap Err c.in-Err-Long.field-0-is))
+          s),
+    )

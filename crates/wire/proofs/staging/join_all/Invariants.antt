@@ -7,7 +7,8 @@ use Rattle.wire.proofs.staging.join_all.Given as goal
 
 abbrev pub invariant-loop-more : goal.invariant-loop-more
 invariant-loop-more l =
-    (queues_traffic (take l.place l.queues) ++ all_joined (queues_traffic (drop l.place l.queues)) (queues_traffic (into_iter_items l.more-iterator))
+    (queues_traffic (take l.place l.queues)
+    ++ all_joined (queues_traffic (drop l.place l.queues)) (queues_traffic (into_iter_items l.more-iterator))
     ≡ all_joined (queues_traffic l.fn.queues) (queues_traffic l.fn.staged.items))
     × AllZip HasRoom (drop l.place l.queues) (into_iter_items l.more-iterator)
     × (length l.queues ≡ length l.fn.queues) × (l.place ≤ length l.queues)

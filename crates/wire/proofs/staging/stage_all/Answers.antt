@@ -12,7 +12,9 @@ loop-sending-preserved c =
     let more = into_iter_items c.next.new.self in
     let i = c.loop-sending.invariant in (
       c.stage.ensures.len ∙ i.0,
-      All-rest AreNodes c.in-Some.sending more (into_iter_items c.loop-sending.sending-iterator) (c.in-Some.ensures.steps).0 i.1,
+      All-rest AreNodes c.in-Some.sending more (into_iter_items c.loop-sending.sending-iterator)
+          (c.in-Some.ensures.steps).0 i.1,
       ap (all_sent c.args.round more) c.in_ok-stage.ensures.ok
-          ∙ (ap (λ (sendings : List Sending). all_sent c.args.round sendings (ruled c.args.rules.now c.loop-sending.staged)) (sym (c.in-Some.ensures.steps).0) ∙ i.2),
+          ∙ (ap (λ (sendings : List Sending). all_sent c.args.round sendings
+          (ruled c.args.rules.now c.loop-sending.staged)) (sym (c.in-Some.ensures.steps).0) ∙ i.2),
     )

@@ -4,4 +4,5 @@ use Rattle.world.proofs.closing.add_outputs.Given as goal
 
 -- what was added, and then what is to come
 abbrev pub invariant-loop-output : goal.invariant-loop-output
-invariant-loop-output g l = l.outputs.items ++ into_iter_items l.output-iterator ≡ l.initial.outputs.items ++ l.fn.own.items
+invariant-loop-output g l =
+    l.outputs.items ++ into_iter_items l.output-iterator ≡ l.initial.outputs.items ++ l.fn.own.items

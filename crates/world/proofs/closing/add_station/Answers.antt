@@ -8,4 +8,6 @@ held P (Ok x) p = p
 held P (Err e) p = tt
 
 pub returns-clause-disks : goal.returns-clause-disks
-returns-clause-disks g c = held _ _ (c.in_ok-push.ensures.items ∙ ap (λ disk. c.args.disks.now.items ++ disk ∷ []) (c.close-2.ensures ∙ ap disk_in c.close.ensures))
+returns-clause-disks g c =
+    held _ _ (c.in_ok-push.ensures.items
+    ∙ ap (λ disk. c.args.disks.now.items ++ disk ∷ []) (c.close-2.ensures ∙ ap disk_in c.close.ensures))

@@ -3,4 +3,6 @@ use Rattle.std.proofs.lemmas.List.Sorted.{IsNonDecreasingBy-from_sort_by_key}
 use Rattle.world.proofs.closing.sort_outputs.Goals as goal
 
 pub returns-clause-sorted : goal.returns-clause-sorted
-returns-clause-sorted g c = IsNonDecreasingBy-from_sort_by_key (λ output. output.channel) _ c.sort_unstable_by_key.ensures.sorted (λ a r q k. search rules)
+returns-clause-sorted g c =
+    IsNonDecreasingBy-from_sort_by_key (λ output. output.channel) _ c.sort_unstable_by_key.ensures.sorted
+    (λ a r q k. search rules)

@@ -6,4 +6,5 @@ use Rattle.world.proofs.network.spell_all.Given as goal
 
 -- those that were looked at may be written, and are
 abbrev pub invariant-loop-packet : goal.invariant-loop-packet
-invariant-loop-packet l = (l.sendings.items ≡ map sending_of (take l.packet-index l.packets)) × All IsPacket (take l.packet-index l.packets)
+invariant-loop-packet l =
+    (l.sendings.items ≡ map sending_of (take l.packet-index l.packets)) × All IsPacket (take l.packet-index l.packets)

@@ -8,4 +8,5 @@ use Rattle.world.proofs.opening.add_output.Goals as goal
 
 pub returns-in_ok-push-clause-empty : goal.returns-in_ok-push-clause-empty
 returns-in_ok-push-clause-empty c =
-    subst (λ (outputs : List (Output ListOutlet)). AllByRecursion (IsUnused (λ taken. taken)) outputs) (sym c.in_ok-push.ensures.items) (every_more (IsUnused (λ taken. taken)) _ _ c.requires c.new.ensures)
+    subst (λ (outputs : List (Output ListOutlet)). AllByRecursion (IsUnused (λ taken. taken)) outputs)
+    (sym c.in_ok-push.ensures.items) (every_more (IsUnused (λ taken. taken)) _ _ c.requires c.new.ensures)

@@ -3,4 +3,8 @@ use Rattle.world.proofs.Openings.{listed_next}
 use Rattle.world.proofs.opening.open_outputs.Goals as goal
 
 pub loop-number-preserved : goal.loop-number-preserved
-loop-number-preserved c = (listed_next c.args.channels.now c.loop-number.number _ _ _ _ (search rules) c.loop-number.invariant.0 c.in_ok-add_output.ensures.listed, c.in_ok-add_output.ensures.empty)
+loop-number-preserved c = (
+  listed_next c.args.channels.now c.loop-number.number _ _ _ _ (search rules) c.loop-number.invariant.0
+      c.in_ok-add_output.ensures.listed,
+  c.in_ok-add_output.ensures.empty,
+)

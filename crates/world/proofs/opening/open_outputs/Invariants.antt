@@ -6,4 +6,6 @@ use Rattle.world.proofs.opening.open_outputs.Given as goal
 
 -- what is listed, and then what is to come
 abbrev pub invariant-loop-number : goal.invariant-loop-number
-invariant-loop-number l = (map (λ output. output.channel) l.outputs.items ++ output_channels l.number (drop l.number l.channels) ≡ output_channels 0 l.channels) × AllByRecursion (IsUnused (λ taken. taken)) l.outputs.items
+invariant-loop-number l =
+    (map (λ output. output.channel) l.outputs.items ++ output_channels l.number (drop l.number l.channels)
+    ≡ output_channels 0 l.channels) × AllByRecursion (IsUnused (λ taken. taken)) l.outputs.items

@@ -9,6 +9,9 @@ use Rattle.world.proofs.opening.split_outputs.Given as goal
 -- what was parted, and then what is to come
 abbrev pub invariant-loop-output : goal.invariant-loop-output
 invariant-loop-output g l =
-    (l.own.items ++ own_outputs (network_of l.net.program) l.home (into_iter_items l.output-iterator) ≡ own_outputs (network_of l.net.program) l.home l.fn.outputs.items)
-    × (l.others.items ++ filter (λ output. not (is_output (network_of l.net.program) l.home output.channel)) (into_iter_items l.output-iterator)
+    (l.own.items ++ own_outputs (network_of l.net.program) l.home (into_iter_items l.output-iterator)
+    ≡ own_outputs (network_of l.net.program) l.home l.fn.outputs.items)
+    × (l.others.items
+    ++ filter (λ output. not (is_output (network_of l.net.program) l.home output.channel))
+    (into_iter_items l.output-iterator)
     ≡ filter (λ output. not (is_output (network_of l.net.program) l.home output.channel)) l.fn.outputs.items)

@@ -8,4 +8,5 @@ use Rattle.world.proofs.quiet.have_all_left.Given as goal
 abbrev pub invariant-loop-output : goal.invariant-loop-output
 invariant-loop-output g l =
     let O = g.O.Outlet in
-    have_all_left l.image (outputs_of (outlet_views O.taken O.failures (drop l.output-index l.outputs))) ≡ have_all_left l.image (outputs_of (outlet_views O.taken O.failures l.outputs))
+    have_all_left l.image (outputs_of (outlet_views O.taken O.failures (drop l.output-index l.outputs)))
+    ≡ have_all_left l.image (outputs_of (outlet_views O.taken O.failures l.outputs))

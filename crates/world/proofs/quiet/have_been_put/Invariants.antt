@@ -8,4 +8,5 @@ use Rattle.world.proofs.quiet.have_been_put.Given as goal
 abbrev pub invariant-loop-saved : goal.invariant-loop-saved
 invariant-loop-saved g l =
     let stations = map (station_view g.O.Outlet.taken g.O.Outlet.failures) l.stations in
-    have_been_put (network_of l.net.program) stations l.image (drop l.saved-index l.saved-items) ≡ have_been_put (network_of l.net.program) stations l.image l.image.ends
+    have_been_put (network_of l.net.program) stations l.image (drop l.saved-index l.saved-items)
+    ≡ have_been_put (network_of l.net.program) stations l.image l.image.ends

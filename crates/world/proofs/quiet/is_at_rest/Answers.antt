@@ -8,31 +8,52 @@ use Rattle.world.proofs.quiet.is_at_rest.Goals as goal
 
 pub next_act-requires : goal.next_act-requires
 next_act-requires g c =
-    units_few (network_of c.args.net.now.program) c.saved.inside.number (code_of c.in-Some.process.now) c.args.net.now.valid
-    (code_found c.args.net.now.program c.deref.result.now c.from.result c.saved.inside.number c.in-Some.process.now c.deref.ensures.value c.from.ensures c.in-Some.ensures.lookup.3.0 c.in-Some.ensures.lookup.1)
+    units_few (network_of c.args.net.now.program) c.saved.inside.number (code_of c.in-Some.process.now)
+    c.args.net.now.valid
+    (code_found c.args.net.now.program c.deref.result.now c.from.result c.saved.inside.number c.in-Some.process.now
+    c.deref.ensures.value c.from.ensures c.in-Some.ensures.lookup.3.0 c.in-Some.ensures.lookup.1)
 
 pub returns-in-Begin : goal.returns-in-Begin
 returns-in-Begin g c =
-    rest_at c.args.net.now.program c.args.inputs.now (map (station_view g.O.Outlet.taken g.O.Outlet.failures) c.args.stations.now) c.args.image.now c.deref.result.now c.from.result c.saved.inside.number c.in-Some.process.now (standing_of c.saved.inside.state) _ c.next_act.result _
-    c.deref.ensures.value c.from.ensures c.in-Some.ensures.lookup.3.0 c.in-Some.ensures.lookup.1 c.next_act.ensures c.in-Begin.is c.saved.view_is
+    rest_at c.args.net.now.program c.args.inputs.now
+    (map (station_view g.O.Outlet.taken g.O.Outlet.failures) c.args.stations.now) c.args.image.now
+    c.deref.result.now c.from.result c.saved.inside.number c.in-Some.process.now (standing_of c.saved.inside.state)
+    _ c.next_act.result _
+    c.deref.ensures.value c.from.ensures c.in-Some.ensures.lookup.3.0 c.in-Some.ensures.lookup.1 c.next_act.ensures
+    c.in-Begin.is c.saved.view_is
 
 pub returns-in-Get : goal.returns-in-Get
 returns-in-Get g c =
-    got_of _ (network_of c.args.net.now.program) _ _ c.args.image.now _ _ c.has_got_all.ensures c.deref-in-Get.ensures.value
-    ∙ rest_at c.args.net.now.program c.args.inputs.now (map (station_view g.O.Outlet.taken g.O.Outlet.failures) c.args.stations.now) c.args.image.now c.deref.result.now c.from.result c.saved.inside.number c.in-Some.process.now (standing_of c.saved.inside.state) _ c.next_act.result _
-    c.deref.ensures.value c.from.ensures c.in-Some.ensures.lookup.3.0 c.in-Some.ensures.lookup.1 c.next_act.ensures c.in-Get.is c.saved.view_is
+    got_of _ (network_of c.args.net.now.program) _ _ c.args.image.now _ _ c.has_got_all.ensures
+    c.deref-in-Get.ensures.value
+    ∙ rest_at c.args.net.now.program c.args.inputs.now
+    (map (station_view g.O.Outlet.taken g.O.Outlet.failures) c.args.stations.now) c.args.image.now
+    c.deref.result.now c.from.result c.saved.inside.number c.in-Some.process.now (standing_of c.saved.inside.state)
+    _ c.next_act.result _
+    c.deref.ensures.value c.from.ensures c.in-Some.ensures.lookup.3.0 c.in-Some.ensures.lookup.1 c.next_act.ensures
+    c.in-Get.is c.saved.view_is
 
 pub returns-in-Put : goal.returns-in-Put
 returns-in-Put g c =
-    rest_at c.args.net.now.program c.args.inputs.now (map (station_view g.O.Outlet.taken g.O.Outlet.failures) c.args.stations.now) c.args.image.now c.deref.result.now c.from.result c.saved.inside.number c.in-Some.process.now (standing_of c.saved.inside.state) _ c.next_act.result _
-    c.deref.ensures.value c.from.ensures c.in-Some.ensures.lookup.3.0 c.in-Some.ensures.lookup.1 c.next_act.ensures c.in-Put.is c.saved.view_is
+    rest_at c.args.net.now.program c.args.inputs.now
+    (map (station_view g.O.Outlet.taken g.O.Outlet.failures) c.args.stations.now) c.args.image.now
+    c.deref.result.now c.from.result c.saved.inside.number c.in-Some.process.now (standing_of c.saved.inside.state)
+    _ c.next_act.result _
+    c.deref.ensures.value c.from.ensures c.in-Some.ensures.lookup.3.0 c.in-Some.ensures.lookup.1 c.next_act.ensures
+    c.in-Put.is c.saved.view_is
 
 pub returns-in-Nothing : goal.returns-in-Nothing
 returns-in-Nothing g c =
-    rest_at c.args.net.now.program c.args.inputs.now (map (station_view g.O.Outlet.taken g.O.Outlet.failures) c.args.stations.now) c.args.image.now c.deref.result.now c.from.result c.saved.inside.number c.in-Some.process.now (standing_of c.saved.inside.state) _ c.next_act.result _
-    c.deref.ensures.value c.from.ensures c.in-Some.ensures.lookup.3.0 c.in-Some.ensures.lookup.1 c.next_act.ensures c.in-Nothing.is c.saved.view_is
+    rest_at c.args.net.now.program c.args.inputs.now
+    (map (station_view g.O.Outlet.taken g.O.Outlet.failures) c.args.stations.now) c.args.image.now
+    c.deref.result.now c.from.result c.saved.inside.number c.in-Some.process.now (standing_of c.saved.inside.state)
+    _ c.next_act.result _
+    c.deref.ensures.value c.from.ensures c.in-Some.ensures.lookup.3.0 c.in-Some.ensures.lookup.1 c.next_act.ensures
+    c.in-Nothing.is c.saved.view_is
 
 pub returns-in-None : goal.returns-in-None
 returns-in-None g c =
-    rest_past c.args.net.now.program c.args.inputs.now (map (station_view g.O.Outlet.taken g.O.Outlet.failures) c.args.stations.now) c.args.image.now c.deref.result.now c.from.result c.saved.inside.number (standing_of c.saved.inside.state) _
+    rest_past c.args.net.now.program c.args.inputs.now
+    (map (station_view g.O.Outlet.taken g.O.Outlet.failures) c.args.stations.now) c.args.image.now
+    c.deref.result.now c.from.result c.saved.inside.number (standing_of c.saved.inside.state) _
     c.deref.ensures.value c.from.ensures c.in-None.ensures.lookup.3 c.saved.view_is

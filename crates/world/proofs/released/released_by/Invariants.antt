@@ -8,4 +8,6 @@ use Rattle.world.proofs.released.released_by.Given as goal
 abbrev pub invariant-loop-output : goal.invariant-loop-output
 invariant-loop-output g l =
     let O = g.O.Outlet in
-    find (λ (outlet : OutletView). outlet.channel == l.channel) (outlet_views O.taken O.failures (drop l.output-index l.outputs)) ≡ find (λ (outlet : OutletView). outlet.channel == l.channel) (outlet_views O.taken O.failures l.outputs)
+    find (λ (outlet : OutletView). outlet.channel == l.channel)
+    (outlet_views O.taken O.failures (drop l.output-index l.outputs))
+    ≡ find (λ (outlet : OutletView). outlet.channel == l.channel) (outlet_views O.taken O.failures l.outputs)

@@ -7,4 +7,5 @@ use Rattle.world.proofs.releasing.next_output.Given as goal
 abbrev pub invariant-loop-j : goal.invariant-loop-j
 invariant-loop-j g l =
     let O = g.O.Outlet in
-    first_waiting l.kept l.round l.j (outlet_views O.taken O.failures (drop l.j l.outputs)) ≡ first_waiting l.kept l.round 0 (outlet_views O.taken O.failures l.outputs)
+    first_waiting l.kept l.round l.j (outlet_views O.taken O.failures (drop l.j l.outputs))
+    ≡ first_waiting l.kept l.round 0 (outlet_views O.taken O.failures l.outputs)

@@ -25,7 +25,9 @@ use Rattle.world.proofs.world.act_at.Goals as goal
 pub act-requires : goal.act-requires
 act-requires g c =
     let view = station_view g.O.Outlet.taken g.O.Outlet.failures c.index_mut.result.now in
-    let there = seen_at (station_view g.O.Outlet.taken g.O.Outlet.failures) c.args.stations.now.items c.args.number c.index_mut.result.now (search rules) c.index_mut.ensures.value in
+    let there =
+    seen_at (station_view g.O.Outlet.taken g.O.Outlet.failures) c.args.stations.now.items c.args.number
+    c.index_mut.result.now (search rules) c.index_mut.ensures.value in
     let named = c.requires.numbered c.args.number view there in
     let few = nodes_few (network_of c.args.net.now.value.program) c.args.net.now.value.valid in
     let count = c.requires.count in
@@ -40,11 +42,13 @@ act-requires g c =
 
 pub returns-then-number-len-clause-grown : goal.returns-then-number-len-clause-grown
 returns-then-number-len-clause-grown g c =
-    all_still {cell = g.C.StableCell} g.O.Outlet.taken g.O.Outlet.failures g.met.C.StableCell.only_now (network_of c.args.net.now.value.program) c.args.inputs.now c.args.stations.now.items c.requires.sound
+    all_still {cell = g.C.StableCell} g.O.Outlet.taken g.O.Outlet.failures g.met.C.StableCell.only_now
+    (network_of c.args.net.now.value.program) c.args.inputs.now c.args.stations.now.items c.requires.sound
 
 pub returns-then-number-len-clause-line : goal.returns-then-number-len-clause-line
 returns-then-number-len-clause-line g c =
-    all_still_in_line {cell = g.C.StableCell} g.O.Outlet.taken g.O.Outlet.failures g.met.C.StableCell.only_now (network_of c.args.net.now.value.program) c.args.inputs.now c.args.stations.now.items c.requires.sound
+    all_still_in_line {cell = g.C.StableCell} g.O.Outlet.taken g.O.Outlet.failures g.met.C.StableCell.only_now
+    (network_of c.args.net.now.value.program) c.args.inputs.now c.args.stations.now.items c.requires.sound
 
 pub returns-then-number-len-clause-unchanged : goal.returns-then-number-len-clause-unchanged
 returns-then-number-len-clause-unchanged g c = λ h. pairs_refl _ _ (λ i station is. cell_stays station)
@@ -54,66 +58,111 @@ returns-clause-grown g c =
     let net = c.args.net.now.value in
     let x = c.index_mut.result.now in
     let view = station_view {cell = g.C.StableCell} g.O.Outlet.taken g.O.Outlet.failures in
-    all_grown {cell = g.C.StableCell} g.O.Outlet.taken g.O.Outlet.failures g.met.C.StableCell.only_now (setting_in (network_of net.program) c.args.inputs.now (traffic_of c.args.wire.now) c.may_restart-restarts.result c.args.round)
-    (record { valid = net.valid; fits = c.requires.fits; traffic = c.requires.flying }) (fits_in (g.C.StableCell.capacity (cell_in x.node.store))) (event_view c.args.event.now) c.args.stations.now.items c.args.number x _ c.act.result
-    (sound_at view (network_of net.program) c.args.inputs.now (traffic_of c.args.wire.now) c.args.stations.now.items c.args.number x c.may_restart-restarts.result c.len-2.result c.args.round
-    c.may_restart-restarts.ensures (search rules) (length-map c.args.stations.now.items view ∙ c.requires.count) c.requires.numbered c.requires.sound (search rules) c.index_mut.ensures.value)
-    c.requires.sound (search rules) c.index_mut.ensures.value c.act.ensures.moved c.act.ensures.step (on_err_map c.act.result c.act.ensures.refused (λ same. same.0))
+    all_grown {cell = g.C.StableCell} g.O.Outlet.taken g.O.Outlet.failures g.met.C.StableCell.only_now
+    (setting_in (network_of net.program) c.args.inputs.now (traffic_of c.args.wire.now)
+    c.may_restart-restarts.result c.args.round)
+    (record { valid = net.valid; fits = c.requires.fits; traffic = c.requires.flying })
+    (fits_in (g.C.StableCell.capacity (cell_in x.node.store))) (event_view c.args.event.now)
+    c.args.stations.now.items c.args.number x _ c.act.result
+    (sound_at view (network_of net.program) c.args.inputs.now (traffic_of c.args.wire.now) c.args.stations.now.items
+    c.args.number x c.may_restart-restarts.result c.len-2.result c.args.round
+    c.may_restart-restarts.ensures (search rules) (length-map c.args.stations.now.items view ∙ c.requires.count)
+    c.requires.numbered c.requires.sound (search rules) c.index_mut.ensures.value)
+    c.requires.sound (search rules) c.index_mut.ensures.value c.act.ensures.moved c.act.ensures.step
+    (on_err_map c.act.result c.act.ensures.refused (λ same. same.0))
 
 pub returns-clause-line : goal.returns-clause-line
 returns-clause-line g c =
     let net = c.args.net.now.value in
     let x = c.index_mut.result.now in
     let view = station_view {cell = g.C.StableCell} g.O.Outlet.taken g.O.Outlet.failures in
-    all_in_line {cell = g.C.StableCell} g.O.Outlet.taken g.O.Outlet.failures g.met.C.StableCell.only_now (setting_in (network_of net.program) c.args.inputs.now (traffic_of c.args.wire.now) c.may_restart-restarts.result c.args.round)
-    (record { valid = net.valid; fits = c.requires.fits; traffic = c.requires.flying }) (fits_in (g.C.StableCell.capacity (cell_in x.node.store))) (event_view c.args.event.now) c.args.stations.now.items c.args.number x _ c.act.result
-    (sound_at view (network_of net.program) c.args.inputs.now (traffic_of c.args.wire.now) c.args.stations.now.items c.args.number x c.may_restart-restarts.result c.len-2.result c.args.round
-    c.may_restart-restarts.ensures (search rules) (length-map c.args.stations.now.items view ∙ c.requires.count) c.requires.numbered c.requires.sound (search rules) c.index_mut.ensures.value)
-    c.requires.sound (search rules) c.index_mut.ensures.value c.act.ensures.moved c.act.ensures.step (on_err_map c.act.result c.act.ensures.refused (λ same. same.0))
+    all_in_line {cell = g.C.StableCell} g.O.Outlet.taken g.O.Outlet.failures g.met.C.StableCell.only_now
+    (setting_in (network_of net.program) c.args.inputs.now (traffic_of c.args.wire.now)
+    c.may_restart-restarts.result c.args.round)
+    (record { valid = net.valid; fits = c.requires.fits; traffic = c.requires.flying })
+    (fits_in (g.C.StableCell.capacity (cell_in x.node.store))) (event_view c.args.event.now)
+    c.args.stations.now.items c.args.number x _ c.act.result
+    (sound_at view (network_of net.program) c.args.inputs.now (traffic_of c.args.wire.now) c.args.stations.now.items
+    c.args.number x c.may_restart-restarts.result c.len-2.result c.args.round
+    c.may_restart-restarts.ensures (search rules) (length-map c.args.stations.now.items view ∙ c.requires.count)
+    c.requires.numbered c.requires.sound (search rules) c.index_mut.ensures.value)
+    c.requires.sound (search rules) c.index_mut.ensures.value c.act.ensures.moved c.act.ensures.step
+    (on_err_map c.act.result c.act.ensures.refused (λ same. same.0))
 
 pub returns-clause-refused : goal.returns-clause-refused
 returns-clause-refused g c =
-    refused_at (station_view g.O.Outlet.taken g.O.Outlet.failures) _ c.args.stations.now.items c.args.number c.index_mut.result.now _ c.act.result (search rules) c.index_mut.ensures.value c.act.ensures.refused
+    refused_at (station_view g.O.Outlet.taken g.O.Outlet.failures) _ c.args.stations.now.items c.args.number
+    c.index_mut.result.now _ c.act.result (search rules) c.index_mut.ensures.value c.act.ensures.refused
 
 pub returns-clause-step : goal.returns-clause-step
 returns-clause-step g c =
     let net = network_of c.args.net.now.value.program in
     let view = station_view {cell = g.C.StableCell} g.O.Outlet.taken g.O.Outlet.failures in
-    let room = λ (station : Station g.row.C.Denot g.row.O.Denot g.C.StableCell). fits_in (g.C.StableCell.capacity (cell_in station.node.store)) in
-    subst (λ (setting : Setting). IfOk c.act.result (λ reply. IsAct setting c.args.number (map room c.args.stations.now.items) (event_view c.args.event.now) (map view c.args.stations.now.items) (reply_view reply) (map view (slice_set c.args.stations.now.items c.args.number c.act.new.self))))
-    (restarts_are net c.args.inputs.now (traffic_of c.args.wire.now) c.args.stations.now.items c.may_restart-restarts.result c.len-2.result c.args.round c.may_restart-restarts.ensures (search rules))
-    (acted (setting_in net c.args.inputs.now (traffic_of c.args.wire.now) c.may_restart-restarts.result c.args.round) view room (event_view c.args.event.now) c.args.stations.now.items c.args.number c.index_mut.result.now _ c.act.result (search rules) c.index_mut.ensures.value c.act.ensures.step)
+    let room =
+    λ (station : Station g.row.C.Denot g.row.O.Denot g.C.StableCell). fits_in
+    (g.C.StableCell.capacity (cell_in station.node.store)) in
+    subst (λ (setting : Setting). IfOk c.act.result
+    (λ reply. IsAct setting c.args.number (map room c.args.stations.now.items) (event_view c.args.event.now)
+    (map view c.args.stations.now.items) (reply_view reply)
+    (map view (slice_set c.args.stations.now.items c.args.number c.act.new.self))))
+    (restarts_are net c.args.inputs.now (traffic_of c.args.wire.now) c.args.stations.now.items
+    c.may_restart-restarts.result c.len-2.result c.args.round c.may_restart-restarts.ensures (search rules))
+    (acted (setting_in net c.args.inputs.now (traffic_of c.args.wire.now) c.may_restart-restarts.result c.args.round)
+    view room (event_view c.args.event.now) c.args.stations.now.items c.args.number c.index_mut.result.now
+    _ c.act.result (search rules) c.index_mut.ensures.value c.act.ensures.step)
 
 pub returns-clause-same_capacities : goal.returns-clause-same_capacities
 returns-clause-same_capacities g c =
-    set_keeps (λ (station : Station g.row.C.Denot g.row.O.Denot g.C.StableCell). g.C.StableCell.capacity (cell_in station.node.store)) c.args.stations.now.items c.args.number c.index_mut.result.now _
-    (slice_get_read c.args.stations.now.items _ c.args.number c.index_mut.result.now refl (search rules) c.index_mut.ensures.value) c.act.ensures.same_room
+    set_keeps
+    (λ (station : Station g.row.C.Denot g.row.O.Denot g.C.StableCell). g.C.StableCell.capacity
+    (cell_in station.node.store)) c.args.stations.now.items c.args.number c.index_mut.result.now _
+    (slice_get_read c.args.stations.now.items _ c.args.number c.index_mut.result.now refl (search rules)
+    c.index_mut.ensures.value) c.act.ensures.same_room
 
 pub returns-clause-unchanged : goal.returns-clause-unchanged
-returns-clause-unchanged g c = λ leaves. pairs_set _ _ _ c.index_mut.result.now _ (λ i station is. cell_stays station) (search rules) c.index_mut.ensures.value (c.act.ensures.unchanged leaves)
+returns-clause-unchanged g c =
+    λ leaves. pairs_set _ _ _ c.index_mut.result.now _ (λ i station is. cell_stays station) (search rules)
+    c.index_mut.ensures.value (c.act.ensures.unchanged leaves)
 
 pub returns-clause-traffic : goal.returns-clause-traffic
 returns-clause-traffic g c =
     let net = network_of c.args.net.now.value.program in
     let view = station_view {cell = g.C.StableCell} g.O.Outlet.taken g.O.Outlet.failures in
-    let there = seen_at view c.args.stations.now.items c.args.number c.index_mut.result.now (search rules) c.index_mut.ensures.value in
-    subst (λ (setting : Setting). IfOk c.act.result (λ reply. traffic_of c.act.new.wire ≡ traffic_after setting (event_view c.args.event.now) (reply_view reply) (slice_get (map view c.args.stations.now.items) c.args.number)))
-    (restarts_are net c.args.inputs.now (traffic_of c.args.wire.now) c.args.stations.now.items c.may_restart-restarts.result c.len-2.result c.args.round c.may_restart-restarts.ensures (search rules))
-    (subst (λ (station : Option StationView). IfOk c.act.result (λ reply. traffic_of c.act.new.wire ≡ traffic_after (setting_in net c.args.inputs.now (traffic_of c.args.wire.now) c.may_restart-restarts.result c.args.round) (event_view c.args.event.now) (reply_view reply) station)) (sym there) c.act.ensures.traffic)
+    let there =
+    seen_at view c.args.stations.now.items c.args.number c.index_mut.result.now (search rules)
+    c.index_mut.ensures.value in
+    subst (λ (setting : Setting). IfOk c.act.result
+    (λ reply. traffic_of c.act.new.wire
+    ≡ traffic_after setting (event_view c.args.event.now) (reply_view reply)
+    (slice_get (map view c.args.stations.now.items) c.args.number)))
+    (restarts_are net c.args.inputs.now (traffic_of c.args.wire.now) c.args.stations.now.items
+    c.may_restart-restarts.result c.len-2.result c.args.round c.may_restart-restarts.ensures (search rules))
+    (subst (λ (station : Option StationView). IfOk c.act.result
+    (λ reply. traffic_of c.act.new.wire
+    ≡ traffic_after
+    (setting_in net c.args.inputs.now (traffic_of c.args.wire.now) c.may_restart-restarts.result c.args.round)
+    (event_view c.args.event.now) (reply_view reply) station)) (sym there) c.act.ensures.traffic)
 
 pub returns-clause-others : goal.returns-clause-others
 returns-clause-others g c =
-    subst (λ (place : ℕ). AreSameElsewhere place c.args.stations.now.items (slice_set c.args.stations.now.items c.args.number c.act.new.self)) (sym c.requires.at) (elsewhere_set c.args.stations.now.items c.args.number c.act.new.self)
+    subst (λ (place : ℕ). AreSameElsewhere place c.args.stations.now.items
+    (slice_set c.args.stations.now.items c.args.number c.act.new.self)) (sym c.requires.at)
+    (elsewhere_set c.args.stations.now.items c.args.number c.act.new.self)
 
 pub returns-clause-armed : goal.returns-clause-armed
 returns-clause-armed g c =
-    restarts_at c.args.round c.args.stations.now.items c.args.number (event_node (event_view c.args.event.now)) c.index_mut.result.now c.act.new.self c.act.result c.requires.at (search rules) c.index_mut.ensures.value c.act.ensures.armed
+    restarts_at c.args.round c.args.stations.now.items c.args.number (event_node (event_view c.args.event.now))
+    c.index_mut.result.now c.act.new.self c.act.result c.requires.at (search rules) c.index_mut.ensures.value
+    c.act.ensures.armed
 
 pub returns-clause-device : goal.returns-clause-device
 returns-clause-device g c =
-    devices_at (event_view c.args.event.now) (answer_view c.act.result) c.args.stations.now.items c.args.number (event_node (event_view c.args.event.now)) c.index_mut.result.now c.act.new.self c.requires.at (search rules) c.index_mut.ensures.value c.act.ensures.device
+    devices_at (event_view c.args.event.now) (answer_view c.act.result) c.args.stations.now.items c.args.number
+    (event_node (event_view c.args.event.now)) c.index_mut.result.now c.act.new.self c.requires.at (search rules)
+    c.index_mut.ensures.value c.act.ensures.device
 
 pub returns-then-number-len-clause-device : goal.returns-then-number-len-clause-device
 returns-then-number-len-clause-device g c =
     let out : length c.args.stations.now.items ≤ c.args.number = search rules in
-    devices_nowhere (event_view c.args.event.now) _ c.args.stations.now.items c.args.number (event_node (event_view c.args.event.now)) c.requires.at out
+    devices_nowhere (event_view c.args.event.now) _ c.args.stations.now.items c.args.number
+    (event_node (event_view c.args.event.now)) c.requires.at out

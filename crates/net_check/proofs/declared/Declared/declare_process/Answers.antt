@@ -11,15 +11,28 @@ use Rattle.net_check.proofs.declared.Declared.declare_process.Goals as goal
 pub returns-then-is_some-clause-err : goal.returns-then-is_some-clause-err
 returns-then-is_some-clause-err c =
     let r = when_some c.find_process.result _ _ c.find_process.ensures (sym c.is_some.ensures ∙ c.if-is_some.true) in
-    λ text more e. rw c.line.ensures (twice_process (map process_tree c.args.self.now.processes.items) (process_tree c.args.process) r.0 (subst (λ (xs : List ProcessText). Reads (process_names (map process_tree xs)) r.0 c.args.process.name.text) c.deref.ensures.value r.1) text more e)
+    λ text more e. rw c.line.ensures
+    (twice_process (map process_tree c.args.self.now.processes.items) (process_tree c.args.process) r.0
+    (subst (λ (xs : List ProcessText). Reads (process_names (map process_tree xs)) r.0 c.args.process.name.text)
+    c.deref.ensures.value r.1) text more e)
 
 pub returns-then-len-ge-MAX_PROCESSES-clause-err : goal.returns-then-len-ge-MAX_PROCESSES-clause-err
-returns-then-len-ge-MAX_PROCESSES-clause-err c = many_processes_at (map process_tree c.args.self.now.processes.items) (process_tree c.args.process) (let d = c.requires.few_processes in let e = length-map c.args.self.now.processes.items process_tree in omega arith)
+returns-then-len-ge-MAX_PROCESSES-clause-err c =
+    many_processes_at (map process_tree c.args.self.now.processes.items) (process_tree c.args.process)
+    (let d = c.requires.few_processes in let e = length-map c.args.self.now.processes.items process_tree in omega arith)
 
 pub returns-in_err-check_process-clause-err : goal.returns-in_err-check_process-clause-err
-returns-in_err-check_process-clause-err c = let p = err_from_is_err_and c.from_residual.result c.from_residual.ensures.1 in rw (p.1, p.2) (fault_here _ _ _ c.in_err-check_process.ensures.err)
+returns-in_err-check_process-clause-err c = let p =
+    err_from_is_err_and c.from_residual.result c.from_residual.ensures.1 in
+    rw (p.1, p.2) (fault_here _ _ _ c.in_err-check_process.ensures.err)
 
 pub returns-clause-declared : goal.returns-clause-declared
 returns-clause-declared c =
-    let none = when_none c.find_process.result _ _ c.find_process.ensures (sym c.is_some.ensures ∙ c.if-is_some.false) in
-    rw (c.in_ok-push.ensures.items, map-append) (declared_process _ (map process_tree c.args.self.now.processes.items) (process_tree c.args.process) c.requires (subst (λ (xs : List ProcessText). (i : ℕ) → Reads (process_names (map process_tree xs)) i c.args.process.name.text → ⊥) c.deref.ensures.value none) (let e = length-map c.args.self.now.processes.items process_tree in omega arith) c.in_ok-check_process.ensures.ok)
+    let none =
+    when_none c.find_process.result _ _ c.find_process.ensures (sym c.is_some.ensures ∙ c.if-is_some.false) in
+    rw (c.in_ok-push.ensures.items, map-append)
+    (declared_process _ (map process_tree c.args.self.now.processes.items) (process_tree c.args.process) c.requires
+    (subst (λ (xs : List ProcessText). (i : ℕ)
+    → Reads (process_names (map process_tree xs)) i c.args.process.name.text → ⊥) c.deref.ensures.value none)
+    (let e = length-map c.args.self.now.processes.items process_tree in omega arith)
+    c.in_ok-check_process.ensures.ok)

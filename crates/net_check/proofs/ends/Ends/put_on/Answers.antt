@@ -5,18 +5,30 @@ use Rattle.net_check.proofs.Claiming.{claims_at, refused_outside, refused_taken,
 use Rattle.net_check.proofs.ends.Ends.put_on.Goals as goal
 
 pub returns-in_default-clause-err : goal.returns-in_default-clause-err
-returns-in_default-clause-err c = unknown_one _ _ (PutOn c.args.name.now) _ c.in_default.ensures.found (sym c.line.ensures)
+returns-in_default-clause-err c =
+    unknown_one _ _ (PutOn c.args.name.now) _ c.in_default.ensures.found (sym c.line.ensures)
 
 pub returns-in-Input-clause-err : goal.returns-in-Input-clause-err
-returns-in-Input-clause-err c = refused_outside c.args.scope.now.channels.now Input (λ x. PutOn x) c.args.scope.now.process _ c.args.name.now c.in-Some.channel _ _ c.in-Some.ensures.within c.in-Some.ensures.found c.in-Input.is (sym c.line-in-Input.ensures)
+returns-in-Input-clause-err c =
+    refused_outside c.args.scope.now.channels.now Input (λ x. PutOn x) c.args.scope.now.process _ c.args.name.now
+    c.in-Some.channel _ _ c.in-Some.ensures.within c.in-Some.ensures.found c.in-Input.is (sym c.line-in-Input.ensures)
 
 pub returns-then-not-take : goal.returns-then-not-take
-returns-then-not-take c = record { names = tt; takes = tt; keeps = refl; err = refused_taken c.args.scope.now.channels.now Input (λ x. PutOn x) c.args.scope.now.process _ c.args.name.now c.in-Some.channel _ c.in-Some.ensures.found c.if-not-take.ensures (sym c.line-then-not-take.ensures) }
+returns-then-not-take c =
+    record {
+      names = tt;
+      takes = tt;
+      keeps = refl;
+      err =
+          refused_taken c.args.scope.now.channels.now Input (λ x. PutOn x) c.args.scope.now.process _ c.args.name.now
+          c.in-Some.channel _ c.in-Some.ensures.found c.if-not-take.ensures (sym c.line-then-not-take.ensures);
+    }
 
 pub returns : goal.returns
 returns c = record {
   names = c.in-Some.ensures.found;
-  takes = claims_at c.args.scope.now.channels.now Input c.args.scope.now.process c.in-Some.channel _ _ _ c.requires c.in-Some.ensures.within c.in_default-role.not-Input c.if-not-take.ensures;
+  takes = claims_at c.args.scope.now.channels.now Input c.args.scope.now.process c.in-Some.channel _ _ _ c.requires
+      c.in-Some.ensures.within c.in_default-role.not-Input c.if-not-take.ensures;
   keeps = refl;
   err = tt;
 }

@@ -5,28 +5,36 @@ use Rattle.net_text.proofs.Openings.{parenthesised_steps, minus_steps, factor_pa
 use Rattle.net_text.proofs.parser.Parser.+expression.Goals as goal
 
 pub factor-returns-then-begins_with_symbol : goal.factor-returns-then-begins_with_symbol
-factor-returns-then-begins_with_symbol t c = let e = factor_parenthesised c.args.left c.args.self.now (sym c.begins_with_symbol.ensures ∙ c.if-begins_with_symbol.true) in rw e c.parenthesised.ensures
+factor-returns-then-begins_with_symbol t c = let e =
+    factor_parenthesised c.args.left c.args.self.now
+    (sym c.begins_with_symbol.ensures ∙ c.if-begins_with_symbol.true) in rw e c.parenthesised.ensures
 
 pub factor-returns-then-begins_with_symbol-2 : goal.factor-returns-then-begins_with_symbol-2
 factor-returns-then-begins_with_symbol-2 t c =
-    let e = factor_minus c.args.left c.args.self.now (sym c.begins_with_symbol.ensures ∙ c.if-begins_with_symbol.false) (sym c.begins_with_symbol-2.ensures ∙ c.if-begins_with_symbol-2.true) in
+    let e = factor_minus c.args.left c.args.self.now (sym c.begins_with_symbol.ensures ∙ c.if-begins_with_symbol.false)
+    (sym c.begins_with_symbol-2.ensures ∙ c.if-begins_with_symbol-2.true) in
     rw e c.minus.ensures
 
 pub factor-returns : goal.factor-returns
 factor-returns t c =
-    let e = factor_atom c.args.left c.args.self.now (sym c.begins_with_symbol.ensures ∙ c.if-begins_with_symbol.false) (sym c.begins_with_symbol-2.ensures ∙ c.if-begins_with_symbol-2.false) in
+    let e = factor_atom c.args.left c.args.self.now (sym c.begins_with_symbol.ensures ∙ c.if-begins_with_symbol.false)
+    (sym c.begins_with_symbol-2.ensures ∙ c.if-begins_with_symbol-2.false) in
     rw e c.atom.ensures
 
 pub links-loop-level-smaller : goal.links-loop-level-smaller
-links-loop-level-smaller t c = link_shortens c.args.level c.args.left c.loop-level.self (link_tree c.in_ok-link.link, c.link.new.self) c.in_ok-link.ensures
+links-loop-level-smaller t c =
+    link_shortens c.args.level c.args.left c.loop-level.self (link_tree c.in_ok-link.link, c.link.new.self)
+    c.in_ok-link.ensures
 
 pub links-loop-level-preserved : goal.links-loop-level-preserved
 links-loop-level-preserved t c =
     rw c.in_ok-push.ensures.items
-    (sym (links_more c.args.level c.args.left c.loop-level.links.items c.in_ok-link.link c.loop-level.self c.link.new.self (sym c.loop-level-test.ensures) c.in_ok-link.ensures) ∙ c.loop-level.invariant)
+    (sym (links_more c.args.level c.args.left c.loop-level.links.items c.in_ok-link.link c.loop-level.self
+    c.link.new.self (sym c.loop-level-test.ensures) c.in_ok-link.ensures) ∙ c.loop-level.invariant)
 
 pub parenthesised-returns-in_err-opening : goal.parenthesised-returns-in_err-opening
-parenthesised-returns-in_err-opening t c = let e = parenthesised_steps c.args.left c.args.self.now in rw e (search rules)
+parenthesised-returns-in_err-opening t c = let e = parenthesised_steps c.args.left c.args.self.now in
+    rw e (search rules)
 
 pub parenthesised-returns-in_err-value : goal.parenthesised-returns-in_err-value
 parenthesised-returns-in_err-value t c = let e = parenthesised_steps c.args.left c.args.self.now in rw e (search rules)

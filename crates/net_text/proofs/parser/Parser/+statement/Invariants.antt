@@ -20,7 +20,8 @@ abbrev pub decreases-statements : goal.decreases-statements
 decreases-statements l = 8 * l.left + 4
 
 abbrev pub invariant-statements-loop-self : goal.invariant-statements-loop-self
-invariant-statements-loop-self l = after_block (block_tree l.statements.items) (statements_at l.left l.self) ≡ statements_at l.left l.initial.self
+invariant-statements-loop-self l =
+    after_block (block_tree l.statements.items) (statements_at l.left l.self) ≡ statements_at l.left l.initial.self
 
 abbrev pub decreases-statements-loop-self : goal.decreases-statements-loop-self
 decreases-statements-loop-self l = length l.self

@@ -8,4 +8,6 @@ abbrev pub decreases-loop-self : goal.decreases-loop-self
 decreases-loop-self l = length l.self
 
 abbrev pub invariant-loop-self : goal.invariant-loop-self
-invariant-loop-self l = after_items (map declaration_tree l.declarations.items) (declarations_at l.left l.self) ≡ declarations_at l.left l.initial.self
+invariant-loop-self l =
+    after_items (map declaration_tree l.declarations.items) (declarations_at l.left l.self)
+    ≡ declarations_at l.left l.initial.self

@@ -10,4 +10,7 @@ pub returns-in-Running : goal.returns-in-Running
 returns-in-Running c =
     let now = c.args.self.now in
     let runs = ap mode_view c.in-Running.is in
-    subst (λ (m : ModeView). IfOk c.packets.result (λ packets. packets.items ≡ packets_from (network_of c.args.net.now.program) c.args.number (running_in c.args.kept.now now.version m))) (sym runs) (c.packets.ensures now.version)
+    subst (λ (m : ModeView). IfOk c.packets.result
+    (λ packets. packets.items
+    ≡ packets_from (network_of c.args.net.now.program) c.args.number (running_in c.args.kept.now now.version m)))
+    (sym runs) (c.packets.ensures now.version)

@@ -9,23 +9,33 @@ use Rattle.proc_step.proofs.job.Job.run.Goals as goal
 pub take_turn-requires-clause-passing : goal.take_turn-requires-clause-passing
 take_turn-requires-clause-passing c =
     let net = c.deref-net.result.now in
-    let lt = subst (λ (n : Net). c.args.self.process < length n.program.processes.items) (sym c.deref-net.ensures) c.args.self.named in
+    let lt =
+    subst (λ (n : Net). c.args.self.process < length n.program.processes.items) (sym c.deref-net.ensures)
+    c.args.self.named in
     (valid_at net.program c.args.self.process c.index-process.result.now net.valid lt c.index-process.ensures).passes
 
 pub take_turn-requires-clause-units : goal.take_turn-requires-clause-units
 take_turn-requires-clause-units c =
     let net = c.deref-net.result.now in
-    let lt = subst (λ (n : Net). c.args.self.process < length n.program.processes.items) (sym c.deref-net.ensures) c.args.self.named in
+    let lt =
+    subst (λ (n : Net). c.args.self.process < length n.program.processes.items) (sym c.deref-net.ensures)
+    c.args.self.named in
     (valid_at net.program c.args.self.process c.index-process.result.now net.valid lt c.index-process.ensures).units
 
 pub invariant_of-result : goal.invariant_of-result
 invariant_of-result c =
     let s = c.args.self in
     let p = c.index-process.result.now in
-    let at : p ≡ get_or s.net.value.program.processes.items s.process p = c.index-process.ensures ∙ ap (λ (n : Net). get_or n.program.processes.items s.process p) c.deref-net.ensures in
+    let at : p ≡ get_or s.net.value.program.processes.items s.process p =
+    c.index-process.ensures ∙ ap (λ (n : Net). get_or n.program.processes.items s.process p) c.deref-net.ensures in
     let here = code_at s.net.value.program.processes.items s.process p s.named at in
     let t = rw (c.deref.ensures.value, c.deref-2.ensures.value) at c.in-Ok.ensures in
-    record { turn = ∣ (λ code is. subst (λ (x : Code). IsTurn x (standing_of s.state) s.items.items s.room.items (standing_of c.in-Ok.after.state) c.in-Ok.after.taken.items c.in-Ok.after.sent.items) (same_code (code_of p) code (sym here ∙ is)) t) ∣₁ }
+    record {
+      turn =
+          ∣ (λ code is. subst
+          (λ (x : Code). IsTurn x (standing_of s.state) s.items.items s.room.items (standing_of c.in-Ok.after.state)
+          c.in-Ok.after.taken.items c.in-Ok.after.sent.items) (same_code (code_of p) code (sym here ∙ is)) t) ∣₁;
+    }
   where
     same_code : (a b : Code) → Some a ≡ Some b → a ≡ b
     same_code a b e = cc

@@ -23,8 +23,14 @@ returns-clause-crash c =
     let fits : IsInRange (length was.sectors.doubt.flags.items) c.args.first len = search rules in
     let at = SECTOR_BYTES * c.args.first in
     let inside : at + len ≤ length was.sectors.bytes.items = omega (arith, fits.inside, was.sectors.whole) in
-    let written = subst (λ (l : List ℕ). IsOverwritten l at c.args.bytes.now c.overwrite.new.bytes) c.deref_mut.ensures.value c.overwrite.ensures in
-    let outside = subst (SameOutside at len was.sectors.bytes.items) (sym (with_items_is was.sectors.bytes c.overwrite.new.bytes (c.overwrite.auto.bytes ∙ c.deref_mut.ensures.len))) (overwritten_outside at c.args.bytes.now _ _ inside written) in
+    let written =
+    subst (λ (l : List ℕ). IsOverwritten l at c.args.bytes.now c.overwrite.new.bytes) c.deref_mut.ensures.value
+    c.overwrite.ensures in
+    let outside =
+    subst (SameOutside at len was.sectors.bytes.items)
+    (sym (with_items_is was.sectors.bytes c.overwrite.new.bytes
+    (c.overwrite.auto.bytes ∙ c.deref_mut.ensures.len)))
+    (overwritten_outside at c.args.bytes.now _ _ inside written) in
     write_crash c.args.first len _ _ _ _ was.sectors.whole fits outside c.mark.ensures
 
 pub returns-clause-time : goal.returns-clause-time

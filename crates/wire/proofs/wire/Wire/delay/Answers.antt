@@ -8,5 +8,9 @@ returns-clause-traffic c =
     let queues = c.self.inside.queues.items in
     let within : c.args.to < length queues = omega (arith, c.self.invariant, c.requires.node) in
     seen_delayed c.args.self.now _ c.args.to c.args.place c.args.rounds
-    (seen_there (λ queue. record { flights = with_delay queue.flights c.args.place c.args.rounds; counts = queue.counts; room = queue.room }) queues c.self.inside.rules.items
-    c.args.self.now c.args.to c.index_mut-queue.result.now c.delay.new.self c.self.view_is within c.index_mut-queue.ensures.value c.delay.ensures)
+    (seen_there
+    (λ queue. record
+    { flights = with_delay queue.flights c.args.place c.args.rounds; counts = queue.counts; room = queue.room })
+    queues c.self.inside.rules.items
+    c.args.self.now c.args.to c.index_mut-queue.result.now c.delay.new.self c.self.view_is within
+    c.index_mut-queue.ensures.value c.delay.ensures)

@@ -20,12 +20,14 @@ use Rattle.world.proofs.opening.Station+GateCell+D+O.open.Goals as goal
 pub open_store-requires-clause-written : goal.open_store-requires-clause-written
 open_store-requires-clause-written g c =
     let net = c.args.net.now in
-    subst IsRecord (sym c.in_ok-first.ensures) (opening_allowed (network_of net.program) c.args.nodes c.args.number net.valid c.requires.here c.requires.few)
+    subst IsRecord (sym c.in_ok-first.ensures)
+    (opening_allowed (network_of net.program) c.args.nodes c.args.number net.valid c.requires.here c.requires.few)
 
 pub open_store-requires-clause-bounded : goal.open_store-requires-clause-bounded
 open_store-requires-clause-bounded g c =
     let net = c.args.net.now in
-    subst (IsRecordWithin MAX_RETAINED_ITEMS) (sym c.in_ok-first.ensures) (opening_within (network_of net.program) c.args.nodes c.args.number net.valid c.requires.few)
+    subst (IsRecordWithin MAX_RETAINED_ITEMS) (sym c.in_ok-first.ensures)
+    (opening_within (network_of net.program) c.args.nodes c.args.number net.valid c.requires.few)
 
 pub run_from-requires-clause-listed : goal.run_from-requires-clause-listed
 run_from-requires-clause-listed g c =
@@ -34,17 +36,22 @@ run_from-requires-clause-listed g c =
     omega (arith, many, whole, c.requires.here)
 
 pub run_from-requires-clause-named : goal.run_from-requires-clause-named
-run_from-requires-clause-named g c = ap (λ (kept : RecordView). kept.node) (c.in_ok-store.ensures.record ∙ c.in_ok-first.ensures)
+run_from-requires-clause-named g c =
+    ap (λ (kept : RecordView). kept.node) (c.in_ok-store.ensures.record ∙ c.in_ok-first.ensures)
 
 pub returns-clause-opening : goal.returns-clause-opening
 returns-clause-opening g c =
     let store = c.in_ok-store.store in
     let node = c.in_ok-node.node in
-    opened_station (network_of c.args.net.now.program) c.args.nodes c.args.number node.number _ _ (record_in store) (view_of node) (outlet_views g.O.Outlet.taken g.O.Outlet.failures c.args.outputs.items) c.new.result
+    opened_station (network_of c.args.net.now.program) c.args.nodes c.args.number node.number _ _ (record_in store)
+    (view_of node) (outlet_views g.O.Outlet.taken g.O.Outlet.failures c.args.outputs.items) c.new.result
     c.in_ok-node.ensures.same.0 c.in_ok-node.ensures.view (c.in_ok-store.ensures.record ∙ c.in_ok-first.ensures)
-    (ap (λ (s : Store _ _). failures_of (cell_in s)) c.in_ok-node.ensures.same.1 ∙ c.in_ok-store.ensures.failures) c.new.ensures
+    (ap (λ (s : Store _ _). failures_of (cell_in s)) c.in_ok-node.ensures.same.1 ∙ c.in_ok-store.ensures.failures)
+    c.new.ensures
 
 pub returns-clause-left : goal.returns-clause-left
 returns-clause-left g c =
     let node = c.in_ok-node.node in
-    leaves_only _ (opening_record (network_of c.args.net.now.program) c.args.nodes c.args.number) c.in_ok-first.first c.in_ok-store.store node.store c.in_ok-first.ensures c.in_ok-node.ensures.same.1 c.in_ok-store.ensures.holds node.kept.settled
+    leaves_only _ (opening_record (network_of c.args.net.now.program) c.args.nodes c.args.number) c.in_ok-first.first
+    c.in_ok-store.store node.store c.in_ok-first.ensures c.in_ok-node.ensures.same.1 c.in_ok-store.ensures.holds
+    node.kept.settled

@@ -22,27 +22,37 @@ install-requires g c = λ out.
     let net = c.args.net.now.value in
     let was = station_view g.O.Outlet.taken g.O.Outlet.failures c.args.self.now in
     let done = done_view c.in-Install.done in
-    subst (λ (n : Net). TakesTurn (network_of n.program).channels done.job.process done.taken done.sent was.node.mode) (sym c.deref-in-Install.ensures)
-    (takes_turn (network_of net.program) c.args.inputs.now net.valid c.requires.fits was c.requires.sound done c.in-Install.done.turn out)
+    subst (λ (n : Net). TakesTurn (network_of n.program).channels done.job.process done.taken done.sent was.node.mode)
+    (sym c.deref-in-Install.ensures)
+    (takes_turn (network_of net.program) c.args.inputs.now net.valid c.requires.fits was c.requires.sound done
+    c.in-Install.done.turn out)
 
 pub start-requires : goal.start-requires
 start-requires g c =
-    like_now (network_of c.args.net.now.value.program) c.args.inputs.now c.args.net.now.value.valid c.requires.fits (station_view g.O.Outlet.taken g.O.Outlet.failures c.args.self.now) c.requires.sound
+    like_now (network_of c.args.net.now.value.program) c.args.inputs.now c.args.net.now.value.valid c.requires.fits
+    (station_view g.O.Outlet.taken g.O.Outlet.failures c.args.self.now) c.requires.sound
 
 pub release-requires : goal.release-requires
 release-requires g c = λ place outlet next there.
-    next_there (network_of c.args.net.now.value.program) c.args.inputs.now (station_view g.O.Outlet.taken g.O.Outlet.failures c.args.self.now) c.args.round place outlet c.requires.sound next there
+    next_there (network_of c.args.net.now.value.program) c.args.inputs.now
+    (station_view g.O.Outlet.taken g.O.Outlet.failures c.args.self.now) c.args.round place outlet c.requires.sound
+    next there
 
 pub send-requires : goal.send-requires
 send-requires g c =
     let net = c.args.net.now.value in
     let was = station_view g.O.Outlet.taken g.O.Outlet.failures c.args.self.now in
-    subst (λ (n : Net). All IsWritable (packets_of (network_of n.program) was.number was.node)) (sym c.deref-in-Send.ensures)
+    subst (λ (n : Net). All IsWritable (packets_of (network_of n.program) was.number was.node))
+    (sym c.deref-in-Send.ensures)
     (station_writable (network_of net.program) c.args.inputs.now net.valid was c.requires.sound c.requires.named)
 
 pub returns-in-Deliver-clause-traffic : goal.returns-in-Deliver-clause-traffic
 returns-in-Deliver-clause-traffic g c =
     let was = station_view {cell = g.C.StableCell} g.O.Outlet.taken g.O.Outlet.failures c.args.self.now in
-    let setting = setting_in (network_of c.args.net.now.value.program) c.args.inputs.now (traffic_of c.args.wire.now) c.args.restarts c.args.round in
-    delivered_in (fits_in (g.C.StableCell.capacity (cell_in c.args.self.now.node.store))) setting c.in-Deliver.node c.in-Deliver.place (network_of c.deref.result.now.program) (event_view c.args.event.now) was _
-    (traffic_of c.deliver.new.wire) c.deliver.result (ap (λ (n : Net). network_of n.program) c.deref.ensures) (ap event_view c.in-Deliver.is) c.deliver.ensures.step c.deliver.ensures.traffic
+    let setting =
+    setting_in (network_of c.args.net.now.value.program) c.args.inputs.now (traffic_of c.args.wire.now)
+    c.args.restarts c.args.round in
+    delivered_in (fits_in (g.C.StableCell.capacity (cell_in c.args.self.now.node.store))) setting c.in-Deliver.node
+    c.in-Deliver.place (network_of c.deref.result.now.program) (event_view c.args.event.now) was _
+    (traffic_of c.deliver.new.wire) c.deliver.result (ap (λ (n : Net). network_of n.program) c.deref.ensures)
+    (ap event_view c.in-Deliver.is) c.deliver.ensures.step c.deliver.ensures.traffic

@@ -18,10 +18,13 @@ returns-clause-step g c =
     let seen = station_view g.O.Outlet.taken g.O.Outlet.failures was in
     let node = view_of c.deliver.new.self in
     let came = c.in_ok-outcome.ensures in
-    delivers (fits_in (cell.capacity (cell_in was.node.store))) c.args.round (network_of c.args.net.now.program) c.args.place c.in-Some.bytes.now seen _ (reply_view c.note_delivery.result) _ c.in-Some.ensures.bytes
+    delivers (fits_in (cell.capacity (cell_in was.node.store))) c.args.round (network_of c.args.net.now.program)
+    c.args.place c.in-Some.bytes.now seen _ (reply_view c.note_delivery.result) _ c.in-Some.ensures.bytes
     (record {
       answers = c.note_delivery.ensures.reply ∙ ap delivery_reply came.answer;
       told = came.step;
       down = came.down;
-      same = seen_moved seen _ _ _ _ _ came.same.1 refl ∙ ap (λ (store : Store _ cell). moved_to node (cell.failure_count (cell_in store)) was.turns seen) came.same.0;
+      same = seen_moved seen _ _ _ _ _ came.same.1 refl
+          ∙ ap (λ (store : Store _ cell). moved_to node (cell.failure_count (cell_in store)) was.turns seen)
+          came.same.0;
     })

@@ -15,7 +15,8 @@ release_at-requires g c =
     let failures = g.O.Outlet.failures in
     let x = c.index_mut.result.now in
     let j = c.in-Some.j in
-    c.requires j (outlet_view taken failures x) (sym c.in-Some.ensures.next) (outlet_at taken failures c.args.self.now.outputs.items j x c.in-Some.ensures.within c.index_mut.ensures.value)
+    c.requires j (outlet_view taken failures x) (sym c.in-Some.ensures.next)
+    (outlet_at taken failures c.args.self.now.outputs.items j x c.in-Some.ensures.within c.index_mut.ensures.value)
 
 pub returns-clause-refused : goal.returns-clause-refused
 returns-clause-refused g c =
@@ -26,9 +27,12 @@ returns-clause-refused g c =
     let j = c.in-Some.j in
     let made = c.release_at.ensures in
     let now = c.release_at.new in
-    release_refused c.args.round j was (outlet_view taken failures x) (outlet_view taken failures now.output) (view_of now.node) _ now.node.number _ c.release_at.result
+    release_refused c.args.round j was (outlet_view taken failures x) (outlet_view taken failures now.output)
+    (view_of now.node) _ now.node.number _ c.release_at.result
     (outlet_at taken failures c.args.self.now.outputs.items j x c.in-Some.ensures.within c.index_mut.ensures.value)
-    made.same.1 (ap (λ (store : Store g.row.C.Denot g.C.StableCell). g.C.StableCell.failure_count (cell_in store)) made.same.0) (outlet_set taken failures c.args.self.now.outputs.items j now.output) made.refused
+    made.same.1
+    (ap (λ (store : Store g.row.C.Denot g.C.StableCell). g.C.StableCell.failure_count (cell_in store)) made.same.0)
+    (outlet_set taken failures c.args.self.now.outputs.items j now.output) made.refused
 
 pub returns-in_default-clause-step : goal.returns-in_default-clause-step
 returns-in_default-clause-step g c =
@@ -44,6 +48,10 @@ returns-clause-step g c =
     let j = c.in-Some.j in
     let made = c.release_at.ensures in
     let now = c.release_at.new in
-    release_step c.args.round j was (outlet_view taken failures x) (outlet_view taken failures now.output) (view_of now.node) _ now.node.number _ c.release_at.result
-    (sym c.in-Some.ensures.next) (outlet_at taken failures c.args.self.now.outputs.items j x c.in-Some.ensures.within c.index_mut.ensures.value)
-    made.same.1 (ap (λ (store : Store g.row.C.Denot g.C.StableCell). g.C.StableCell.failure_count (cell_in store)) made.same.0) (outlet_set taken failures c.args.self.now.outputs.items j now.output) made.trimmed made.handed
+    release_step c.args.round j was (outlet_view taken failures x) (outlet_view taken failures now.output)
+    (view_of now.node) _ now.node.number _ c.release_at.result
+    (sym c.in-Some.ensures.next)
+    (outlet_at taken failures c.args.self.now.outputs.items j x c.in-Some.ensures.within c.index_mut.ensures.value)
+    made.same.1
+    (ap (λ (store : Store g.row.C.Denot g.C.StableCell). g.C.StableCell.failure_count (cell_in store)) made.same.0)
+    (outlet_set taken failures c.args.self.now.outputs.items j now.output) made.trimmed made.handed

@@ -2,4 +2,6 @@ use Rattle.world.proofs.Packets.{are_nodes}
 use Rattle.world.proofs.station.Station.send.Goals as goal
 
 pub send_all-requires : goal.send_all-requires
-send_all-requires g c = are_nodes c.as_slice.result.now c.in_ok-sendings.sendings.items c.in_ok-sendings.ensures.sendings c.in_ok-sendings.ensures.allowed
+send_all-requires g c =
+    are_nodes c.as_slice.result.now c.in_ok-sendings.sendings.items c.in_ok-sendings.ensures.sendings
+    c.in_ok-sendings.ensures.allowed

@@ -23,7 +23,8 @@ use Rattle.world.proofs.world.World.apply.Goals as goal
 pub act_at-requires-clause-sound : goal.act_at-requires-clause-sound
 act_at-requires-clause-sound g c = λ i station is.
     let was = c.args.self.now in
-    subst (λ (lists : List (List ℤ)). StationInvariant (network_of was.net.value.program) lists station) (sym c.deref.ensures) (was.sound.stations i station is)
+    subst (λ (lists : List (List ℤ)). StationInvariant (network_of was.net.value.program) lists station)
+    (sym c.deref.ensures) (was.sound.stations i station is)
 
 -- the one law keeps what the type says
 pub invariant_of-self : goal.invariant_of-self
@@ -31,24 +32,49 @@ invariant_of-self g c =
     let was = c.args.self.now in
     let view = station_view {cell = g.C.StableCell} g.O.Outlet.taken g.O.Outlet.failures in
     record {
-      sound = act_keeps_world (rooms was.stations.items) (event_view c.args.event) (world_of was) (reply_view c.in-Ok.reply) (setting_in (network_of was.net.value.program) c.deref.result.now (traffic_of was.wire) (may_restart (length was.stations.items)) was.round) c.from-number.result c.round_after-self.result (map view c.act_at.new.stations.items) (traffic_of c.act_at.new.wire) was.sound
-          (setting_is view (network_of was.net.value.program) c.deref.result.now was.inputs.value (traffic_of was.wire) was.stations.items was.round c.deref.ensures) (c.from-number.ensures ∙ c.node.ensures) c.in-Ok.ensures.step (c.in-Ok.ensures.traffic)
-          (c.round_after-self.ensures ∙ ap (λ (l : List (Station g.row.C.Denot g.row.O.Denot g.C.StableCell)). round_after (reply_view c.in-Ok.reply) was.round (map view l)) c.deref-in-Ok.ensures.value);
+      sound = act_keeps_world (rooms was.stations.items) (event_view c.args.event) (world_of was)
+          (reply_view c.in-Ok.reply)
+          (setting_in (network_of was.net.value.program) c.deref.result.now (traffic_of was.wire)
+          (may_restart (length was.stations.items)) was.round) c.from-number.result c.round_after-self.result
+          (map view c.act_at.new.stations.items) (traffic_of c.act_at.new.wire) was.sound
+          (setting_is view (network_of was.net.value.program) c.deref.result.now was.inputs.value (traffic_of was.wire)
+          was.stations.items was.round c.deref.ensures) (c.from-number.ensures ∙ c.node.ensures)
+          c.in-Ok.ensures.step (c.in-Ok.ensures.traffic)
+          (c.round_after-self.ensures
+          ∙ ap (λ (l : List (Station g.row.C.Denot g.row.O.Denot g.C.StableCell)). round_after
+          (reply_view c.in-Ok.reply) was.round (map view l)) c.deref-in-Ok.ensures.value);
     }
 
 pub returns-in-Ok-clause-prefix : goal.returns-in-Ok-clause-prefix
 returns-in-Ok-clause-prefix g c =
     let was = c.args.self.now in
     let view = station_view {cell = g.C.StableCell} g.O.Outlet.taken g.O.Outlet.failures in
-    released_prefix (world_view {cell = g.C.StableCell} g.O.Outlet.taken g.O.Outlet.failures was.net was.inputs c.act_at.new.stations.items (traffic_of c.act_at.new.wire) c.round_after-self.result)
-    (act_keeps_world (rooms was.stations.items) (event_view c.args.event) (world_of was) (reply_view c.in-Ok.reply) (setting_in (network_of was.net.value.program) c.deref.result.now (traffic_of was.wire) (may_restart (length was.stations.items)) was.round) c.from-number.result c.round_after-self.result (map view c.act_at.new.stations.items) (traffic_of c.act_at.new.wire) was.sound
-    (setting_is view (network_of was.net.value.program) c.deref.result.now was.inputs.value (traffic_of was.wire) was.stations.items was.round c.deref.ensures) (c.from-number.ensures ∙ c.node.ensures) c.in-Ok.ensures.step (c.in-Ok.ensures.traffic)
-    (c.round_after-self.ensures ∙ ap (λ (l : List (Station g.row.C.Denot g.row.O.Denot g.C.StableCell)). round_after (reply_view c.in-Ok.reply) was.round (map view l)) c.deref-in-Ok.ensures.value))
+    released_prefix
+    (world_view {cell = g.C.StableCell} g.O.Outlet.taken g.O.Outlet.failures was.net was.inputs
+    c.act_at.new.stations.items (traffic_of c.act_at.new.wire) c.round_after-self.result)
+    (act_keeps_world (rooms was.stations.items) (event_view c.args.event) (world_of was) (reply_view c.in-Ok.reply)
+    (setting_in (network_of was.net.value.program) c.deref.result.now (traffic_of was.wire)
+    (may_restart (length was.stations.items)) was.round) c.from-number.result c.round_after-self.result
+    (map view c.act_at.new.stations.items) (traffic_of c.act_at.new.wire) was.sound
+    (setting_is view (network_of was.net.value.program) c.deref.result.now was.inputs.value (traffic_of was.wire)
+    was.stations.items was.round c.deref.ensures) (c.from-number.ensures ∙ c.node.ensures) c.in-Ok.ensures.step
+    (c.in-Ok.ensures.traffic)
+    (c.round_after-self.ensures
+    ∙ ap (λ (l : List (Station g.row.C.Denot g.row.O.Denot g.C.StableCell)). round_after (reply_view c.in-Ok.reply)
+    was.round (map view l)) c.deref-in-Ok.ensures.value))
 
 pub returns-in-Err-clause-prefix : goal.returns-in-Err-clause-prefix
 returns-in-Err-clause-prefix g c =
     let was = c.args.self.now in
-    subst (λ (stations : List StationView). AreApproximated (record { net = network_of was.net.value.program; inputs = was.inputs.value; stations = stations; traffic = traffic_of c.act_at.new.wire; round = was.round })) (sym c.in-Err.ensures.refused.0)
+    subst (λ (stations : List StationView). AreApproximated
+    (record {
+      net = network_of was.net.value.program;
+      inputs = was.inputs.value;
+      stations = stations;
+      traffic =
+          traffic_of c.act_at.new.wire;
+      round = was.round;
+    })) (sym c.in-Err.ensures.refused.0)
     (released_prefix (world_of was) was.sound)
 
 -- the line is kept, whether the event was made or refused
@@ -56,46 +82,85 @@ pub returns-in-Ok-clause-line : goal.returns-in-Ok-clause-line
 returns-in-Ok-clause-line g c =
     let was = c.args.self.now in
     let view = station_view {cell = g.C.StableCell} g.O.Outlet.taken g.O.Outlet.failures in
-    keeps_line {cell = g.C.StableCell} g.O.Outlet.taken g.O.Outlet.failures (network_of was.net.value.program) was.inputs.value was.stations.items c.act_at.new.stations.items was.round c.round_after-self.result (traffic_of was.wire) (traffic_of c.act_at.new.wire) was.sound
-    (act_keeps_world (rooms was.stations.items) (event_view c.args.event) (world_of was) (reply_view c.in-Ok.reply) (setting_in (network_of was.net.value.program) c.deref.result.now (traffic_of was.wire) (may_restart (length was.stations.items)) was.round) c.from-number.result c.round_after-self.result (map view c.act_at.new.stations.items) (traffic_of c.act_at.new.wire) was.sound
-    (setting_is view (network_of was.net.value.program) c.deref.result.now was.inputs.value (traffic_of was.wire) was.stations.items was.round c.deref.ensures) (c.from-number.ensures ∙ c.node.ensures) c.in-Ok.ensures.step (c.in-Ok.ensures.traffic)
-    (c.round_after-self.ensures ∙ ap (λ (l : List (Station g.row.C.Denot g.row.O.Denot g.C.StableCell)). round_after (reply_view c.in-Ok.reply) was.round (map view l)) c.deref-in-Ok.ensures.value))
+    keeps_line {cell = g.C.StableCell} g.O.Outlet.taken g.O.Outlet.failures (network_of was.net.value.program)
+    was.inputs.value was.stations.items c.act_at.new.stations.items was.round c.round_after-self.result
+    (traffic_of was.wire) (traffic_of c.act_at.new.wire) was.sound
+    (act_keeps_world (rooms was.stations.items) (event_view c.args.event) (world_of was) (reply_view c.in-Ok.reply)
+    (setting_in (network_of was.net.value.program) c.deref.result.now (traffic_of was.wire)
+    (may_restart (length was.stations.items)) was.round) c.from-number.result c.round_after-self.result
+    (map view c.act_at.new.stations.items) (traffic_of c.act_at.new.wire) was.sound
+    (setting_is view (network_of was.net.value.program) c.deref.result.now was.inputs.value (traffic_of was.wire)
+    was.stations.items was.round c.deref.ensures) (c.from-number.ensures ∙ c.node.ensures) c.in-Ok.ensures.step
+    (c.in-Ok.ensures.traffic)
+    (c.round_after-self.ensures
+    ∙ ap (λ (l : List (Station g.row.C.Denot g.row.O.Denot g.C.StableCell)). round_after (reply_view c.in-Ok.reply)
+    was.round (map view l)) c.deref-in-Ok.ensures.value))
     c.act_at.ensures.line
 
 pub returns-in-Err-clause-line : goal.returns-in-Err-clause-line
 returns-in-Err-clause-line g c =
     let was = c.args.self.now in
-    let kept = subst (λ (stations : List StationView). WorldInvariant (record { net = network_of was.net.value.program; inputs = was.inputs.value; stations = stations; traffic = traffic_of was.wire; round = was.round })) (sym c.in-Err.ensures.refused.0) was.sound in
-    keeps_line {cell = g.C.StableCell} g.O.Outlet.taken g.O.Outlet.failures (network_of was.net.value.program) was.inputs.value was.stations.items c.act_at.new.stations.items was.round was.round (traffic_of was.wire) (traffic_of was.wire) was.sound kept c.act_at.ensures.line
+    let kept =
+    subst (λ (stations : List StationView). WorldInvariant
+    (record {
+      net = network_of was.net.value.program;
+      inputs = was.inputs.value;
+      stations = stations;
+      traffic =
+          traffic_of was.wire;
+      round = was.round;
+    })) (sym c.in-Err.ensures.refused.0) was.sound in
+    keeps_line {cell = g.C.StableCell} g.O.Outlet.taken g.O.Outlet.failures (network_of was.net.value.program)
+    was.inputs.value was.stations.items c.act_at.new.stations.items was.round was.round (traffic_of was.wire)
+    (traffic_of was.wire) was.sound kept c.act_at.ensures.line
 
 pub returns-in-Ok-clause-settled : goal.returns-in-Ok-clause-settled
-returns-in-Ok-clause-settled g c = one_line {cell = g.C.StableCell} g.O.Outlet.taken g.O.Outlet.failures c.act_at.new.stations.items
+returns-in-Ok-clause-settled g c =
+    one_line {cell = g.C.StableCell} g.O.Outlet.taken g.O.Outlet.failures c.act_at.new.stations.items
 
 pub returns-in-Err-clause-settled : goal.returns-in-Err-clause-settled
-returns-in-Err-clause-settled g c = one_line {cell = g.C.StableCell} g.O.Outlet.taken g.O.Outlet.failures c.act_at.new.stations.items
+returns-in-Err-clause-settled g c =
+    one_line {cell = g.C.StableCell} g.O.Outlet.taken g.O.Outlet.failures c.act_at.new.stations.items
 
 -- the rooms are what the capacities say
 pub returns-in-Ok-clause-same_rooms : goal.returns-in-Ok-clause-same_rooms
 returns-in-Ok-clause-same_rooms g c =
-    let capacity = λ (station : Station g.row.C.Denot g.row.O.Denot g.C.StableCell). g.C.StableCell.capacity (cell_in station.node.store) in
-    rooms_of capacity c.act_at.new.stations.items ∙ (ap (map fits_in) c.in-Ok.ensures.same_capacities ∙ sym (rooms_of capacity c.args.self.now.stations.items))
+    let capacity =
+    λ (station : Station g.row.C.Denot g.row.O.Denot g.C.StableCell). g.C.StableCell.capacity
+    (cell_in station.node.store) in
+    rooms_of capacity c.act_at.new.stations.items
+    ∙ (ap (map fits_in) c.in-Ok.ensures.same_capacities ∙ sym (rooms_of capacity c.args.self.now.stations.items))
 
 pub returns-in-Err-clause-same_rooms : goal.returns-in-Err-clause-same_rooms
 returns-in-Err-clause-same_rooms g c =
-    let capacity = λ (station : Station g.row.C.Denot g.row.O.Denot g.C.StableCell). g.C.StableCell.capacity (cell_in station.node.store) in
-    rooms_of capacity c.act_at.new.stations.items ∙ (ap (map fits_in) c.in-Err.ensures.same_capacities ∙ sym (rooms_of capacity c.args.self.now.stations.items))
+    let capacity =
+    λ (station : Station g.row.C.Denot g.row.O.Denot g.C.StableCell). g.C.StableCell.capacity
+    (cell_in station.node.store) in
+    rooms_of capacity c.act_at.new.stations.items
+    ∙ (ap (map fits_in) c.in-Err.ensures.same_capacities ∙ sym (rooms_of capacity c.args.self.now.stations.items))
 
 pub returns-in-Ok-clause-roomy : goal.returns-in-Ok-clause-roomy
 returns-in-Ok-clause-roomy g c = λ room.
     let was = c.args.self.now in
     let view = station_view {cell = g.C.StableCell} g.O.Outlet.taken g.O.Outlet.failures in
-    never_too_large (world_of was) (setting_in (network_of was.net.value.program) c.deref.result.now (traffic_of was.wire) (may_restart (length was.stations.items)) was.round)
-    (λ (station : Station g.row.C.Denot g.row.O.Denot g.C.StableCell). g.C.StableCell.capacity (cell_in station.node.store)) was.stations.items c.from-number.result _ (event_view c.args.event) (reply_view c.in-Ok.reply) (map view c.act_at.new.stations.items)
-    was.sound (setting_is view (network_of was.net.value.program) c.deref.result.now was.inputs.value (traffic_of was.wire) was.stations.items was.round c.deref.ensures) (c.from-number.ensures ∙ c.node.ensures) room c.in-Ok.ensures.step
+    never_too_large (world_of was)
+    (setting_in (network_of was.net.value.program) c.deref.result.now (traffic_of was.wire)
+    (may_restart (length was.stations.items)) was.round)
+    (λ (station : Station g.row.C.Denot g.row.O.Denot g.C.StableCell). g.C.StableCell.capacity
+    (cell_in station.node.store)) was.stations.items c.from-number.result _ (event_view c.args.event)
+    (reply_view c.in-Ok.reply) (map view c.act_at.new.stations.items)
+    was.sound
+    (setting_is view (network_of was.net.value.program) c.deref.result.now was.inputs.value (traffic_of was.wire)
+    was.stations.items was.round c.deref.ensures) (c.from-number.ensures ∙ c.node.ensures) room c.in-Ok.ensures.step
 
 pub returns-in-Ok-clause-heard : goal.returns-in-Ok-clause-heard
 returns-in-Ok-clause-heard g c =
     let was = c.args.self.now in
     let view = station_view {cell = g.C.StableCell} g.O.Outlet.taken g.O.Outlet.failures in
-    never_dropped (world_of was) (setting_in (network_of was.net.value.program) c.deref.result.now (traffic_of was.wire) (may_restart (length was.stations.items)) was.round) (rooms was.stations.items) c.from-number.result (event_view c.args.event)
-    (reply_view c.in-Ok.reply) (map view c.act_at.new.stations.items) was.sound (setting_is view (network_of was.net.value.program) c.deref.result.now was.inputs.value (traffic_of was.wire) was.stations.items was.round c.deref.ensures) (c.from-number.ensures ∙ c.node.ensures) c.in-Ok.ensures.step
+    never_dropped (world_of was)
+    (setting_in (network_of was.net.value.program) c.deref.result.now (traffic_of was.wire)
+    (may_restart (length was.stations.items)) was.round) (rooms was.stations.items) c.from-number.result
+    (event_view c.args.event)
+    (reply_view c.in-Ok.reply) (map view c.act_at.new.stations.items) was.sound
+    (setting_is view (network_of was.net.value.program) c.deref.result.now was.inputs.value (traffic_of was.wire)
+    was.stations.items was.round c.deref.ensures) (c.from-number.ensures ∙ c.node.ensures) c.in-Ok.ensures.step

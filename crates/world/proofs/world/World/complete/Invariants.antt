@@ -13,6 +13,11 @@ use Rattle.world.proofs.world.World.complete.Given as goal
 abbrev pub invariant-loop-station : goal.invariant-loop-station
 invariant-loop-station g l =
     let O = g.O.Outlet in
-    list_all (λ (station : StationView). is_quiet_at (network_of l.self.net.value.program) l.self.inputs.value (map (station_view O.taken O.failures) l.self.stations.items) (running_of station.node) (outputs_of station.outlets))
+    list_all
+    (λ (station : StationView). is_quiet_at (network_of l.self.net.value.program) l.self.inputs.value
+    (map (station_view O.taken O.failures) l.self.stations.items) (running_of station.node)
+    (outputs_of station.outlets))
     (map (station_view O.taken O.failures) (drop l.station-index l.station-items))
-    ≡ are_quiet (world_view O.taken O.failures l.self.net l.self.inputs l.self.stations.items (traffic_of l.self.wire) l.self.round)
+    ≡ are_quiet
+    (world_view O.taken O.failures l.self.net l.self.inputs l.self.stations.items (traffic_of l.self.wire)
+    l.self.round)

@@ -16,7 +16,8 @@ pick-requires g c =
     let was = c.args.self.now in
     let view = station_view {cell = g.C.StableCell} g.O.Outlet.taken g.O.Outlet.failures in
     let within : c.args.node < length was.stations.items = search rules in
-    number_few (world_of was) c.args.node (view c.in-Some.station.now) was.sound (seen_at view was.stations.items c.args.node c.in-Some.station.now within (search rules))
+    number_few (world_of was) c.args.node (view c.in-Some.station.now) was.sound
+    (seen_at view was.stations.items c.args.node c.in-Some.station.now within (search rules))
 
 pub returns-in-Some : goal.returns-in-Some
 returns-in-Some g c =
@@ -28,9 +29,12 @@ returns-in-Some g c =
     let there = seen_at view was.stations.items c.args.node c.in-Some.station.now within (search rules) in
     let many : c.len.result ≡ length was.stations.items = search rules in
     c.pick.ensures
-    ∙ (ap (λ (net : Net). station_choice (network_of net.program) c.deref-in-Some-2.result.now (traffic_of was.wire) c.len.result was.round station) c.deref-in-Some.ensures
-    ∙ (ap (λ (inputs : List (List ℤ)). station_choice world.net inputs (traffic_of was.wire) c.len.result was.round station) c.deref-in-Some-2.ensures
-    ∙ (ap (λ (n : ℕ). station_choice world.net world.inputs (traffic_of was.wire) n was.round station) (many ∙ sym (length-map was.stations.items view))
+    ∙ (ap (λ (net : Net). station_choice (network_of net.program) c.deref-in-Some-2.result.now (traffic_of was.wire)
+    c.len.result was.round station) c.deref-in-Some.ensures
+    ∙ (ap (λ (inputs : List (List ℤ)). station_choice world.net inputs (traffic_of was.wire) c.len.result was.round
+    station) c.deref-in-Some-2.ensures
+    ∙ (ap (λ (n : ℕ). station_choice world.net world.inputs (traffic_of was.wire) n was.round station)
+    (many ∙ sym (length-map was.stations.items view))
     ∙ sym (ap (choice_of world c.args.node) there))))
 
 pub returns-in-None : goal.returns-in-None
@@ -39,4 +43,5 @@ returns-in-None g c =
     let view = station_view {cell = g.C.StableCell} g.O.Outlet.taken g.O.Outlet.failures in
     let past : length was.stations.items ≤ c.args.node = search rules in
     let many = length-map was.stations.items view in
-    sym (ap (choice_of (world_of was) c.args.node) (slice_get_past (map view was.stations.items) c.args.node (omega (arith, past, many))))
+    sym (ap (choice_of (world_of was) c.args.node)
+    (slice_get_past (map view was.stations.items) c.args.node (omega (arith, past, many))))

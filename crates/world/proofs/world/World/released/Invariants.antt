@@ -5,4 +5,7 @@ use Rattle.world.proofs.world.World.released.Given as goal
 
 -- the output is of a station that wasn't looked at yet
 abbrev pub invariant-loop-station : goal.invariant-loop-station
-invariant-loop-station g l = released_of l.channel (map (station_view g.O.Outlet.taken g.O.Outlet.failures) (drop l.station-index l.station-items)) ≡ released_of l.channel (map (station_view g.O.Outlet.taken g.O.Outlet.failures) l.self.stations.items)
+invariant-loop-station g l =
+    released_of l.channel
+    (map (station_view g.O.Outlet.taken g.O.Outlet.failures) (drop l.station-index l.station-items))
+    ≡ released_of l.channel (map (station_view g.O.Outlet.taken g.O.Outlet.failures) l.self.stations.items)
