@@ -14,13 +14,10 @@ use sector_disk::{Disk, MemDisk, SECTOR_BYTES};
 use std::alloc::{AllocError, Global};
 use std::sync::Arc;
 use std::time::CpuClock;
-use world::{Event, Reply, World, list_outputs, node_count};
+use world::{Event, Reply, SECTORS, World, list_outputs, node_count};
 
 const NET: &str = "kahn 1; input i; output o;
 process sum on 0 { var a; var v; loop { v = get i; a = a + v; put a to o; } }";
-
-/// The sectors of a node's disk.
-const SECTORS: usize = 4_101;
 
 /// The items of a turn, at most.
 const TURN_ITEMS: usize = 64;
@@ -72,7 +69,10 @@ fn world_of(alloc: Global, items: usize) -> anyhow::Result<SumWorld> {
     let inputs = Arc::new(alloc, inputs)?;
     let mut disks = Vec::with_capacity(alloc, 1)?;
     disks.push(empty_disk(alloc, SECTORS)?)?;
-    let mut world = World::new(alloc, net, inputs, disks, outputs)?;
+    let mut world = match World::new(alloc, net, inputs, disks, outputs) {
+        Ok(world) => world,
+        Err(refused) => return Err(refused.fault.into()),
+    };
     for _ in 0..items.div_ceil(TURN_ITEMS) {
         take_turn(alloc, &mut world)?;
     }

@@ -1,13 +1,10 @@
 //! Puts of growing values.
 
 use crate::clock::processor_micros;
-use gate_cell::{GateCell, StableCell};
+use gate_cell::{GateCell, SECTORS, StableCell};
 use sector_disk::MemDisk;
 use std::alloc::Global;
 use std::time::CpuClock;
-
-// The disk of a node.
-const SECTORS: usize = 4101;
 
 // Bytes that all puts of a row write together.
 const BYTES_OF_A_ROW: usize = 1 << 28;

@@ -11,13 +11,10 @@ use outlet::ListOutlet;
 use sector_disk::MemDisk;
 use std::alloc::{AllocError, Global};
 use std::sync::Arc;
-use world::{Event, Reply, World, list_outputs, node_count};
+use world::{Event, Reply, SECTORS, World, list_outputs, node_count};
 
 const NET: &str = "kahn 1; input i; output o;
 process sum on 0 { var a; var v; loop { v = get i; a = a + v; put a to o; } }";
-
-/// The sectors of the disk: room behind the gate for a record of 1,048,576 bytes in each of its two areas.
-const SECTORS: usize = 4_101;
 
 /// The turn before which the node crashes: it has taken a tentative image then, and not made it permanent.
 const CRASHES_AT: u32 = 2;
@@ -72,7 +69,10 @@ fn main(rt: HostRuntime) -> anyhow::Result<()> {
     let inputs = Arc::new(alloc, inputs)?;
     let mut disks = Vec::with_capacity(alloc, 1)?;
     disks.push(empty_disk(alloc, SECTORS)?)?;
-    let mut world = World::new(alloc, net, inputs, disks, outputs)?;
+    let mut world = match World::new(alloc, net, inputs, disks, outputs) {
+        Ok(world) => world,
+        Err(refused) => return Err(refused.fault.into()),
+    };
     for turn in 0..100 {
         if world.complete() {
             break;

@@ -1,15 +1,25 @@
 -- Turns of a run.
-use Rattle.std.proofs.Common.{◌≡◌, ◌⊎◌, ◌∙◌, ◌∷◌, [], ◌+◌, ◌≤◌, ℕ, suc, ℤ, Bool, true, false, List, length, map, Option}
-use Rattle.std.proofs.Common.{refl, sym, ap, subst, arith}
+use Rattle.std.proofs.Common.{◌≡◌, ◌≢◌, ◌++◌, ◌⊎◌, Ok, Err, inl, inr, ◌<◌, ◌∙◌, ◌∷◌, [], ◌+◌, ◌≤◌, ℕ, zero, suc, ℤ}
+use Rattle.std.proofs.Common.{Bool, true, false, List, length, map, Option, refl, sym, ap, subst, arith}
 use Rattle.std.specs.List.{AllByRecursion}
-use Rattle.std.specs.Prelude.{replicate}
+use Rattle.std.specs.Prelude.{replicate, OnOk, Result}
 use Rattle.kahn_net.specs.Nodes.{node_count}
 use Rattle.kahn_net.specs.Syntax.{Network}
+use Rattle.kahn_net.specs.Valid.{IsValid}
+use Rattle.gate_cell.specs.Layout.{room_on, HasNoRoom}
+use Rattle.ckpt_codec.specs.declared.lengths.TheConstants.{MAX_RECORD_BYTES}
+use Rattle.ckpt_store.specs.declared.fault.StoreFault.{StoreFault}
+use Rattle.ckpt_store.specs.declared.fault.StoreFault.TheVariants.{NoMemory, Device, TooLarge, Reopen, Truncated}
+use Rattle.ckpt_store.specs.declared.fault.StoreFault.TheVariants.{Version, Malformed, HoldsOther, PastNumber, NotHeld}
+use Rattle.ckpt_store.specs.declared.fault.StoreFault.TheVariants.{Unsettled, Spent}
+use Rattle.protocol.specs.Node.Opening.{opening_record}
+use Rattle.protocol.specs.NodeLaws.PlaceLaws.{nodes_few}
+use Rattle.protocol.specs.NodeLaws.SizeLaws.{opening_within}
+use Rattle.protocol.specs.WorldLaws.RoomLaws.{bounded_is_short}
 use Rattle.kahn_net.specs.declared.program.Channel.{Channel}
 use Rattle.record.specs.RecordView.{RecordView}
 use Rattle.gate_cell.specs.declared.cell.StableCell.{Ghosts as CellWords}
 use Rattle.ckpt_store.specs.Spelling.{fits_in}
-use Rattle.ckpt_store.specs.StoreView.{cell_in}
 use Rattle.proc_step.specs.declared.job.Job.{Job}
 use Rattle.wire.specs.Traffic.{opening_traffic}
 use Rattle.protocol.specs.World.OpeningWorld.{opening_outlet, opening_stations, opening_world}
@@ -20,16 +30,20 @@ use Rattle.world.specs.StationView.{outlet_view, outlet_views}
 use Rattle.protocol.specs.World.Steps.{WorldView, IsStep}
 use Rattle.protocol.specs.World.EventView.{EventView}
 use Rattle.protocol.specs.World.ReplyView.{ReplyView}
+use Rattle.protocol.specs.World.ReplyView as view
 use Rattle.world.specs.ReplyView.{reply_view}
-use Rattle.world.specs.WorldView.{rooms, station_view}
+use Rattle.world.specs.WorldView.{capacities, rooms, station_view}
+use Rattle.world.specs.OpeningWorld.{opening_length, IsOpeningRefusal, IsWorldRefusal}
+use Rattle.gate_cell.specs.declared.TheConstants.{SECTORS}
 use Rattle.world.specs.declared.event.Reply.{Reply}
 use Rattle.world.specs.declared.event.Reply.TheVariants.{Delivered, Dropped, Granted, Installed, Discarded, Sent}
 use Rattle.world.specs.declared.event.Reply.TheVariants.{Started, Decided, Refused, Released, OutletFailed, Crashed}
 use Rattle.world.specs.declared.event.Reply.TheVariants.{Recovered, InDoubt, Down, Acted, Idled, NotDue}
 use Rattle.world.specs.declared.output.Output.{Output}
 use Rattle.world.specs.declared.station.Station.{Station}
-use Rattle.kahn_program.specs.Turning.{turn_node, CameTo, first_world, Follows, IsStepInRoom, IsWorldTurn}
-use Rattle.kahn_program.specs.Turning.{unused_outlet}
+use Rattle.kahn_program.specs.Turning.{turn_node, CameTo, first_world, Follows, IsRunRoom, IsRunStep, IsWorldTurn}
+use Rattle.kahn_program.specs.Turning.{run_rooms, unused_outlet}
+use Rattle.kahn_program.specs.Runnable.{IsStoreFailure, store_failure}
 use Rattle.kahn_program.specs.Runs.{is_over, IsLast}
 use Rattle.kahn_program.specs.declared.network_run.TheConstants.{MAX_TURNS}
 
@@ -55,33 +69,123 @@ nothing_follows Acted now other = refl
 nothing_follows Idled now other = refl
 nothing_follows NotDue now other = refl
 
+-- that no device failed is told by the answer
+pub is_not_down : (answer : Reply) → (answer ≡ Down → ⊥) → reply_view answer ≢ view.Down
+is_not_down Down other same = absurd (other refl)
+is_not_down (Granted job) other same = absurd (cc)
+is_not_down Delivered other same = absurd (cc)
+is_not_down Dropped other same = absurd (cc)
+is_not_down Installed other same = absurd (cc)
+is_not_down Discarded other same = absurd (cc)
+is_not_down Sent other same = absurd (cc)
+is_not_down Started other same = absurd (cc)
+is_not_down Decided other same = absurd (cc)
+is_not_down (Refused refusal) other same = absurd (cc)
+is_not_down (Released freed) other same = absurd (cc)
+is_not_down OutletFailed other same = absurd (cc)
+is_not_down Crashed other same = absurd (cc)
+is_not_down Recovered other same = absurd (cc)
+is_not_down InDoubt other same = absurd (cc)
+is_not_down Acted other same = absurd (cc)
+is_not_down Idled other same = absurd (cc)
+is_not_down NotDue other same = absurd (cc)
+
+-- what holds of an Ok in two ways
+pub on_ok_both : {A E : Type 0} (P Q : Type 0) (result : Result A E) → OnOk result P → OnOk result Q
+    → OnOk result (P × Q)
+on_ok_both P Q (Ok a) one other = (one, other)
+on_ok_both P Q (Err e) one other = tt
+
+-- one more of which it holds
+pub each_more : {X : Type 0} (P : X → Type 0) (xs : List X) (x : X) → AllByRecursion P xs → P x
+    → AllByRecursion P (xs ++ x ∷ [])
+each_more P [] x all one = (one, tt)
+each_more P (y ∷ xs) x all one = (all.0, each_more P xs x all.1 one)
+
+-- one more of which nothing is counted
+pub none_more : {X : Type 0} (count : X → ℕ) (xs : List X) (x : X) (many : ℕ) → map count xs ≡ replicate many 0
+    → count x ≡ 0
+    → map count (xs ++ x ∷ []) ≡ replicate (many + 1) 0
+none_more count [] x zero none one = ap (λ (n : ℕ). n ∷ []) one
+none_more count [] x (suc many) none one = absurd (cc)
+none_more count (y ∷ xs) x zero none one = absurd (cc)
+none_more count (y ∷ xs) x (suc many) none one =
+    let first : count y ≡ 0 = cc in
+    let rest : map count xs ≡ replicate many 0 = cc in
+    let sum : suc (many + 1) ≡ suc many + 1 = omega arith in
+    ap (λ (n : ℕ). n ∷ map count (xs ++ x ∷ [])) first
+    ∙ (ap (λ (list : List ℕ). 0 ∷ list) (none_more count xs x many rest one) ∙ ap (λ (n : ℕ). replicate n 0) sum)
+
 -- the room of each station's cell
 
 module _ {C O : Type 0} {cell : CellWords C} where
-  capacities : List (Station C O cell) → List ℕ
-  capacities stations = map (λ (station : Station C O cell). cell.capacity (cell_in station.node.store)) stations
-
-  rooms_are : (stations : List (Station C O cell)) → rooms stations ≡ map fits_in (capacities stations)
-  unfolding capacities
-  rooms_are [] = refl
-  rooms_are (s ∷ stations) =
-      ap (λ (rest : List (RecordView → Bool)). fits_in (cell.capacity (cell_in s.node.store)) ∷ rest)
-      (rooms_are stations)
-
-  as_many : (taken : O → List ℤ) (failures : O → ℕ) (stations : List (Station C O cell))
-      → length (capacities stations) ≡ length (map (station_view taken failures) stations)
-  unfolding capacities
-  as_many taken failures [] = refl
-  as_many taken failures (s ∷ stations) = ap suc (as_many taken failures stations)
+  rooms_are : (taken : O → List ℤ) (failures : O → ℕ) (stations : List (Station C O cell))
+      → AllByRecursion IsRunRoom (capacities stations)
+      → rooms stations ≡ run_rooms (map (station_view taken failures) stations)
+  rooms_are taken failures [] room = refl
+  rooms_are taken failures (s ∷ stations) room =
+      ap (λ (n : ℕ). fits_in n ∷ rooms stations) room.0
+      ∙ ap (λ (rest : List (RecordView → Bool)). fits_in (room_on SECTORS) ∷ rest)
+      (rooms_are taken failures stations room.1)
 
   pub in_room : (taken : O → List ℤ) (failures : O → ℕ) (stations : List (Station C O cell)) (event : EventView)
-      (old new : WorldView) (answer : ReplyView) → old.stations ≡ map (station_view taken failures) stations
-      → IsStep (rooms stations) event old answer new → IsStepInRoom event old answer new
-  in_room taken failures stations event old new answer same step = record {
-    room = capacities stations;
-    each = as_many taken failures stations ∙ sym (ap (length {A = StationView}) same);
-    step = subst (λ (fits : List (RecordView → Bool)). IsStep fits event old answer new) (rooms_are stations) step;
-  }
+      (old new : WorldView)
+      (answer : ReplyView) → AllByRecursion IsRunRoom (capacities stations)
+      → old.stations ≡ map (station_view taken failures) stations
+      → IsStep (rooms stations) event old answer new → IsRunStep event old answer new
+  in_room taken failures stations event old new answer room same step =
+      subst (λ (fits : List (RecordView → Bool)). IsStep fits event old answer new)
+      (rooms_are taken failures stations room ∙ ap run_rooms (sym same)) step
+
+-- what the disks of a run have room for
+pub rooms_given : {D : Type 0} (sectors : D → ℕ) (disks : List D) (rooms : List ℕ)
+    → rooms ≡ map (λ (disk : D). room_on (sectors disk)) disks
+    → AllByRecursion (λ (disk : D). sectors disk ≡ SECTORS) disks
+    → AllByRecursion IsRunRoom rooms
+rooms_given {D} sectors disks rooms are all = subst (AllByRecursion IsRunRoom) (sym are) (at disks all)
+  where
+    at : (list : List D) → AllByRecursion (λ (disk : D). sectors disk ≡ SECTORS) list
+        → AllByRecursion IsRunRoom (map (λ (disk : D). room_on (sectors disk)) list)
+    at [] all = tt
+    at (d ∷ list) all = (ap room_on all.0, at list all.1)
+
+-- Why a run isn't opened: no disk is too small for an opening record
+pub run_refused : {D : Type 0} (sectors : D → ℕ) (net : Network) (number : ℕ) (disks : List D) (fault : StoreFault)
+    → IsValid net
+    → AllByRecursion (λ (disk : D). sectors disk ≡ SECTORS) disks
+    → IsWorldRefusal net number (map (λ (disk : D). sectors disk) disks) fault
+    → IsStoreFailure (store_failure fault)
+run_refused sectors net number [] fault valid all refused =
+    subst (λ (f : StoreFault). IsStoreFailure (store_failure f)) (sym refused) tt
+run_refused {D} sectors net number (d ∷ disks) fault valid all (inr refused) =
+    run_refused sectors net (suc number) disks fault valid all.1 refused
+run_refused {D} sectors net number (d ∷ disks) fault valid all (inl refused) = at fault refused
+  where
+    short : opening_length net number ≤ MAX_RECORD_BYTES
+    short = bounded_is_short (opening_record net (node_count net) number)
+        (opening_within net (node_count net) number valid (nodes_few net valid))
+
+    has_room : HasNoRoom (sectors d) (opening_length net number) → ⊥
+    has_room none = small (subst (λ (n : ℕ). HasNoRoom n (opening_length net number)) all.0 none)
+      where
+        small : HasNoRoom SECTORS (opening_length net number) → ⊥
+        small (inl few) = omega (arith, few)
+        small (inr little) = omega (arith, little, short)
+
+    at : (f : StoreFault) → IsOpeningRefusal (sectors d) (opening_length net number) f
+        → IsStoreFailure (store_failure f)
+    at NoMemory why = tt
+    at Device why = refl
+    at TooLarge why = absurd (has_room why)
+    at Reopen why = absurd why
+    at Truncated why = absurd why
+    at Version why = absurd why
+    at Malformed why = absurd why
+    at HoldsOther why = absurd why
+    at PastNumber why = absurd why
+    at NotHeld why = absurd why
+    at Unsettled why = absurd why
+    at Spent why = absurd why
 
 -- one turn more
 pub more_turns : (over : WorldView → Bool) (nodes turns : ℕ) (first before now : WorldView)

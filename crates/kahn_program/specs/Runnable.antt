@@ -29,7 +29,7 @@ store_failure fault.NotHeld = Other (refusal_number fault.NotHeld)
 store_failure fault.Unsettled = Other (refusal_number fault.Unsettled)
 store_failure fault.Spent = Other (refusal_number fault.Spent)
 
--- the store that was to keep the record refused, or memory is missing
+-- a device failed (20), or memory is missing
 abbrev pub IsStoreFailure : Failure → Type 0
 IsStoreFailure (Line source line number) = ⊥
 IsStoreFailure (Whole source number) = ⊥
@@ -37,9 +37,9 @@ IsStoreFailure (NotText source) = ⊥
 IsStoreFailure (Unreadable source) = ⊥
 IsStoreFailure (Approximation number) = ⊥
 IsStoreFailure NoMemory = Unit {0}
-IsStoreFailure (Other number) = (fault : StoreFault) × (number ≡ refusal_number fault)
+IsStoreFailure (Other number) = number ≡ refusal_number fault.Device
 
--- why there is no report of this approximation, or of a run: by a refusal of a store, as for want of memory
+-- why there is no report of this approximation, or of a run: by a failing device, as for want of memory
 abbrev pub IsReportFailure : Option ℕ → Network → List (List ℤ) → Failure → Type 0
 IsReportFailure (Some n) net inputs failure = IsApproximationFailure net inputs n failure
 IsReportFailure None net inputs failure = IsStoreFailure failure

@@ -1,35 +1,45 @@
 -- A run of a network, turn by turn.
-use Rattle.std.specs.Prelude.{◌≡◌, ℕ, zero, suc, ◌%◌, nat_lt, if◌then◌else◌, Bool, false, ℤ, List, [], map, length}
+use Rattle.std.specs.Prelude.{◌≡◌, ◌≢◌, ℕ, zero, suc, ◌%◌, nat_lt, if◌then◌else◌, Bool, false, ℤ, List, [], map}
 use Rattle.std.specs.Prelude.{replicate, None}
 use Rattle.kahn_net.specs.Nodes.{node_count}
 use Rattle.kahn_net.specs.Syntax.{Network}
+use Rattle.gate_cell.specs.Layout.{room_on}
+use Rattle.record.specs.RecordView.{RecordView}
 use Rattle.ckpt_store.specs.Spelling.{fits_in}
 use Rattle.protocol.specs.World.Choice.{choice}
 use Rattle.protocol.specs.World.DoneView.{DoneView}
 use Rattle.protocol.specs.World.EventView.{EventView, Install}
 use Rattle.protocol.specs.World.OpeningWorld.{opening_world}
-use Rattle.protocol.specs.World.ReplyView.{ReplyView, Granted}
+use Rattle.protocol.specs.World.ReplyView.{ReplyView, Granted, Down}
 use Rattle.protocol.specs.World.Sound.{output_channels}
-use Rattle.protocol.specs.World.StationView.{OutletView}
+use Rattle.protocol.specs.World.StationView.{OutletView, StationView}
 use Rattle.protocol.specs.World.Steps.{WorldView, IsStep}
+use Rattle.gate_cell.specs.declared.TheConstants.{SECTORS}
 
--- a step of a world, of which each station's cell has room for values of so many bytes
-pub record IsStepInRoom (event : EventView) (old : WorldView) (answer : ReplyView) (new : WorldView) : Type 0 where
-  pub room : List ℕ
-  pub each : length room ≡ length old.stations
-  pub step : IsStep (map fits_in room) event old answer new
+-- the room of each cell of a run: that of a disk of so many sectors
+abbrev pub IsRunRoom : ℕ → Type 0
+IsRunRoom room = room ≡ room_on SECTORS
+
+-- which records fit at each of these stations
+abbrev pub run_rooms : List StationView → List (RecordView → Bool)
+run_rooms stations = map (λ (station : StationView). fits_in (room_on SECTORS)) stations
+
+-- a step of a world of a run
+abbrev pub IsRunStep : EventView → WorldView → ReplyView → WorldView → Type 0
+IsRunStep event old answer new = IsStep (run_rooms old.stations) event old answer new
 
 -- behind an answer: the turn on a job that was granted is taken in, and nothing else happens
 abbrev pub Follows : ReplyView → WorldView → WorldView → Type 0
 Follows (Granted job) old new =
-    (done : DoneView) × (done.job ≡ job) × (answer : ReplyView) × IsStepInRoom (Install done) old answer new
+    (done : DoneView) × (done.job ≡ job) × (answer : ReplyView) × IsRunStep (Install done) old answer new
 Follows answer old new = new ≡ old
 
--- a turn of a node: the event that is next for it, and what follows it
+-- a turn of a node: the event that is next for it, in which no device fails, and what follows it
 pub record IsWorldTurn (node : ℕ) (old new : WorldView) : Type 0 where
   pub answer : ReplyView
   pub between : WorldView
-  pub step : IsStepInRoom (choice old node) old answer between
+  pub step : IsRunStep (choice old node) old answer between
+  pub unfailed : answer ≢ Down
   pub follows : Follows answer between new
 
 -- the node of a turn, the first one being 0: the nodes, so many, take their turns one after another

@@ -1,17 +1,20 @@
 //! A network's run, and its report.
 
-ghost use Rattle.std.specs.Prelude.{◌≡◌, ◌⊎◌, ◌*◌, ◌^◌, ◌<◌, ◌≤◌, ◌++◌, ℕ, ◌∷◌, [], if◌then◌else◌, true, nat_le, length, map, replicate, IfErr, IfOk, OnOk};
+ghost use Rattle.std.specs.Prelude.{◌≡◌, ◌≢◌, ◌⊎◌, ◌*◌, ◌^◌, ◌<◌, ◌≤◌, ◌++◌, ℕ, ◌∷◌, [], if◌then◌else◌, true, nat_le, length, map, replicate, IfErr, IfOk, OnOk};
 ghost use Rattle.kahn_net.specs.Fits.{Fits};
 ghost use Rattle.kahn_net.specs.Syntax.{network_of};
-ghost use Rattle.std.specs.List.{list_all};
-ghost use Rattle.sector_disk.specs.MemDisk.{failures_of};
+ghost use Rattle.std.specs.List.{list_all, AllByRecursion};
+ghost use Rattle.sector_disk.specs.MemDisk.{failures_of, sectors_of};
 ghost use Rattle.sector_disk.specs.declared.TheConstants.{SECTOR_BYTES};
 ghost use Rattle.protocol.specs.World.Quiet.{are_quiet};
 ghost use Rattle.protocol.specs.World.Released.{released_of};
 ghost use Rattle.protocol.specs.World.Sound.{goes_outside, output_channels};
+ghost use Rattle.protocol.specs.World.ReplyView.{Down};
 ghost use Rattle.world.specs.ReplyView.{reply_view};
 ghost use Rattle.world.specs.WholeView.{world_of};
-ghost use Rattle.kahn_program.specs.Turning.{CameTo, Follows, IsWorldTurn, turn_node};
+ghost use Rattle.world.specs.WorldView.{capacities};
+ghost use Rattle.gate_cell.specs.declared.TheConstants.{SECTORS};
+ghost use Rattle.kahn_program.specs.Turning.{CameTo, Follows, IsRunRoom, IsWorldTurn, turn_node};
 ghost use Rattle.kahn_program.specs.Runnable.{IsStoreFailure, store_failure};
 ghost use Rattle.kahn_program.specs.Runs.{IsReport, cut_at, first_items, is_over, is_whole};
 ghost use Rattle.kahn_net.specs.declared.limits.TheConstants.{MAX_CHANNELS, MAX_NODES};
@@ -26,13 +29,10 @@ use outlet::ListOutlet;
 use sector_disk::MemDisk;
 use std::alloc::{AllocError, Global};
 use std::sync::Arc;
-use world::{Event, Reply, World, list_outputs, node_count};
+use world::{Event, Reply, SECTORS, World, list_outputs, node_count};
 
 /// The most turns of a run, so many that nobody waits for them.
 pub(crate) const MAX_TURNS: u64 = u64::MAX;
-
-/// The sectors of each disk: room behind the gate for a record of 1,048,576 bytes in each of its two areas.
-const SECTORS: usize = 4_101;
 
 /// The world of a run: of nodes on disks in memory, with outlets in memory.
 type RunWorld = World<GateCell<MemDisk>, ListOutlet>;
@@ -41,7 +41,8 @@ type RunWorld = World<GateCell<MemDisk>, ListOutlet>;
 /// proof that has it in reach would write out all the zeros.)
 fn empty_disk(alloc: Global, sectors: usize) -> Result<MemDisk, AllocError>
     requires { SECTOR_BYTES * sectors < 2 ^ 64 }
-    ensures { IfOk result (λ disk. failures_of disk ≡ 0) }
+    ensures unfailed { IfOk result (λ disk. failures_of disk ≡ 0) }
+    ensures sectors { IfOk result (λ disk. sectors_of disk ≡ sectors) }
 {
     MemDisk::new(alloc, sectors)
 }
@@ -50,6 +51,8 @@ fn empty_disk(alloc: Global, sectors: usize) -> Result<MemDisk, AllocError>
 fn empty_disks(alloc: Global, nodes: usize) -> Result<Vec<MemDisk>, AllocError>
     ensures each { IfOk result (λ disks. length disks.items ≡ nodes) }
     ensures unfailed { IfOk result (λ disks. map failures_of disks.items ≡ replicate nodes 0) }
+    ensures sectors { IfOk result
+        (λ disks. AllByRecursion (λ disk. sectors_of disk ≡ SECTORS) disks.items) }
 {
     let mut disks = Vec::with_capacity(alloc, nodes)?;
     for _node in 0..nodes {
@@ -70,12 +73,15 @@ fn store_failure(fault: StoreFault) -> Failure
     }
 }
 
-/// What follows an answer: a job that was granted is run, and comes back at once.
+/// What follows an answer: a job that was granted is run, and comes back at once. A device that failed ends the run.
 fn follow(alloc: Global, world: &mut RunWorld, answer: Reply) -> Result<(), Failure>
+    requires { AllByRecursion IsRunRoom (capacities world.old.stations.items) }
     ensures same { (world.new.net ≡ world.old.net) × (world.new.inputs ≡ world.old.inputs) }
+    ensures room { AllByRecursion IsRunRoom (capacities world.new.stations.items) }
+    ensures unfailed { OnOk result (reply_view answer ≢ Down) }
     ensures follows { OnOk result
         (Follows (reply_view answer) (world_of world.old) (world_of world.new)) }
-    ensures err { IfErr result (λ failure. failure ≡ Failure.NoMemory) }
+    ensures err { IfErr result IsStoreFailure }
 {
     match answer {
         Reply::Granted(job) => {
@@ -87,6 +93,7 @@ fn follow(alloc: Global, world: &mut RunWorld, answer: Reply) -> Result<(), Fail
                 Err(_) => Err(Failure::NoMemory),
             }
         }
+        Reply::Down => Err(store_failure(StoreFault::Device)),
         _ => Ok(()),
     }
 }
@@ -104,9 +111,11 @@ fn turn_node(nodes: usize, turn: u64) -> u8
 
 /// The event that is next for a node. A job that it grants is run and comes back at once.
 fn take_turn(alloc: Global, world: &mut RunWorld, node: u8) -> Result<(), Failure>
+    requires { AllByRecursion IsRunRoom (capacities world.old.stations.items) }
     ensures same { (world.new.net ≡ world.old.net) × (world.new.inputs ≡ world.old.inputs) }
+    ensures room { AllByRecursion IsRunRoom (capacities world.new.stations.items) }
     ensures turn { OnOk result (IsWorldTurn node (world_of world.old) (world_of world.new)) }
-    ensures err { IfErr result (λ failure. failure ≡ Failure.NoMemory) }
+    ensures err { IfErr result IsStoreFailure }
 {
     let event = world.pick(node);
     match world.apply(alloc, event) {
@@ -208,13 +217,14 @@ fn take_turns(
 ) -> Result<(), Failure>
     requires few { length channels.now ≤ MAX_CHANNELS }
     requires nodes { nodes ≤ MAX_NODES }
+    requires room { AllByRecursion IsRunRoom (capacities world.old.stations.items) }
     ensures same { (world.new.net ≡ world.old.net) × (world.new.inputs ≡ world.old.inputs) }
     ensures came { OnOk result ((turns : ℕ)
         × CameTo (is_over (output_channels 0 channels.now) rounds items) nodes turns
         (world_of world.old) (world_of world.new)
         × ((is_over (output_channels 0 channels.now) rounds items (world_of world.new) ≡ true)
         ⊎ (MAX_TURNS ≤ turns))) }
-    ensures err { IfErr result (λ failure. failure ≡ Failure.NoMemory) }
+    ensures err { IfErr result IsStoreFailure }
 {
     // A node at which something was left to do when it was last asked.
     let mut busy: u8 = 0;
@@ -301,7 +311,7 @@ pub fn report_of_run(
 ) -> Result<(Vec<u8>, bool), Failure>
     requires fitting { Fits (network_of net.program) inputs }
     ensures ok { IfOk result (λ report. IsReport net rounds items inputs report.0.items report.1) }
-    // The store that was to keep its record refused, or memory is missing.
+    // A device failed (20), or memory is missing (1).
     ensures err { IfErr result IsStoreFailure }
 {
     let Ok(outputs) = list_outputs(alloc, &net) else {
@@ -322,7 +332,7 @@ pub fn report_of_run(
     };
     let mut world = match World::new(alloc, share, inputs, disks, outputs) {
         Ok(world) => world,
-        Err(fault) => return Err(store_failure(fault)),
+        Err(refused) => return Err(store_failure(refused.fault)),
     };
     let channels = net.program.channels.as_slice();
     take_turns(alloc, channels, &mut world, nodes, rounds, items)?;

@@ -1,5 +1,5 @@
 //! A node, and its events.
-ghost use Rattle.std.specs.Prelude.{◌≡◌, ◌⊎◌, ◌+◌, ◌<◌, ◌++◌, [], ◌∷◌, ℤ, List, false, not, length, IfOk, IsErrOf, IsSome, IsTrue, None, OnErr, OnOk, Some, is_some, option_map};
+ghost use Rattle.std.specs.Prelude.{◌≡◌, ◌⊎◌, ◌+◌, ◌<◌, ◌++◌, [], ◌∷◌, ℤ, List, false, not, length, IfErr, IfOk, IsErrOf, IsSome, IsTrue, None, OnErr, OnOk, Some, is_some, option_map};
 ghost use Rattle.kahn_net.specs.Streams.{IsPrefix};
 ghost use Rattle.kahn_net.specs.States.{standing_of};
 ghost use Rattle.kahn_net.specs.Syntax.{network_of};
@@ -25,10 +25,9 @@ ghost use Rattle.protocol.specs.Node.Trimming.{HasNext, TookNext, current_log, t
 use crate::checkpoint::{decide, start};
 use crate::delivering::deliver;
 use crate::mode::Mode;
-use crate::opening::{open_inboxes, open_outboxes};
+use crate::opening::open_state;
 use crate::preparing::{arm, recount};
 use crate::recover::{crash, recover};
-use crate::running::Running;
 use crate::state::NodeState;
 use ckpt_store::Store;
 use datagram::Packet;
@@ -58,40 +57,33 @@ impl<C: StableCell> Node<C> {
     ghost use Rattle.node.specs.NodeOf.{view_of};
 
     /// A node of a network that runs from the permanent image of its store's record, and never went down. Nothing has come to
-    /// its inboxes, and nothing of its outboxes is under way.
+    /// its inboxes, and nothing of its outboxes is under way. Refuses for want of memory alone (1), and hands the store back.
     pub fn run_from(
         alloc: Global,
         net: &Net,
         number: u8,
         store: Store<C>,
-    ) -> Result<Node<C>, AllocError>
+    ) -> Result<Node<C>, Store<C>>
         requires known { IsSome (known_in store) }
         requires listed { number < length (record_in store).highest }
         requires named { (record_in store).node ≡ number }
         ensures view { IfOk result (λ node. view_of node
             ≡ running_from (network_of net.now.program) number (record_in store)) }
         ensures same { IfOk result (λ node. (node.number ≡ number) × (node.store ≡ store)) }
+        ensures handed_back { IfErr result (λ back. back ≡ store) }
     {
-        let image = match store.record() {
-            Ok(kept) => kept.permanent.copy(alloc)?,
-            Err(_) => return Err(AllocError),
+        let opened = match store.record() {
+            Ok(kept) => open_state(alloc, net, number, kept),
+            Err(_) => Err(AllocError),
         };
-        Ok(Node {
-            number,
-            state: NodeState {
-                mode: Mode::Running(Running {
-                    current: image,
-                    out: None,
-                    last: None,
-                    inboxes: open_inboxes(alloc, net, number)?,
-                    outboxes: open_outboxes(alloc, net, number)?,
-                }),
-                version: 0,
-                restart: 0,
-                armed: Vec::new(alloc),
-            },
-            store,
-        })
+        match opened {
+            Ok(state) => Ok(Node {
+                number,
+                state,
+                store,
+            }),
+            Err(_) => Err(store),
+        }
     }
 
     /// Whether a job can be granted now.

@@ -2,10 +2,14 @@
 ghost use Rattle.std.specs.Prelude.{◌≡◌, ◌≤◌, map, length, IfOk};
 ghost use Rattle.kahn_net.specs.Syntax.{code_of, network_of};
 ghost use Rattle.record.specs.Ascending.{AreAscending};
-ghost use Rattle.protocol.specs.Node.Opening.{new_inbox, new_outbox, opening_processes, opening_end, opening_ends, opening_image, opening_inboxes, opening_outboxes, opening_record};
+ghost use Rattle.protocol.specs.Node.Opening.{new_inbox, new_outbox, opening_processes, opening_end, opening_ends, opening_image, opening_inboxes, opening_outboxes, opening_record, running_from};
+ghost use Rattle.node.specs.NodeView.{node_view};
 ghost use Rattle.kahn_net.specs.declared.limits.TheConstants.{MAX_CHANNELS, MAX_PROCESSES};
 
+use crate::mode::Mode as NodeMode;
 use crate::nodes::{is_here, is_incoming, is_outgoing};
+use crate::running::Running;
+use crate::state::NodeState;
 use kahn_net::{Channel, Mode, ProcState, Process};
 use net_check::Net;
 use protocol::{Inbox, Outbox, WINDOW};
@@ -131,8 +135,8 @@ fn new_outbox(channel: u8) -> Outbox
     }
 }
 
-/// The inboxes of a node, to which nothing has come.
-pub(crate) fn open_inboxes(alloc: Global, net: &Net, home: u8) -> Result<Vec<Inbox>, AllocError>
+// The inboxes of a node, to which nothing has come.
+fn open_inboxes(alloc: Global, net: &Net, home: u8) -> Result<Vec<Inbox>, AllocError>
     ensures { IfOk result
         (λ inboxes. inboxes.items ≡ opening_inboxes (network_of net.now.program) home) }
 {
@@ -145,8 +149,8 @@ pub(crate) fn open_inboxes(alloc: Global, net: &Net, home: u8) -> Result<Vec<Inb
     Ok(inboxes)
 }
 
-/// The outboxes of a node, of which nothing is under way.
-pub(crate) fn open_outboxes(alloc: Global, net: &Net, home: u8) -> Result<Vec<Outbox>, AllocError>
+// The outboxes of a node, of which nothing is under way.
+fn open_outboxes(alloc: Global, net: &Net, home: u8) -> Result<Vec<Outbox>, AllocError>
     ensures { IfOk result
         (λ outboxes. outboxes.items ≡ opening_outboxes (network_of net.now.program) home) }
 {
@@ -157,4 +161,28 @@ pub(crate) fn open_outboxes(alloc: Global, net: &Net, home: u8) -> Result<Vec<Ou
         }
     }
     Ok(outboxes)
+}
+
+/// What the node of this number has beside this record, where it runs from its permanent image and never went down.
+pub(crate) fn open_state(
+    alloc: Global,
+    net: &Net,
+    number: u8,
+    kept: &Record,
+) -> Result<NodeState, AllocError>
+    ensures { IfOk result (λ state. node_view kept.now state
+        ≡ running_from (network_of net.now.program) number kept.now) }
+{
+    Ok(NodeState {
+        mode: NodeMode::Running(Running {
+            current: kept.permanent.copy(alloc)?,
+            out: None,
+            last: None,
+            inboxes: open_inboxes(alloc, net, number)?,
+            outboxes: open_outboxes(alloc, net, number)?,
+        }),
+        version: 0,
+        restart: 0,
+        armed: Vec::new(alloc),
+    })
 }

@@ -76,7 +76,10 @@ fn run(alloc: Global, net: &Net, number: u8, store: CaseStore) -> anyhow::Result
         }
         Err(_) => anyhow::bail!("no record"),
     }
-    Ok(Node::run_from(alloc, net, number, store)?)
+    match Node::run_from(alloc, net, number, store) {
+        Ok(node) => Ok(node),
+        Err(_) => Err(AllocError.into()),
+    }
 }
 
 /// The node of these settings, opened and running.

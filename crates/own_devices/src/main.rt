@@ -85,7 +85,10 @@ fn open(alloc: Global) -> anyhow::Result<OwnWorld> {
     let inputs = Arc::new(alloc, inputs)?;
     let mut disks = Vec::with_capacity(alloc, 1)?;
     disks.push(empty_disk(alloc, SECTORS)?)?;
-    Ok(World::new(alloc, net, inputs, disks, outputs)?)
+    match World::new(alloc, net, inputs, disks, outputs) {
+        Ok(world) => Ok(world),
+        Err(refused) => Err(refused.fault.into()),
+    }
 }
 
 /// One event. `World::apply` refuses for want of memory alone.

@@ -20,6 +20,8 @@ pub mod OpenLaws
 pub mod PairLaws
 pub mod QuietLaws
 pub mod ShownLaws
+pub mod ReleasedLaws
+pub mod ClosedLaws
 pub mod LineLaws
 pub mod FlightLaws
 pub mod TrafficLaws

@@ -1,4 +1,5 @@
 mod Cells
+mod Closed
 mod Lines
 mod Openings
 mod OpenedStations

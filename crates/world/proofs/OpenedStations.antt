@@ -1,7 +1,11 @@
 -- The stations of a world that opens: what is true of each, as it is said of all.
-use Rattle.std.proofs.Common.{◌≡◌, ◌≢◌, inl, inr, ℕ, zero, suc, ◌+◌, ◌<◌, ◌≤◌, Bool, true, false, cond, List, ℤ, []}
-use Rattle.std.proofs.Common.{◌∷◌, ◌++◌, map, length, take, drop, refl, sym, ap, subst, ◌∙◌, length-append, arith}
-use Rattle.std.specs.Prelude.{not, filter}
+use Rattle.std.proofs.Common.{◌≡◌, ◌≢◌, ◌⊎◌, inl, inr, ℕ, zero, suc, ◌+◌, ◌<◌, ◌≤◌, Bool, true, false, cond, List, ℤ}
+use Rattle.std.proofs.Common.{[], ◌∷◌, ◌++◌, map, length, take, drop, refl, sym, ap, subst, ◌∙◌, length-append, arith}
+use Rattle.std.specs.Prelude.{not, filter, Option}
+use Rattle.std.specs.List.{AllByRecursion, AllZip}
+use Rattle.std.proofs.lemmas.List.{length-map, map-append}
+use Rattle.std.proofs.lemmas.List.Filters.{length-filter_both}
+use Rattle.kahn_net.specs.Fits.{Fits}
 use Rattle.kahn_net.specs.Nodes.{node_count}
 use Rattle.kahn_net.specs.Syntax.{Network, network_of}
 use Rattle.net_check.specs.declared.net.Net.{Net}
@@ -10,21 +14,31 @@ use Rattle.gate_cell.specs.declared.cell.StableCell.{Ghosts as CellWords}
 use Rattle.gate_cell.specs.declared.gate.GateCell.{GateCell}
 use Rattle.gate_cell.specs.Layout.{room_on}
 use Rattle.ckpt_codec.specs.Lengths.{spelled_length}
+use Rattle.ckpt_store.specs.Spelling.{Spells}
 use Rattle.ckpt_store.specs.StoreView.{cell_in}
+use Rattle.node.specs.NodeOf.{view_of}
+use Rattle.node.specs.declared.node.Node.{Node}
 use Rattle.wire.specs.Traffic.{Traffic, opening_traffic}
-use Rattle.protocol.specs.Node.Opening.{opening_record}
+use Rattle.protocol.specs.Node.Opening.{opening_node, opening_record}
 use Rattle.ckpt_store.specs.declared.fault.StoreFault.{StoreFault}
-use Rattle.ckpt_store.specs.declared.fault.StoreFault.TheVariants.{NoMemory}
+use Rattle.ckpt_store.specs.declared.fault.StoreFault.TheVariants.{NoMemory, Device, TooLarge, Reopen, Truncated}
+use Rattle.ckpt_store.specs.declared.fault.StoreFault.TheVariants.{Version, Malformed, HoldsOther, PastNumber, NotHeld}
+use Rattle.ckpt_store.specs.declared.fault.StoreFault.TheVariants.{Unsettled, Spent}
 use Rattle.protocol.specs.World.OpeningWorld.{opening_outlet, outlets_on, opening_station, stations_from, opening_world}
-use Rattle.protocol.specs.World.Sound.{is_output}
+use Rattle.protocol.specs.World.Invariant.{WorldInvariant}
+use Rattle.protocol.specs.World.Sound.{is_output, output_channels}
 use Rattle.protocol.specs.World.StationView.{OutletView, StationView}
+use Rattle.protocol.specs.WorldLaws.OpenLaws.{world_opened}
 use Rattle.protocol.specs.WorldLaws.OutputLaws.{output_once}
 use Rattle.world.specs.OpeningWorld.{fresh, own_outputs, opening_length, AllNumbered, HasRoom, HaveRoom, HaveOutlets}
-use Rattle.world.specs.OpeningWorld.{IsOpened, IsOpeningRefusal, IsWorldRefusal, LeavesOnlyRecord, LeaveOnlyRecords}
+use Rattle.world.specs.OpeningWorld.{IsOpened, IsOpenedNode, IsOpeningRefusal, IsUnused, IsWorldRefusal}
+use Rattle.world.specs.OpeningWorld.{LeaveOnlyRecords}
+use Rattle.world.specs.OpeningWorld.{IsNotOpened, IsDiskBack, SomeFailed, AreHandedBack}
 use Rattle.world.specs.StationView.{outlet_view, outlet_views}
 use Rattle.world.specs.WorldView.{station_view}
 use Rattle.protocol.specs.World.Steps.{WorldView}
-use Rattle.world.proofs.Openings.{fresh_views}
+use Rattle.world.proofs.Openings.{fresh_views, opened_listed, opened_nothing, opened_station}
+use Rattle.protocol.specs.World.Turns.{no_turns}
 use Rattle.world.specs.declared.output.Output.{Output}
 use Rattle.world.specs.declared.station.Station.{Station}
 
@@ -165,102 +179,83 @@ module _ {D O : Type 0} {disk : DiskWords D} {cell : CellWords (GateCell D disk)
 
 -- One station more
 
--- what follows a place of a list
-record Split {A : Type 0} (xs : List A) (k : ℕ) (x : A) (rest : List A) : Type 0 where
-  pub taken : take (k + 1) xs ≡ take k xs ++ x ∷ []
-  pub left : drop (k + 1) xs ≡ rest
-  pub count : length (take k xs) ≡ k
-  pub whole : xs ≡ take k xs ++ x ∷ rest
-
-split_at : {A : Type 0} (xs : List A) (k : ℕ) (x : A) (rest : List A) → drop k xs ≡ x ∷ rest → Split xs k x rest
-split_at [] zero x rest e = absurd (cc)
-split_at [] (suc k) x rest e = absurd (cc)
-split_at {A} (y ∷ xs) zero x rest e =
-    let first : y ≡ x = cc in
-    let later : xs ≡ rest = cc in
-    record {
-      taken = ap (λ (z : A). z ∷ []) first;
-      left = later;
-      count = refl;
-      whole =
-          ap (λ (z : A). z ∷ xs) first ∙ ap (λ (zs : List A). x ∷ zs) later;
-    }
-split_at {A} (y ∷ xs) (suc k) x rest e =
-    let s = split_at xs k x rest e in
-    let next : suc k + 1 ≡ suc (k + 1) = omega arith in
-    record {
-      taken = ap (λ (n : ℕ). take n (y ∷ xs)) next ∙ ap (λ (zs : List A). y ∷ zs) s.taken;
-      left = ap (λ (n : ℕ). drop n (y ∷ xs)) next ∙ s.left;
-      count = ap suc s.count;
-      whole = ap (λ (zs : List A). y ∷ zs) s.whole;
-    }
+-- parting outputs and forgetting their failures may come in either order
+fresh_own : {O : Type 0} (net : Network) (home : ℕ) (outputs : List (Output O))
+    → map fresh (own_outputs net home outputs) ≡ own_outputs net home (map fresh outputs)
+fresh_own net home [] = refl
+fresh_own {O} net home (x ∷ outputs) = at (is_output net home x.channel) (fresh_own net home outputs)
+  where
+    at : (b : Bool) → map fresh (own_outputs net home outputs) ≡ own_outputs net home (map fresh outputs)
+        → map fresh (cond b (x ∷ own_outputs net home outputs) (own_outputs net home outputs))
+        ≡ cond b (fresh x ∷ own_outputs net home (map fresh outputs)) (own_outputs net home (map fresh outputs))
+    at true rest = ap (λ (list : List (Output O)). fresh x ∷ list) rest
+    at false rest = rest
 
 module _ {D O : Type 0} {disk : DiskWords D} {cell : CellWords (GateCell D disk)} (taken : O → List ℤ)
-    (failures : O → ℕ) (net : Network) (outputs : List (Output O)) where
-  -- with the outputs that are its node's, of those that are left
-  pub one_opened : (nodes number : ℕ) (given : D) (own rest : List (Output O))
-      (station : Station (GateCell D disk) O cell) → nodes ≡ node_count net → own ≡ own_outputs net number rest
-      → own_outputs net number rest ≡ own_outputs net number outputs
-      → station_view taken failures station
-      ≡ opening_station net nodes number (disk.failure_count given) (outlet_views taken failures own)
-      → station.outputs.items ≡ own
-      → LeavesOnlyRecord (opening_record net nodes number) station
-      → cell.capacity (cell_in station.node.store) ≡ room_on (disk.sector_count given)
-      → HasRoom (disk.sector_count given) (spelled_length (opening_record net nodes number))
-      → IsOpened taken failures net outputs number given station
-  one_opened nodes number given own rest station count part all opening same left room fits =
-      let are : own ≡ own_outputs net number outputs = part ∙ all in
+    (failures : O → ℕ)
+    (net : Network) (outputs : List (Output O)) where
+  -- the station of a node that was opened, with the outputs that are its node's, of those that are left
+  pub station_opened : (nodes number : ℕ) (given : D) (rest own : List (Output O)) (node : Node (GateCell D disk) cell)
+      (station : Station (GateCell D disk) O cell) → nodes ≡ node_count net → IsOpenedNode net nodes number given node
+      → own_outputs net number rest ≡ own_outputs net number outputs → own ≡ map fresh (own_outputs net number rest)
+      → station.node ≡ node → station.outputs.items ≡ own → station.turns ≡ no_turns 0
+      → IsOpened taken failures net (map fresh outputs) number given station
+  station_opened nodes number given rest own node station count opened left part same outlets none =
+      let are : station.outputs.items ≡ own_outputs net number (map fresh outputs) =
+      outlets ∙ (part ∙ (ap (map fresh) left ∙ fresh_own net number outputs)) in
       record {
-        view = opening
-            ∙ (ap (λ (n : ℕ). opening_station net n number (disk.failure_count given)
-            (outlet_views taken failures own)) count
+        view = opened_station net (node_count net) number station.node.number
+            (cell.failure_count (cell_in station.node.store)) (disk.failure_count given)
+            (opening_record net (node_count net) number) (view_of station.node)
+            (outlet_views taken failures station.outputs.items) station.turns
+            (ap (λ (n : Node (GateCell D disk) cell). n.number) same ∙ opened.number_is)
+            (ap view_of same ∙ (opened.view ∙ ap (λ (n : ℕ). opening_node net n number) count)) refl
+            (ap (λ (n : Node (GateCell D disk) cell). cell.failure_count (cell_in n.store)) same ∙ opened.failures) none
             ∙ ap (opening_station net (node_count net) number (disk.failure_count given))
-            (ap (outlet_views taken failures) are ∙ own_views taken failures net number outputs));
-        outlets = ap (map (λ (output : Output O). output.outlet)) (same ∙ are);
-        left = subst (λ (n : ℕ). LeavesOnlyRecord (opening_record net n number) station) count left;
-        room = room;
-        fits = subst (λ (n : ℕ). HasRoom (disk.sector_count given) (spelled_length (opening_record net n number)))
-            count fits;
+            (ap (outlet_views taken failures) are ∙ own_views taken failures net number (map fresh outputs));
+        outlets = ap (map (λ (output : Output O). output.outlet)) are;
+        left = λ left might. subst (λ (n : ℕ). Spells (opening_record net n number) left) count
+            (opened.left left
+            (subst (λ (n : Node (GateCell D disk) cell). cell.may_leave (cell_in n.store) left) same might));
+        room = ap (λ (n : Node (GateCell D disk) cell). cell.capacity (cell_in n.store)) same ∙ opened.room;
+        fits = subst (λ (n : ℕ). HasRoom (disk.sector_count given) (spelled_length (opening_record net n number))) count
+            opened.fits;
       }
 
-  pub stations_more : (number : ℕ) (disks : List D) (given : D) (rest : List D)
-      (before after : List (Station (GateCell D disk) O cell)) (station : Station (GateCell D disk) O cell)
-      → drop number disks ≡ given ∷ rest → after ≡ before ++ station ∷ []
-      → AllNumbered (IsOpened taken failures net outputs) 0 (take number disks) before
-      → IsOpened taken failures net outputs number given station
-      → AllNumbered (IsOpened taken failures net outputs) 0 (take (number + 1) disks) after
-  stations_more number disks given rest before after station split pushed all one =
-      let s = split_at disks number given rest split in
-      let place : number ≡ 0 + length (take number disks) = (let many = s.count in omega (arith, many)) in
-      subst (λ (list : List D). AllNumbered (IsOpened taken failures net outputs) 0 list after) (sym s.taken)
-      (subst (AllNumbered (IsOpened taken failures net outputs) 0 (take number disks ++ given ∷ [])) (sym pushed)
-      (numbered_more (IsOpened taken failures net outputs) 0 (take number disks) before given station all
-      (subst (λ (n : ℕ). IsOpened taken failures net outputs n given station) place one)))
+  pub stations_more : (disks all : List D) (given : D) (before after : List (Station (GateCell D disk) O cell))
+      (station : Station (GateCell D disk) O cell) (number : ℕ) → all ≡ disks ++ given ∷ [] → number ≡ length disks
+      → after ≡ before ++ station ∷ []
+      → AllNumbered (IsOpened taken failures net (map fresh outputs)) 0 disks before
+      → IsOpened taken failures net (map fresh outputs) number given station
+      → AllNumbered (IsOpened taken failures net (map fresh outputs)) 0 all after
+  stations_more disks all given before after station number split place pushed opened one =
+      let sum : number ≡ 0 + length disks = omega (arith, place) in
+      subst (λ (list : List D). AllNumbered (IsOpened taken failures net (map fresh outputs)) 0 list after) (sym split)
+      (subst (AllNumbered (IsOpened taken failures net (map fresh outputs)) 0 (disks ++ given ∷ [])) (sym pushed)
+      (numbered_more (IsOpened taken failures net (map fresh outputs)) 0 disks before given station opened
+      (subst (λ (n : ℕ). IsOpened taken failures net (map fresh outputs) n given station) sum one)))
 
 -- what is left of the outputs has those of the nodes behind this one
-pub others_left : {O : Type 0} (net : Network) (outputs : List (Output O)) (number : ℕ) (rest others : List (Output O))
-    → others ≡ filter (λ (output : Output O). not (is_output net number output.channel)) rest
+pub others_left : {O : Type 0} (net : Network) (outputs rest others : List (Output O)) (number many : ℕ)
+    → others ≡ filter (λ (output : Output O). not (is_output net number output.channel)) rest → many ≡ number + 1
     → ((home : ℕ) → number ≤ home → own_outputs net home rest ≡ own_outputs net home outputs)
-    → (home : ℕ) → number + 1 ≤ home → own_outputs net home others ≡ own_outputs net home outputs
-others_left net outputs number rest others are all home behind =
+    → (home : ℕ) → many ≤ home → own_outputs net home others ≡ own_outputs net home outputs
+others_left net outputs rest others number many are sum all home behind =
     ap (own_outputs net home) are
-    ∙ (own_others net number home rest (λ same. omega (arith, same, behind)) ∙ all home (omega (arith, behind)))
+    ∙ (own_others net number home rest (λ same. omega (arith, same, sum, behind))
+    ∙ all home (omega (arith, sum, behind)))
 
--- what follows a disk
-pub disks_left : {D : Type 0} (disks : List D) (number : ℕ) (given : D) (rest : List D)
-    → drop number disks ≡ given ∷ rest → rest ≡ drop (number + 1) disks
-disks_left disks number given rest split = sym (split_at disks number given rest split).left
+-- what is put behind nothing is all that is there
+pub nothing_before : {A : Type 0} (before all more : List A) → before ≡ [] → all ≡ before ++ more → all ≡ more
+nothing_before before all more none is = is ∙ ap (λ list. list ++ more) none
 
--- so many disks are there
-pub disk_within : {D : Type 0} (disks : List D) (number : ℕ) (given : D) (rest : List D)
-    → drop number disks ≡ given ∷ rest → number < length disks
-disk_within disks number given rest split =
-    let s = split_at disks number given rest split in
-    let count = s.count in
-    let all : length disks ≡ length (take number disks ++ given ∷ rest) = ap length s.whole in
-    let sum : length (take number disks ++ given ∷ rest) ≡ length (take number disks) + suc (length rest) =
-    length-append (take number disks) (given ∷ rest) in
-    omega (arith, count, all, sum)
+-- what is left of the outputs isn't more than there was
+pub fewer_left : {O : Type 0} (own : Output O → Bool) (rest others : List (Output O))
+    → others ≡ filter (λ (output : Output O). not (own output)) rest → length others ≤ length rest
+fewer_left {O} own rest others are =
+    let both = length-filter_both own (λ (output : Output O). not (own output)) (λ output. refl) rest in
+    let long = ap (length {A = Output O}) are in
+    omega (arith, both, long)
 
 -- The world of these stations
 
@@ -302,6 +297,28 @@ module _ {D O : Type 0} {disk : DiskWords D} {cell : CellWords (GateCell D disk)
       world list traffic =
           record { net = network_of net.program; inputs = inputs; stations = list; traffic = traffic; round = 0 }
 
+  -- and so the world is sound
+  pub opened_sound : (inputs : List (List ℤ)) (traffic : Traffic) → traffic ≡ opening_traffic
+      → Fits (network_of net.program) inputs
+      → length disks ≡ node_count (network_of net.program)
+      → map (λ (output : Output O). output.channel) outputs ≡ output_channels 0 (network_of net.program).channels
+      → AllByRecursion (IsUnused taken) outputs
+      → WorldInvariant
+      (record {
+        net = network_of net.program;
+        inputs = inputs;
+        stations =
+            map (station_view taken failures) stations;
+        traffic = traffic;
+        round = 0;
+      })
+  opened_sound inputs traffic none fits each listed empty =
+      subst WorldInvariant (sym (opened_world inputs traffic none))
+      (world_opened (network_of net.program) inputs (map (λ (d : D). disk.failure_count d) disks)
+      (outlet_views taken failures outputs) net.valid fits
+      (length-map disks (λ (d : D). disk.failure_count d) ∙ each) (opened_listed taken failures outputs ∙ listed)
+      (opened_nothing taken failures outputs empty))
+
 -- Refusals
 
 -- want of memory
@@ -309,27 +326,129 @@ pub world_refused : (net : Network) (number : ℕ) (sectors : List ℕ) → IsWo
 world_refused net number [] = refl
 world_refused net number (s ∷ sectors) = inr (world_refused net (suc number) sectors)
 
--- a disk behind these
-disk_refused : {D : Type 0} (net : Network) (count : D → ℕ) (number : ℕ) (done rest : List D) (given : D)
+-- the disk behind these
+pub disk_refused : {D : Type 0} (net : Network) (count : D → ℕ) (number : ℕ) (done : List D) (given : D)
     (fault : StoreFault) → IsOpeningRefusal (count given) (opening_length net (number + length done)) fault
-    → IsWorldRefusal net number (map count (done ++ given ∷ rest)) fault
-disk_refused net count number [] rest given fault refused =
-    inl (let sum : number + 0 ≡ number = omega arith in
-    subst (λ (n : ℕ). IsOpeningRefusal (count given) (opening_length net n) fault) sum refused)
-disk_refused net count number (d ∷ done) rest given fault refused =
+    → IsWorldRefusal net number (map count (done ++ given ∷ [])) fault
+disk_refused net count number [] given fault refused =
+    let sum : number + 0 ≡ number = omega arith in
+    inl (subst (λ (n : ℕ). IsOpeningRefusal (count given) (opening_length net n) fault) sum refused)
+disk_refused net count number (d ∷ done) given fault refused =
     let sum : number + suc (length done) ≡ suc number + length done = omega arith in
-    inr (disk_refused net count (suc number) done rest given fault
+    inr (disk_refused net count (suc number) done given fault
     (subst (λ (n : ℕ). IsOpeningRefusal (count given) (opening_length net n) fault) sum refused))
 
-pub next_refused : {D : Type 0} (net : Network) (count : D → ℕ) (nodes number : ℕ) (disks : List D) (given : D)
-    (rest : List D) (fault : StoreFault) → nodes ≡ node_count net → drop number disks ≡ given ∷ rest
-    → IsOpeningRefusal (count given) (spelled_length (opening_record net nodes number)) fault
-    → IsWorldRefusal net 0 (map count disks) fault
-next_refused {D} net count nodes number disks given rest fault same split refused =
-    let s = split_at disks number given rest split in
-    let place : number ≡ 0 + length (take number disks) = (let many = s.count in omega (arith, many)) in
-    subst (λ (list : List D). IsWorldRefusal net 0 (map count list) fault) (sym s.whole)
-    (disk_refused net count 0 (take number disks) rest given fault
-    (subst (λ (n : ℕ). IsOpeningRefusal (count given) (opening_length net n) fault) place
-    (subst (λ (n : ℕ). IsOpeningRefusal (count given) (spelled_length (opening_record net n number)) fault) same
-    refused)))
+-- one of these
+earlier_refused : {D : Type 0} (net : Network) (count : D → ℕ) (number : ℕ) (done : List D) (given : D)
+    (fault : StoreFault) → IsWorldRefusal net number (map count done) fault
+    → IsWorldRefusal net number (map count (done ++ given ∷ [])) fault
+earlier_refused net count number [] given fault refused = inr refused
+earlier_refused net count number (d ∷ done) given fault (inl refused) = inl refused
+earlier_refused net count number (d ∷ done) given fault (inr refused) =
+    inr (earlier_refused net count (suc number) done given fault refused)
+
+module _ {D : Type 0} (net : Network) (count : D → ℕ) (nodes number : ℕ) (done all : List D) (given : D)
+    (fault : StoreFault)
+    (same : nodes ≡ node_count net) (place : number ≡ length done) (split : all ≡ done ++ given ∷ []) where
+  pub last_refused : IsOpeningRefusal (count given) (spelled_length (opening_record net nodes number)) fault
+      → IsWorldRefusal net 0 (map count all) fault
+  last_refused refused =
+      let sum : number ≡ 0 + length done = omega (arith, place) in
+      subst (λ (list : List D). IsWorldRefusal net 0 (map count list) fault) (sym split)
+      (disk_refused net count 0 done given fault
+      (subst (λ (n : ℕ). IsOpeningRefusal (count given) (opening_length net n) fault) sum
+      (subst (λ (n : ℕ). IsOpeningRefusal (count given) (spelled_length (opening_record net n number)) fault) same
+      refused)))
+
+pub before_refused : {D : Type 0} (net : Network) (count : D → ℕ) (done all : List D) (given : D) (fault : StoreFault)
+    → all ≡ done ++ given ∷ [] → IsWorldRefusal net 0 (map count done) fault
+    → IsWorldRefusal net 0 (map count all) fault
+before_refused {D} net count done all given fault split refused =
+    subst (λ (list : List D). IsWorldRefusal net 0 (map count list) fault) (sym split)
+    (earlier_refused net count 0 done given fault refused)
+
+-- What comes back
+
+module _ {D : Type 0} (sectors failures : D → ℕ) where
+  all_back : (disks : List D) → AllZip (IsDiskBack sectors failures) disks disks
+  all_back [] = tt
+  all_back (d ∷ disks) = (record { room = refl; more = omega arith }, all_back disks)
+
+  zip_more : (givens backs : List D) (given back : D) → AllZip (IsDiskBack sectors failures) givens backs
+      → IsDiskBack sectors failures given back
+      → AllZip (IsDiskBack sectors failures) (givens ++ given ∷ []) (backs ++ back ∷ [])
+  zip_more [] [] given back all one = (one, tt)
+  zip_more [] (b ∷ backs) given back all one = absurd all
+  zip_more (g ∷ givens) [] given back all one = absurd all
+  zip_more (g ∷ givens) (b ∷ backs) given back all one = (all.0, zip_more givens backs given back all.1 one)
+
+  some_more : (givens backs : List D) (given back : D) → SomeFailed failures givens backs
+      → SomeFailed failures (givens ++ given ∷ []) (backs ++ back ∷ [])
+  some_more [] backs given back some = absurd some
+  some_more (g ∷ givens) [] given back some = absurd some
+  some_more (g ∷ givens) (b ∷ backs) given back (inl failed) = inl failed
+  some_more (g ∷ givens) (b ∷ backs) given back (inr some) = inr (some_more givens backs given back some)
+
+  some_last : (disks : List D) (given back : D) → failures given < failures back
+      → SomeFailed failures (disks ++ given ∷ []) (disks ++ back ∷ [])
+  some_last [] given back failed = inl failed
+  some_last (d ∷ disks) given back failed = inr (some_last disks given back failed)
+
+  map_more : (givens backs : List D) (given back : D) → map failures backs ≡ map failures givens
+      → failures back ≡ failures given → map failures (backs ++ back ∷ []) ≡ map failures (givens ++ given ∷ [])
+  map_more givens backs given back same one =
+      map-append failures backs (back ∷ []) ∙ (ap (λ (list : List ℕ). list ++ failures back ∷ []) same
+      ∙ (ap (λ (n : ℕ). map failures givens ++ n ∷ []) one ∙ sym (map-append failures givens (given ∷ []))))
+
+  -- nothing was done with any disk
+  pub none_opened : (givens backs : List D) → backs ≡ givens → AreHandedBack sectors failures givens backs NoMemory
+  none_opened givens backs same =
+      subst (λ (list : List D). AreHandedBack sectors failures givens list NoMemory) (sym same)
+      (record { each = all_back givens; failed = λ device. absurd (cc); otherwise = λ other. refl })
+
+  -- the last one wasn't opened, and the others weren't tried
+  pub last_back : (disks givens backs : List D) (given back : D) (fault : StoreFault) → givens ≡ disks ++ given ∷ []
+      → backs ≡ disks ++ back ∷ [] → IsNotOpened sectors failures given back fault
+      → AreHandedBack sectors failures givens backs fault
+  last_back disks givens backs given back fault split pushed one =
+      subst (λ (list : List D). AreHandedBack sectors failures list backs fault) (sym split)
+      (subst (λ (list : List D). AreHandedBack sectors failures (disks ++ given ∷ []) list fault) (sym pushed)
+      (record {
+        each = zip_more disks disks given back (all_back disks)
+            (record { room = one.room; more = at (is_device fault) });
+        failed = λ device. some_last disks given back (one.failed device);
+        otherwise = λ other. map_more disks disks given back refl (one.otherwise other);
+      }))
+    where
+      is_device : (f : StoreFault) → (f ≡ Device) ⊎ (¬ (f ≡ Device))
+      is_device Device = inl refl
+      is_device NoMemory = inr (λ same. cc)
+      is_device TooLarge = inr (λ same. cc)
+      is_device Reopen = inr (λ same. cc)
+      is_device Truncated = inr (λ same. cc)
+      is_device Version = inr (λ same. cc)
+      is_device Malformed = inr (λ same. cc)
+      is_device HoldsOther = inr (λ same. cc)
+      is_device PastNumber = inr (λ same. cc)
+      is_device NotHeld = inr (λ same. cc)
+      is_device Unsettled = inr (λ same. cc)
+      is_device Spent = inr (λ same. cc)
+
+      at : (fault ≡ Device) ⊎ (¬ (fault ≡ Device)) → failures given ≤ failures back
+      at (inl device) = (let more : failures given < failures back = one.failed device in omega (arith, more))
+      at (inr other) = (let same : failures back ≡ failures given = one.otherwise other in omega (arith, same))
+
+  -- one before the last wasn't opened, and the last one was
+  pub before_back : (disks again givens backs : List D) (given back : D) (fault : StoreFault)
+      → givens ≡ disks ++ given ∷ []
+      → backs ≡ again ++ back ∷ [] → AreHandedBack sectors failures disks again fault
+      → room_on (sectors back) ≡ room_on (sectors given)
+      → failures back ≡ failures given → AreHandedBack sectors failures givens backs fault
+  before_back disks again givens backs given back fault split pushed before room same =
+      subst (λ (list : List D). AreHandedBack sectors failures list backs fault) (sym split)
+      (subst (λ (list : List D). AreHandedBack sectors failures (disks ++ given ∷ []) list fault) (sym pushed)
+      (record {
+        each = zip_more disks again given back before.each (record { room = room; more = omega (arith, same) });
+        failed = λ device. some_more disks again given back (before.failed device);
+        otherwise = λ other. map_more disks again given back (before.otherwise other) same;
+      }))

@@ -25,7 +25,7 @@ use Rattle.ckpt_store.specs.declared.fault.StoreFault.TheVariants.{Reopen, Devic
 use Rattle.ckpt_store.specs.declared.fault.StoreFault.TheVariants as store
 use Rattle.ckpt_store.specs.declared.store.Store.{Store}
 use Rattle.ckpt_store.proofs.Seen.{spelled_is}
-use Rattle.world.specs.OpeningWorld.{HasRoom, IsOpeningRefusal}
+use Rattle.world.specs.OpeningWorld.{HasRoom, IsNotOpened, IsOpeningRefusal}
 use Rattle.protocol.specs.WorldLaws.RoomLaws.{bounded_is_short}
 
 answered : (o : Option RecordView) → IsSome o → ¬ (IsErrOf (record_or Reopen o) Device)
@@ -149,3 +149,45 @@ open_refusal words kept old new fault sectors value_len load text ready room =
     at store.NotHeld told reopens = absurd told
     at store.Unsettled told reopens = absurd told
     at store.Spent told reopens = absurd told
+
+-- What comes back
+
+-- of a disk that wasn't formatted
+pub format_back : {D : Type 0} (sectors failures : D → ℕ) (given back : D) (fault : CellFault) (told : StoreFault)
+    → told ≡ of_cell fault
+    → sectors back ≡ sectors given → (fault ≡ cell.Device → failures given < failures back)
+    → (¬ (fault ≡ cell.Device) → back ≡ given)
+    → IsNotOpened sectors failures given back told
+format_back sectors failures given back fault told is same failed unchanged = record {
+  room = ap room_on same;
+  failed = λ device. failed (of_device fault (sym is ∙ device));
+  otherwise = λ other. ap failures (unchanged (λ device. other (is ∙ ap of_cell device)));
+}
+  where
+    of_device : (f : CellFault) → of_cell f ≡ Device → f ≡ cell.Device
+    of_device cell.Device e = refl
+    of_device cell.NoMemory e = absurd (cc)
+    of_device cell.TooLarge e = absurd (cc)
+    of_device cell.Reopen e = absurd (cc)
+
+-- of one on whose cell no store was opened
+pub load_back : {C D : Type 0} (words : CellWords C) (sectors failures : D → ℕ) (given back : D) (old new : C)
+    (fault : StoreFault)
+    → IsLoad words old new (Err fault) → words.capacity old ≡ room_on (sectors given)
+    → words.capacity new ≡ room_on (sectors back)
+    → words.failure_count old ≡ failures given → words.failure_count new ≡ failures back
+    → IsNotOpened sectors failures given back fault
+load_back words sectors failures given back old new fault load room_before room_now before now = record {
+  room = sym room_now ∙ (load.same_setup.same_room ∙ room_before);
+  failed =
+      λ device. (let more = load.failures.device (ap (λ (f : StoreFault). Err f) device) in
+      omega (arith, more, before, now));
+  otherwise = λ other. sym now ∙ (load.failures.otherwise (λ e. other (cc)) ∙ before);
+}
+
+-- of one on which a store was opened, but no node
+pub store_back : {D : Type 0} (sectors failures : D → ℕ) (given back : D)
+    → room_on (sectors back) ≡ room_on (sectors given)
+    → failures back ≡ failures given → IsNotOpened sectors failures given back store.NoMemory
+store_back sectors failures given back room same =
+    record { room = room; failed = λ device. absurd (cc); otherwise = λ other. same }

@@ -1,5 +1,6 @@
 -- What a world is opened with: outputs, and a disk with room for the opening record; and why it isn't opened.
-use Rattle.std.specs.Prelude.{◌≡◌, ◌⊎◌, ◌≤◌, ℕ, suc, ℤ, List, [], ◌∷◌, filter, Option, None}
+use Rattle.std.specs.Prelude.{◌≡◌, ◌⊎◌, ◌<◌, ◌≤◌, ℕ, suc, ℤ, List, [], ◌∷◌, filter, map, Option, None}
+use Rattle.std.specs.List.{AllZip}
 use Rattle.kahn_net.specs.Nodes.{node_count}
 use Rattle.kahn_net.specs.Syntax.{Network}
 use Rattle.sector_disk.specs.declared.disk.Disk.{Ghosts as DiskWords}
@@ -16,7 +17,9 @@ use Rattle.ckpt_store.specs.declared.fault.StoreFault.TheVariants.{Version, Malf
 use Rattle.ckpt_store.specs.declared.fault.StoreFault.TheVariants.{Unsettled, Spent}
 use Rattle.world.specs.declared.output.Output.{Output}
 use Rattle.world.specs.declared.station.Station.{Station}
-use Rattle.protocol.specs.Node.Opening.{opening_record}
+use Rattle.node.specs.NodeOf.{view_of}
+use Rattle.node.specs.declared.node.Node.{Node}
+use Rattle.protocol.specs.Node.Opening.{opening_node, opening_record}
 use Rattle.protocol.specs.World.OpeningWorld.{outlets_on, opening_station}
 use Rattle.protocol.specs.World.Sound.{is_output}
 use Rattle.world.specs.StationView.{outlet_views}
@@ -29,6 +32,10 @@ fresh output = record { channel = output.channel; outlet = output.outlet; failed
 -- its outlet took nothing
 abbrev pub IsUnused : {O : Type 0} → (O → List ℤ) → Output O → Type 0
 IsUnused taken output = taken output.outlet ≡ []
+
+-- its outlet is one that is made for its channel
+abbrev pub IsMade : {O : Type 0} → (ℕ → O → Type 0) → Output O → Type 0
+IsMade makes output = makes output.channel output.outlet
 
 -- how many bytes spell the record with which the disk of the node of this number is formatted
 abbrev pub opening_length : Network → ℕ → ℕ
@@ -96,6 +103,19 @@ HaveOutlets net number outputs [] = Unit {0}
 HaveOutlets net number outputs (station ∷ stations) =
     HasOutlets (own_outputs net number outputs) station × HaveOutlets net (suc number) outputs stations
 
+-- The node of this number, of so many, was opened on a disk: it runs from the opening record, which is all that a crash
+-- leaves, and its cell has the room of the disk, which that record fits.
+pub record IsOpenedNode {D : Type 0} {disk : DiskWords D} {cell : CellWords (GateCell D disk)} (net : Network)
+    (nodes number : ℕ) (given : D)
+    (node : Node (GateCell D disk) cell) : Type 0 where
+  pub number_is : node.number ≡ number
+  pub view : view_of node ≡ opening_node net nodes number
+  pub failures : cell.failure_count (cell_in node.store) ≡ disk.failure_count given
+  pub left : (left : Option (List ℕ)) → cell.may_leave (cell_in node.store) left
+      → Spells (opening_record net nodes number) left
+  pub room : cell.capacity (cell_in node.store) ≡ room_on (disk.sector_count given)
+  pub fits : HasRoom (disk.sector_count given) (spelled_length (opening_record net nodes number))
+
 -- The station of the node of this number was opened on a disk, with those of the outputs that are its node's: it is as
 -- it is said of an opening one, a crash leaves the opening record, and its cell has the room of the disk, which that
 -- record fits.
@@ -109,3 +129,31 @@ pub record IsOpened {D O : Type 0} {disk : DiskWords D} {cell : CellWords (GateC
   pub left : LeavesOnlyRecord (opening_record net (node_count net) number) station
   pub room : cell.capacity (cell_in station.node.store) ≡ room_on (disk.sector_count given)
   pub fits : HasRoom (disk.sector_count given) (opening_length net number)
+
+-- ---- what comes back where an opening is refused; `sectors` and `failures` are the disks' words
+
+-- a disk came back: a cell on it would have the room that it had, and its device failed in the call exactly where that
+-- is the reason
+pub record IsNotOpened {D : Type 0} (sectors failures : D → ℕ) (given back : D) (fault : StoreFault) : Type 0 where
+  pub room : room_on (sectors back) ≡ room_on (sectors given)
+  pub failed : fault ≡ Device → failures given < failures back
+  pub otherwise : ¬ (fault ≡ Device) → failures back ≡ failures given
+
+-- a disk came back: a cell on it would have the room that it had, and its device hasn't failed less often
+pub record IsDiskBack {D : Type 0} (sectors failures : D → ℕ) (given back : D) : Type 0 where
+  pub room : room_on (sectors back) ≡ room_on (sectors given)
+  pub more : failures given ≤ failures back
+
+-- of disks place by place, one has failed more often
+abbrev pub SomeFailed : {D : Type 0} → (D → ℕ) → List D → List D → Type 0
+SomeFailed failures [] backs = ⊥
+SomeFailed failures (given ∷ givens) [] = ⊥
+SomeFailed failures (given ∷ givens) (back ∷ backs) =
+    (failures given < failures back) ⊎ SomeFailed failures givens backs
+
+-- the disks came back, each in its place, and a device failed in the call exactly where that is the reason
+pub record AreHandedBack {D : Type 0} (sectors failures : D → ℕ) (givens backs : List D) (fault : StoreFault) : Type 0
+  where
+    pub each : AllZip (IsDiskBack sectors failures) givens backs
+    pub failed : fault ≡ Device → SomeFailed failures givens backs
+    pub otherwise : ¬ (fault ≡ Device) → map failures backs ≡ map failures givens

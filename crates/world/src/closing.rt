@@ -1,6 +1,8 @@
 // How a world ends.
-ghost use Rattle.std.specs.Prelude.{◌≡◌, ◌++◌, [], ◌∷◌, IfOk, IsPermutation, OnOk};
+ghost use Rattle.std.specs.Prelude.{◌≡◌, ◌++◌, [], ◌∷◌, map, IfOk, IsPermutation, OnOk};
 ghost use Rattle.std.specs.List.Sorted.{IsNonDecreasingBy};
+ghost use Rattle.kahn_net.specs.Syntax.{network_of};
+ghost use Rattle.protocol.specs.World.Sound.{output_channels};
 ghost use Rattle.world.specs.Closing.{all_outputs, disk_of, disks_of};
 
 use crate::output::Output;
@@ -77,7 +79,10 @@ impl<D: Disk, O: Outlet> World<GateCell<D>, O> {
         // The outputs of all stations and no others, each with its channel and its own outlet,
         ensures outputs { IfOk result
             (λ closed. IsPermutation (all_outputs self.stations.items) closed.1.items) }
-        // in ascending order of the channels.
+        // in ascending order of the channels: these are exactly the network's outputs.
+        ensures listed { IfOk result
+            (λ closed. map (λ output. output.channel) closed.1.items
+            ≡ output_channels 0 (network_of self.net.value.program).channels) }
         ensures channels { IfOk result
             (λ closed. IsNonDecreasingBy (λ output. output.channel) closed.1.items) }
     {

@@ -1,5 +1,6 @@
 // A world before its first event.
-ghost use Rattle.std.specs.Prelude.{◌≡◌, ◌++◌, ◌<◌, ◌≤◌, [], ◌∷◌, not, if◌then◌else◌, filter, length, map, IfErr, IfOk, IsSome, OnOk};
+ghost use Rattle.std.specs.Prelude.{◌≡◌, ◌+◌, ◌++◌, ◌<◌, ◌≤◌, ℕ, not, filter, length, map, IfErr, IfOk, IsSome, OnErr, OnOk, vec_capacity, vec_len};
+ghost use Rattle.std.specs.List.{AllByRecursion};
 ghost use Rattle.kahn_net.specs.Nodes.{node_count};
 ghost use Rattle.kahn_net.specs.Fits.{Fits};
 ghost use Rattle.kahn_net.specs.Syntax.{network_of};
@@ -11,81 +12,34 @@ ghost use Rattle.ckpt_codec.specs.SizeLaws.{IsRecordWithin};
 ghost use Rattle.ckpt_codec.specs.declared.lengths.TheConstants.{MAX_RETAINED_ITEMS};
 ghost use Rattle.ckpt_store.specs.StoreView.{cell_in, known_in, record_in, Holds};
 ghost use Rattle.protocol.specs.Node.Opening.{opening_record};
-ghost use Rattle.protocol.specs.World.Sound.{goes_outside, is_output, output_channels};
-ghost use Rattle.std.specs.List.{AllByRecursion};
-ghost use Rattle.protocol.specs.World.OpeningWorld.{opening_station, opening_world};
-ghost use Rattle.world.specs.OpeningWorld.{fresh, own_outputs, AllNumbered, HasRoom, HaveRoom, HaveOutlets, IsOpened, IsOpeningRefusal, IsWorldRefusal, IsUnused, LeavesOnlyRecord, LeaveOnlyRecords};
+ghost use Rattle.protocol.specs.World.Headline.{AreApproximated};
+ghost use Rattle.protocol.specs.World.OpeningWorld.{opening_world};
+ghost use Rattle.protocol.specs.World.Sound.{is_output, output_channels};
+ghost use Rattle.protocol.specs.World.Turns.{no_turns};
+ghost use Rattle.world.specs.OpeningWorld.{fresh, own_outputs, AllNumbered, HasRoom, HaveRoom, HaveOutlets};
+ghost use Rattle.world.specs.OpeningWorld.{IsOpened, IsOpenedNode, IsUnused, LeaveOnlyRecords};
+ghost use Rattle.world.specs.OpeningWorld.{AreHandedBack, IsNotOpened, IsOpeningRefusal, IsWorldRefusal};
 ghost use Rattle.world.specs.StationView.{outlet_views};
 ghost use Rattle.world.specs.WholeView.{world_of};
-ghost use Rattle.world.specs.WorldView.{capacities, station_view};
-ghost use Rattle.kahn_net.specs.declared.limits.TheConstants.{MAX_CHANNELS, MAX_NODES};
+ghost use Rattle.world.specs.WorldView.{capacities};
+ghost use Rattle.kahn_net.specs.declared.limits.TheConstants.{MAX_NODES};
 
 use crate::output::Output;
 use crate::station::Station;
 use crate::world::World;
 use ckpt_codec::write_record;
 use ckpt_store::{Store, StoreFault};
-use gate_cell::GateCell;
-use kahn_net::{Channel, Port};
+use gate_cell::{GateCell, StableCell};
+use kahn_net::Port;
 use net_check::{Inputs, Net};
 use node::{Node, is_here, opening_record};
-use outlet::{ListOutlet, Outlet};
+use outlet::Outlet;
 use protocol::RoundTurns;
 use record::Record;
 use sector_disk::Disk;
-use std::alloc::{AllocError, Global};
+use std::alloc::Global;
 use std::sync::Arc;
 use wire::Wire;
-
-// Adds an outlet in memory for a channel whose items go outside.
-fn add_output(
-    alloc: Global,
-    outputs: &mut Vec<Output<ListOutlet>>,
-    number: u8,
-    channel: &Channel,
-) -> Result<(), AllocError>
-    requires { AllByRecursion (IsUnused (λ taken. taken)) outputs.old.items }
-    ensures listed { OnOk result
-        (map (λ output. output.channel) outputs.new.items
-        ≡ map (λ output. output.channel) outputs.old.items
-        ++ (if goes_outside channel.now.consumer then number ∷ [] else [])) }
-    ensures empty { OnOk result (AllByRecursion (IsUnused (λ taken. taken)) outputs.new.items) }
-{
-    if let Port::Outside = channel.consumer {
-        outputs.push(Output {
-            channel: number,
-            outlet: ListOutlet::new(alloc),
-            failed: None,
-        })?;
-    }
-    Ok(())
-}
-
-// An outlet in memory for each channel whose items go outside.
-fn open_outputs(alloc: Global, channels: &[Channel]) -> Result<Vec<Output<ListOutlet>>, AllocError>
-    requires { length channels.now ≤ MAX_CHANNELS }
-    ensures listed { IfOk result
-        (λ outputs. map (λ output. output.channel) outputs.items ≡ output_channels 0 channels.now) }
-    ensures empty { IfOk result
-        (λ outputs. AllByRecursion (IsUnused (λ taken. taken)) outputs.items) }
-{
-    let mut outputs = Vec::new(alloc);
-    for (number, channel) in channels.iter().enumerate() {
-        add_output(alloc, &mut outputs, number as u8, channel)?;
-    }
-    Ok(outputs)
-}
-
-/// An outlet in memory for each output of a network.
-pub fn list_outputs(alloc: Global, net: &Net) -> Result<Vec<Output<ListOutlet>>, AllocError>
-    ensures listed { IfOk result
-        (λ outputs. map (λ output. output.channel) outputs.items
-        ≡ output_channels 0 (network_of net.now.program).channels) }
-    ensures empty { IfOk result
-        (λ outputs. AllByRecursion (IsUnused (λ taken. taken)) outputs.items) }
-{
-    open_outputs(alloc, &net.program.channels)
-}
 
 impl<O: Outlet> Output<O> {
     // No failure of its outlet is remembered.
@@ -104,12 +58,27 @@ fn forget_failures<O: Outlet>(outputs: &mut Vec<Output<O>>)
     }
 }
 
+/// A disk on which no store was opened, and why.
+#[derive(Drop)]
+struct NotOpened<D: Disk> {
+    disk: D,
+    fault: StoreFault,
+}
+
+/// The disks and the outputs of a world that wasn't made, in the order in which they were given, and why it wasn't.
+#[derive(Drop)]
+pub struct OpeningRefused<D: Disk, O: Outlet> {
+    pub disks: Vec<D>,
+    pub outputs: Vec<Output<O>>,
+    pub fault: StoreFault,
+}
+
 // A store on a disk that is formatted with this record. The disk's calls are counted from here on.
 fn open_store<D: Disk>(
     alloc: Global,
     disk: D,
     kept: &Record,
-) -> Result<Store<GateCell<D>>, StoreFault>
+) -> Result<Store<GateCell<D>>, NotOpened<D>>
     requires written { IsRecord kept.now }
     requires bounded { IsRecordWithin MAX_RETAINED_ITEMS kept.now }
     ensures record { IfOk result (λ store. record_in store ≡ kept.now) }
@@ -120,57 +89,88 @@ fn open_store<D: Disk>(
     ensures room { IfOk result
         (λ store. capacity_of (cell_in store) ≡ room_on (D.sector_count disk)) }
     ensures fits { OnOk result (HasRoom (D.sector_count disk) (spelled_length kept.now)) }
-    ensures refused { IfErr result
-        (IsOpeningRefusal (D.sector_count disk) (spelled_length kept.now)) }
+    ensures refused { IfErr result (λ refused. IsOpeningRefusal (D.sector_count disk)
+        (spelled_length kept.now) refused.fault) }
+    ensures handed_back { IfErr result
+        (λ refused. IsNotOpened D.sector_count D.failure_count disk refused.disk refused.fault) }
 {
-    let bytes = write_record(alloc, kept)?;
+    let Ok(bytes) = write_record(alloc, kept) else {
+        return Err(NotOpened {
+            disk,
+            fault: StoreFault::NoMemory,
+        });
+    };
     let cell = match GateCell::format(alloc, disk, bytes.as_slice()) {
         Ok(cell) => cell,
-        Err((fault, _)) => return Err(StoreFault::from(fault)),
+        Err((fault, disk)) => {
+            return Err(NotOpened {
+                disk,
+                fault: StoreFault::from(fault),
+            });
+        }
     };
     let mut store = match Store::open(alloc, cell) {
         Ok(store) => store,
-        Err(refused) => return Err(refused.fault),
+        Err(refused) => {
+            return Err(NotOpened {
+                disk: refused.cell.close(),
+                fault: refused.fault,
+            });
+        }
     };
     store.recount();
     Ok(store)
 }
 
-impl<D: Disk, O: Outlet> Station<GateCell<D>, O> {
-    /// The station of the node of this number, of so many, before its first event: its disk is formatted with the opening
-    /// record.
-    fn open(
-        alloc: Global,
-        net: &Net,
-        number: u8,
-        nodes: usize,
-        disk: D,
-        outputs: Vec<Output<O>>,
-    ) -> Result<Station<GateCell<D>, O>, StoreFault>
-        requires here { number < nodes }
-        requires few { nodes ≤ MAX_NODES }
-        ensures opening { IfOk result
-            (λ station. station_view O.taken O.failures station
-            ≡ opening_station (network_of net.now.program) nodes number (D.failure_count disk)
-            (outlet_views O.taken O.failures outputs.items)) }
-        ensures same { IfOk result (λ station. station.outputs ≡ outputs) }
-        ensures left { IfOk result
-            (LeavesOnlyRecord (opening_record (network_of net.now.program) nodes number)) }
-        ensures room { IfOk result (λ station. capacity_of (cell_in station.node.store)
-            ≡ room_on (D.sector_count disk)) }
-        ensures fits { OnOk result (HasRoom (D.sector_count disk)
-            (spelled_length (opening_record (network_of net.now.program) nodes number))) }
-        ensures refused { IfErr result (IsOpeningRefusal (D.sector_count disk)
-            (spelled_length (opening_record (network_of net.now.program) nodes number))) }
+// The node of this number, of so many, before its first event: its disk is formatted with the opening record.
+fn open_node<D: Disk>(
+    alloc: Global,
+    net: &Net,
+    number: u8,
+    nodes: usize,
+    disk: D,
+) -> Result<Node<GateCell<D>>, NotOpened<D>>
+    requires here { number < nodes }
+    requires few { nodes ≤ MAX_NODES }
+    ensures opened { IfOk result
+        (IsOpenedNode (network_of net.now.program) nodes number disk) }
+    ensures refused { IfErr result (λ refused. IsOpeningRefusal (D.sector_count disk)
+        (spelled_length (opening_record (network_of net.now.program) nodes number))
+        refused.fault) }
+    ensures handed_back { IfErr result
+        (λ refused. IsNotOpened D.sector_count D.failure_count disk refused.disk refused.fault) }
+{
+    let Ok(first) = opening_record(alloc, net, number, nodes) else {
+        return Err(NotOpened {
+            disk,
+            fault: StoreFault::NoMemory,
+        });
+    };
+    let store = match open_store(alloc, disk, &first) {
+        Ok(store) => store,
+        Err(refused) => return Err(refused),
+    };
+    match Node::run_from(alloc, net, number, store) {
+        Ok(node) => Ok(node),
+        Err(store) => Err(NotOpened {
+            disk: store.close().close(),
+            fault: StoreFault::NoMemory,
+        }),
+    }
+}
+
+impl<C: StableCell, O: Outlet> Station<C, O> {
+    // The station of a node before its first event.
+    fn new(node: Node<C>, outputs: Vec<Output<O>>) -> Station<C, O>
+        ensures node { result.node ≡ node }
+        ensures outputs { result.outputs ≡ outputs }
+        ensures turns { result.turns ≡ no_turns 0 }
     {
-        let first = opening_record(alloc, net, number, nodes)?;
-        let store = open_store(alloc, disk, &first)?;
-        let node = Node::run_from(alloc, net, number, store)?;
-        Ok(Station {
+        Station {
             node,
             outputs,
             turns: RoundTurns::new(0),
-        })
+        }
     }
 }
 
@@ -187,81 +187,111 @@ fn is_output(net: &Net, home: u8, number: u8) -> bool
     }
 }
 
-// Of these outputs those of the node, and the others.
-fn split_outputs<O: Outlet>(
-    alloc: Global,
+// Parts outputs into those of the node and the others, for which there is room.
+fn part_outputs<O: Outlet>(
     net: &Net,
     home: u8,
     outputs: Vec<Output<O>>,
-) -> Result<(Vec<Output<O>>, Vec<Output<O>>), AllocError>
-    ensures own { IfOk result (λ parts. parts.0.items
-        ≡ own_outputs (network_of net.now.program) home outputs.items) }
-    ensures others { IfOk result (λ parts. parts.1.items
-        ≡ filter (λ output. not (is_output (network_of net.now.program) home output.channel))
-        outputs.items) }
+    own: &mut Vec<Output<O>>,
+    others: &mut Vec<Output<O>>,
+)
+    requires own_room { vec_len own.old + vec_len outputs ≤ vec_capacity own.old }
+    requires other_room { vec_len others.old + vec_len outputs ≤ vec_capacity others.old }
+    ensures own { own.new.items ≡ own.old.items
+        ++ own_outputs (network_of net.now.program) home outputs.items }
+    ensures others { others.new.items ≡ others.old.items
+        ++ filter (λ output. not (is_output (network_of net.now.program) home output.channel))
+        outputs.items }
 {
-    let mut own = Vec::new(alloc);
-    let mut others = Vec::new(alloc);
     for output in outputs {
         if is_output(net, home, output.channel) {
-            own.push(output)?;
+            own.push_reserved(output);
         } else {
-            others.push(output)?;
+            others.push_reserved(output);
         }
     }
-    Ok((own, others))
 }
 
-// A station for each disk, with those of the outputs that are its node's.
+// A station for each of these disks, the last one's first, with those of the outputs that are its node's; the others are
+// left. Where one is refused, all disks and outputs are back in their places.
 fn open_stations<D: Disk, O: Outlet>(
     alloc: Global,
     net: &Net,
-    disks: Vec<D>,
-    outputs: Vec<Output<O>>,
-) -> Result<Vec<Station<GateCell<D>, O>>, StoreFault>
-    requires { length disks.items ≡ node_count (network_of net.now.program) }
-    ensures opened { IfOk result (λ stations. AllNumbered
-        (IsOpened O.taken O.failures (network_of net.now.program) outputs.items) 0
-        disks.items stations.items) }
+    nodes: usize,
+    disks: &mut Vec<D>,
+    outputs: &mut Vec<Output<O>>,
+    stations: &mut Vec<Station<GateCell<D>, O>>,
+) -> Result<(), StoreFault>
+    requires nodes { nodes ≡ node_count (network_of net.now.program) }
+    requires few { vec_len disks.old ≤ nodes }
+    requires none { vec_len stations.old ≡ 0 }
+    requires room { vec_len disks.old ≤ vec_capacity stations.old }
+    ensures opened { OnOk result (AllNumbered
+        (IsOpened O.taken O.failures (network_of net.now.program) (map fresh outputs.old.items)) 0
+        disks.old.items stations.new.items) }
+    ensures rest { OnOk result ((home : ℕ) → vec_len disks.old ≤ home
+        → own_outputs (network_of net.now.program) home outputs.new.items
+        ≡ own_outputs (network_of net.now.program) home outputs.old.items) }
+    ensures fewer { OnOk result (vec_len outputs.new ≤ vec_len outputs.old) }
+    ensures stations { OnOk result ((vec_len stations.new ≡ vec_len disks.old)
+        × (vec_capacity stations.new ≡ vec_capacity stations.old)) }
+    ensures same_outputs { OnErr result (outputs.new.items ≡ outputs.old.items) }
+    ensures same_disks { OnErr result (vec_len disks.new ≡ vec_len disks.old) }
+    ensures disk_room { vec_capacity disks.new ≡ vec_capacity disks.old }
+    ensures handed_back { IfErr result
+        (AreHandedBack D.sector_count D.failure_count disks.old.items disks.new.items) }
     ensures refused { IfErr result (IsWorldRefusal (network_of net.now.program) 0
-        (map (λ disk. D.sector_count disk) disks.items)) }
+        (map (λ disk. D.sector_count disk) disks.old.items)) }
 {
-    let nodes = disks.len();
-    let Ok(mut stations) = Vec::with_capacity(alloc, nodes) else {
+    let Some(disk) = disks.pop() else {
+        return Ok(());
+    };
+    let number = disks.len() as u8;
+    let (Ok(mut own), Ok(others)) = (
+        Vec::with_capacity(alloc, outputs.len()),
+        Vec::with_capacity(alloc, outputs.len()),
+    ) else {
+        disks.push_reserved(disk);
         return Err(StoreFault::NoMemory);
     };
-    let mut rest = outputs;
-    let mut number: u8 = 0;
-    for disk in disks {
-        let Ok((own, others)) = split_outputs(alloc, net, number, rest) else {
-            return Err(StoreFault::NoMemory);
-        };
-        let station = match Station::open(alloc, net, number, nodes, disk, own) {
-            Ok(station) => station,
-            Err(fault) => return Err(fault),
-        };
-        let Ok(()) = stations.push(station) else {
-            return Err(StoreFault::NoMemory);
-        };
-        rest = others;
-        number += 1;
+    let node = match open_node(alloc, net, number, nodes, disk) {
+        Ok(node) => node,
+        Err(refused) => {
+            disks.push_reserved(refused.disk);
+            return Err(refused.fault);
+        }
+    };
+    match open_stations(alloc, net, nodes, disks, outputs, stations) {
+        Ok(()) => {
+            let given = std::mem::replace(outputs, others);
+            part_outputs(net, number, given, &mut own, outputs);
+            forget_failures(&mut own);
+            stations.push_reserved(Station::new(node, own));
+            Ok(())
+        }
+        Err(fault) => {
+            let store = node.store;
+            disks.push_reserved(store.close().close());
+            Err(fault)
+        }
     }
-    Ok(stations)
 }
 
 impl<D: Disk, O: Outlet> World<GateCell<D>, O> {
     /// The world of a network before its first event: no process has begun, no item was received or put, and the disks,
     /// one a node, are formatted with the opening records of their nodes. The outputs are those of the network, in order,
-    /// and nothing has left by them; each goes to the node of its producer. Refuses for want of memory (1), with 22 where
-    /// a disk has no room for its record, and with 20 where one has and the device failed. The disks and the outlets are
-    /// gone then.
+    /// and nothing has left by them; each goes to the node of its producer.
+    ///
+    /// Refuses for want of memory (1), with 22 where a disk has no room for its record, and with 20 where one has and its
+    /// device failed. The disks and the outputs come back then, the outputs as they were; on a disk may stand an opening
+    /// record, or a part of one.
     pub fn new(
         alloc: Global,
         net: Arc<Net>,
         inputs: Arc<Inputs>,
         disks: Vec<D>,
         outputs: Vec<Output<O>>,
-    ) -> Result<World<GateCell<D>, O>, StoreFault>
+    ) -> Result<World<GateCell<D>, O>, OpeningRefused<D, O>>
         requires fits { Fits (network_of net.value.program) inputs.value }
         requires each { length disks.items ≡ node_count (network_of net.value.program) }
         requires listed { map (λ output. output.channel) outputs.items
@@ -278,6 +308,8 @@ impl<D: Disk, O: Outlet> World<GateCell<D>, O> {
         ensures outlets { IfOk result
             (λ world. HaveOutlets (network_of net.value.program) 0 outputs.items
             world.stations.items) }
+        // What has left is a prefix of each channel's history.
+        ensures prefix { IfOk result (λ world. AreApproximated (world_of world)) }
         // A crash leaves the opening records, and each cell has the room that its disk gives.
         ensures left { IfOk result
             (λ world. LeaveOnlyRecords (network_of net.value.program) 0 world.stations.items) }
@@ -287,21 +319,38 @@ impl<D: Disk, O: Outlet> World<GateCell<D>, O> {
         // It is made only on disks with room for those records, and refused for no other reasons than those above.
         ensures fits { OnOk result (HaveRoom (network_of net.value.program) 0
             (map (λ disk. D.sector_count disk) disks.items)) }
-        ensures refused { IfErr result (IsWorldRefusal (network_of net.value.program) 0
-            (map (λ disk. D.sector_count disk) disks.items)) }
+        ensures refused { IfErr result (λ refused. IsWorldRefusal (network_of net.value.program) 0
+            (map (λ disk. D.sector_count disk) disks.items) refused.fault) }
+        // Refused, all that was given is back in its place: the outputs are the same; each disk has the room that it had;
+        // and a device failed in the call exactly where 20 is the reason.
+        ensures handed_back { IfErr result (λ refused. AreHandedBack D.sector_count D.failure_count
+            disks.items refused.disks.items refused.fault) }
+        ensures same_outputs { IfErr result (λ refused. refused.outputs.items ≡ outputs.items) }
     {
-        let Ok(wire) = Wire::new(alloc) else {
-            return Err(StoreFault::NoMemory);
-        };
+        let mut disks = disks;
         let mut outputs = outputs;
-        forget_failures(&mut outputs);
-        let stations = open_stations(alloc, &net, disks, outputs)?;
-        Ok(World {
-            net,
-            inputs,
-            stations,
-            wire,
-            round: 0,
-        })
+        let nodes = disks.len();
+        let (Ok(wire), Ok(mut stations)) = (Wire::new(alloc), Vec::with_capacity(alloc, nodes))
+        else {
+            return Err(OpeningRefused {
+                disks,
+                outputs,
+                fault: StoreFault::NoMemory,
+            });
+        };
+        match open_stations(alloc, &net, nodes, &mut disks, &mut outputs, &mut stations) {
+            Ok(()) => Ok(World {
+                net,
+                inputs,
+                stations,
+                wire,
+                round: 0,
+            }),
+            Err(fault) => Err(OpeningRefused {
+                disks,
+                outputs,
+                fault,
+            }),
+        }
     }
 }

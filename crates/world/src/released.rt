@@ -2,7 +2,8 @@
 ghost use Rattle.std.specs.Prelude.{◌≡◌, ◌==◌, find, option_copied, option_map};
 ghost use Rattle.protocol.specs.World.StationView.{OutletView};
 ghost use Rattle.world.specs.StationView.{outlet_views};
-ghost use Rattle.protocol.specs.World.Released.{released_of};
+ghost use Rattle.kahn_net.specs.Syntax.{network_of};
+ghost use Rattle.protocol.specs.World.Released.{released_of, IsPutAtHome, IsStreamOf};
 ghost use Rattle.world.specs.WholeView.{world_of};
 
 use crate::output::Output;
@@ -28,6 +29,18 @@ fn released_by<O: Outlet>(outputs: &[Output<O>], channel: u8) -> Option<&[i64]>
 impl<C: StableCell, O: Outlet> World<C, O> {
     /// The items that have left by the output of this channel, in order; none where the channel is no output.
     pub fn released(&self, channel: u8) -> &[i64]
+        ensures stream { result.now ≡ released_of channel (world_of self.now).stations }
+        // They are a prefix of the channel's history, in one approximation of it on the inputs;
+        ensures prefix { IsStreamOf (network_of self.now.net.value.program) self.now.inputs.value
+            channel result.now }
+        // and the permanent image of the node that puts there has put all of them.
+        ensures covered { IsPutAtHome (network_of self.now.net.value.program)
+            (world_of self.now).stations channel result.now }
+    {
+        self.stream(channel)
+    }
+
+    fn stream(&self, channel: u8) -> &[i64]
         ensures { result.now ≡ released_of channel (world_of self.now).stations }
     {
         for station in &self.stations {

@@ -82,5 +82,8 @@ pub fn open_world(
     anyhow::ensure!(disks.len() == node_count(&net), "a disk for each node");
     let net = Arc::new(alloc, net)?;
     let inputs = Arc::new(alloc, inputs)?;
-    Ok(World::new(alloc, net, inputs, disks, outputs))
+    match World::new(alloc, net, inputs, disks, outputs) {
+        Ok(world) => Ok(Ok(world)),
+        Err(refused) => Ok(Err(refused.fault)),
+    }
 }

@@ -86,7 +86,10 @@ pub(crate) fn weak_world(
     }
     let net = Arc::new(alloc, net)?;
     let inputs = Arc::new(alloc, inputs)?;
-    Ok(World::new(alloc, net, inputs, disks, outputs)?)
+    match World::new(alloc, net, inputs, disks, outputs) {
+        Ok(world) => Ok(world),
+        Err(refused) => Err(refused.fault.into()),
+    }
 }
 
 /// One event.

@@ -6,7 +6,7 @@ use Rattle.world.specs.ReplyView.{reply_view}
 use Rattle.world.specs.declared.event.Reply.{Reply}
 use Rattle.kahn_program.specs.Turning.{Follows}
 use Rattle.world.specs.WholeView.{world_of}
-use Rattle.kahn_program.proofs.Turns.{in_room, nothing_follows}
+use Rattle.kahn_program.proofs.Turns.{in_room, is_not_down, nothing_follows}
 use Rattle.kahn_program.proofs.network_run.follow.Goals as goal
 
 pub returns-in-Ok-apply-clause-follows : goal.returns-in-Ok-apply-clause-follows
@@ -18,8 +18,14 @@ returns-in-Ok-apply-clause-follows c =
       ap job_view c.in-Ok.ensures,
       reply_view c.in-Ok-apply.field-0,
       in_room (λ taken. taken) (λ outlet. 0) old.stations.items (Install (done_view c.in-Ok.done)) (world_of old)
-          (world_of new) (reply_view c.in-Ok-apply.field-0) refl c.in-Ok-apply.ensures.step,
+          (world_of new) (reply_view c.in-Ok-apply.field-0) c.requires refl c.in-Ok-apply.ensures.step,
     )
 
 pub returns : goal.returns
-returns c = record { same = (refl, refl); follows = nothing_follows c.args.answer _ c.in_default.not-Granted; err = tt }
+returns c = record {
+  same = (refl, refl);
+  room = c.requires;
+  unfailed = is_not_down c.args.answer c.in_default.not-Down;
+  follows = nothing_follows c.args.answer _ c.in_default.not-Granted;
+  err = tt;
+}

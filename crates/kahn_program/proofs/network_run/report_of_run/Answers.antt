@@ -1,12 +1,14 @@
-use Rattle.std.proofs.Common.{refl, ◌≡◌, ℕ, ℤ, List, length, sym, ap, ◌∙◌}
+use Rattle.std.proofs.Common.{refl, ◌≡◌, ℕ, ℤ, List, length, sym, ap, subst, ◌∙◌}
 use Rattle.kahn_net.specs.Syntax.{network_of}
+use Rattle.sector_disk.specs.MemDisk.{sectors_of}
 use Rattle.net_check.specs.declared.net.Net.{Net}
 use Rattle.protocol.specs.World.Released.{released_of}
 use Rattle.world.specs.WholeView.{world_of}
 use Rattle.kahn_program.specs.Report.{output_count, report_text}
+use Rattle.kahn_program.specs.Runnable.{IsStoreFailure}
 use Rattle.kahn_program.specs.Runs.{first_items}
 use Rattle.kahn_program.proofs.Released.{counted_streams, run_of, reported}
-use Rattle.kahn_program.proofs.Turns.{last_world, opens_first}
+use Rattle.kahn_program.proofs.Turns.{last_world, opens_first, rooms_given, run_refused}
 use Rattle.std.specs.Prelude.{replicate}
 use Rattle.kahn_net.specs.Nodes.{node_count}
 use Rattle.kahn_program.proofs.network_run.report_of_run.Goals as goal
@@ -66,3 +68,16 @@ new-requires-3-clause-each c =
     let shared = c.in-Ok-try_clone.ensures ∙ c.in-Ok-new.ensures.ok in
     c.in-Ok-empty_disks.ensures.each
     ∙ (c.node_count-nodes.ensures.count ∙ sym (ap (λ (n : Net). node_count (network_of n.program)) shared))
+
+pub returns-in-Err-clause-err : goal.returns-in-Err-clause-err
+returns-in-Err-clause-err c =
+    let shared = c.in-Ok-try_clone.ensures ∙ c.in-Ok-new.ensures.ok in
+    subst IsStoreFailure (sym c.store_failure.ensures)
+    (run_refused sectors_of (network_of c.in-Ok-try_clone.share.value.program) 0 c.in-Ok-empty_disks.disks.items
+    c.in-Err.refused.fault
+    c.in-Ok-try_clone.share.value.valid c.in-Ok-empty_disks.ensures.sectors c.in-Err.ensures.refused)
+
+pub take_turns-requires-clause-room : goal.take_turns-requires-clause-room
+take_turns-requires-clause-room c =
+    rooms_given sectors_of c.in-Ok-empty_disks.disks.items _ c.in-Ok-new-3.ensures.room
+    c.in-Ok-empty_disks.ensures.sectors

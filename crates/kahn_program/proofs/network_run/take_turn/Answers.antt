@@ -6,7 +6,7 @@ use Rattle.world.specs.ReplyView.{reply_view}
 use Rattle.protocol.specs.World.Steps.{IsStep}
 use Rattle.world.specs.WholeView.{world_of}
 use Rattle.world.specs.WorldView.{rooms}
-use Rattle.kahn_program.proofs.Turns.{in_room}
+use Rattle.kahn_program.proofs.Turns.{in_room, on_ok_both}
 use Rattle.kahn_program.proofs.network_run.take_turn.Goals as goal
 
 pub returns-in-Ok-clause-turn : goal.returns-in-Ok-clause-turn
@@ -19,11 +19,12 @@ returns-in-Ok-clause-turn c =
     subst (λ (event : EventView). IsStep (rooms old.stations.items) event view answer later) c.pick-event.ensures
     c.in-Ok.ensures.step in
     on_ok_weaker c.follow.result
-    (λ follows. record {
+    (λ both. record {
       answer = answer;
       between = later;
-      step = in_room (λ taken. taken) (λ outlet. 0) old.stations.items (choice view c.args.node) view later answer refl
-          step;
-      follows = follows;
+      step = in_room (λ taken. taken) (λ outlet. 0) old.stations.items (choice view c.args.node) view later answer
+          c.requires refl step;
+      unfailed = both.0;
+      follows = both.1;
     })
-    c.follow.ensures.follows
+    (on_ok_both _ _ c.follow.result c.follow.ensures.unfailed c.follow.ensures.follows)

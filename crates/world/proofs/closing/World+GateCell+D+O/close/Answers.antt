@@ -1,5 +1,7 @@
-use Rattle.std.proofs.Common.{subst}
+use Rattle.std.proofs.Common.{refl, subst}
 use Rattle.std.specs.Prelude.{IsPermutation}
+use Rattle.world.specs.WholeView.{world_of}
+use Rattle.world.proofs.Closed.{closed_listed}
 use Rattle.world.proofs.closing.World+GateCell+D+O.close.Goals as goal
 
 -- what was collected is all outputs, and sorting only moves them
@@ -7,3 +9,11 @@ pub returns-clause-outputs : goal.returns-clause-outputs
 returns-clause-outputs g c =
     subst (λ xs. IsPermutation xs c.sort_outputs.new.outputs.items) c.in_ok-parts.ensures.outputs
     c.sort_outputs.ensures.moved
+
+pub returns-clause-listed : goal.returns-clause-listed
+returns-clause-listed g c =
+    closed_listed g.O.Outlet.taken g.O.Outlet.failures (world_of c.args.self) c.args.self.stations.items
+    c.sort_outputs.new.outputs.items c.args.self.sound refl
+    (subst (λ xs. IsPermutation xs c.sort_outputs.new.outputs.items) c.in_ok-parts.ensures.outputs
+    c.sort_outputs.ensures.moved)
+    c.sort_outputs.ensures.sorted

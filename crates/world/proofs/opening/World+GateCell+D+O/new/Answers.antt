@@ -1,74 +1,74 @@
-use Rattle.std.proofs.Common.{◌∙◌, map, sym, subst}
-use Rattle.std.proofs.lemmas.List.{length-map}
+use Rattle.std.proofs.Common.{map, refl}
 use Rattle.kahn_net.specs.Syntax.{network_of}
-use Rattle.protocol.specs.World.Invariant.{WorldInvariant}
-use Rattle.protocol.specs.WorldLaws.OpenLaws.{world_opened}
+use Rattle.protocol.specs.WorldLaws.PrefixLaws.{released_prefix}
 use Rattle.wire.specs.Traffic.{traffic_of}
 use Rattle.world.specs.OpeningWorld.{fresh}
-use Rattle.world.specs.StationView.{outlet_views}
-use Rattle.world.proofs.Openings.{opened_listed, opened_nothing}
-use Rattle.world.proofs.OpenedStations.{opened_all, opened_world, opened_outlets, opened_left, opened_rooms}
-use Rattle.world.proofs.OpenedStations.{opened_fits, world_refused}
+use Rattle.world.proofs.OpenedStations.{opened_all, opened_sound, opened_world, opened_outlets, opened_left}
+use Rattle.world.proofs.OpenedStations.{opened_rooms, opened_fits, world_refused, none_opened}
 use Rattle.world.proofs.opening.World+GateCell+D+O.new.Goals as goal
 
 pub invariant_of-result : goal.invariant_of-result
-invariant_of-result g c =
-    let O = g.O.Outlet in
-    let net = c.args.net.value in
-    let outputs = c.args.outputs.items in
-    let failures = map (λ d. g.D.Disk.failure_count d) c.args.disks.items in
-    record {
-      sound = subst WorldInvariant
-          (sym (opened_world O.taken O.failures c.deref.result.now net c.args.disks.items outputs
-          c.forget_failures.new.outputs.items c.in_ok-stations.stations.items c.deref.ensures
-          c.forget_failures.ensures c.in_ok-stations.ensures.opened c.args.inputs.value (traffic_of c.in-Ok.wire)
-          c.in-Ok.ensures))
-          (world_opened (network_of net.program) c.args.inputs.value failures (outlet_views O.taken O.failures outputs)
-          net.valid c.requires.fits
-          (length-map c.args.disks.items (λ d. g.D.Disk.failure_count d) ∙ c.requires.each)
-          (opened_listed O.taken O.failures outputs ∙ c.requires.listed)
-          (opened_nothing O.taken O.failures outputs c.requires.empty));
-    }
+invariant_of-result g c = record {
+  sound = opened_sound g.O.Outlet.taken g.O.Outlet.failures c.deref.result.now c.args.net.value c.args.disks.items
+      c.args.outputs.items
+      (map fresh c.args.outputs.items) c.open_stations.new.stations.items c.deref.ensures refl c.in-Ok.ensures.opened
+      c.args.inputs.value (traffic_of c.in-Ok-Ok.wire) c.in-Ok-Ok.ensures c.requires.fits c.requires.each
+      c.requires.listed
+      c.requires.empty;
+}
 
-pub returns-clause-opening : goal.returns-clause-opening
-returns-clause-opening g c =
+pub returns-in-Ok-clause-prefix : goal.returns-in-Ok-clause-prefix
+returns-in-Ok-clause-prefix g c =
+    released_prefix _
+    (opened_sound g.O.Outlet.taken g.O.Outlet.failures c.deref.result.now c.args.net.value c.args.disks.items
+    c.args.outputs.items
+    (map fresh c.args.outputs.items) c.open_stations.new.stations.items c.deref.ensures refl c.in-Ok.ensures.opened
+    c.args.inputs.value (traffic_of c.in-Ok-Ok.wire) c.in-Ok-Ok.ensures c.requires.fits c.requires.each
+    c.requires.listed
+    c.requires.empty)
+
+pub returns-in-Ok-clause-opening : goal.returns-in-Ok-clause-opening
+returns-in-Ok-clause-opening g c =
     opened_world g.O.Outlet.taken g.O.Outlet.failures c.deref.result.now c.args.net.value c.args.disks.items
-    c.args.outputs.items c.forget_failures.new.outputs.items c.in_ok-stations.stations.items c.deref.ensures
-    c.forget_failures.ensures c.in_ok-stations.ensures.opened c.args.inputs.value (traffic_of c.in-Ok.wire)
-    c.in-Ok.ensures
+    c.args.outputs.items (map fresh c.args.outputs.items) c.open_stations.new.stations.items c.deref.ensures refl
+    c.in-Ok.ensures.opened c.args.inputs.value (traffic_of c.in-Ok-Ok.wire) c.in-Ok-Ok.ensures
 
-pub returns-clause-outlets : goal.returns-clause-outlets
-returns-clause-outlets g c =
+pub returns-in-Ok-clause-outlets : goal.returns-in-Ok-clause-outlets
+returns-in-Ok-clause-outlets g c =
     opened_outlets g.O.Outlet.taken g.O.Outlet.failures (network_of c.args.net.value.program) c.args.outputs.items 0
-    c.args.disks.items c.in_ok-stations.stations.items
+    c.args.disks.items c.open_stations.new.stations.items
     (opened_all g.O.Outlet.taken g.O.Outlet.failures c.deref.result.now c.args.net.value c.args.disks.items
-    c.args.outputs.items c.forget_failures.new.outputs.items c.in_ok-stations.stations.items c.deref.ensures
-    c.forget_failures.ensures c.in_ok-stations.ensures.opened)
+    c.args.outputs.items (map fresh c.args.outputs.items) c.open_stations.new.stations.items c.deref.ensures refl
+    c.in-Ok.ensures.opened)
 
-pub returns-clause-left : goal.returns-clause-left
-returns-clause-left g c =
+pub returns-in-Ok-clause-left : goal.returns-in-Ok-clause-left
+returns-in-Ok-clause-left g c =
     opened_left g.O.Outlet.taken g.O.Outlet.failures (network_of c.args.net.value.program)
-    (map fresh c.args.outputs.items) 0 c.args.disks.items c.in_ok-stations.stations.items
+    (map fresh c.args.outputs.items) 0 c.args.disks.items c.open_stations.new.stations.items
     (opened_all g.O.Outlet.taken g.O.Outlet.failures c.deref.result.now c.args.net.value c.args.disks.items
-    c.args.outputs.items c.forget_failures.new.outputs.items c.in_ok-stations.stations.items c.deref.ensures
-    c.forget_failures.ensures c.in_ok-stations.ensures.opened)
+    c.args.outputs.items (map fresh c.args.outputs.items) c.open_stations.new.stations.items c.deref.ensures refl
+    c.in-Ok.ensures.opened)
 
-pub returns-clause-room : goal.returns-clause-room
-returns-clause-room g c =
+pub returns-in-Ok-clause-room : goal.returns-in-Ok-clause-room
+returns-in-Ok-clause-room g c =
     opened_rooms g.O.Outlet.taken g.O.Outlet.failures (network_of c.args.net.value.program)
-    (map fresh c.args.outputs.items) 0 c.args.disks.items c.in_ok-stations.stations.items
+    (map fresh c.args.outputs.items) 0 c.args.disks.items c.open_stations.new.stations.items
     (opened_all g.O.Outlet.taken g.O.Outlet.failures c.deref.result.now c.args.net.value c.args.disks.items
-    c.args.outputs.items c.forget_failures.new.outputs.items c.in_ok-stations.stations.items c.deref.ensures
-    c.forget_failures.ensures c.in_ok-stations.ensures.opened)
+    c.args.outputs.items (map fresh c.args.outputs.items) c.open_stations.new.stations.items c.deref.ensures refl
+    c.in-Ok.ensures.opened)
 
-pub returns-clause-fits : goal.returns-clause-fits
-returns-clause-fits g c =
+pub returns-in-Ok-clause-fits : goal.returns-in-Ok-clause-fits
+returns-in-Ok-clause-fits g c =
     opened_fits g.O.Outlet.taken g.O.Outlet.failures (network_of c.args.net.value.program)
-    (map fresh c.args.outputs.items) 0 c.args.disks.items c.in_ok-stations.stations.items
+    (map fresh c.args.outputs.items) 0 c.args.disks.items c.open_stations.new.stations.items
     (opened_all g.O.Outlet.taken g.O.Outlet.failures c.deref.result.now c.args.net.value c.args.disks.items
-    c.args.outputs.items c.forget_failures.new.outputs.items c.in_ok-stations.stations.items c.deref.ensures
-    c.forget_failures.ensures c.in_ok-stations.ensures.opened)
+    c.args.outputs.items (map fresh c.args.outputs.items) c.open_stations.new.stations.items c.deref.ensures refl
+    c.in-Ok.ensures.opened)
 
 pub returns-in_default-clause-refused : goal.returns-in_default-clause-refused
 returns-in_default-clause-refused g c =
     world_refused (network_of c.args.net.value.program) 0 (map (λ d. g.D.Disk.sector_count d) c.args.disks.items)
+
+pub returns-in_default-clause-handed_back : goal.returns-in_default-clause-handed_back
+returns-in_default-clause-handed_back g c =
+    none_opened g.D.Disk.sector_count g.D.Disk.failure_count c.args.disks.items c.args.disks.items refl

@@ -1,23 +1,19 @@
-use Rattle.std.proofs.Common.{◌∙◌, ap}
-use Rattle.world.specs.StationView.{outlet_views}
-use Rattle.world.specs.WorldView.{station_view}
-use Rattle.world.proofs.Showing.{shown_here, shown_later}
+use Rattle.std.proofs.Common.{sym, subst}
+use Rattle.kahn_net.specs.Syntax.{network_of}
+use Rattle.protocol.specs.World.Released.{IsPutAtHome, IsStreamOf}
+use Rattle.protocol.specs.WorldLaws.ReleasedLaws.{released_is_put, released_is_right}
+use Rattle.world.specs.WholeView.{world_of}
 use Rattle.world.proofs.world.World.released.Goals as goal
 
-pub returns-in-Some : goal.returns-in-Some
-returns-in-Some g c =
-    let O = g.O.Outlet in
-    shown_here (station_view O.taken O.failures) c.args.channel c.deref-station-items.result.now
-    c.loop-station.station-index c.station-item.result _ c.released_by.result
-    c.loop-station-test.true c.station-item.is (ap (outlet_views O.taken O.failures) c.deref.ensures.value)
-    c.released_by.ensures c.in-Some.items c.in-Some.is
-    ∙ c.loop-station.invariant
+pub returns-clause-prefix : goal.returns-clause-prefix
+returns-clause-prefix g c =
+    let world = c.args.self.now in
+    subst (IsStreamOf (network_of world.net.value.program) world.inputs.value c.args.channel) (sym c.stream.ensures)
+    (released_is_right (world_of world) world.sound c.args.channel)
 
-pub loop-station-preserved : goal.loop-station-preserved
-loop-station-preserved g c =
-    let O = g.O.Outlet in
-    shown_later (station_view O.taken O.failures) c.args.channel c.deref-station-items.result.now
-    c.loop-station.station-index c.station-item.result _ c.released_by.result
-    c.loop-station-test.true c.station-item.is (ap (outlet_views O.taken O.failures) c.deref.ensures.value)
-    c.released_by.ensures c.in_default.is
-    ∙ c.loop-station.invariant
+pub returns-clause-covered : goal.returns-clause-covered
+returns-clause-covered g c =
+    let world = c.args.self.now in
+    subst (IsPutAtHome (network_of world.net.value.program) (world_of world).stations c.args.channel)
+    (sym c.stream.ensures)
+    (released_is_put (world_of world) world.sound c.args.channel)

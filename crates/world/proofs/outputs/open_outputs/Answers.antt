@@ -1,10 +1,11 @@
 use Rattle.std.proofs.Common.{rules}
 use Rattle.world.proofs.Openings.{listed_next}
-use Rattle.world.proofs.opening.open_outputs.Goals as goal
+use Rattle.world.proofs.outputs.open_outputs.Goals as goal
 
 pub loop-number-preserved : goal.loop-number-preserved
-loop-number-preserved c = (
+loop-number-preserved g c = (
   listed_next c.args.channels.now c.loop-number.number _ _ _ _ (search rules) c.loop-number.invariant.0
       c.in_ok-add_output.ensures.listed,
   c.in_ok-add_output.ensures.empty,
+  c.in_ok-add_output.ensures.made,
 )

@@ -1,11 +1,13 @@
 use Rattle.std.proofs.Common.{◌≡◌, ◌++◌, map, drop}
 use Rattle.protocol.specs.World.Sound.{output_channels}
 use Rattle.std.specs.List.{AllByRecursion}
-use Rattle.world.specs.OpeningWorld.{IsUnused}
-use Rattle.world.proofs.opening.open_outputs.Given as goal
+use Rattle.world.specs.OpeningWorld.{IsMade, IsUnused}
+use Rattle.world.proofs.outputs.open_outputs.Given as goal
 
 -- what is listed, and then what is to come
 abbrev pub invariant-loop-number : goal.invariant-loop-number
-invariant-loop-number l =
+invariant-loop-number g l =
     (map (λ output. output.channel) l.outputs.items ++ output_channels l.number (drop l.number l.channels)
-    ≡ output_channels 0 l.channels) × AllByRecursion (IsUnused (λ taken. taken)) l.outputs.items
+    ≡ output_channels 0 l.channels)
+    × AllByRecursion (IsUnused g.O.Outlet.taken) l.outputs.items
+    × AllByRecursion (IsMade g.M.OutletMaker.makes) l.outputs.items

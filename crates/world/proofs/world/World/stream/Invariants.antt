@@ -1,7 +1,7 @@
 use Rattle.std.proofs.Common.{◌≡◌, drop, map}
 use Rattle.protocol.specs.World.Released.{released_of}
 use Rattle.world.specs.WorldView.{station_view}
-use Rattle.world.proofs.world.World.released.Given as goal
+use Rattle.world.proofs.world.World.stream.Given as goal
 
 -- the output is of a station that wasn't looked at yet
 abbrev pub invariant-loop-station : goal.invariant-loop-station

@@ -1,0 +1,32 @@
+use Rattle.std.proofs.Common.{ℕ, length, sym, ap, subst, ◌∙◌, arith}
+use Rattle.std.proofs.lemmas.List.{length-replicate}
+use Rattle.kahn_net.specs.Syntax.{network_of}
+use Rattle.ckpt_codec.specs.RecordText.{IsRecord}
+use Rattle.ckpt_codec.specs.SizeLaws.{IsRecordWithin}
+use Rattle.ckpt_codec.specs.declared.lengths.TheConstants.{MAX_RETAINED_ITEMS}
+use Rattle.protocol.specs.NodeLaws.SizeLaws.{opening_within}
+use Rattle.protocol.specs.NodeLaws.LikeLaws.{opening_allowed}
+use Rattle.record.specs.RecordView.{RecordView}
+use Rattle.world.proofs.opening.open_node.Goals as goal
+
+pub open_store-requires-clause-written : goal.open_store-requires-clause-written
+open_store-requires-clause-written g c =
+    let net = c.args.net.now in
+    subst IsRecord (sym c.in-Ok.ensures)
+    (opening_allowed (network_of net.program) c.args.nodes c.args.number net.valid c.requires.here c.requires.few)
+
+pub open_store-requires-clause-bounded : goal.open_store-requires-clause-bounded
+open_store-requires-clause-bounded g c =
+    let net = c.args.net.now in
+    subst (IsRecordWithin MAX_RETAINED_ITEMS) (sym c.in-Ok.ensures)
+    (opening_within (network_of net.program) c.args.nodes c.args.number net.valid c.requires.few)
+
+pub run_from-requires-clause-listed : goal.run_from-requires-clause-listed
+run_from-requires-clause-listed g c =
+    let many = ap (λ (kept : RecordView). length kept.highest) (c.in-Ok-open_store.ensures.record ∙ c.in-Ok.ensures) in
+    let whole = length-replicate {A = ℕ} c.args.nodes 0 in
+    omega (arith, many, whole, c.requires.here)
+
+pub run_from-requires-clause-named : goal.run_from-requires-clause-named
+run_from-requires-clause-named g c =
+    ap (λ (kept : RecordView). kept.node) (c.in-Ok-open_store.ensures.record ∙ c.in-Ok.ensures)

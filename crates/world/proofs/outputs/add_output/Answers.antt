@@ -1,0 +1,18 @@
+use Rattle.std.proofs.Common.{List, sym, subst}
+use Rattle.std.specs.List.{AllByRecursion}
+use Rattle.world.specs.OpeningWorld.{IsMade, IsUnused}
+use Rattle.protocol.specs.WorldLaws.PairLaws.{every_more}
+use Rattle.world.specs.declared.output.Output.{Output}
+use Rattle.world.proofs.outputs.add_output.Goals as goal
+
+pub returns-in_ok-push-clause-empty : goal.returns-in_ok-push-clause-empty
+returns-in_ok-push-clause-empty g c =
+    subst (λ (outputs : List (Output _)). AllByRecursion (IsUnused g.O.Outlet.taken) outputs)
+    (sym c.in_ok-push.ensures.items)
+    (every_more (IsUnused g.O.Outlet.taken) _ _ c.requires.unused c.in_ok-make.ensures.unused)
+
+pub returns-in_ok-push-clause-made : goal.returns-in_ok-push-clause-made
+returns-in_ok-push-clause-made g c =
+    subst (λ (outputs : List (Output _)). AllByRecursion (IsMade g.M.OutletMaker.makes) outputs)
+    (sym c.in_ok-push.ensures.items)
+    (every_more (IsMade g.M.OutletMaker.makes) _ _ c.requires.made c.in_ok-make.ensures.made)
