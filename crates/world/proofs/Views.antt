@@ -110,13 +110,12 @@ acted {S} setting view room event xs place x y (Ok reply) within is step =
     (record { later = view y; step = step; stations = map-set view xs place y }))
 
 -- the setting of a world by its stations, as they are and as they are seen
-pub setting_is : {S : Type 0} (view : S → StationView) (net : Network) (given inputs : List (List ℤ))
-    (traffic : Traffic) (xs : List S) (round : ℕ) → given ≡ inputs
-    → setting_in net given traffic (may_restart (length xs)) round
+pub setting_is : {S : Type 0} (view : S → StationView) (net : Network) (inputs : List (List ℤ)) (traffic : Traffic)
+    (xs : List S) (round : ℕ)
+    → setting_in net inputs traffic (may_restart (length xs)) round
     ≡ setting_of (record { net = net; inputs = inputs; stations = map view xs; traffic = traffic; round = round })
-setting_is view net given inputs traffic xs round same =
-    ap (λ (lists : List (List ℤ)). setting_in net lists traffic (may_restart (length xs)) round) same
-    ∙ ap (λ (n : ℕ). setting_in net inputs traffic (may_restart n) round) (sym (length-map xs view))
+setting_is view net inputs traffic xs round =
+    ap (λ (n : ℕ). setting_in net inputs traffic (may_restart n) round) (sym (length-map xs view))
 
 -- whether nodes may restart, by the number of stations
 pub restarts_are : {S : Type 0} (net : Network) (inputs : List (List ℤ)) (traffic : Traffic) (xs : List S)

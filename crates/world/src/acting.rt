@@ -129,20 +129,20 @@ impl<C: StableCell, O: Outlet> Station<C, O> {
         &mut self,
         alloc: Global,
         net: &Arc<Net>,
-        inputs: &Inputs,
+        inputs: &Arc<Inputs>,
         wire: &mut Wire,
         restarts: bool,
         round: u64,
         event: &Event,
     ) -> Result<Reply, AllocError>
-        requires fits { Fits (network_of net.now.value.program) inputs.now }
-        requires sound { StationInvariant (network_of net.now.value.program) inputs.now
+        requires fits { Fits (network_of net.now.value.program) inputs.now.value }
+        requires sound { StationInvariant (network_of net.now.value.program) inputs.now.value
             (station_view O.taken O.failures self.old) }
         requires named { (view_of self.old.node).kept.node ≡ self.old.node.number }
         requires node { event_node (event_view event.now) < NODES }
         ensures moved { HasMoved C.moment C.left_since (cell_in self.old.node.store)
             (cell_in self.new.node.store) (view_of self.old.node).kept
-            (next_kept (setting_in (network_of net.now.value.program) inputs.now
+            (next_kept (setting_in (network_of net.now.value.program) inputs.now.value
             (traffic_of wire.old) restarts round) (event_view event.now)
             (station_view O.taken O.failures self.old))
             (outlet_views O.taken O.failures self.old.outputs.items)
@@ -151,14 +151,14 @@ impl<C: StableCell, O: Outlet> Station<C, O> {
             ((station_view O.taken O.failures self.new ≡ station_view O.taken O.failures self.old)
             × TakesMemory (event_view event.now)) }
         ensures step { IfOk result
-            (λ reply. IsStationStep (setting_in (network_of net.now.value.program) inputs.now
+            (λ reply. IsStationStep (setting_in (network_of net.now.value.program) inputs.now.value
             (traffic_of wire.old) restarts round)
             (fits_in (C.capacity (cell_in self.old.node.store))) (event_view event.now)
             (station_view O.taken O.failures self.old) (reply_view reply)
             (station_view O.taken O.failures self.new)) }
         ensures traffic { IfOk result
             (λ reply. traffic_of wire.new ≡ traffic_after
-            (setting_in (network_of net.now.value.program) inputs.now
+            (setting_in (network_of net.now.value.program) inputs.now.value
             (traffic_of wire.old) restarts round) (event_view event.now) (reply_view reply)
             (Some (station_view O.taken O.failures self.old))) }
         ensures same_traffic { OnErr result (traffic_of wire.new ≡ traffic_of wire.old) }
@@ -178,7 +178,7 @@ impl<C: StableCell, O: Outlet> Station<C, O> {
             Event::Send(_) => self.send(alloc, net, wire, round),
             Event::Start(_) => self.start(alloc, round),
             Event::Decide(_) => self.decide(alloc, round),
-            Event::Release(_) => self.release(round),
+            Event::Release(_) => self.release(net, inputs, round),
             Event::Crash { fill, rounds, .. } => {
                 if !restarts {
                     return Ok(Reply::NotDue);

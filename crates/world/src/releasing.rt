@@ -1,7 +1,9 @@
 // A station's outputs: one item leaves the system.
-ghost use Rattle.std.specs.Prelude.{◌≡◌, ◌<◌, ℕ, length, IfSome, IfOk, OnErr, Some, slice_get};
+ghost use Rattle.std.specs.Prelude.{◌≡◌, ◌<◌, ◌+◌, ℕ, length, IfSome, IfOk, OnErr, Some, slice_get};
+ghost use Rattle.kahn_net.specs.Syntax.{network_of};
 ghost use Rattle.node.specs.NodeOf.{view_of};
 ghost use Rattle.protocol.specs.Node.Trimming.{HasNext, current_log, trimmed_node};
+ghost use Rattle.protocol.specs.World.Released.{HistoryReaches};
 ghost use Rattle.world.specs.ReplyView.{reply_view};
 ghost use Rattle.protocol.specs.World.StationView.{OutletView};
 ghost use Rattle.world.specs.StationView.{outlet_view, outlet_views};
@@ -12,10 +14,12 @@ use crate::event::{Freed, Reply};
 use crate::output::Output;
 use crate::station::Station;
 use gate_cell::StableCell;
+use net_check::{Inputs, Net};
 use node::Node;
 use outlet::{Outlet, OutletFault};
 use record::Record;
 use std::alloc::AllocError;
+use std::sync::Arc;
 
 // Whether an outlet failed in this round.
 fn has_failed_in(failed: Option<u64>, round: u64) -> bool
@@ -54,14 +58,19 @@ pub(crate) fn next_output<O: Outlet>(
     None
 }
 
-// Lets the next item of an output leave.
+// Lets the next item of an output leave, which some approximation has. The shares for the answer come first, since they
+// may be refused.
 fn release_at<C: StableCell, O: Outlet>(
+    net: &Arc<Net>,
+    inputs: &Arc<Inputs>,
     node: &mut Node<C>,
     output: &mut Output<O>,
     round: u64,
 ) -> Result<Reply, AllocError>
-    requires { HasNext (current_log output.old.channel (view_of node.old).mode)
+    requires next { HasNext (current_log output.old.channel (view_of node.old).mode)
         (length (O.taken output.old.outlet)) }
+    requires reached { HistoryReaches (network_of net.now.value.program) inputs.now.value
+        output.old.channel (length (O.taken output.old.outlet) + 1) }
     ensures refused { OnErr result
         ((view_of node.new ≡ view_of node.old)
         × (outlet_view O.taken O.failures output.new ≡ outlet_view O.taken O.failures output.old)) }
@@ -75,8 +84,12 @@ fn release_at<C: StableCell, O: Outlet>(
         (outlet_view O.taken O.failures output.new)) }
 {
     let channel = output.channel;
+    let net = Arc::try_clone(net)?;
+    let inputs = Arc::try_clone(inputs)?;
     match node.release(channel, &mut output.outlet) {
         Ok(()) => Ok(Reply::Released(Freed {
+            net,
+            inputs,
             output: channel,
             number: output.outlet.len(),
         })),
@@ -104,13 +117,23 @@ impl<C: StableCell, O: Outlet> Station<C, O> {
         }
     }
 
-    /// Lets one item leave, which its log has where an outlet waits for it.
-    pub(crate) fn release(&mut self, round: u64) -> Result<Reply, AllocError>
-        requires { (place : ℕ) (outlet : OutletView)
+    /// Lets one item leave, which its log has, and some approximation, where an outlet waits for it.
+    pub(crate) fn release(
+        &mut self,
+        net: &Arc<Net>,
+        inputs: &Arc<Inputs>,
+        round: u64,
+    ) -> Result<Reply, AllocError>
+        requires next { (place : ℕ) (outlet : OutletView)
             → next_release round (station_view O.taken O.failures self.old) ≡ Some place
             → slice_get (outlet_views O.taken O.failures self.old.outputs.items) place ≡ Some outlet
             → HasNext (current_log outlet.channel (view_of self.old.node).mode)
             (length outlet.taken) }
+        requires reached { (place : ℕ) (outlet : OutletView)
+            → next_release round (station_view O.taken O.failures self.old) ≡ Some place
+            → slice_get (outlet_views O.taken O.failures self.old.outputs.items) place ≡ Some outlet
+            → HistoryReaches (network_of net.now.value.program) inputs.now.value outlet.channel
+            (length outlet.taken + 1) }
         ensures cell { self.new.node.store ≡ self.old.node.store }
         ensures refused { OnErr result
             (station_view O.taken O.failures self.new ≡ station_view O.taken O.failures self.old) }
@@ -122,6 +145,6 @@ impl<C: StableCell, O: Outlet> Station<C, O> {
         let Some(j) = self.next_release(round) else {
             return Ok(Reply::NotDue);
         };
-        release_at(&mut self.node, &mut self.outputs[j], round)
+        release_at(net, inputs, &mut self.node, &mut self.outputs[j], round)
     }
 }

@@ -50,17 +50,17 @@ pub struct World<C: StableCell, O: Outlet> {
 fn act_at<C: StableCell, O: Outlet>(
     alloc: Global,
     net: &Arc<Net>,
-    inputs: &Inputs,
+    inputs: &Arc<Inputs>,
     stations: &mut Vec<Station<C, O>>,
     wire: &mut Wire,
     number: usize,
     round: u64,
     event: &Event,
 ) -> Result<Reply, AllocError>
-    requires fits { Fits (network_of net.now.value.program) inputs.now }
-    requires sound { AreSound (network_of net.now.value.program) inputs.now
+    requires fits { Fits (network_of net.now.value.program) inputs.now.value }
+    requires sound { AreSound (network_of net.now.value.program) inputs.now.value
         (map (station_view O.taken O.failures) stations.old.items) }
-    requires flying { TrafficIsSound (network_of net.now.value.program) inputs.now
+    requires flying { TrafficIsSound (network_of net.now.value.program) inputs.now.value
         (traffic_of wire.old) }
     requires numbered { IsNumbered (map (station_view O.taken O.failures) stations.old.items) }
     requires count { length stations.old.items ≡ node_count (network_of net.now.value.program) }
@@ -73,14 +73,14 @@ fn act_at<C: StableCell, O: Outlet>(
         ≡ map (station_view O.taken O.failures) stations.old.items)
         × TakesMemory (event_view event.now)) }
     ensures step { IfOk result
-        (λ reply. IsAct (setting_in (network_of net.now.value.program) inputs.now
+        (λ reply. IsAct (setting_in (network_of net.now.value.program) inputs.now.value
         (traffic_of wire.old) (may_restart (length stations.old.items)) round) number
         (rooms stations.old.items) (event_view event.now)
         (map (station_view O.taken O.failures) stations.old.items) (reply_view reply)
         (map (station_view O.taken O.failures) stations.new.items)) }
     ensures traffic { IfOk result
         (λ reply. traffic_of wire.new ≡ traffic_after
-        (setting_in (network_of net.now.value.program) inputs.now (traffic_of wire.old)
+        (setting_in (network_of net.now.value.program) inputs.now.value (traffic_of wire.old)
         (may_restart (length stations.old.items)) round) (event_view event.now) (reply_view reply)
         (slice_get (map (station_view O.taken O.failures) stations.old.items) number)) }
     ensures same_traffic { OnErr result (traffic_of wire.new ≡ traffic_of wire.old) }

@@ -6,12 +6,12 @@ use crate::worlds::{OUTPUT, TestCell, apply, steps, weak_world};
 use std::alloc::Global;
 use std::process::Abort;
 use std::test::Fail;
-use world::{Event, Freed, Reply, World};
+use world::{Event, Reply, World};
 
 // What a release answers.
 #[derive(Clone, Copy, Debug, PartialEq, Eq)]
 enum Answer {
-    Released(Freed),
+    Released { output: u8, number: u64 },
     OutletFailed,
     NotDue,
     Other,
@@ -19,7 +19,10 @@ enum Answer {
 
 fn answer_of(reply: &Reply) -> Answer {
     match reply {
-        Reply::Released(freed) => Answer::Released(*freed),
+        Reply::Released(freed) => Answer::Released {
+            output: freed.output,
+            number: freed.number,
+        },
         Reply::OutletFailed => Answer::OutletFailed,
         Reply::NotDue => Answer::NotDue,
         _ => Answer::Other,
@@ -28,10 +31,10 @@ fn answer_of(reply: &Reply) -> Answer {
 
 // So many items have left.
 fn leaves(number: u64) -> Answer {
-    Answer::Released(Freed {
+    Answer::Released {
         output: OUTPUT,
         number,
-    })
+    }
 }
 
 // Asserts what a release answers, and what has left then. Nothing is left to do where all three items have.

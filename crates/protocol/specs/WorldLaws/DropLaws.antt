@@ -5,11 +5,9 @@ use Rattle.record.specs.RecordView.{RecordView}
 use Rattle.protocol.specs.declared.outcome.Outcome.{Outcome}
 use Rattle.protocol.specs.declared.outcome.Outcome.TheVariants as outcome
 use Rattle.protocol.specs.World.EventView.{EventView, ByNode, ByNetwork, Install, Release, event_node}
-use Rattle.protocol.specs.World.EventView as event
 use Rattle.protocol.specs.World.Invariant.{WorldInvariant}
 use Rattle.protocol.specs.World.Replies.{act_reply, answer_by, install_reply, outcome_of, IsDropped}
 use Rattle.protocol.specs.World.ReplyView.{ReplyView}
-use Rattle.protocol.specs.World.ReplyView as reply
 use Rattle.protocol.specs.World.StationView.{StationView}
 use Rattle.protocol.specs.World.Steps.{IsAct, IsActOf, IsRelease, IsStationStep, Setting, WorldView, flight_at}
 use Rattle.protocol.specs.World.Steps.{next_release, plan_of, setting_of}

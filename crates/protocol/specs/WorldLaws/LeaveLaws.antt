@@ -38,7 +38,7 @@ base_elsewhere c position image d other =
     (end_elsewhere c position image d other)
 
 -- a beginning is no longer than the whole
-beginning_length : (taken whole : List ℤ) → IsPrefix taken whole → length taken ≤ length whole
+pub beginning_length : (taken whole : List ℤ) → IsPrefix taken whole → length taken ≤ length whole
 beginning_length taken whole is =
     let count = length-take (length taken) whole in
     let few = min-le_right (length taken) (length whole) in

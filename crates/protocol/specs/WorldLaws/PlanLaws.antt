@@ -31,7 +31,6 @@ use Rattle.protocol.specs.declared.outcome.Outcome.{Outcome}
 use Rattle.protocol.specs.declared.outcome.Outcome.TheVariants as outcome
 use Rattle.protocol.specs.declared.outcome.Refusal.TheVariants.{TooLarge, Spent}
 use Rattle.protocol.specs.declared.round_turns.RoundTurns.{RoundTurns}
-use Rattle.protocol.specs.World.EventView as event
 use Rattle.protocol.specs.World.Invariant.{outputs_of, RunsSoundly, StationInvariant}
 use Rattle.protocol.specs.World.RecordSound.{RecordIsSound}
 use Rattle.protocol.specs.World.StationView.{StationView}

@@ -1,22 +1,20 @@
 -- What has left by one channel is right and covered.
-use Rattle.std.proofs.Common.{◌≡◌, ◌≢◌, ◌⊎◌, inl, inr, ℕ, zero, suc, ◌<◌, ◌≤◌, Bool, true, false, eqb, cond, ℤ, List}
+use Rattle.std.proofs.Common.{◌≡◌, ◌≢◌, ◌⊎◌, inl, inr, ℕ, suc, ◌<◌, ◌≤◌, Bool, true, false, eqb, cond, ℤ, List}
 use Rattle.std.proofs.Common.{[], ◌∷◌, length, get_or}
 use Rattle.std.proofs.Common.{Option, Some, None, refl, sym, ap, subst, ◌∙◌, arith}
-use Rattle.std.specs.Prelude.{slice_get, find, IsTrue}
+use Rattle.std.specs.Prelude.{slice_get, find}
 use Rattle.std.proofs.Math.Logic.{∥∥₁_map}
 use Rattle.std.proofs.lemmas.Bool.Decides.{eqb_tells}
 use Rattle.std.proofs.lemmas.Option.{slice_get_cases}
 use Rattle.kahn_net.specs.Streams.{history_of, IsPrefix}
-use Rattle.kahn_net.specs.Syntax.{Network}
 use Rattle.kahn_net.specs.Approximations.{approximation}
 use Rattle.kahn_net.specs.Laws.Prefixes.{prefix_nil}
 use Rattle.kahn_net.specs.declared.program.Channel.{Channel}
 use Rattle.record.specs.Ends.{sent_of}
 use Rattle.protocol.specs.World.Headline.{AreAllWithin}
-use Rattle.protocol.specs.World.Invariant.{output_of, outputs_of, WorldInvariant}
-use Rattle.protocol.specs.World.OutputView.{OutputView}
+use Rattle.protocol.specs.World.Invariant.{output_of, WorldInvariant}
 use Rattle.protocol.specs.World.Released.{taken_or, released_of, IsStreamOf, IsPutAtHome}
-use Rattle.protocol.specs.World.Sound.{is_output, leaves_from}
+use Rattle.protocol.specs.World.Sound.{leaves_from}
 use Rattle.protocol.specs.World.StationView.{OutletView, StationView}
 use Rattle.protocol.specs.World.Steps.{WorldView}
 use Rattle.protocol.specs.WorldLaws.OutputLaws.{map_at}

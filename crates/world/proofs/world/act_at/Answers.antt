@@ -43,12 +43,12 @@ act-requires g c =
 pub returns-then-number-len-clause-grown : goal.returns-then-number-len-clause-grown
 returns-then-number-len-clause-grown g c =
     all_still {cell = g.C.StableCell} g.O.Outlet.taken g.O.Outlet.failures g.met.C.StableCell.only_now
-    (network_of c.args.net.now.value.program) c.args.inputs.now c.args.stations.now.items c.requires.sound
+    (network_of c.args.net.now.value.program) c.args.inputs.now.value c.args.stations.now.items c.requires.sound
 
 pub returns-then-number-len-clause-line : goal.returns-then-number-len-clause-line
 returns-then-number-len-clause-line g c =
     all_still_in_line {cell = g.C.StableCell} g.O.Outlet.taken g.O.Outlet.failures g.met.C.StableCell.only_now
-    (network_of c.args.net.now.value.program) c.args.inputs.now c.args.stations.now.items c.requires.sound
+    (network_of c.args.net.now.value.program) c.args.inputs.now.value c.args.stations.now.items c.requires.sound
 
 pub returns-then-number-len-clause-unchanged : goal.returns-then-number-len-clause-unchanged
 returns-then-number-len-clause-unchanged g c = λ h. pairs_refl _ _ (λ i station is. cell_stays station)
@@ -59,12 +59,12 @@ returns-clause-grown g c =
     let x = c.index_mut.result.now in
     let view = station_view {cell = g.C.StableCell} g.O.Outlet.taken g.O.Outlet.failures in
     all_grown {cell = g.C.StableCell} g.O.Outlet.taken g.O.Outlet.failures g.met.C.StableCell.only_now
-    (setting_in (network_of net.program) c.args.inputs.now (traffic_of c.args.wire.now)
+    (setting_in (network_of net.program) c.args.inputs.now.value (traffic_of c.args.wire.now)
     c.may_restart-restarts.result c.args.round)
     (record { valid = net.valid; fits = c.requires.fits; traffic = c.requires.flying })
     (fits_in (g.C.StableCell.capacity (cell_in x.node.store))) (event_view c.args.event.now)
     c.args.stations.now.items c.args.number x _ c.act.result
-    (sound_at view (network_of net.program) c.args.inputs.now (traffic_of c.args.wire.now) c.args.stations.now.items
+    (sound_at view (network_of net.program) c.args.inputs.now.value (traffic_of c.args.wire.now) c.args.stations.now.items
     c.args.number x c.may_restart-restarts.result c.len-2.result c.args.round
     c.may_restart-restarts.ensures (search rules) (length-map c.args.stations.now.items view ∙ c.requires.count)
     c.requires.numbered c.requires.sound (search rules) c.index_mut.ensures.value)
@@ -77,12 +77,12 @@ returns-clause-line g c =
     let x = c.index_mut.result.now in
     let view = station_view {cell = g.C.StableCell} g.O.Outlet.taken g.O.Outlet.failures in
     all_in_line {cell = g.C.StableCell} g.O.Outlet.taken g.O.Outlet.failures g.met.C.StableCell.only_now
-    (setting_in (network_of net.program) c.args.inputs.now (traffic_of c.args.wire.now)
+    (setting_in (network_of net.program) c.args.inputs.now.value (traffic_of c.args.wire.now)
     c.may_restart-restarts.result c.args.round)
     (record { valid = net.valid; fits = c.requires.fits; traffic = c.requires.flying })
     (fits_in (g.C.StableCell.capacity (cell_in x.node.store))) (event_view c.args.event.now)
     c.args.stations.now.items c.args.number x _ c.act.result
-    (sound_at view (network_of net.program) c.args.inputs.now (traffic_of c.args.wire.now) c.args.stations.now.items
+    (sound_at view (network_of net.program) c.args.inputs.now.value (traffic_of c.args.wire.now) c.args.stations.now.items
     c.args.number x c.may_restart-restarts.result c.len-2.result c.args.round
     c.may_restart-restarts.ensures (search rules) (length-map c.args.stations.now.items view ∙ c.requires.count)
     c.requires.numbered c.requires.sound (search rules) c.index_mut.ensures.value)
@@ -105,9 +105,9 @@ returns-clause-step g c =
     (λ reply. IsAct setting c.args.number (map room c.args.stations.now.items) (event_view c.args.event.now)
     (map view c.args.stations.now.items) (reply_view reply)
     (map view (slice_set c.args.stations.now.items c.args.number c.act.new.self))))
-    (restarts_are net c.args.inputs.now (traffic_of c.args.wire.now) c.args.stations.now.items
+    (restarts_are net c.args.inputs.now.value (traffic_of c.args.wire.now) c.args.stations.now.items
     c.may_restart-restarts.result c.len-2.result c.args.round c.may_restart-restarts.ensures (search rules))
-    (acted (setting_in net c.args.inputs.now (traffic_of c.args.wire.now) c.may_restart-restarts.result c.args.round)
+    (acted (setting_in net c.args.inputs.now.value (traffic_of c.args.wire.now) c.may_restart-restarts.result c.args.round)
     view room (event_view c.args.event.now) c.args.stations.now.items c.args.number c.index_mut.result.now
     _ c.act.result (search rules) c.index_mut.ensures.value c.act.ensures.step)
 
@@ -135,12 +135,12 @@ returns-clause-traffic g c =
     (λ reply. traffic_of c.act.new.wire
     ≡ traffic_after setting (event_view c.args.event.now) (reply_view reply)
     (slice_get (map view c.args.stations.now.items) c.args.number)))
-    (restarts_are net c.args.inputs.now (traffic_of c.args.wire.now) c.args.stations.now.items
+    (restarts_are net c.args.inputs.now.value (traffic_of c.args.wire.now) c.args.stations.now.items
     c.may_restart-restarts.result c.len-2.result c.args.round c.may_restart-restarts.ensures (search rules))
     (subst (λ (station : Option StationView). IfOk c.act.result
     (λ reply. traffic_of c.act.new.wire
     ≡ traffic_after
-    (setting_in net c.args.inputs.now (traffic_of c.args.wire.now) c.may_restart-restarts.result c.args.round)
+    (setting_in net c.args.inputs.now.value (traffic_of c.args.wire.now) c.may_restart-restarts.result c.args.round)
     (event_view c.args.event.now) (reply_view reply) station)) (sym there) c.act.ensures.traffic)
 
 pub returns-clause-others : goal.returns-clause-others

@@ -7,7 +7,7 @@ use Rattle.world.specs.DoneView.{done_view}
 use Rattle.std.specs.Prelude.{All}
 use Rattle.protocol.specs.Node.Sending.{packets_of, IsWritable}
 use Rattle.protocol.specs.WorldLaws.PlanLaws.{station_writable}
-use Rattle.protocol.specs.WorldLaws.HandedLaws.{next_there}
+use Rattle.protocol.specs.WorldLaws.HandedLaws.{next_reached, next_there}
 use Rattle.ckpt_store.specs.Spelling.{fits_in}
 use Rattle.ckpt_store.specs.StoreView.{cell_in}
 use Rattle.protocol.specs.World.Steps.{setting_in}
@@ -24,19 +24,24 @@ install-requires g c = λ out.
     let done = done_view c.in-Install.done in
     subst (λ (n : Net). TakesTurn (network_of n.program).channels done.job.process done.taken done.sent was.node.mode)
     (sym c.deref-in-Install.ensures)
-    (takes_turn (network_of net.program) c.args.inputs.now net.valid c.requires.fits was c.requires.sound done
+    (takes_turn (network_of net.program) c.args.inputs.now.value net.valid c.requires.fits was c.requires.sound done
     c.in-Install.done.turn out)
 
 pub start-requires : goal.start-requires
 start-requires g c =
-    like_now (network_of c.args.net.now.value.program) c.args.inputs.now c.args.net.now.value.valid c.requires.fits
+    like_now (network_of c.args.net.now.value.program) c.args.inputs.now.value c.args.net.now.value.valid c.requires.fits
     (station_view g.O.Outlet.taken g.O.Outlet.failures c.args.self.now) c.requires.sound
 
 pub release-requires : goal.release-requires
-release-requires g c = λ place outlet next there.
-    next_there (network_of c.args.net.now.value.program) c.args.inputs.now
-    (station_view g.O.Outlet.taken g.O.Outlet.failures c.args.self.now) c.args.round place outlet c.requires.sound
-    next there
+release-requires g c =
+    let net = network_of c.args.net.now.value.program in
+    let was = station_view g.O.Outlet.taken g.O.Outlet.failures c.args.self.now in
+    record {
+      next = λ place outlet next there. next_there net c.args.inputs.now.value was c.args.round place outlet
+          c.requires.sound next there;
+      reached = λ place outlet next there. next_reached net c.args.inputs.now.value was c.args.round place outlet
+          c.requires.sound next there;
+    }
 
 pub send-requires : goal.send-requires
 send-requires g c =
@@ -44,13 +49,13 @@ send-requires g c =
     let was = station_view g.O.Outlet.taken g.O.Outlet.failures c.args.self.now in
     subst (λ (n : Net). All IsWritable (packets_of (network_of n.program) was.number was.node))
     (sym c.deref-in-Send.ensures)
-    (station_writable (network_of net.program) c.args.inputs.now net.valid was c.requires.sound c.requires.named)
+    (station_writable (network_of net.program) c.args.inputs.now.value net.valid was c.requires.sound c.requires.named)
 
 pub returns-in-Deliver-clause-traffic : goal.returns-in-Deliver-clause-traffic
 returns-in-Deliver-clause-traffic g c =
     let was = station_view {cell = g.C.StableCell} g.O.Outlet.taken g.O.Outlet.failures c.args.self.now in
     let setting =
-    setting_in (network_of c.args.net.now.value.program) c.args.inputs.now (traffic_of c.args.wire.now)
+    setting_in (network_of c.args.net.now.value.program) c.args.inputs.now.value (traffic_of c.args.wire.now)
     c.args.restarts c.args.round in
     delivered_in (fits_in (g.C.StableCell.capacity (cell_in c.args.self.now.node.store))) setting c.in-Deliver.node
     c.in-Deliver.place (network_of c.deref.result.now.program) (event_view c.args.event.now) was _

@@ -20,12 +20,6 @@ use Rattle.world.proofs.Lines.{keeps_line, one_line}
 use Rattle.world.proofs.Views.{setting_is}
 use Rattle.world.proofs.world.World.apply.Goals as goal
 
-pub act_at-requires-clause-sound : goal.act_at-requires-clause-sound
-act_at-requires-clause-sound g c = λ i station is.
-    let was = c.args.self.now in
-    subst (λ (lists : List (List ℤ)). StationInvariant (network_of was.net.value.program) lists station)
-    (sym c.deref.ensures) (was.sound.stations i station is)
-
 -- the one law keeps what the type says
 pub invariant_of-self : goal.invariant_of-self
 invariant_of-self g c =
@@ -34,15 +28,15 @@ invariant_of-self g c =
     record {
       sound = act_keeps_world (rooms was.stations.items) (event_view c.args.event) (world_of was)
           (reply_view c.in-Ok.reply)
-          (setting_in (network_of was.net.value.program) c.deref.result.now (traffic_of was.wire)
+          (setting_in (network_of was.net.value.program) was.inputs.value (traffic_of was.wire)
           (may_restart (length was.stations.items)) was.round) c.from-number.result c.round_after-self.result
           (map view c.act_at.new.stations.items) (traffic_of c.act_at.new.wire) was.sound
-          (setting_is view (network_of was.net.value.program) c.deref.result.now was.inputs.value (traffic_of was.wire)
-          was.stations.items was.round c.deref.ensures) (c.from-number.ensures ∙ c.node.ensures)
+          (setting_is view (network_of was.net.value.program) was.inputs.value (traffic_of was.wire)
+          was.stations.items was.round) (c.from-number.ensures ∙ c.node.ensures)
           c.in-Ok.ensures.step (c.in-Ok.ensures.traffic)
           (c.round_after-self.ensures
           ∙ ap (λ (l : List (Station g.row.C.Denot g.row.O.Denot g.C.StableCell)). round_after
-          (reply_view c.in-Ok.reply) was.round (map view l)) c.deref-in-Ok.ensures.value);
+          (reply_view c.in-Ok.reply) was.round (map view l)) c.deref.ensures.value);
     }
 
 pub returns-in-Ok-clause-prefix : goal.returns-in-Ok-clause-prefix
@@ -53,15 +47,15 @@ returns-in-Ok-clause-prefix g c =
     (world_view {cell = g.C.StableCell} g.O.Outlet.taken g.O.Outlet.failures was.net was.inputs
     c.act_at.new.stations.items (traffic_of c.act_at.new.wire) c.round_after-self.result)
     (act_keeps_world (rooms was.stations.items) (event_view c.args.event) (world_of was) (reply_view c.in-Ok.reply)
-    (setting_in (network_of was.net.value.program) c.deref.result.now (traffic_of was.wire)
+    (setting_in (network_of was.net.value.program) was.inputs.value (traffic_of was.wire)
     (may_restart (length was.stations.items)) was.round) c.from-number.result c.round_after-self.result
     (map view c.act_at.new.stations.items) (traffic_of c.act_at.new.wire) was.sound
-    (setting_is view (network_of was.net.value.program) c.deref.result.now was.inputs.value (traffic_of was.wire)
-    was.stations.items was.round c.deref.ensures) (c.from-number.ensures ∙ c.node.ensures) c.in-Ok.ensures.step
+    (setting_is view (network_of was.net.value.program) was.inputs.value (traffic_of was.wire)
+    was.stations.items was.round) (c.from-number.ensures ∙ c.node.ensures) c.in-Ok.ensures.step
     (c.in-Ok.ensures.traffic)
     (c.round_after-self.ensures
     ∙ ap (λ (l : List (Station g.row.C.Denot g.row.O.Denot g.C.StableCell)). round_after (reply_view c.in-Ok.reply)
-    was.round (map view l)) c.deref-in-Ok.ensures.value))
+    was.round (map view l)) c.deref.ensures.value))
 
 pub returns-in-Err-clause-prefix : goal.returns-in-Err-clause-prefix
 returns-in-Err-clause-prefix g c =
@@ -86,15 +80,15 @@ returns-in-Ok-clause-line g c =
     was.inputs.value was.stations.items c.act_at.new.stations.items was.round c.round_after-self.result
     (traffic_of was.wire) (traffic_of c.act_at.new.wire) was.sound
     (act_keeps_world (rooms was.stations.items) (event_view c.args.event) (world_of was) (reply_view c.in-Ok.reply)
-    (setting_in (network_of was.net.value.program) c.deref.result.now (traffic_of was.wire)
+    (setting_in (network_of was.net.value.program) was.inputs.value (traffic_of was.wire)
     (may_restart (length was.stations.items)) was.round) c.from-number.result c.round_after-self.result
     (map view c.act_at.new.stations.items) (traffic_of c.act_at.new.wire) was.sound
-    (setting_is view (network_of was.net.value.program) c.deref.result.now was.inputs.value (traffic_of was.wire)
-    was.stations.items was.round c.deref.ensures) (c.from-number.ensures ∙ c.node.ensures) c.in-Ok.ensures.step
+    (setting_is view (network_of was.net.value.program) was.inputs.value (traffic_of was.wire)
+    was.stations.items was.round) (c.from-number.ensures ∙ c.node.ensures) c.in-Ok.ensures.step
     (c.in-Ok.ensures.traffic)
     (c.round_after-self.ensures
     ∙ ap (λ (l : List (Station g.row.C.Denot g.row.O.Denot g.C.StableCell)). round_after (reply_view c.in-Ok.reply)
-    was.round (map view l)) c.deref-in-Ok.ensures.value))
+    was.round (map view l)) c.deref.ensures.value))
     c.act_at.ensures.line
 
 pub returns-in-Err-clause-line : goal.returns-in-Err-clause-line
@@ -144,23 +138,23 @@ returns-in-Ok-clause-roomy g c = λ room.
     let was = c.args.self.now in
     let view = station_view {cell = g.C.StableCell} g.O.Outlet.taken g.O.Outlet.failures in
     never_too_large (world_of was)
-    (setting_in (network_of was.net.value.program) c.deref.result.now (traffic_of was.wire)
+    (setting_in (network_of was.net.value.program) was.inputs.value (traffic_of was.wire)
     (may_restart (length was.stations.items)) was.round)
     (λ (station : Station g.row.C.Denot g.row.O.Denot g.C.StableCell). g.C.StableCell.capacity
     (cell_in station.node.store)) was.stations.items c.from-number.result _ (event_view c.args.event)
     (reply_view c.in-Ok.reply) (map view c.act_at.new.stations.items)
     was.sound
-    (setting_is view (network_of was.net.value.program) c.deref.result.now was.inputs.value (traffic_of was.wire)
-    was.stations.items was.round c.deref.ensures) (c.from-number.ensures ∙ c.node.ensures) room c.in-Ok.ensures.step
+    (setting_is view (network_of was.net.value.program) was.inputs.value (traffic_of was.wire)
+    was.stations.items was.round) (c.from-number.ensures ∙ c.node.ensures) room c.in-Ok.ensures.step
 
 pub returns-in-Ok-clause-heard : goal.returns-in-Ok-clause-heard
 returns-in-Ok-clause-heard g c =
     let was = c.args.self.now in
     let view = station_view {cell = g.C.StableCell} g.O.Outlet.taken g.O.Outlet.failures in
     never_dropped (world_of was)
-    (setting_in (network_of was.net.value.program) c.deref.result.now (traffic_of was.wire)
+    (setting_in (network_of was.net.value.program) was.inputs.value (traffic_of was.wire)
     (may_restart (length was.stations.items)) was.round) (rooms was.stations.items) c.from-number.result
     (event_view c.args.event)
     (reply_view c.in-Ok.reply) (map view c.act_at.new.stations.items) was.sound
-    (setting_is view (network_of was.net.value.program) c.deref.result.now was.inputs.value (traffic_of was.wire)
-    was.stations.items was.round c.deref.ensures) (c.from-number.ensures ∙ c.node.ensures) c.in-Ok.ensures.step
+    (setting_is view (network_of was.net.value.program) was.inputs.value (traffic_of was.wire)
+    was.stations.items was.round) (c.from-number.ensures ∙ c.node.ensures) c.in-Ok.ensures.step
