@@ -116,13 +116,19 @@ impl Run {
         }
     }
 
+    /// Keeps what comes of a job that was granted.
+    fn keep_outcome(&mut self, alloc: Global, reply: Reply) -> anyhow::Result<()> {
+        if let Reply::Granted(job) = reply {
+            self.outcomes.push(Some(done_of(alloc, job)?))?;
+        }
+        Ok(())
+    }
+
     /// What an event answers. What comes of a job that it grants is kept.
     fn answer(&mut self, alloc: Global, event: Event) -> anyhow::Result<String> {
         let reply = apply(alloc, &mut self.world, event)?;
         let text = reply_text(alloc, &reply)?;
-        if let Reply::Granted(job) = reply {
-            self.outcomes.push(Some(done_of(alloc, job)?))?;
-        }
+        self.keep_outcome(alloc, reply)?;
         Ok(text)
     }
 
