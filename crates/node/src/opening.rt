@@ -110,7 +110,7 @@ pub fn opening_record(
         node: number,
         epoch: 0,
         highest: vec![in alloc; 0; nodes]?,
-        decision: None,
+        decisions: Vec::new(alloc),
         permanent: open_image(alloc, net, number)?,
         tentative: None,
     })

@@ -49,7 +49,7 @@ opening_record net nodes number =
       node = number;
       epoch = 0;
       highest = replicate nodes 0;
-      decision = None;
+      decisions = [];
       permanent =
           opening_image net number;
       tentative = None;
