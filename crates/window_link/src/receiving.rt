@@ -137,20 +137,16 @@ impl RecvWindow {
         ensures answer { result ≡ (received self.old position item).answer }
         ensures window { self.new ≡ (received self.old position item).window }
     {
-        if position < self.next || position >= MAX_COUNT {
-            return Arrival::Dropped;
+        let arrival = self.arrival(position);
+        match arrival {
+            Arrival::Taken => {
+                advance(&mut self.held);
+                self.next += 1;
+            }
+            Arrival::Held => put(&mut self.held, (position - self.next) as usize, item),
+            Arrival::Dropped => {}
         }
-        let place = (position - self.next) as usize;
-        if !is_free(&self.held, place) {
-            return Arrival::Dropped;
-        }
-        if place > 0 {
-            put(&mut self.held, place, item);
-            return Arrival::Held;
-        }
-        advance(&mut self.held);
-        self.next += 1;
-        Arrival::Taken
+        arrival
     }
 
     /// The item that is held so many places behind the next position: of the next one at 0.
