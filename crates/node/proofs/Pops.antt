@@ -1,10 +1,11 @@
 -- What comes out of a window, item by item and all at once.
 use Rattle.std.proofs.Common.{◌≡◌, ℕ, zero, suc, ◌+◌, ◌-◌, ◌<◌, ◌≤◌, Bool, true, false, ◌&&◌, cond, min, ℤ, List, [], ◌∷◌}
-use Rattle.std.proofs.Common.{◌++◌, length, take, drop, map, Option, Some, None, refl, sym, ap, subst, ◌∙◌, append-nil}
+use Rattle.std.proofs.Common.{◌++◌, length, take, drop, map, get_or, Option, Some, None, option_map, refl, sym, ap, subst, ◌∙◌, append-nil}
 use Rattle.std.proofs.Common.{append_assoc, arith}
 use Rattle.std.specs.Prelude.{slice_get, slice_set, nat_lt, MatchOption}
 use Rattle.std.proofs.lemmas.Bool.{ltb-true}
 use Rattle.std.proofs.lemmas.List.{length-append}
+use Rattle.std.proofs.lemmas.Option.{slice_get_read}
 use Rattle.kahn_net.specs.declared.limits.TheConstants.{MAX_COUNT}
 use Rattle.kahn_net.specs.declared.program.Channel.{Channel}
 use Rattle.retained.specs.LogState.{LogState, log_end}
@@ -15,7 +16,7 @@ use Rattle.window_link.specs.Laws.Popping.{ready_padded}
 use Rattle.window_link.specs.declared.receiving.Arrival.{Arrival}
 use Rattle.window_link.specs.declared.receiving.Arrival.TheVariants.{Taken}
 use Rattle.protocol.specs.Node.Popping.{has_place, places_left, items_out, popping}
-use Rattle.protocol.specs.Node.Delivering.{with_arrival, after_arrival, taking}
+use Rattle.protocol.specs.Node.Delivering.{with_arrival, after_arrival, taking, put_at, changed_at}
 use Rattle.protocol.specs.Node.Installing.{taken_from, inbox_taken, inbox_turned}
 use Rattle.protocol.specs.declared.links.Inbox.{Inbox}
 use Rattle.protocol.specs.declared.limits.TheConstants.{MAX_INBOX_ITEMS}
@@ -253,3 +254,25 @@ trimmed_is channels process taken inbox log count counted is None none free =
     with_log : LogState → Inbox
     with_log log = record { channel = inbox.channel; window = inbox.window; log = log }
 trimmed_is channels process taken inbox log count counted is (Some other) none free = absurd (cc)
+
+-- an element that is read from a list whose front stands as it was
+pub front_read : {A : Type 0} (items xs rest : List A) (k : ℕ) (y : A) → k < length xs
+    → items ≡ take (k + 1) xs ++ rest → y ≡ get_or items k y → slice_get xs k ≡ Some y
+front_read {A} items xs rest k y within is here =
+    let next : k + 1 ≡ suc k = omega arith in
+    at xs k within
+    (here ∙ ap (λ (ys : List A). get_or ys k y) (is ∙ ap (λ (n : ℕ). take n xs ++ rest) next))
+  where
+    at : (xs : List A) (k : ℕ) → k < length xs → y ≡ get_or (take (suc k) xs ++ rest) k y → slice_get xs k ≡ Some y
+    at [] k within here = absurd (omega (arith, within))
+    at (x ∷ xs) zero within here = ap Some (sym here)
+    at (x ∷ xs) (suc k) within here = at xs k (omega (arith, within)) here
+
+-- the element at the place that was found is changed
+pub changed_here : {A : Type 0} (f : A → A) (xs : List A) (place : ℕ) (found : Option ℕ) (x y : A)
+    → Some place ≡ found → place < length xs → x ≡ get_or xs place x → y ≡ f x
+    → slice_set xs place y ≡ changed_at f xs found
+changed_here {A} f xs place found x y same within here is =
+    let there : slice_get xs place ≡ Some x = slice_get_read xs (length xs) place x refl within here in
+    ap (slice_set xs place) is
+    ∙ (sym (ap (λ (z : Option A). put_at xs place (option_map f z)) there) ∙ ap (changed_at f xs) same)

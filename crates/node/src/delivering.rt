@@ -78,7 +78,10 @@ pub(crate) fn hear_item(
     ensures err { OnErr result (inboxes.new ≡ inboxes.old) }
 {
     match inbox_place(inboxes, channel) {
-        Some(place) => take_item(&mut inboxes[place], position, item),
+        Some(place) => {
+            take_item(&mut inboxes[place], position, item)?;
+            Ok(())
+        }
         None => Ok(()),
     }
 }
