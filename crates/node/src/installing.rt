@@ -158,7 +158,17 @@ pub(crate) fn install_from(
         return install_turn(alloc, image, channels, process, state, taken, sent);
     }
     let prepared = turned_log(alloc, &inboxes[from], channels, process, taken)?;
-    install_from(alloc, image, inboxes, from + 1, channels, process, state, taken, sent)?;
+    install_from(
+        alloc,
+        image,
+        inboxes,
+        from + 1,
+        channels,
+        process,
+        state,
+        taken,
+        sent,
+    )?;
     turn_inbox(&mut inboxes[from], prepared, channels, process, taken);
     Ok(())
 }

@@ -105,7 +105,10 @@ pub(crate) fn turned_log(
         return Ok(None);
     }
     let mut log = inbox.log.copy(alloc)?;
-    trim_taken(&mut log, count_taken(channels, process, taken, inbox.channel));
+    trim_taken(
+        &mut log,
+        count_taken(channels, process, taken, inbox.channel),
+    );
     let items = add_ready(Batch::new(), &inbox.window, 0, places_left(&log));
     match log.push_all(items.as_slice()) {
         Ok(()) => Ok(Some(log)),
