@@ -4,11 +4,13 @@ use Rattle.sector_disk.specs.Clock.{Only}
 use Rattle.sector_disk.specs.Disk.{IsOverwritten}
 use Rattle.sector_disk.proofs.Writes.{overwritten_outside}
 use Rattle.sector_disk.specs.declared.TheConstants.{SECTOR_BYTES}
-use Rattle.gate_cell.specs.Layout.{area_sectors, room_on, frame_size, length_in, named, value_on, IsGate, IsFrame, IsSettled}
+use Rattle.gate_cell.specs.Layout.{area_sectors, room_on, frame_size, length_in, named, value_on, IsGate, IsFrame}
+use Rattle.gate_cell.specs.Layout.{IsSettled}
 use Rattle.gate_cell.proofs.OnePut.{other_at, inside, short_frame, gate_names, done_long, done_value, done_frame}
 use Rattle.gate_cell.proofs.SplitMoves.{behind_same}
 
-module _ (size : ℕ) (seen mid done value frame bytes : List ℕ) (big : 3 ≤ size) (whole : SECTOR_BYTES * size ≤ length seen)
+module _ (size : ℕ) (seen mid done value frame bytes : List ℕ) (big : 3 ≤ size)
+    (whole : SECTOR_BYTES * size ≤ length seen)
     (is_frame : IsFrame value frame) (room : length value ≤ room_on size)
     (first : IsOverwritten seen (SECTOR_BYTES * 1) frame mid) (whole_mid : SECTOR_BYTES * size ≤ length mid)
     (long : length bytes ≡ SECTOR_BYTES) (names : IsGate 0 bytes) (second : IsOverwritten mid 0 bytes done) where

@@ -57,7 +57,9 @@ abbrev pub left_since_whole_of : {D : Type 0} {disk : DiskWords D} → SplitCell
 left_since_whole_of {D} {disk} cell = ShownSince whole_on disk.left_since disk.sector_count cell.disk
 
 abbrev pub beside_of : {D : Type 0} {disk : DiskWords D} → ValueCall → SplitCell D disk → SplitCell D disk → Type 0
-beside_of {D} {disk} call old new = IsCall {C = SplitCell D disk} whole_of slot_capacity_of moment_of left_since_whole_of may_leave_whole_of call old new
+beside_of {D} {disk} call old new =
+    IsCall {C = SplitCell D disk} whole_of slot_capacity_of moment_of left_since_whole_of may_leave_whole_of call old
+    new
 
 -- the bytes that reads of its disk give
 abbrev pub content_of : {D : Type 0} {disk : DiskWords D} → SplitCell D disk → List ℕ

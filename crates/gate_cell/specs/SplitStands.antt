@@ -13,24 +13,29 @@ use Rattle.gate_cell.specs.declared.TheConstants.{MAX_VALUE_BYTES, HEADER_SECTOR
 use Rattle.gate_cell.specs.declared.frame.TheConstants.{LENGTH_BYTES}
 
 -- the header of what is left of all three is what is left of the value
-pub whole_shows : {P : List ℕ → Type 0} (size : ℕ) (left : Whole) → (c : List ℕ) × P c × (whole_on size c ≡ left) → (c : List ℕ) × P c × (header_on size c ≡ left.header)
+pub whole_shows : {P : List ℕ → Type 0} (size : ℕ) (left : Whole) → (c : List ℕ) × P c × (whole_on size c ≡ left)
+    → (c : List ℕ) × P c × (header_on size c ≡ left.header)
 whole_shows size left m = (m.0, m.1, ap (λ (w : Whole). w.header) m.2)
 
 -- and what is left of the value is the header of such a whole
-pub header_covers : {P : List ℕ → Type 0} (size : ℕ) (left : Option (List ℕ)) → (c : List ℕ) × P c × (header_on size c ≡ left)
+pub header_covers : {P : List ℕ → Type 0} (size : ℕ) (left : Option (List ℕ))
+    → (c : List ℕ) × P c × (header_on size c ≡ left)
     → (w : Whole) × ((c : List ℕ) × P c × (whole_on size c ≡ w)) × (w.header ≡ left)
 header_covers size left m = (whole_on size m.0, (m.0, m.1, refl), m.2)
 
 -- where a crash leaves one content alone, it leaves one whole alone
-pub only_whole : (size : ℕ) (seen : List ℕ) (may_leave : List ℕ → Type 0) → Only seen may_leave → (left : Whole) → (c : List ℕ) × may_leave c × (whole_on size c ≡ left) → left ≡ whole_on size seen
+pub only_whole : (size : ℕ) (seen : List ℕ) (may_leave : List ℕ → Type 0) → Only seen may_leave → (left : Whole)
+    → (c : List ℕ) × may_leave c × (whole_on size c ≡ left) → left ≡ whole_on size seen
 only_whole size seen may_leave only left m = sym m.2 ∙ ap (whole_on size) (only m.0 m.1)
 
 -- where it may leave what reads give, it may leave the whole of that
-pub whole_stays : (size : ℕ) (seen : List ℕ) (may_leave : List ℕ → Type 0) → may_leave seen → (c : List ℕ) × may_leave c × (whole_on size c ≡ whole_on size seen)
+pub whole_stays : (size : ℕ) (seen : List ℕ) (may_leave : List ℕ → Type 0) → may_leave seen
+    → (c : List ℕ) × may_leave c × (whole_on size c ≡ whole_on size seen)
 whole_stays size seen may_leave left = (seen, left, refl)
 
 -- whatever it leaves has a header
-pub whole_opens : (size : ℕ) (may_leave : List ℕ → Type 0) → AlwaysStands HEADER_SECTORS may_leave → (left : Whole) → (c : List ℕ) × may_leave c × (whole_on size c ≡ left) → IsSome left.header
+pub whole_opens : (size : ℕ) (may_leave : List ℕ → Type 0) → AlwaysStands HEADER_SECTORS may_leave → (left : Whole)
+    → (c : List ℕ) × may_leave c × (whole_on size c ≡ left) → IsSome left.header
 whole_opens size may_leave stands left m = subst IsSome (sym (stands m.0 m.1) ∙ ap (λ (w : Whole). w.header) m.2) refl
 
 -- what is in a slot fits it
@@ -53,4 +58,3 @@ whole_fits size left (suc k) value m is =
 -- no slot has room for more than a value may have
 pub slot_room_bound : (size : ℕ) → slot_room_on size ≤ MAX_VALUE_BYTES
 slot_room_bound size = omega arith
-

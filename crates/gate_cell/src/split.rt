@@ -17,7 +17,8 @@ use crate::access::{look, write_through};
 use crate::cell::StableCell;
 use crate::fault::CellFault;
 use crate::frame::{
-    area_of, frame_into, frame_len, framed, length_of, room_of, slot_room_of, slot_sectors_of, unframed,
+    area_of, frame_into, frame_len, framed, length_of, room_of, slot_room_of, slot_sectors_of,
+    unframed,
 };
 use crate::gated::{find_in, lay_out, put_value};
 use crate::slot_cell::SlotCell;

@@ -18,9 +18,14 @@ returns-clause-value g c =
     let whole : SECTOR_BYTES * c.args.size ≤ length (D.content old) =
     omega (arith, g.met.D.Disk.is_whole old, c.requires.within) in
     let whole_mid : SECTOR_BYTES * c.args.size ≤ length mid =
-    omega (arith, g.met.D.Disk.is_whole c.write_sectors.new.disk, c.write_sectors.ensures.setup.same_sectors,
-    c.requires.within) in
-    laid_value c.args.size (D.content old) mid (D.content new) _ c.args.frame.now c.gate_bytes.result c.requires.big whole
+    omega (
+      arith,
+      g.met.D.Disk.is_whole c.write_sectors.new.disk,
+      c.write_sectors.ensures.setup.same_sectors,
+      c.requires.within,
+    ) in
+    laid_value c.args.size (D.content old) mid (D.content new) _ c.args.frame.now c.gate_bytes.result c.requires.big
+    whole
     c.requires.frame c.requires.room c.in_ok-write_sectors.ensures.written whole_mid bytes.long bytes.names written
 
 pub returns-clause-frame : goal.returns-clause-frame
@@ -36,9 +41,14 @@ returns-clause-frame g c =
     let whole : SECTOR_BYTES * c.args.size ≤ length (D.content old) =
     omega (arith, g.met.D.Disk.is_whole old, c.requires.within) in
     let whole_mid : SECTOR_BYTES * c.args.size ≤ length mid =
-    omega (arith, g.met.D.Disk.is_whole c.write_sectors.new.disk, c.write_sectors.ensures.setup.same_sectors,
-    c.requires.within) in
-    laid_frame c.args.size (D.content old) mid (D.content new) _ c.args.frame.now c.gate_bytes.result c.requires.big whole
+    omega (
+      arith,
+      g.met.D.Disk.is_whole c.write_sectors.new.disk,
+      c.write_sectors.ensures.setup.same_sectors,
+      c.requires.within,
+    ) in
+    laid_frame c.args.size (D.content old) mid (D.content new) _ c.args.frame.now c.gate_bytes.result c.requires.big
+    whole
     c.requires.frame c.requires.room c.in_ok-write_sectors.ensures.written whole_mid bytes.long bytes.names written
 
 pub returns-clause-behind : goal.returns-clause-behind
@@ -54,9 +64,14 @@ returns-clause-behind g c =
     let whole : SECTOR_BYTES * c.args.size ≤ length (D.content old) =
     omega (arith, g.met.D.Disk.is_whole old, c.requires.within) in
     let whole_mid : SECTOR_BYTES * c.args.size ≤ length mid =
-    omega (arith, g.met.D.Disk.is_whole c.write_sectors.new.disk, c.write_sectors.ensures.setup.same_sectors,
-    c.requires.within) in
-    laid_behind c.args.size (D.content old) mid (D.content new) _ c.args.frame.now c.gate_bytes.result c.requires.big whole
+    omega (
+      arith,
+      g.met.D.Disk.is_whole c.write_sectors.new.disk,
+      c.write_sectors.ensures.setup.same_sectors,
+      c.requires.within,
+    ) in
+    laid_behind c.args.size (D.content old) mid (D.content new) _ c.args.frame.now c.gate_bytes.result c.requires.big
+    whole
     c.requires.frame c.requires.room c.in_ok-write_sectors.ensures.written whole_mid bytes.long bytes.names written
 
 pub returns-clause-settled : goal.returns-clause-settled
@@ -72,9 +87,14 @@ returns-clause-settled g c =
     let whole : SECTOR_BYTES * c.args.size ≤ length (D.content old) =
     omega (arith, g.met.D.Disk.is_whole old, c.requires.within) in
     let whole_mid : SECTOR_BYTES * c.args.size ≤ length mid =
-    omega (arith, g.met.D.Disk.is_whole c.write_sectors.new.disk, c.write_sectors.ensures.setup.same_sectors,
-    c.requires.within) in
-    laid_settled c.args.size (D.content old) mid (D.content new) _ c.args.frame.now c.gate_bytes.result c.requires.big whole
+    omega (
+      arith,
+      g.met.D.Disk.is_whole c.write_sectors.new.disk,
+      c.write_sectors.ensures.setup.same_sectors,
+      c.requires.within,
+    ) in
+    laid_settled c.args.size (D.content old) mid (D.content new) _ c.args.frame.now c.gate_bytes.result c.requires.big
+    whole
     c.requires.frame c.requires.room c.in_ok-write_sectors.ensures.written whole_mid bytes.long bytes.names written
     (D.may_leave new)
     (λ f left. c.in_ok-make_sure.ensures.durable f (c.recount.ensures.quiet.no_more f left)

@@ -14,8 +14,11 @@ invariant_of-self-2 g c =
     let new = c.find_in.new.disk in
     let find = c.in_ok-found.ensures in
     let seen = c.find_in.ensures.looks.quiet.same in
-    let fits = length_fits HEADER_SECTORS (D.content old) _ (self.stands (D.content old) (g.met.D.Disk.content_may_stay old)) in
-    let settled : IsSettled (D.content new) (D.may_leave new) HEADER_SECTORS c.in_ok-found.found.active c.in_ok-found.found.value_len = record {
+    let fits =
+    length_fits HEADER_SECTORS (D.content old)
+    _ (self.stands (D.content old) (g.met.D.Disk.content_may_stay old)) in
+    let settled : IsSettled (D.content new) (D.may_leave new) HEADER_SECTORS c.in_ok-found.found.active
+    c.in_ok-found.found.value_len = record {
       durable = find.durable;
       gate = ap (λ (l : List ℕ). get_or l 0 0 % 2) seen ∙ find.active;
       long = ap (λ (l : List ℕ). length_in (named HEADER_SECTORS l)) seen ∙ find.long;
@@ -32,7 +35,9 @@ pub returns-clause-any_moment : goal.returns-clause-any_moment
 returns-clause-any_moment g c =
     let D = g.D.Disk in
     let old = c.args.self.now.disk in
-    let up = lifted_quiet header_on D.moment D.left_since D.sector_count old c.find_in.new.disk c.find_in.ensures.setup.same_sectors D.may_leave c.find_in.ensures.looks.any_moment in
+    let up =
+    lifted_quiet header_on D.moment D.left_since D.sector_count old c.find_in.new.disk
+    c.find_in.ensures.setup.same_sectors D.may_leave c.find_in.ensures.looks.any_moment in
     record { later = up.later; each = up.each; before = up.before; keeps = up.keeps }
 
 pub returns-clause-beside : goal.returns-clause-beside
