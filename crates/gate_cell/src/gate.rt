@@ -13,8 +13,9 @@ ghost use Rattle.gate_cell.specs.declared.fault.CellFault.TheVariants.{NoMemory,
 use crate::access::look;
 use crate::cell::StableCell;
 use crate::fault::CellFault;
+use crate::formatting::lay_out;
 use crate::frame::{area_of, frame_len, framed, room_of, unframed};
-use crate::gated::{find_value, lay_out, put_value};
+use crate::gated::{find_value, put_value};
 use sector_disk::{ArmedFault, Disk};
 use std::alloc::{AllocError, Global};
 

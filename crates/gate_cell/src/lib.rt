@@ -8,6 +8,7 @@
 mod access;
 mod cell;
 mod fault;
+mod formatting;
 mod frame;
 mod gate;
 mod gated;

@@ -16,11 +16,12 @@ ghost use Rattle.gate_cell.specs.declared.fault.CellFault.TheVariants.{NoMemory,
 use crate::access::{look, write_through};
 use crate::cell::StableCell;
 use crate::fault::CellFault;
+use crate::formatting::lay_out;
 use crate::frame::{
     area_of, frame_into, frame_len, framed, length_of, room_of, slot_room_of, slot_sectors_of,
     unframed,
 };
-use crate::gated::{find_in, lay_out, put_value};
+use crate::gated::{find_in, put_value};
 use crate::slot_cell::SlotCell;
 use crate::{HEADER_SECTORS, LEAST_SPLIT_SECTORS};
 use sector_disk::{ArmedFault, Disk, SECTOR_BYTES};

@@ -3,7 +3,7 @@ use Rattle.sector_disk.specs.Disk.{IsOverwritten}
 use Rattle.sector_disk.specs.declared.TheConstants.{SECTOR_BYTES}
 use Rattle.gate_cell.proofs.Laying.{laid_settled, laid_value, laid_frame, laid_behind}
 use Rattle.gate_cell.proofs.OnePut.{gate_written}
-use Rattle.gate_cell.proofs.gated.lay_out.Goals as goal
+use Rattle.gate_cell.proofs.formatting.lay_out.Goals as goal
 
 pub returns-clause-value : goal.returns-clause-value
 returns-clause-value g c =
