@@ -1,0 +1,6 @@
+pub mod Running
+pub mod Blocks
+pub mod Resuming
+pub mod Processes
+pub mod Sites
+pub mod Acts
