@@ -1,6 +1,6 @@
 //! From a process to its code.
 
-ghost use Rattle.std.specs.Prelude.{◌≡◌, ◌+◌, ◌<◌, ◌^◌, IfOk};
+ghost use Rattle.std.specs.Prelude.{◌≡◌, ◌+◌, ◌<◌, ◌^◌, map, IfOk};
 ghost use Rattle.kahn_net.specs.Syntax.{code_of};
 ghost use Rattle.proc_code.specs.CodeView.{code_view};
 ghost use Rattle.proc_code.specs.Translation.{flat_code, greatest_height, height_after};
@@ -58,4 +58,16 @@ pub fn compile(alloc: Global, process: &Process) -> Result<Code, Fault>
         sites,
         deepest,
     })
+}
+
+/// The code of each of these processes, in order. Refuses for want of memory alone.
+pub fn compile_all(alloc: Global, processes: &[Process]) -> Result<Vec<Code>, Fault>
+    ensures { IfOk result
+        (λ codes. map code_view codes.items ≡ map flat_code (map code_of processes.now)) }
+{
+    let mut codes = Vec::with_capacity(alloc, processes.len())?;
+    for process in processes {
+        codes.push(compile(alloc, process)?)?;
+    }
+    Ok(codes)
 }

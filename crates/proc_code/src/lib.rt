@@ -9,7 +9,7 @@ mod instruction;
 mod laws;
 
 pub use code::Code;
-pub use compiling::compile;
+pub use compiling::{compile, compile_all};
 pub use fault::Fault;
 pub use instruction::{Instruction, Site, SiteAct};
 pub use laws::code_law;

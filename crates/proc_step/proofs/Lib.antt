@@ -1,5 +1,5 @@
 pub mod Stages
-pub mod Units
 pub mod Counts
 pub mod Lifting
-pub mod Few
+pub mod Machines
+pub mod Rounds
