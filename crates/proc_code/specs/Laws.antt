@@ -4,3 +4,4 @@ pub mod Resuming
 pub mod Processes
 pub mod Sites
 pub mod Acts
+pub mod Codes

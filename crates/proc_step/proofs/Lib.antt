@@ -3,3 +3,4 @@ pub mod Counts
 pub mod Lifting
 pub mod Machines
 pub mod Rounds
+pub mod Coded

@@ -1,5 +1,5 @@
 -- Where a part of a trace leaves the process.
-use Rattle.std.proofs.Common.{ℕ, List, ℤ, sym, ap, ◌∙◌, subst}
+use Rattle.std.proofs.Common.{ℕ, List, ℤ, [], sym, ap, ◌∙◌, subst}
 use Rattle.kahn_net.specs.Statements.{Trace, Step}
 use Rattle.kahn_net.specs.Processes.{standing_at}
 use Rattle.proc_step.specs.declared.machine.Flow.{Flow}
