@@ -1,6 +1,7 @@
 //! What a process does next.
 
-ghost use Rattle.std.specs.Prelude.{◌≡◌};
+ghost use Rattle.std.specs.Prelude.{◌≡◌, ◌<◌, Some, length, slice_get};
+ghost use Rattle.kahn_net.specs.Syntax.{network_of};
 ghost use Rattle.kahn_net.specs.Syntax.{Code as Syntax};
 ghost use Rattle.kahn_net.specs.NextActs.{next_of, next_at};
 ghost use Rattle.kahn_net.specs.States.{standing_of};
@@ -9,6 +10,7 @@ ghost use Rattle.proc_code.specs.Translation.{flat_code};
 ghost use Rattle.proc_step.specs.NextView.{next_view};
 
 use kahn_net::{Mode, ProcState};
+use net_check::Net;
 use proc_code::{Code, SiteAct};
 
 /// What a process does next from where it stands.
@@ -38,14 +40,16 @@ fn act_of(code: &Code, site: usize) -> NextAct
     }
 }
 
-/// What the process of this code does next from this state. Takes no memory, and the same time whatever its text is.
-pub fn next_act(code: &Code, state: &ProcState) -> NextAct
-    ensures { (process : Syntax) → code_view code.now ≡ flat_code process
-        → next_view result ≡ next_of process (standing_of state.now) }
+/// What the process of this number does next from this state. Takes no memory, and the same time whatever the
+/// process's text is.
+pub fn next_act(net: &Net, process: usize, state: &ProcState) -> NextAct
+    requires { process < length net.now.program.processes.items }
+    ensures { (code : Syntax) → slice_get (network_of net.now.program).codes process ≡ Some code
+        → next_view result ≡ next_of code (standing_of state.now) }
 {
     match &state.mode {
         Mode::NotBegun => NextAct::Begin,
-        Mode::At(place) => act_of(code, place.site),
+        Mode::At(place) => act_of(&net.codes[process], place.site),
         Mode::Finished => NextAct::Nothing,
     }
 }

@@ -1,7 +1,8 @@
 -- Of a list of codes that are those of processes, each is its process's own.
-use Rattle.std.proofs.Common.{◌≡◌, ℕ, zero, suc, List, [], ◌∷◌, map, length, ap, Option, Some, None, refl, sym, ◌∙◌}
+use Rattle.std.proofs.Common.{◌≡◌, ℕ, zero, suc, List, [], ◌∷◌, map, length, get_or, ap, ◌<◌, arith, Option, Some, None, refl, sym, ◌∙◌}
 use Rattle.std.specs.Prelude.{slice_get}
 use Rattle.std.proofs.lemmas.List.{length-map}
+use Rattle.std.proofs.lemmas.Option.{slice_get-get_or, slice_get_within}
 use Rattle.kahn_net.specs.Syntax.{Code as Syntax}
 use Rattle.proc_code.specs.declared.code.Code.{Code}
 use Rattle.proc_code.specs.CodeView.{code_view}
@@ -71,3 +72,16 @@ pub as_many : (codes : List Code) (processes : List Syntax) → map code_view co
     → length codes ≡ length processes
 as_many codes processes e =
     sym (length-map codes code_view) ∙ (ap (length {A = FlatCode}) e ∙ length-map processes flat_code)
+
+-- of a process that is there, the code at its number is there, and is its own
+pub code_within : (codes : List Code) (processes : List Syntax) → map code_view codes ≡ map flat_code processes
+    → (n : ℕ) (process : Syntax) → slice_get processes n ≡ Some process → n < length codes
+code_within codes processes e n process its =
+    let there = slice_get_within processes n process its in omega (arith, as_many codes processes e, there)
+
+pub code_there : (codes : List Code) (processes : List Syntax) → map code_view codes ≡ map flat_code processes
+    → (n : ℕ) (code : Code) (process : Syntax) → code ≡ get_or codes n code → slice_get processes n ≡ Some process
+    → code_view code ≡ flat_code process
+code_there codes processes e n code process is its =
+    own_code codes processes e n code process
+    (slice_get-get_or codes n code (code_within codes processes e n process its) ∙ ap Some (sym is)) its

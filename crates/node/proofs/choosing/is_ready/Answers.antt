@@ -5,13 +5,6 @@ use Rattle.kahn_net.specs.Laws.Valid.{units_few}
 use Rattle.node.proofs.Choices.{code_found, code_not_found, ready_at, not_ready, item_on, room_on}
 use Rattle.node.proofs.choosing.is_ready.Goals as goal
 
-pub next_act-requires : goal.next_act-requires
-next_act-requires c =
-    units_few (network_of c.args.net.now.program) c.saved.inside.number (code_of c.in-Some.process.now)
-    c.args.net.now.valid
-    (code_found c.args.net.now.program c.deref.result.now c.from.result c.saved.inside.number c.in-Some.process.now
-    c.deref.ensures.value c.from.ensures c.in-Some.ensures.lookup.3.0 c.in-Some.ensures.lookup.1)
-
 pub returns-in-Begin : goal.returns-in-Begin
 returns-in-Begin c =
     ready_at c.args.net.now.program c.args.inputs.now c.args.image.now c.args.inboxes.now c.deref.result.now

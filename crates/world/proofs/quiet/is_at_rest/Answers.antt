@@ -6,13 +6,6 @@ use Rattle.world.proofs.Rests.{code_found, rest_at, rest_past, got_of}
 use Rattle.world.specs.WorldView.{station_view}
 use Rattle.world.proofs.quiet.is_at_rest.Goals as goal
 
-pub next_act-requires : goal.next_act-requires
-next_act-requires g c =
-    units_few (network_of c.args.net.now.program) c.saved.inside.number (code_of c.in-Some.process.now)
-    c.args.net.now.valid
-    (code_found c.args.net.now.program c.deref.result.now c.from.result c.saved.inside.number c.in-Some.process.now
-    c.deref.ensures.value c.from.ensures c.in-Some.ensures.lookup.3.0 c.in-Some.ensures.lookup.1)
-
 pub returns-in-Begin : goal.returns-in-Begin
 returns-in-Begin g c =
     rest_at c.args.net.now.program c.args.inputs.now
