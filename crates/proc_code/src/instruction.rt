@@ -7,15 +7,23 @@ use kahn_net::Operator;
 #[derive(Clone, Copy, Debug, PartialEq, Eq)]
 pub enum Instruction {
     /// Puts a value on the stack.
-    Constant { value: i64 },
+    Constant {
+        value: i64,
+    },
     /// Puts a variable's value on the stack; 0 where there is no such variable.
-    Load { variable: usize },
+    Load {
+        variable: usize,
+    },
     /// Takes the topmost value into a variable.
-    Store { variable: usize },
+    Store {
+        variable: usize,
+    },
     /// Takes the topmost value, and puts 0 less it there, modulo 2^64.
     Negate,
     /// Takes the two topmost values, and puts there what the operator makes of them: the topmost is its right one.
-    Apply { operator: Operator },
+    Apply {
+        operator: Operator,
+    },
     /// Takes the channel's next item into a variable. With no item at hand the process stands at this site.
     Get {
         variable: usize,
@@ -24,10 +32,17 @@ pub enum Instruction {
     },
     /// Takes the topmost value and puts it on the channel. With no room there the process stands at this site, which is
     /// before its expression.
-    Put { channel: usize, site: usize },
-    Jump { target: usize },
+    Put {
+        channel: usize,
+        site: usize,
+    },
+    Jump {
+        target: usize,
+    },
     /// Takes the topmost value, and jumps where it is 0.
-    JumpIfZero { target: usize },
+    JumpIfZero {
+        target: usize,
+    },
     /// The process finishes: a stop.
     Stop,
     /// The process finishes: past its last statement.

@@ -100,7 +100,16 @@ fn play_items(
 {
     let mut place = start;
     for list in items {
-        match play_rounds(code, place, list.len(), stack, variables, unread, room, sent)? {
+        match play_rounds(
+            code,
+            place,
+            list.len(),
+            stack,
+            variables,
+            unread,
+            room,
+            sent,
+        )? {
             Next::Goes(to) => place = to,
             Next::Stops(flow) => return Ok(Next::Stops(flow)),
         }
@@ -161,11 +170,29 @@ pub fn play(
 {
     match mode {
         Mode::NotBegun => {
-            play_from(&code.instructions, 0, items, stack, variables, unread, room, sent)
+            play_from(
+                &code.instructions,
+                0,
+                items,
+                stack,
+                variables,
+                unread,
+                room,
+                sent,
+            )
         }
         Mode::At(place) => {
             let start = code.entry(place.site);
-            play_from(&code.instructions, start, items, stack, variables, unread, room, sent)
+            play_from(
+                &code.instructions,
+                start,
+                items,
+                stack,
+                variables,
+                unread,
+                room,
+                sent,
+            )
         }
         Mode::Finished => Ok(Flow::RanOut),
     }

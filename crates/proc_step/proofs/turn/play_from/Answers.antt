@@ -8,7 +8,6 @@ use Rattle.proc_step.proofs.Machines.{not_through}
 use Rattle.proc_step.proofs.Rounds.{two_more, went_to, stopped}
 use Rattle.proc_step.proofs.turn.play_from.Goals as goal
 
-
 pub returns-in-Stops : goal.returns-in-Stops
 returns-in-Stops c t runs =
     let a = c.args in
