@@ -11,12 +11,14 @@ use Rattle.proc_step.specs.declared.machine.Flow.{Flow}
 use Rattle.proc_step.specs.declared.machine.Next.{Next}
 use Rattle.proc_step.specs.declared.machine.Next.TheVariants.{Goes, Stops}
 
--- The machine came to another place: by no act, so that nothing was taken and nothing sent, or by one that could be made.
+-- The machine came to another place: by no act, so that nothing was taken and nothing sent, or by one that could be
+-- made.
 pub data Moved (i : Instruction) (place : ℕ) (s v : List ℤ) (u : List (List ℤ)) (room : List ℕ)
     (sent : List (List ℤ)) (to : ℕ) (s' v' : List ℤ) (u' sent' : List (List ℤ)) : Type 0 where
   Quietly : ((go : Continuation) → perform (Some i) go place s [] v u ≡ go to s' [] v' u') → u' ≡ u → sent' ≡ sent
       → Moved i place s v u room sent to s' v' u' sent'
-  Acting : (step : Step) → ((go : Continuation) → perform (Some i) go place s [] v u ≡ after_step step (go to s' [] v' u'))
+  Acting : (step : Step)
+      → ((go : Continuation) → perform (Some i) go place s [] v u ≡ after_step step (go to s' [] v' u'))
       → CanBeMade step.act room u sent → u' ≡ left_by step.act u → sent' ≡ put_by step.act sent
       → Moved i place s v u room sent to s' v' u' sent'
 

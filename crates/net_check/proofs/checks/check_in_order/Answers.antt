@@ -49,7 +49,8 @@ invariant_of-result c =
           ∙ sym r.count ∙ length-map c.in_ok-resolved.resolved.processes.items code_of;
       channels_differ = subst AllDifferent (sym c.in_ok-channel_names.ensures) d.declared.channels_differ;
       processes_differ = subst AllDifferent (sym c.in_ok-process_names.ensures) d.declared.processes_differ;
-      compiled = c.in_ok-codes.ensures ∙ ap (λ (ps : List Process). map flat_code (map code_of ps)) c.deref-3.ensures.value;
+      compiled =
+          c.in_ok-codes.ensures ∙ ap (λ (ps : List Process). map flat_code (map code_of ps)) c.deref-3.ensures.value;
     }
 
 pub returns-clause-resolved : goal.returns-clause-resolved

@@ -16,6 +16,7 @@ returns-in-Some c process is =
 pub returns-in-None : goal.returns-in-None
 returns-in-None c process is =
     let table = c.deref.ensures.value ∙ ap (λ (f : FlatCode). f.sites) is in
-    let last = process_past process c.args.site (omega (arith, c.in-None.ensures.lookup.3, ap (length {A = Site}) table)) in
+    let last =
+    process_past process c.args.site (omega (arith, c.in-None.ensures.lookup.3, ap (length {A = Site}) table)) in
     let code = ap (λ (f : FlatCode). length f.instructions) is in
     omega (arith, last, code, c.len.ensures, c.saturating_sub.ensures)
