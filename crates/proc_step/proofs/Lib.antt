@@ -1,4 +1,5 @@
 pub mod Stages
+pub mod Units
 pub mod Counts
 pub mod Lifting
 pub mod Machines
