@@ -179,10 +179,10 @@ fn others_in_flight(rt: &(impl Print + CpuClock), alloc: Global) -> anyhow::Resu
 
 // Sends an item, takes it and hears of it, so many times, while so many more are retained behind it. Gives the last position
 // that was due, so that the work is done.
-fn pass_windows(times: u64, retained: u64) -> u64 {
+fn pass_windows(alloc: Global, times: u64, retained: u64) -> Result<u64, AllocError> {
     let mut last = 0;
     let mut sender = SendWindow::new(LARGEST_WINDOW);
-    let mut receiver = RecvWindow::new();
+    let mut receiver = RecvWindow::new(alloc, LARGEST_WINDOW)?;
     for sent in 0..times {
         let due = sender.due(0, sent.saturating_add(retained));
         last = due.end;
@@ -190,15 +190,15 @@ fn pass_windows(times: u64, retained: u64) -> u64 {
         let ack = receiver.ack();
         sender.on_ack(ack.epoch, ack.next);
     }
-    last
+    Ok(last)
 }
 
 // What is retained grows: the times should stay.
-fn growing_windows(rt: &(impl Print + CpuClock)) -> anyhow::Result<()> {
+fn growing_windows(rt: &(impl Print + CpuClock), alloc: Global) -> anyhow::Result<()> {
     let times = 10_000_000;
     for retained in [10, 1_000, 100_000u64] {
         let start = processor_micros(rt)?;
-        let last = pass_windows(times, retained);
+        let last = pass_windows(alloc, times, retained)?;
         let nanos = nanos_each(rt, start, times)?;
         println!(rt; "window {retained} {nanos} {last}")?;
     }
@@ -207,6 +207,6 @@ fn growing_windows(rt: &(impl Print + CpuClock)) -> anyhow::Result<()> {
 
 pub fn measure(rt: &(impl Print + CpuClock), alloc: Global) -> anyhow::Result<()> {
     growing_packets(rt, alloc)?;
-    growing_windows(rt)?;
+    growing_windows(rt, alloc)?;
     others_in_flight(rt, alloc)
 }

@@ -17,11 +17,11 @@ use Rattle.record.specs.declared.image.End.{End}
 use Rattle.record.specs.declared.image.End.TheVariants.{Receives, Sends, Both}
 use Rattle.record.specs.declared.record.Tentative.{Tentative}
 use Rattle.ckpt_codec.specs.Fields.{Field}
-use Rattle.ckpt_codec.specs.RecordText.{any, at_most, exactly, count, item, flag, between, wanted_or, decision_fields}
+use Rattle.ckpt_codec.specs.RecordText.{any, at_most, count, item, flag, between, wanted_or, decisions_fields}
 use Rattle.ckpt_codec.specs.RecordText.{first_of, rest_of, wanted, variables_of, mode_fields, process_fields}
 use Rattle.ckpt_codec.specs.RecordText.{processes_fields, role_of, retained_count, end_fields, saved_end_fields}
 use Rattle.ckpt_codec.specs.RecordText.{ends_fields, processes_in, ends_in, image_fields, tentative_fields}
-use Rattle.ckpt_codec.specs.RecordText.{record_fields, items_of_end}
+use Rattle.ckpt_codec.specs.RecordText.{most_decisions, record_fields, version_field, items_of_end}
 use Rattle.ckpt_codec.specs.declared.fault.CodecFault.{CodecFault}
 use Rattle.ckpt_codec.specs.declared.fault.CodecFault.TheVariants.{Malformed}
 use Rattle.ckpt_codec.specs.Reading.{Found, number_at}
@@ -404,11 +404,13 @@ fit_record kept = record kept { permanent = fit_image kept.permanent; tentative 
 pub record_is : (kept : RecordView) → IsKept (fit_record kept)
 record_is kept = record { permanent = image_is kept.permanent; tentative = tentative_is kept.tentative }
 
-pub record_alike : (kept : RecordView) → AllAlike (record_fields kept) (record_fields (fit_record kept))
-record_alike kept =
-    let decision =
-    decision_fields kept.node (length kept.highest) (slice_index kept.highest kept.node) kept.decision in (
-      same (exactly 1 1 1),
+pub record_alike : (version : ℕ) (kept : RecordView)
+    → AllAlike (record_fields version kept) (record_fields version (fit_record kept))
+record_alike version kept =
+    let decisions =
+    decisions_fields (most_decisions version) kept.node (length kept.highest) (slice_index kept.highest kept.node)
+    kept.decisions in (
+      same (version_field version),
       (
         same (any 1 kept.node),
         (
@@ -416,7 +418,7 @@ record_alike kept =
           (
             same _,
             alike_append (map count kept.highest) (map count kept.highest) _ _ (all_same (map count kept.highest))
-                (alike_append decision decision _ _ (all_same decision)
+                (alike_append decisions decisions _ _ (all_same decisions)
                 (alike_append (image_fields None kept.permanent) (image_fields None (fit_image kept.permanent))
                 _ _ (image_alike None kept.permanent)
                 (tentative_alike kept.highest kept.permanent kept.tentative))),

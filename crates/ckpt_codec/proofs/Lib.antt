@@ -13,3 +13,4 @@ mod Walking
 pub mod Sizes
 mod Fitting
 mod Testing
+pub mod Versions

@@ -26,7 +26,7 @@ use Rattle.record.specs.declared.image.End.{End}
 use Rattle.record.specs.declared.image.End.TheVariants.{Receives, Sends, Both}
 use Rattle.ckpt_codec.specs.Fields.{Field}
 use Rattle.ckpt_codec.specs.RecordText.{any, at_most, exactly, count, item, flag, between, wanted_or, participants}
-use Rattle.ckpt_codec.specs.RecordText.{decision_fields, first_of, rest_of, wanted, variables_of, mode_fields}
+use Rattle.ckpt_codec.specs.RecordText.{decision_fields, each_decision_fields, decisions_fields, first_of, rest_of, wanted, variables_of, mode_fields}
 use Rattle.ckpt_codec.specs.RecordText.{process_fields, processes_fields, role_of, retained_count, end_fields}
 use Rattle.ckpt_codec.specs.RecordText.{saved_end_fields, ends_fields, processes_in, ends_in, image_fields}
 use Rattle.ckpt_codec.specs.RecordText.{items_of_end}
@@ -35,7 +35,7 @@ use Rattle.ckpt_codec.specs.declared.fault.CodecFault.TheVariants.{Truncated}
 use Rattle.ckpt_codec.specs.Reading.{◌>>=◌, Found, Reader, number_at, if_passes, field_at, wanted_test, item_at}
 use Rattle.ckpt_codec.specs.Reading.{count_at, flag_at, optional, each_as, unchanged, entries_at, nodes_at, highest_at}
 use Rattle.ckpt_codec.specs.Reading.{participant_at, past_participant, participants_at, participant_count_at}
-use Rattle.ckpt_codec.specs.Reading.{participant_list_at, decided_at, decision_at, items_at, depth_at, passes_at}
+use Rattle.ckpt_codec.specs.Reading.{participant_list_at, decided_at, decided_so_many, decisions_at, decision_count_at, past_decision, items_at, depth_at, passes_at}
 use Rattle.ckpt_codec.specs.Reading.{place_at, Footing, standing_on, footing_in, footing_at, mode_at, variable_count_at}
 use Rattle.ckpt_codec.specs.Reading.{variables_at, state_at, process_at, nth, number_wanted, variables_wanted}
 use Rattle.ckpt_codec.specs.Reading.{process_like, past_process, processes_at, process_count_at, process_list_at}
@@ -45,7 +45,7 @@ use Rattle.ckpt_codec.specs.Reading.{end_list_at, image_at}
 use Rattle.ckpt_codec.specs.Reading.Footing.{BeforeAll, AtPoint, PastAll}
 use Rattle.ckpt_codec.proofs.Scan.{Outcome, scan, Agrees, Lawful, Each, field_lawful, one_took}
 use Rattle.ckpt_codec.proofs.Scan.Outcome.{Passed, Stuck, Differs}
-use Rattle.ckpt_codec.proofs.Combining.{refined, mapped, same_fields, same_reader, same_values, of_each, built, counted}
+use Rattle.ckpt_codec.proofs.Combining.{refined, mapped, same_reader, same_values, of_each, built, counted}
 use Rattle.ckpt_codec.proofs.Combining.{only_lawful}
 
 -- ---- numbers
@@ -120,7 +120,7 @@ pub all_each : {X : Type 0} (xs : List X) → AllByRecursion Each xs
 all_each [] = tt
 all_each (x ∷ xs) = (tt, all_each xs)
 
--- ---- the highest numbers, and a decision
+-- ---- the highest numbers, and the decisions
 
 abbrev pub nodes_field : ℕ → ℕ → Field
 nodes_field node n = record { width = 1; allows = λ v. nat_lt node v && nat_le v MAX_NODES; value = n }
@@ -159,21 +159,33 @@ participants_lawful node nodes =
     next_is : (p : ℕ) → suc p ≡ p + 1
     next_is p = omega arith
 
-decided_lawful : (node nodes own : ℕ)
-    → Lawful Each
-    (λ (d : DecisionView). between 8 1 (suc own) d.number ∷ participant_count (length d.participants)
-    ∷ participants node nodes 0 d.participants) (decided_at node nodes own)
+decided_lawful : (node nodes own least : ℕ)
+    → Lawful Each (decision_fields node nodes own least) (decided_at node nodes own least)
 unfolding decided_at
-decided_lawful node nodes own =
+decided_lawful node nodes own least =
     same_values Each
     (built (λ n ps. record { number = n; participants = ps }) (λ (d : DecisionView). d.number)
-    (λ (d : DecisionView). d.participants)
-    (λ (d : DecisionView). between 8 1 (suc own) d.number ∷ participant_count (length d.participants)
-    ∷ participants node nodes 0 d.participants)
-    (plain (between 8 1 (suc own)) 8 (λ v. nat_le 1 v && nat_lt v (suc own)) (λ n. refl))
+    (λ (d : DecisionView). d.participants) (decision_fields node nodes own least)
+    (plain (between 8 least (suc own)) 8 (λ v. nat_le least v && nat_lt v (suc own)) (λ n. refl))
     (λ n is. participants_lawful node nodes) (λ n is. ([], tt))
     (λ d. (refl, refl)) (λ n ps. (refl, refl)))
     (λ d is. (tt, tt)) (λ d is. tt)
+
+pub decisions_lawful : (most node nodes own : ℕ)
+    → Lawful Each (decisions_fields most node nodes own) (decisions_at most node nodes own)
+unfolding decisions_at decided_so_many
+decisions_lawful most node nodes own =
+    same_values Each
+    (counted {IsX = Each} (record { number = 0; participants = [] }) tt (decision_fields node nodes own)
+    (each_decision_fields node nodes own) (decided_at node nodes own) past_decision (at_most 1 most)
+    (decision_count_at most) 1
+    (plain (at_most 1 most) 1 (λ v. nat_le v most) (λ n. refl)) (decided_lawful node nodes own) (λ s. refl)
+    (λ least d ds. ap (λ (k : ℕ). decision_fields node nodes own least d ++ each_decision_fields node nodes own k ds)
+    (next_is d.number)))
+    (λ ds is. all_each ds) (λ ds are. tt)
+  where
+    next_is : (n : ℕ) → suc n ≡ n + 1
+    next_is n = omega arith
 
 -- ---- parts that may be left out
 
@@ -247,26 +259,6 @@ optional_lawful {A = A} {IsA = IsA} {fields = fields} {read = read} law some is 
     some_of : (b : Bool) → Each b → (o : Option A) × IfThere IsA o × (is_there o ≡ b)
     some_of true e = (Some some, is, refl)
     some_of false e = (None, tt, refl)
-
-pub decision_lawful : (node nodes own : ℕ) → Lawful Each (decision_fields node nodes own) (decision_at node nodes own)
-unfolding decision_at
-decision_lawful node nodes own =
-    same_fields (decision_fields node nodes own)
-    (same_values Each (optional_lawful (decided_lawful node nodes own) (record { number = 0; participants = [] }) tt)
-    all (λ d is. tt)) same
-  where
-    all : (d : Option DecisionView) → Each d → IfThere Each d
-    all None e = tt
-    all (Some d) e = tt
-
-    same : (d : Option DecisionView) → Each d
-        → decision_fields node nodes own d
-        ≡ flag_of (is_there d)
-        ∷ behind_flag
-        (λ (d : DecisionView). between 8 1 (suc own) d.number ∷ participant_count (length d.participants)
-        ∷ participants node nodes 0 d.participants) d
-    same None e = refl
-    same (Some d) e = refl
 
 -- ---- processes
 

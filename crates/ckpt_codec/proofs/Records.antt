@@ -5,12 +5,12 @@ use Rattle.record.specs.ImageView.{ImageView}
 use Rattle.record.specs.RecordView.{RecordView}
 use Rattle.record.specs.declared.record.Tentative.{Tentative}
 use Rattle.ckpt_codec.specs.Fields.{Field}
-use Rattle.ckpt_codec.specs.RecordText.{any, count, decision_fields, image_fields, tentative_fields}
+use Rattle.ckpt_codec.specs.RecordText.{any, count, decisions_fields, image_fields, most_decisions, tentative_fields}
 use Rattle.ckpt_codec.specs.Reading.{instance_at, pending_at, tentative_at, Head, numbers_at, head_at, images_at, Tail}
 use Rattle.ckpt_codec.specs.Reading.{tail_at, record_of, body_at}
 use Rattle.ckpt_codec.proofs.Scan.{Lawful, Each}
 use Rattle.ckpt_codec.proofs.Combining.{same_fields, same_values, built}
-use Rattle.ckpt_codec.proofs.Parts.{plain, count_lawful, any_lawful, nodes_field, highest_lawful, decision_lawful}
+use Rattle.ckpt_codec.proofs.Parts.{plain, count_lawful, any_lawful, nodes_field, highest_lawful, decisions_lawful}
 use Rattle.ckpt_codec.proofs.Parts.{IfThere, is_there, behind_flag, flag_of, optional_lawful, IsImage, image_lawful}
 
 -- ---- the tentative image
@@ -118,20 +118,22 @@ images_lawful highest =
 abbrev IsTail : Tail → Type 0
 IsTail tail = IsImage tail.permanent × IsTentative tail.tentative
 
-abbrev tail_fields : ℕ → List ℕ → Tail → List Field
-tail_fields node highest tail =
-    decision_fields node (length highest) (slice_index highest node) tail.decision
+-- with at most so many decisions
+abbrev pub tail_fields : ℕ → ℕ → List ℕ → Tail → List Field
+tail_fields most node highest tail =
+    decisions_fields most node (length highest) (slice_index highest node) tail.decisions
     ++ (image_fields None tail.permanent ++ tentative_fields highest tail.permanent tail.tentative)
 
-tail_lawful : (node : ℕ) (highest : List ℕ) → Lawful IsTail (tail_fields node highest) (tail_at node highest)
+tail_lawful : (most node : ℕ) (highest : List ℕ)
+    → Lawful IsTail (tail_fields most node highest) (tail_at most node highest)
 unfolding tail_at
-tail_lawful node highest =
+tail_lawful most node highest =
     same_values IsTail
-    (built (λ decision x. record { decision = decision; permanent = x.0; tentative = x.1 }) (λ (t : Tail). t.decision)
-    (λ (t : Tail). (t.permanent, t.tentative)) (tail_fields node highest)
-    (decision_lawful node (length highest) (slice_index highest node)) (λ decision is. images_lawful highest)
-    (λ decision is. ((record { processes = []; ends = [] }, None), (no_image, tt)))
-    (λ t. (refl, refl)) (λ decision x. (refl, refl)))
+    (built (λ decisions x. record { decisions = decisions; permanent = x.0; tentative = x.1 })
+    (λ (t : Tail). t.decisions) (λ (t : Tail). (t.permanent, t.tentative)) (tail_fields most node highest)
+    (decisions_lawful most node (length highest) (slice_index highest node)) (λ decisions is. images_lawful highest)
+    (λ decisions is. ((record { processes = []; ends = [] }, None), (no_image, tt)))
+    (λ t. (refl, refl)) (λ decisions x. (refl, refl)))
     (λ t is. (tt, is)) (λ t is. is.1)
 
 -- ---- the whole
@@ -141,23 +143,23 @@ pub record IsKept (kept : RecordView) : Type 0 where
   pub permanent : IsImage kept.permanent
   pub tentative : IsTentative kept.tentative
 
-abbrev pub body_fields : RecordView → List Field
-body_fields kept =
+abbrev pub body_fields : ℕ → RecordView → List Field
+body_fields version kept =
     any 1 kept.node ∷ count kept.epoch ∷ nodes_field kept.node (length kept.highest)
     ∷ (map count kept.highest
-    ++ tail_fields kept.node kept.highest
-    (record { decision = kept.decision; permanent = kept.permanent; tentative = kept.tentative }))
+    ++ tail_fields (most_decisions version) kept.node kept.highest
+    (record { decisions = kept.decisions; permanent = kept.permanent; tentative = kept.tentative }))
 
-pub body_lawful : Lawful IsKept body_fields body_at
+pub body_lawful : (version : ℕ) → Lawful IsKept (body_fields version) (body_at version)
 unfolding body_at
-body_lawful =
+body_lawful version =
     same_values IsKept
     (built record_of (λ (r : RecordView). record { node = r.node; epoch = r.epoch; highest = r.highest })
-    (λ (r : RecordView). record { decision = r.decision; permanent = r.permanent; tentative = r.tentative })
-    body_fields
-    head_lawful (λ head is. tail_lawful head.node head.highest)
+    (λ (r : RecordView). record { decisions = r.decisions; permanent = r.permanent; tentative = r.tentative })
+    (body_fields version)
+    head_lawful (λ head is. tail_lawful (most_decisions version) head.node head.highest)
     (λ head is. (
-      record { decision = None; permanent = record { processes = []; ends = [] }; tentative = None },
+      record { decisions = []; permanent = record { processes = []; ends = [] }; tentative = None },
       (no_image, tt),
     ))
     (λ r. (refl, refl)) (λ head tail. (refl, refl)))

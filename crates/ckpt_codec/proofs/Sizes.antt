@@ -22,10 +22,11 @@ use Rattle.ckpt_codec.specs.Fields.{number_text}
 use Rattle.ckpt_codec.specs.RecordText.{variables_of, role_of, record_text}
 use Rattle.ckpt_codec.specs.Spelling.{item_text, items_text, mode_text, state_text, process_text, log_text, end_text}
 use Rattle.ckpt_codec.specs.Spelling.{saved_end_text, process_list_text, end_list_text, image_text, participants_text}
-use Rattle.ckpt_codec.specs.Spelling.{decision_text, tentative_text, highest_text, head_text}
+use Rattle.ckpt_codec.specs.Spelling.{decision_text, decisions_text, tentative_text, highest_text, head_text}
+use Rattle.ckpt_codec.specs.declared.version.TheConstants.{VERSION}
 use Rattle.ckpt_codec.specs.Lengths.{mode_length, process_length, end_length, saved_end_length, image_length}
-use Rattle.ckpt_codec.specs.Lengths.{decision_length, tentative_length, record_length, undecided_length, named_length}
-use Rattle.ckpt_codec.specs.Lengths.{named_count, with_decided, spelled_length}
+use Rattle.ckpt_codec.specs.Lengths.{decision_length, decisions_length, tentative_length, record_length, undecided_length}
+use Rattle.ckpt_codec.specs.Lengths.{with_decided, spelled_length}
 use Rattle.ckpt_codec.specs.SizeLaws.{permanent_is_shorter, decision_is_shorter, epoch_is_shorter}
 use Rattle.ckpt_codec.proofs.Spelled.{record-spelled}
 
@@ -134,21 +135,23 @@ length-image i =
     regroup : (p e : ℕ) → (1 + p) + (2 + e) ≡ 3 + p + e
     regroup p e = omega arith
 
-length-decision : (d : Option DecisionView) → length (decision_text d) ≡ decision_length d
-length-decision None = length-number 1 0
-length-decision (Some d) =
+length-decision : (d : DecisionView) → length (decision_text d) ≡ decision_length d
+length-decision d =
     let ps = length d.participants in
     let nodes : length (participants_text d.participants) ≡ 1 * ps =
     length-even (number_text 1) 1 (λ p. length-number 1 p) d.participants in
-    length-two (number_text 1 1) (number_text 8 d.number ++ (number_text 1 ps ++ participants_text d.participants)) 1
-    (8 + (1 + 1 * ps)) (length-number 1 1)
-    (length-two (number_text 8 d.number) (number_text 1 ps ++ participants_text d.participants) 8 (1 + 1 * ps)
+    length-two (number_text 8 d.number) (number_text 1 ps ++ participants_text d.participants) 8 (1 + 1 * ps)
     (length-number 8 d.number)
-    (length-two (number_text 1 ps) (participants_text d.participants) 1 (1 * ps) (length-number 1 ps) nodes))
+    (length-two (number_text 1 ps) (participants_text d.participants) 1 (1 * ps) (length-number 1 ps) nodes)
     ∙ regroup ps
   where
-    regroup : (v : ℕ) → 1 + (8 + (1 + 1 * v)) ≡ 10 + v
+    regroup : (v : ℕ) → 8 + (1 + 1 * v) ≡ 9 + v
     regroup v = omega arith
+
+length-decisions : (ds : List DecisionView) → length (decisions_text ds) ≡ decisions_length ds
+length-decisions ds =
+    length-two (number_text 1 (length ds)) (flat_map decision_text ds) 1 (sum_by decision_length ds)
+    (length-number 1 (length ds)) (length-flat decision_text decision_length length-decision ds)
 
 length-tentative : (t : Option Tentative) → length (tentative_text t) ≡ tentative_length t
 length-tentative None = length-number 1 0
@@ -164,14 +167,14 @@ length-tentative (Some t) =
     regroup : (v : ℕ) → 1 + (1 + (8 + v)) ≡ 10 + v
     regroup v = omega arith
 
-length-head : (kept : RecordView) → length (head_text kept) ≡ 11 + 8 * length kept.highest
-length-head kept =
+length-head : (version : ℕ) (kept : RecordView) → length (head_text version kept) ≡ 11 + 8 * length kept.highest
+length-head version kept =
     let n = length kept.highest in
     let entries : length (highest_text kept.highest) ≡ 8 * n =
     length-even (number_text 8) 8 (λ h. length-number 8 h) kept.highest in
-    length-two (number_text 1 1)
+    length-two (number_text 1 version)
     (number_text 1 kept.node ++ (number_text 8 kept.epoch ++ (number_text 1 n ++ highest_text kept.highest))) 1
-    (1 + (8 + (1 + 8 * n))) (length-number 1 1)
+    (1 + (8 + (1 + 8 * n))) (length-number 1 version)
     (length-two (number_text 1 kept.node) (number_text 8 kept.epoch ++ (number_text 1 n ++ highest_text kept.highest))
     1 (8 + (1 + 8 * n)) (length-number 1 kept.node)
     (length-two (number_text 8 kept.epoch) (number_text 1 n ++ highest_text kept.highest) 8 (1 + 8 * n)
@@ -182,18 +185,19 @@ length-head kept =
     regroup : (v : ℕ) → 1 + (1 + (8 + (1 + v))) ≡ 11 + v
     regroup v = omega arith
 
-pub length-record : (kept : RecordView) → length (record_text kept) ≡ record_length kept
-length-record kept =
+-- as long in each version
+pub length-record : (version : ℕ) (kept : RecordView) → length (record_text version kept) ≡ record_length kept
+length-record version kept =
     let h = 11 + 8 * length kept.highest in
-    let d = decision_length kept.decision in
+    let d = decisions_length kept.decisions in
     let p = image_length kept.permanent in
     let t = tentative_length kept.tentative in
-    ap (λ (b : List ℕ). length b) (record-spelled kept)
-    ∙ (length-two (head_text kept)
-    (decision_text kept.decision ++ (image_text kept.permanent ++ tentative_text kept.tentative)) h (d + (p + t))
-    (length-head kept)
-    (length-two (decision_text kept.decision) (image_text kept.permanent ++ tentative_text kept.tentative) d (p + t)
-    (length-decision kept.decision)
+    ap (λ (b : List ℕ). length b) (record-spelled version kept)
+    ∙ (length-two (head_text version kept)
+    (decisions_text kept.decisions ++ (image_text kept.permanent ++ tentative_text kept.tentative)) h (d + (p + t))
+    (length-head version kept)
+    (length-two (decisions_text kept.decisions) (image_text kept.permanent ++ tentative_text kept.tentative) d (p + t)
+    (length-decisions kept.decisions)
     (length-two (image_text kept.permanent) (tentative_text kept.tentative) p t (length-image kept.permanent)
     (length-tentative kept.tentative)))
     ∙ regroup h d p t)
@@ -203,15 +207,15 @@ length-record kept =
 
 pub length-spelled : (kept : RecordView) (n : ℕ) → n ≡ record_length kept → n ≡ spelled_length kept
 unfolding spelled_length
-length-spelled kept n is = is ∙ sym (length-record kept)
+length-spelled kept n is = is ∙ sym (length-record VERSION kept)
 
 -- a move that lets an image go, or none, makes the spelling no longer
 no_longer : (kept next : RecordView) → record_length next ≤ record_length kept
     → spelled_length next ≤ spelled_length kept
 unfolding spelled_length
 no_longer kept next shorter =
-    let before = length-record kept in
-    let after = length-record next in
+    let before = length-record VERSION kept in
+    let after = length-record VERSION next in
     omega (arith, before, after, shorter)
 
 pub permanent_is_no_longer : (kept : RecordView) → spelled_length (with_permanent kept) ≤ spelled_length kept
@@ -224,13 +228,13 @@ decision_is_no_longer number kept = no_longer kept (with_decision number [] kept
 pub epoch_is_no_longer : (kept : RecordView) → spelled_length (with_epoch kept) ≤ spelled_length kept
 epoch_is_no_longer kept = no_longer kept (with_epoch kept) (epoch_is_shorter kept)
 
-named-decision : (decision : Option DecisionView) → named_length (named_count decision) ≡ decision_length decision
-named-decision None = refl
-named-decision (Some d) = refl
+-- the same with decisions of so many bytes
+pub length-with : (kept : RecordView) (decided n : ℕ) → n ≡ undecided_length kept + decided
+    → (decisions : List DecisionView) → decisions_length decisions ≡ decided
+    → n ≡ spelled_length (with_decided decisions kept)
+length-with kept decided n is decisions long =
+    length-spelled (with_decided decisions kept) n (is ∙ ap (λ m. undecided_length kept + m) (sym long))
 
--- the same with a decision that names so many nodes
-pub length-with : (kept : RecordView) (named : Option ℕ) (n : ℕ) → n ≡ undecided_length kept + named_length named
-    → (decision : Option DecisionView) → named_count decision ≡ named → n ≡ spelled_length (with_decided decision kept)
-length-with kept named n is decision as_many =
-    length-spelled (with_decided decision kept) n
-    (is ∙ ap (λ m. undecided_length kept + m) (ap named_length (sym as_many) ∙ named-decision decision))
+-- bytes that spell a record in some version are as many as in that in which it is written
+pub length-text : (version : ℕ) (kept : RecordView) → length (record_text version kept) ≡ spelled_length kept
+length-text version kept = length-spelled kept (length (record_text version kept)) (length-record version kept)

@@ -21,15 +21,16 @@ use Rattle.record.specs.declared.image.End.TheVariants.{Receives, Sends, Both}
 use Rattle.record.specs.declared.record.Tentative.{Tentative}
 use Rattle.ckpt_codec.specs.Fields.{Field, IsAllowed, number_text, field_text, text_of}
 use Rattle.ckpt_codec.specs.RecordText.{any, at_most, exactly, count, item, flag, between, wanted_or, participants}
-use Rattle.ckpt_codec.specs.RecordText.{decision_fields, first_of, rest_of, wanted, variables_of, mode_fields}
+use Rattle.ckpt_codec.specs.RecordText.{decision_fields, each_decision_fields, decisions_fields, most_decisions, version_field, first_of, rest_of, wanted, variables_of, mode_fields}
 use Rattle.ckpt_codec.specs.RecordText.{process_fields, processes_fields, role_of, retained_count, end_fields}
 use Rattle.ckpt_codec.specs.RecordText.{saved_end_fields, ends_fields, processes_in, ends_in, image_fields}
 use Rattle.ckpt_codec.specs.RecordText.{tentative_fields, head_fields, record_fields, record_text, IsRecord}
-use Rattle.ckpt_codec.specs.RecordText.{items_of_end, IsRecordText}
+use Rattle.ckpt_codec.specs.RecordText.{items_of_end, IsTextIn}
+use Rattle.ckpt_codec.specs.declared.version.TheConstants.{VERSION}
 use Rattle.ckpt_codec.specs.Spelling.{item_text, items_text, mode_text, state_text, process_text, HasShortMode}
 use Rattle.ckpt_codec.specs.Spelling.{IsShortProcess, HasItems, log_text, end_text, saved_end_text, EndHasItems}
 use Rattle.ckpt_codec.specs.Spelling.{process_list_text, end_list_text, image_text, IsShortImage, ImageHasItems}
-use Rattle.ckpt_codec.specs.Spelling.{participants_text, decision_text, IsShortDecision, tentative_text}
+use Rattle.ckpt_codec.specs.Spelling.{participants_text, decision_text, decisions_text, IsShortDecision, tentative_text}
 use Rattle.ckpt_codec.specs.Spelling.{IsShortTentative, TentativeHasItems, highest_text, spelling, IsShortRecord}
 use Rattle.ckpt_codec.specs.Spelling.{RecordHasItems}
 use Rattle.ckpt_codec.proofs.Text.{AllAllowed}
@@ -92,21 +93,29 @@ participants-spelled node nodes least (p ∷ ps) =
     (participants-spelled node nodes (suc p) ps)
     ∙ sym (flat_map-cons (number_text 1) p ps)
 
-decision-spelled : (node nodes own : ℕ) (d : Option DecisionView)
-    → text_of (decision_fields node nodes own d) ≡ decision_text d
-decision-spelled node nodes own None = text-one (flag 0)
-decision-spelled node nodes own (Some d) =
-    let three =
-    behind_one (participant_count (length d.participants)) (participants node nodes 0 d.participants)
-    (participants_text d.participants) (participants-spelled node nodes 0 d.participants) in
-    let two =
-    behind_one (between 8 1 (suc own) d.number)
+decision-spelled : (node nodes own least : ℕ) (d : DecisionView)
+    → text_of (decision_fields node nodes own least d) ≡ decision_text d
+decision-spelled node nodes own least d =
+    behind_one (between 8 least (suc own) d.number)
     (participant_count (length d.participants) ∷ participants node nodes 0 d.participants)
-    (number_text 1 (length d.participants) ++ participants_text d.participants) three in
-    behind_one (flag 1)
-    (between 8 1 (suc own) d.number ∷ participant_count (length d.participants)
-    ∷ participants node nodes 0 d.participants)
-    (number_text 8 d.number ++ (number_text 1 (length d.participants) ++ participants_text d.participants)) two
+    (number_text 1 (length d.participants) ++ participants_text d.participants)
+    (behind_one (participant_count (length d.participants)) (participants node nodes 0 d.participants)
+    (participants_text d.participants) (participants-spelled node nodes 0 d.participants))
+
+each_decision-spelled : (node nodes own least : ℕ) (ds : List DecisionView)
+    → text_of (each_decision_fields node nodes own least ds) ≡ flat_map decision_text ds
+each_decision-spelled node nodes own least [] = refl
+each_decision-spelled node nodes own least (d ∷ ds) =
+    two_texts (decision_fields node nodes own least d) (each_decision_fields node nodes own (suc d.number) ds)
+    (decision_text d) (flat_map decision_text ds) (decision-spelled node nodes own least d)
+    (each_decision-spelled node nodes own (suc d.number) ds)
+    ∙ sym (flat_map-cons decision_text d ds)
+
+decisions-spelled : (most node nodes own : ℕ) (ds : List DecisionView)
+    → text_of (decisions_fields most node nodes own ds) ≡ decisions_text ds
+decisions-spelled most node nodes own ds =
+    behind_one (at_most 1 most (length ds)) (each_decision_fields node nodes own 1 ds) (flat_map decision_text ds)
+    (each_decision-spelled node nodes own 1 ds)
 
 mode-spelled : (standing : Standing) → text_of (mode_fields standing) ≡ mode_text standing
 mode-spelled (NotBegun vars) = text-one (at_most 1 2 0)
@@ -203,52 +212,58 @@ tentative-spelled highest permanent (Some t) =
     (behind_one (tentative_number entry t.number) (image_fields (Some permanent) t.image) (image_text t.image)
     (image-spelled (Some permanent) t.image)))
 
-abbrev behind_highest : RecordView → List Field
-behind_highest kept =
-    decision_fields kept.node (length kept.highest) (slice_index kept.highest kept.node) kept.decision
+abbrev decisions_of : ℕ → RecordView → List Field
+decisions_of version kept =
+    decisions_fields (most_decisions version) kept.node (length kept.highest) (slice_index kept.highest kept.node)
+    kept.decisions
+
+abbrev behind_highest : ℕ → RecordView → List Field
+behind_highest version kept =
+    decisions_of version kept
     ++ (image_fields None kept.permanent ++ tentative_fields kept.highest kept.permanent kept.tentative)
 
 abbrev behind_text : RecordView → List ℕ
-behind_text kept = decision_text kept.decision ++ (image_text kept.permanent ++ tentative_text kept.tentative)
+behind_text kept = decisions_text kept.decisions ++ (image_text kept.permanent ++ tentative_text kept.tentative)
 
-behind-spelled : (kept : RecordView) → text_of (behind_highest kept) ≡ behind_text kept
-behind-spelled kept =
-    two_texts (decision_fields kept.node (length kept.highest) (slice_index kept.highest kept.node) kept.decision)
+behind-spelled : (version : ℕ) (kept : RecordView) → text_of (behind_highest version kept) ≡ behind_text kept
+behind-spelled version kept =
+    two_texts (decisions_of version kept)
     (image_fields None kept.permanent ++ tentative_fields kept.highest kept.permanent kept.tentative)
-    (decision_text kept.decision) (image_text kept.permanent ++ tentative_text kept.tentative)
-    (decision-spelled kept.node (length kept.highest) (slice_index kept.highest kept.node) kept.decision)
+    (decisions_text kept.decisions) (image_text kept.permanent ++ tentative_text kept.tentative)
+    (decisions-spelled (most_decisions version) kept.node (length kept.highest)
+    (slice_index kept.highest kept.node) kept.decisions)
     (two_texts (image_fields None kept.permanent) (tentative_fields kept.highest kept.permanent kept.tentative)
     (image_text kept.permanent) (tentative_text kept.tentative)
     (image-spelled None kept.permanent) (tentative-spelled kept.highest kept.permanent kept.tentative))
 
 -- the highest numbers, and what follows them
-highest_behind : (kept : RecordView)
-    → text_of (map count kept.highest ++ behind_highest kept) ≡ highest_text kept.highest ++ behind_text kept
-highest_behind kept =
-    two_texts (map count kept.highest) (behind_highest kept) (highest_text kept.highest) (behind_text kept)
-    (counts-spelled kept.highest) (behind-spelled kept)
+highest_behind : (version : ℕ) (kept : RecordView)
+    → text_of (map count kept.highest ++ behind_highest version kept) ≡ highest_text kept.highest ++ behind_text kept
+highest_behind version kept =
+    two_texts (map count kept.highest) (behind_highest version kept) (highest_text kept.highest) (behind_text kept)
+    (counts-spelled kept.highest) (behind-spelled version kept)
 
 regrouped : (v n e c h r : List ℕ) → v ++ (n ++ (e ++ (c ++ (h ++ r)))) ≡ (v ++ (n ++ (e ++ (c ++ h)))) ++ r
 regrouped v n e c h r = sym (simp append_assoc)
 
 -- the spelling of a record, part by part
-pub record-spelled : (kept : RecordView) → record_text kept ≡ spelling kept
-record-spelled kept =
-    let rest = map count kept.highest ++ behind_highest kept in
+pub record-spelled : (version : ℕ) (kept : RecordView) → record_text version kept ≡ spelling version kept
+record-spelled version kept =
+    let rest = map count kept.highest ++ behind_highest version kept in
     let nodes = nodes_field kept.node (length kept.highest) in
     let text = highest_text kept.highest ++ behind_text kept in
-    behind_one (exactly 1 1 1) (any 1 kept.node ∷ count kept.epoch ∷ nodes ∷ rest)
+    behind_one (version_field version) (any 1 kept.node ∷ count kept.epoch ∷ nodes ∷ rest)
     (number_text 1 kept.node ++ (number_text 8 kept.epoch ++ (number_text 1 (length kept.highest) ++ text)))
     (behind_one (any 1 kept.node) (count kept.epoch ∷ nodes ∷ rest)
     (number_text 8 kept.epoch ++ (number_text 1 (length kept.highest) ++ text))
     (behind_one (count kept.epoch) (nodes ∷ rest) (number_text 1 (length kept.highest) ++ text)
-    (behind_one nodes rest text (highest_behind kept))))
-    ∙ regrouped (number_text 1 1) (number_text 1 kept.node) (number_text 8 kept.epoch)
+    (behind_one nodes rest text (highest_behind version kept))))
+    ∙ regrouped (number_text 1 version) (number_text 1 kept.node) (number_text 8 kept.epoch)
     (number_text 1 (length kept.highest)) (highest_text kept.highest) (behind_text kept)
 
 -- ---- numbers that can be written
 
-allowed-split : (xs ys : List Field) → AllAllowed (xs ++ ys) → AllAllowed xs × AllAllowed ys
+pub allowed-split : (xs ys : List Field) → AllAllowed (xs ++ ys) → AllAllowed xs × AllAllowed ys
 allowed-split [] ys all = (tt, all)
 allowed-split (x ∷ xs) ys all = let h = allowed-split xs ys all.1 in ((all.0, h.0), h.1)
 
@@ -295,10 +310,13 @@ image_short like i all =
           h.1.0;
     }
 
-decision_short : (node nodes own : ℕ) (d : Option DecisionView) → AllAllowed (decision_fields node nodes own d)
-    → IsShortDecision d
-decision_short node nodes own None all = tt
-decision_short node nodes own (Some d) all = all.1.1.0.0
+decisions_short : (node nodes own least : ℕ) (ds : List DecisionView)
+    → AllAllowed (each_decision_fields node nodes own least ds) → AllByRecursion IsShortDecision ds
+decisions_short node nodes own least [] all = tt
+decisions_short node nodes own least (d ∷ ds) all =
+    let h = allowed-split (decision_fields node nodes own least d)
+    (each_decision_fields node nodes own (suc d.number) ds) all in
+    (h.0.1.0.0, decisions_short node nodes own (suc d.number) ds h.1)
 
 tentative_short : (highest : List ℕ) (permanent : ImageView) (t : Option Tentative)
     → AllAllowed (tentative_fields highest permanent t) → IsShortTentative t
@@ -307,21 +325,23 @@ tentative_short highest permanent (Some t) all = image_short (Some permanent) t.
 
 pub record_short : (kept : RecordView) → IsRecord kept → IsShortRecord kept
 record_short kept is =
-    let all = recursion_from_All IsAllowed (record_fields kept) is in
+    let all = recursion_from_All IsAllowed (record_fields VERSION kept) is in
     let images = image_fields None kept.permanent ++ tentative_fields kept.highest kept.permanent kept.tentative in
-    let one = allowed-split (head_fields kept) (map count kept.highest ++ behind_highest kept) all in
-    let two = allowed-split (map count kept.highest) (behind_highest kept) one.1 in
+    let one = allowed-split (head_fields VERSION kept) (map count kept.highest ++ behind_highest VERSION kept) all in
+    let two = allowed-split (map count kept.highest) (behind_highest VERSION kept) one.1 in
     let three =
-    allowed-split
-    (decision_fields kept.node (length kept.highest) (slice_index kept.highest kept.node) kept.decision) images
-    two.1 in
+    allowed-split (decisions_of VERSION kept) images two.1 in
     let four =
     allowed-split (image_fields None kept.permanent) (tentative_fields kept.highest kept.permanent kept.tentative)
     three.1 in
     record {
       nodes = one.0.1.1.1.0.0;
-      decision =
-          decision_short kept.node (length kept.highest) (slice_index kept.highest kept.node) kept.decision three.0;
+      decisions = record {
+        few = three.0.0.0;
+        each = All-from_recursion IsShortDecision kept.decisions
+            (decisions_short kept.node (length kept.highest) (slice_index kept.highest kept.node) 1 kept.decisions
+            three.0.1);
+      };
       permanent = image_short None kept.permanent four.0;
       tentative = tentative_short kept.highest kept.permanent kept.tentative four.1;
     }
@@ -348,8 +368,8 @@ tentative_is : (t : Option Tentative) → TentativeHasItems t → IsTentative t
 tentative_is None has = tt
 tentative_is (Some t) has = image_is t.image has
 
-pub is_text : (kept : RecordView) (bytes : List ℕ) → IsRecord kept → RecordHasItems kept → bytes ≡ spelling kept
-    → IsRecordText kept bytes
+pub is_text : (kept : RecordView) (bytes : List ℕ) → IsRecord kept → RecordHasItems kept
+    → bytes ≡ spelling VERSION kept → IsTextIn VERSION kept bytes
 is_text kept bytes is has e = record {
   allowed = is;
   items = kept_items kept
@@ -358,5 +378,5 @@ is_text kept bytes is has e = record {
         tentative =
             tentative_is kept.tentative has.tentative;
       });
-  spelled = e ∙ sym (record-spelled kept);
+  spelled = e ∙ sym (record-spelled VERSION kept);
 }

@@ -21,7 +21,9 @@ use Rattle.ckpt_codec.specs.ItemLaws.{wrapped_fits}
 use Rattle.ckpt_codec.specs.RecordText.{any, at_most, exactly, between, retained_count, count, flag, item, variables_of}
 use Rattle.ckpt_codec.specs.RecordText.{role_of, wanted, participants, wanted_or, first_of, rest_of, mode_fields}
 use Rattle.ckpt_codec.specs.RecordText.{process_fields, processes_fields, end_fields, saved_end_fields, ends_fields}
-use Rattle.ckpt_codec.specs.RecordText.{decision_fields, image_fields, tentative_fields, head_fields, record_fields}
+use Rattle.ckpt_codec.specs.RecordText.{decision_fields, each_decision_fields, decisions_fields, version_field, image_fields, tentative_fields, head_fields, record_fields}
+use Rattle.record.specs.declared.record.TheConstants.{MAX_DECISIONS}
+use Rattle.ckpt_codec.specs.declared.version.TheConstants.{VERSION}
 use Rattle.ckpt_codec.specs.Testing.{listed, log_fields, participant_field, participant_count_field, initiator_field}
 use Rattle.ckpt_codec.specs.Testing.{held_number_field, nodes_field}
 
@@ -300,32 +302,55 @@ module _ (place : Place) (a : Bool) (site : IsTrue a ↔ IsAllowed (any 4 place.
 flag_stands : IsAllowed (flag 1)
 flag_stands = (omega arith, refl)
 
-module _ (node nodes own : ℕ) (d : DecisionView) (a : Bool)
-    (number : IsTrue a ↔ IsAllowed (between 8 1 (suc own) d.number)) where
+module _ (node nodes own least : ℕ) (d : DecisionView) (a : Bool)
+    (number : IsTrue a ↔ IsAllowed (between 8 least (suc own) d.number)) where
   abbrev behind_number : List Field
   behind_number = participant_count_field (length d.participants) ∷ participants node nodes 0 d.participants
 
-  pub decision_not : a ≡ false → Tests false (decision_fields node nodes own (Some d))
-  decision_not is =
-      field_stands (flag 1) (between 8 1 (suc own) d.number ∷ behind_number) false flag_stands
-      (field_not (between 8 1 (suc own) d.number) behind_number a number is)
+  pub decision_not : a ≡ false → Tests false (decision_fields node nodes own least d)
+  decision_not is = field_not (between 8 least (suc own) d.number) behind_number a number is
 
   module _ (b : Bool) (numbered : a ≡ true)
       (counted : IsTrue b ↔ IsAllowed (participant_count_field (length d.participants))) where
-    pub decision_uncounted : b ≡ false → Tests false (decision_fields node nodes own (Some d))
+    pub decision_uncounted : b ≡ false → Tests false (decision_fields node nodes own least d)
     decision_uncounted is =
-        field_stands (flag 1) (between 8 1 (suc own) d.number ∷ behind_number) false flag_stands
-        (field_then (between 8 1 (suc own) d.number) behind_number a false number numbered
+        field_then (between 8 least (suc own) d.number) behind_number a false number numbered
         (field_not (participant_count_field (length d.participants)) (participants node nodes 0 d.participants) b
-        counted is))
+        counted is)
 
     pub decision_then : (e : Bool) → b ≡ true → Tests e (participants node nodes 0 d.participants)
-        → Tests e (decision_fields node nodes own (Some d))
+        → Tests e (decision_fields node nodes own least d)
     decision_then e is named =
-        field_stands (flag 1) (between 8 1 (suc own) d.number ∷ behind_number) e flag_stands
-        (field_then (between 8 1 (suc own) d.number) behind_number a e number numbered
+        field_then (between 8 least (suc own) d.number) behind_number a e number numbered
         (field_then (participant_count_field (length d.participants)) (participants node nodes 0 d.participants) b
-        e counted is named))
+        e counted is named)
+
+module _ (node nodes own least : ℕ) (ds : List DecisionView) (default : DecisionView) (a : Bool)
+    (some : 1 ≤ length ds) (test : Tests a (decision_fields node nodes own least (get_or ds 0 default))) where
+  pub decisions_not : a ≡ false → Tests false (each_decision_fields node nodes own least ds)
+  decisions_not is = at ds some test
+    where
+      at : (xs : List DecisionView) → 1 ≤ length xs
+          → Tests a (decision_fields node nodes own least (get_or xs 0 default))
+          → Tests false (each_decision_fields node nodes own least xs)
+      at [] some test = absurd (omega (arith, some))
+      at (x ∷ xs) some test =
+          not_first (decision_fields node nodes own least x) (each_decision_fields node nodes own (suc x.number) xs) a
+          test is
+
+  pub decisions_then : (b : Bool) → a ≡ true
+      → Tests b (each_decision_fields node nodes own (suc (get_or ds 0 default).number) (drop 1 ds))
+      → Tests b (each_decision_fields node nodes own least ds)
+  decisions_then b is behind = at ds some test behind
+    where
+      at : (xs : List DecisionView) → 1 ≤ length xs
+          → Tests a (decision_fields node nodes own least (get_or xs 0 default))
+          → Tests b (each_decision_fields node nodes own (suc (get_or xs 0 default).number) (drop 1 xs))
+          → Tests b (each_decision_fields node nodes own least xs)
+      at [] some test behind = absurd (omega (arith, some))
+      at (x ∷ xs) some test behind =
+          others (decision_fields node nodes own least x) (each_decision_fields node nodes own (suc x.number) xs) a b
+          test is behind
 
 module _ (highest : List ℕ) (permanent : ImageView) (t : Tentative) (a : Bool)
     (initiator : IsTrue a ↔ IsAllowed (initiator_field highest t.initiator)) where
@@ -357,7 +382,7 @@ module _ (highest : List ℕ) (permanent : ImageView) (t : Tentative) (a : Bool)
 -- version, node, epoch and how many nodes there are
 module _ (kept : RecordView) (a : Bool) (small : kept.node < 256) (epoch : IsTrue a ↔ IsAllowed (count kept.epoch))
   where
-    version_stands : IsAllowed (exactly 1 1 1)
+    version_stands : IsAllowed (version_field VERSION)
     version_stands = (omega arith, refl)
 
     node_stands : IsAllowed (any 1 kept.node)
@@ -366,25 +391,27 @@ module _ (kept : RecordView) (a : Bool) (small : kept.node < 256) (epoch : IsTru
     abbrev nodes_there : Field
     nodes_there = nodes_field kept.node (length kept.highest)
 
-    pub head_not : a ≡ false → Tests false (head_fields kept)
+    pub head_not : a ≡ false → Tests false (head_fields VERSION kept)
     head_not is =
-        field_stands (exactly 1 1 1) (any 1 kept.node ∷ count kept.epoch ∷ nodes_there ∷ []) false version_stands
+        field_stands (version_field VERSION) (any 1 kept.node ∷ count kept.epoch ∷ nodes_there ∷ []) false version_stands
         (field_stands (any 1 kept.node) (count kept.epoch ∷ nodes_there ∷ []) false node_stands
         (field_not (count kept.epoch) (nodes_there ∷ []) a epoch is))
 
-    pub head_then : (b : Bool) → a ≡ true → (IsTrue b ↔ IsAllowed nodes_there) → Tests b (head_fields kept)
+    pub head_then : (b : Bool) → a ≡ true → (IsTrue b ↔ IsAllowed nodes_there) → Tests b (head_fields VERSION kept)
     head_then b is nodes =
-        field_stands (exactly 1 1 1) (any 1 kept.node ∷ count kept.epoch ∷ nodes_there ∷ []) b version_stands
+        field_stands (version_field VERSION) (any 1 kept.node ∷ count kept.epoch ∷ nodes_there ∷ []) b version_stands
         (field_stands (any 1 kept.node) (count kept.epoch ∷ nodes_there ∷ []) b node_stands
         (field_then (count kept.epoch) (nodes_there ∷ []) a b epoch is (single nodes_there b nodes)))
 
 -- the parts of a record, each where those before it stand
-module _ (kept : RecordView) (a : Bool) (head : Tests a (head_fields kept)) where
+module _ (kept : RecordView) (a : Bool) (head : Tests a (head_fields VERSION kept)) where
   abbrev entries_of : List Field
   entries_of = map count kept.highest
 
-  abbrev decision_of : List Field
-  decision_of = decision_fields kept.node (length kept.highest) (slice_index kept.highest kept.node) kept.decision
+  abbrev decisions_of : List Field
+  decisions_of =
+      decisions_fields MAX_DECISIONS kept.node (length kept.highest) (slice_index kept.highest kept.node)
+      kept.decisions
 
   abbrev permanent_of : List Field
   permanent_of = image_fields None kept.permanent
@@ -392,39 +419,39 @@ module _ (kept : RecordView) (a : Bool) (head : Tests a (head_fields kept)) wher
   abbrev tentative_of : List Field
   tentative_of = tentative_fields kept.highest kept.permanent kept.tentative
 
-  pub record_no_head : a ≡ false → Tests false (record_fields kept)
+  pub record_no_head : a ≡ false → Tests false (record_fields VERSION kept)
   record_no_head is =
-      not_first (head_fields kept) (entries_of ++ (decision_of ++ (permanent_of ++ tentative_of))) a head is
+      not_first (head_fields VERSION kept) (entries_of ++ (decisions_of ++ (permanent_of ++ tentative_of))) a head is
 
   module _ (headed : a ≡ true) (b : Bool) (entries : Tests b entries_of) where
-    behind_head : (r : Bool) → Tests r (entries_of ++ (decision_of ++ (permanent_of ++ tentative_of)))
-        → Tests r (record_fields kept)
+    behind_head : (r : Bool) → Tests r (entries_of ++ (decisions_of ++ (permanent_of ++ tentative_of)))
+        → Tests r (record_fields VERSION kept)
     behind_head r test =
-        others (head_fields kept) (entries_of ++ (decision_of ++ (permanent_of ++ tentative_of))) a r head headed test
+        others (head_fields VERSION kept) (entries_of ++ (decisions_of ++ (permanent_of ++ tentative_of))) a r head headed test
 
-    pub record_no_entries : b ≡ false → Tests false (record_fields kept)
+    pub record_no_entries : b ≡ false → Tests false (record_fields VERSION kept)
     record_no_entries is =
-        behind_head false (not_first entries_of (decision_of ++ (permanent_of ++ tentative_of)) b entries is)
+        behind_head false (not_first entries_of (decisions_of ++ (permanent_of ++ tentative_of)) b entries is)
 
-    module _ (entered : b ≡ true) (d : Bool) (decision : Tests d decision_of) where
-      behind_entries : (r : Bool) → Tests r (decision_of ++ (permanent_of ++ tentative_of))
-          → Tests r (record_fields kept)
+    module _ (entered : b ≡ true) (d : Bool) (decision : Tests d decisions_of) where
+      behind_entries : (r : Bool) → Tests r (decisions_of ++ (permanent_of ++ tentative_of))
+          → Tests r (record_fields VERSION kept)
       behind_entries r test =
-          behind_head r (others entries_of (decision_of ++ (permanent_of ++ tentative_of)) b r entries entered test)
+          behind_head r (others entries_of (decisions_of ++ (permanent_of ++ tentative_of)) b r entries entered test)
 
-      pub record_no_decision : d ≡ false → Tests false (record_fields kept)
-      record_no_decision is = behind_entries false (not_first decision_of (permanent_of ++ tentative_of) d decision is)
+      pub record_no_decisions : d ≡ false → Tests false (record_fields VERSION kept)
+      record_no_decisions is = behind_entries false (not_first decisions_of (permanent_of ++ tentative_of) d decision is)
 
       module _ (decided : d ≡ true) (e : Bool) (permanent : Tests e permanent_of) where
-        behind_decision : (r : Bool) → Tests r (permanent_of ++ tentative_of) → Tests r (record_fields kept)
-        behind_decision r test =
-            behind_entries r (others decision_of (permanent_of ++ tentative_of) d r decision decided test)
+        behind_decisions : (r : Bool) → Tests r (permanent_of ++ tentative_of) → Tests r (record_fields VERSION kept)
+        behind_decisions r test =
+            behind_entries r (others decisions_of (permanent_of ++ tentative_of) d r decision decided test)
 
-        pub record_no_image : e ≡ false → Tests false (record_fields kept)
-        record_no_image is = behind_decision false (not_first permanent_of tentative_of e permanent is)
+        pub record_no_image : e ≡ false → Tests false (record_fields VERSION kept)
+        record_no_image is = behind_decisions false (not_first permanent_of tentative_of e permanent is)
 
-        pub record_then : (f : Bool) → e ≡ true → Tests f tentative_of → Tests f (record_fields kept)
-        record_then f is tentative = behind_decision f (others permanent_of tentative_of e f permanent is tentative)
+        pub record_then : (f : Bool) → e ≡ true → Tests f tentative_of → Tests f (record_fields VERSION kept)
+        record_then f is tentative = behind_decisions f (others permanent_of tentative_of e f permanent is tentative)
 
 pub one_more : (n : ℕ) → n + 1 ≡ suc n
 one_more n = omega arith

@@ -3,17 +3,18 @@
 use Rattle.std.specs.Prelude.{◌≡◌, ◌≢◌, ◌⊎◌, ℕ, ◌^◌, ◌<◌, false, List, [], ◌∷◌, ◌++◌, length, Result, Ok, Err}
 use Rattle.record.specs.RecordView.{RecordView}
 use Rattle.ckpt_codec.specs.Fields.{Field, AreAllowed, number_text, text_of}
-use Rattle.ckpt_codec.specs.RecordText.{record_fields, IsRecordText}
+use Rattle.ckpt_codec.specs.RecordText.{record_fields, version_field, IsRecordText}
 use Rattle.ckpt_codec.specs.declared.fault.CodecFault.{CodecFault}
 use Rattle.ckpt_codec.specs.declared.fault.CodecFault.TheVariants.{NoMemory, Truncated, Version, Malformed}
 
--- a place in the fields of some record: those before it may stand where they do, and this field comes next
+-- a place in the fields of some record, in some version: those before it may stand where they do, and this field comes next
 pub record Place : Type 0 where
+  pub version : ℕ
   pub kept : RecordView
   pub before : List Field
   pub next : Field
   pub after : List Field
-  pub fields : record_fields kept ≡ before ++ next ∷ after
+  pub fields : record_fields version kept ≡ before ++ next ∷ after
   pub allowed : AreAllowed before
 
 -- the bytes end where a field wants more
@@ -28,7 +29,7 @@ pub record IsOfAnotherVersion (bytes : List ℕ) : Type 0 where
   pub version : ℕ
   pub rest : List ℕ
   pub parts : bytes ≡ version ∷ rest
-  pub other : version ≢ 1
+  pub other : (version_field version).allows version ≡ false
 
 -- a number that can't stand in its field, behind the version
 pub record IsRuledOut (bytes : List ℕ) : Type 0 where

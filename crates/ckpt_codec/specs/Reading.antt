@@ -18,7 +18,8 @@ use Rattle.record.specs.declared.image.SavedEnd.{SavedEnd}
 use Rattle.record.specs.declared.image.End.{End}
 use Rattle.record.specs.declared.image.End.TheVariants.{Receives, Sends, Both}
 use Rattle.record.specs.declared.record.Tentative.{Tentative}
-use Rattle.ckpt_codec.specs.RecordText.{wanted, variables_of, role_of, processes_in, ends_in}
+use Rattle.ckpt_codec.specs.RecordText.{wanted, variables_of, role_of, processes_in, ends_in, most_decisions}
+use Rattle.ckpt_codec.specs.RecordText.{version_field}
 use Rattle.ckpt_codec.specs.declared.fault.CodecFault.{CodecFault}
 use Rattle.ckpt_codec.specs.declared.fault.CodecFault.TheVariants.{NoMemory, Truncated, Version, Malformed}
 
@@ -84,7 +85,7 @@ each_as read s = read
 abbrev pub unchanged : {X : Type 0} → Unit {0} → X → Unit {0}
 unchanged s x = s
 
--- ---- the head and the decision
+-- ---- the head and the decisions
 
 unfoldable pub entries_at : ℕ → Reader (List ℕ)
 entries_at n = so_many (each_as count_at) unchanged n tt
@@ -104,8 +105,8 @@ past_participant least p = p + 1
 unfoldable pub participants_at : ℕ → ℕ → ℕ → Reader (List ℕ)
 participants_at node nodes n = so_many (participant_at node nodes) past_participant n 0
 
-abbrev pub decided_number_at : ℕ → Reader ℕ
-decided_number_at own = field_at 8 (λ v. nat_le 1 v && nat_lt v (suc own))
+abbrev pub decided_number_at : ℕ → ℕ → Reader ℕ
+decided_number_at own least = field_at 8 (λ v. nat_le least v && nat_lt v (suc own))
 
 abbrev pub participant_count_at : Reader ℕ
 participant_count_at = field_at 1 (λ v. nat_le 1 v)
@@ -113,13 +114,25 @@ participant_count_at = field_at 1 (λ v. nat_le 1 v)
 unfoldable pub participant_list_at : ℕ → ℕ → Reader (List ℕ)
 participant_list_at node nodes bytes = participant_count_at bytes >>= λ n. participants_at node nodes n.0 n.1
 
-unfoldable pub decided_at : ℕ → ℕ → ℕ → Reader DecisionView
-decided_at node nodes own bytes =
-    decided_number_at own bytes >>= λ number. participant_list_at node nodes number.1 >>= λ ps. Ok
+-- a decision with at least this number
+unfoldable pub decided_at : ℕ → ℕ → ℕ → ℕ → Reader DecisionView
+decided_at node nodes own least bytes =
+    decided_number_at own least bytes >>= λ number. participant_list_at node nodes number.1 >>= λ ps. Ok
     (record { number = number.0; participants = ps.0 }, ps.1)
 
-unfoldable pub decision_at : ℕ → ℕ → ℕ → Reader (Option DecisionView)
-decision_at node nodes own bytes = optional (decided_at node nodes own) bytes
+abbrev pub past_decision : ℕ → DecisionView → ℕ
+past_decision least d = d.number + 1
+
+unfoldable pub decided_so_many : ℕ → ℕ → ℕ → ℕ → Reader (List DecisionView)
+decided_so_many node nodes own n = so_many (decided_at node nodes own) past_decision n 1
+
+abbrev pub decision_count_at : ℕ → Reader ℕ
+decision_count_at most = field_at 1 (λ v. nat_le v most)
+
+-- decisions, at most so many
+unfoldable pub decisions_at : ℕ → ℕ → ℕ → ℕ → Reader (List DecisionView)
+decisions_at most node nodes own bytes =
+    decision_count_at most bytes >>= λ n. decided_so_many node nodes own n.0 n.1
 
 -- ---- processes
 
@@ -323,15 +336,16 @@ images_at highest bytes =
 
 -- what follows the head
 pub record Tail : Type 0 where
-  pub decision : Option DecisionView
+  pub decisions : List DecisionView
   pub permanent : ImageView
   pub tentative : Option Tentative
 
-unfoldable pub tail_at : ℕ → List ℕ → Reader Tail
-tail_at node highest bytes =
-    decision_at node (length highest) (slice_index highest node) bytes >>= λ decision. images_at highest decision.1 >>=
-    λ x.
-    Ok (record { decision = decision.0; permanent = x.0.0; tentative = x.0.1 }, x.1)
+-- with at most so many decisions
+unfoldable pub tail_at : ℕ → ℕ → List ℕ → Reader Tail
+tail_at most node highest bytes =
+    decisions_at most node (length highest) (slice_index highest node) bytes >>= λ decisions.
+    images_at highest decisions.1 >>= λ x.
+    Ok (record { decisions = decisions.0; permanent = x.0.0; tentative = x.0.1 }, x.1)
 
 -- a record of its head and what follows it
 abbrev pub record_of : Head → Tail → RecordView
@@ -340,16 +354,17 @@ record_of head tail =
       node = head.node;
       epoch = head.epoch;
       highest = head.highest;
-      decision = tail.decision;
+      decisions = tail.decisions;
       permanent =
           tail.permanent;
       tentative = tail.tentative;
     }
 
 -- what follows the version
-unfoldable pub body_at : Reader RecordView
-body_at bytes =
-    head_at bytes >>= λ head. tail_at head.0.node head.0.highest head.1 >>= λ tail. Ok (record_of head.0 tail.0, tail.1)
+unfoldable pub body_at : ℕ → Reader RecordView
+body_at version bytes =
+    head_at bytes >>= λ head. tail_at (most_decisions version) head.0.node head.0.highest head.1 >>= λ tail.
+    Ok (record_of head.0 tail.0, tail.1)
 
 -- what takes all the bytes
 abbrev pub if_all : {A : Type 0} → Found A → Result A CodecFault
@@ -359,7 +374,8 @@ if_all (Err fault) = Err fault
 -- the record that takes all the bytes
 unfoldable pub whole_at : List ℕ → Result RecordView CodecFault
 whole_at [] = Err Truncated
-whole_at (version ∷ rest) = if version == 1 then if_all (body_at rest) else Err Version
+whole_at (version ∷ rest) =
+    if (version_field version).allows version then if_all (body_at version rest) else Err Version
 
 -- what a function returned, seen by view, is what is read, unless memory ran out
 abbrev pub Fails : {Y : Type 0} → CodecFault → Result Y CodecFault → Type 0

@@ -1,7 +1,7 @@
 -- The grammar of records: the fields of a record in their order, and the bytes that they make. What may stand in a
 -- field depends on the fields before it alone.
-use Rattle.std.specs.Prelude.{◌≡◌, ℕ, suc, ◌+◌, true, ◌==◌, ◌&&◌, not, nat_lt, nat_le, ℤ, List, [], ◌∷◌, ◌++◌, length}
-use Rattle.std.specs.Prelude.{map, Option, Some, None, slice_index, All, FitsSigned}
+use Rattle.std.specs.Prelude.{◌≡◌, ℕ, suc, ◌+◌, true, ◌==◌, ◌&&◌, not, nat_lt, nat_le, if◌then◌else◌, ℤ, List, [], ◌∷◌}
+use Rattle.std.specs.Prelude.{◌++◌, length, map, Option, Some, None, slice_index, All, FitsSigned}
 use Rattle.std.specs.List.{flat_map}
 use Rattle.std.specs.Int.{w64, cast_unsigned, int_wrap}
 use Rattle.kahn_net.specs.Processes.{Standing}
@@ -9,6 +9,8 @@ use Rattle.kahn_net.specs.Processes.Standing.{NotBegun, At, Done}
 use Rattle.kahn_net.specs.declared.limits.TheConstants.{MAX_COUNT, MAX_NODES, MAX_PROCESSES, MAX_CHANNELS}
 use Rattle.kahn_net.specs.declared.limits.TheConstants.{MAX_VARIABLES}
 use Rattle.retained.specs.declared.log.TheConstants.{MAX_LOG_ITEMS}
+use Rattle.record.specs.declared.record.TheConstants.{MAX_DECISIONS}
+use Rattle.ckpt_codec.specs.declared.version.TheConstants.{FIRST_VERSION, VERSION}
 use Rattle.record.specs.DecisionView.{DecisionView}
 use Rattle.record.specs.ProcessView.{SavedProcessView}
 use Rattle.record.specs.ImageView.{ImageView}
@@ -54,7 +56,14 @@ abbrev pub wanted_or : Option ℕ → Field → Field
 wanted_or None field = field
 wanted_or (Some n) field = exactly field.width n field.value
 
--- ---- a decision
+-- ---- the decisions
+
+-- the versions of a spelling: in the first a record has one decision at most, in the second `MAX_DECISIONS`
+abbrev pub version_field : ℕ → Field
+version_field version = between 1 FIRST_VERSION (suc VERSION) version
+
+abbrev pub most_decisions : ℕ → ℕ
+most_decisions version = if version == FIRST_VERSION then 1 else MAX_DECISIONS
 
 -- the nodes of a decision, ascending from the least that is left: below so many, and not this node
 abbrev pub participants : ℕ → ℕ → ℕ → List ℕ → List Field
@@ -63,13 +72,23 @@ participants node nodes least (p ∷ ps) =
     record { width = 1; allows = λ v. nat_le least v && (nat_lt v nodes && not (v == node)); value = p }
     ∷ participants node nodes (suc p) ps
 
--- the decision of a node of so many, whose own entry is this
-abbrev pub decision_fields : ℕ → ℕ → ℕ → Option DecisionView → List Field
-decision_fields node nodes own None = flag 0 ∷ []
-decision_fields node nodes own (Some d) =
-    flag 1 ∷ between 8 1 (suc own) d.number
+-- a decision of a node of so many, whose own entry is this; it has at least this number
+abbrev pub decision_fields : ℕ → ℕ → ℕ → ℕ → DecisionView → List Field
+decision_fields node nodes own least d =
+    between 8 least (suc own) d.number
     ∷ record { width = 1; allows = λ v. nat_le 1 v; value = length d.participants }
     ∷ participants node nodes 0 d.participants
+
+-- decisions by ascending numbers, from the least that is left on
+abbrev pub each_decision_fields : ℕ → ℕ → ℕ → ℕ → List DecisionView → List Field
+each_decision_fields node nodes own least [] = []
+each_decision_fields node nodes own least (d ∷ ds) =
+    decision_fields node nodes own least d ++ each_decision_fields node nodes own (suc d.number) ds
+
+-- at most so many of them
+abbrev pub decisions_fields : ℕ → ℕ → ℕ → ℕ → List DecisionView → List Field
+decisions_fields most node nodes own ds =
+    at_most 1 most (length ds) ∷ each_decision_fields node nodes own 1 ds
 
 -- ---- an image; a second one has the processes, the numbers of variables and the channels' roles of the first
 
@@ -174,20 +193,21 @@ tentative_fields highest permanent (Some t) =
     ∷ image_fields (Some permanent) t.image
 
 -- version, node, epoch and how many nodes there are; a node that isn't one of them is found there
-abbrev pub head_fields : RecordView → List Field
-head_fields kept =
-    exactly 1 1 1 ∷ any 1 kept.node ∷ count kept.epoch
+abbrev pub head_fields : ℕ → RecordView → List Field
+head_fields version kept =
+    version_field version ∷ any 1 kept.node ∷ count kept.epoch
     ∷ record { width = 1; allows = λ v. nat_lt kept.node v && nat_le v MAX_NODES; value = length kept.highest } ∷ []
 
-abbrev pub record_fields : RecordView → List Field
-record_fields kept =
-    head_fields kept ++ (map count kept.highest
-    ++ (decision_fields kept.node (length kept.highest) (slice_index kept.highest kept.node) kept.decision
+abbrev pub record_fields : ℕ → RecordView → List Field
+record_fields version kept =
+    head_fields version kept ++ (map count kept.highest
+    ++ (decisions_fields (most_decisions version) kept.node (length kept.highest)
+    (slice_index kept.highest kept.node) kept.decisions
     ++ (image_fields None kept.permanent ++ tentative_fields kept.highest kept.permanent kept.tentative)))
 
--- a record that can be written: each of its fields may stand where it does
+-- a record that can be written, in the version in which records are: each of its fields may stand where it does
 abbrev pub IsRecord : RecordView → Type 0
-IsRecord kept = AreAllowed (record_fields kept)
+IsRecord kept = AreAllowed (record_fields VERSION kept)
 
 -- the variables and items of a record, which are of 64 bits with a sign
 abbrev pub items_of_end : End → List ℤ
@@ -207,12 +227,21 @@ items_of_tentative (Some t) = items_of_image t.image
 abbrev pub items_of_record : RecordView → List ℤ
 items_of_record kept = items_of_image kept.permanent ++ items_of_tentative kept.tentative
 
--- the one spelling of a record
-abbrev pub record_text : RecordView → List ℕ
-record_text kept = text_of (record_fields kept)
+-- the one spelling of a record in this version
+abbrev pub record_text : ℕ → RecordView → List ℕ
+record_text version kept = text_of (record_fields version kept)
 
--- the bytes spell this record
-pub record IsRecordText (kept : RecordView) (bytes : List ℕ) : Type 0 where
-  pub allowed : IsRecord kept
+-- the bytes spell this record in this version
+pub record IsTextIn (version : ℕ) (kept : RecordView) (bytes : List ℕ) : Type 0 where
+  pub allowed : AreAllowed (record_fields version kept)
   pub items : All (FitsSigned w64) (items_of_record kept)
-  pub spelled : bytes ≡ record_text kept
+  pub spelled : bytes ≡ record_text version kept
+
+-- the version that bytes tell first; there is none of 0
+abbrev pub version_of : List ℕ → ℕ
+version_of [] = 0
+version_of (version ∷ rest) = version
+
+-- the bytes spell this record, in the version that they tell
+pub record IsRecordText (kept : RecordView) (bytes : List ℕ) : Type 0 where
+  pub text : IsTextIn (version_of bytes) kept bytes

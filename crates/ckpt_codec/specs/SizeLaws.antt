@@ -1,9 +1,11 @@
 -- Laws of how long a record gets: one whose images are within bounds fits, and a move that lets an image go makes none
 -- longer.
-use Rattle.std.proofs.Common.{◌≡◌, ℕ, zero, suc, ◌+◌, ◌*◌, ◌≤◌, Bool, true, false, cond, List, [], ◌∷◌, length, Option}
-use Rattle.std.proofs.Common.{Some, None, refl, subst, sym, ap, arith}
-use Rattle.std.specs.Prelude.{slice_get, sum_by, ◌==◌, not}
+use Rattle.std.proofs.Common.{◌≡◌, ℕ, zero, suc, ◌+◌, ◌*◌, ◌≤◌, Bool, true, false, cond, List, [], ◌∷◌, ◌++◌, length}
+use Rattle.std.proofs.Common.{Option, Some, None, refl, subst, sym, ap, ◌∙◌, arith, length-append}
+use Rattle.std.specs.Prelude.{slice_get, sum_by, ◌==◌, nat_lt, not}
+use Rattle.std.specs.List.{AllByRecursion}
 use Rattle.std.proofs.lemmas.List.{length-set}
+use Rattle.std.proofs.lemmas.List.Concat.{flat_map-cons}
 use Rattle.std.proofs.lemmas.List.Sums.{sum_by-cons, length-filter, count_by-le-length}
 use Rattle.kahn_net.specs.Processes.{Standing}
 use Rattle.kahn_net.specs.Processes.Standing.{NotBegun, At, Done}
@@ -12,7 +14,9 @@ use Rattle.record.specs.DecisionView.{DecisionView}
 use Rattle.record.specs.ProcessView.{SavedProcessView}
 use Rattle.record.specs.ImageView.{ImageView}
 use Rattle.record.specs.RecordView.{RecordView}
-use Rattle.record.specs.Moves.{with_tentative, last_image, with_permanent, without_tentative, decision_by, decision_or}
+use Rattle.record.specs.Moves.{with_tentative, last_image, with_permanent, without_tentative, decision_by, decided_by}
+use Rattle.record.specs.Moves.{decided_below, confirmed_one}
+use Rattle.record.specs.declared.record.TheConstants.{MAX_DECISIONS}
 use Rattle.record.specs.Moves.{with_decision, without_node, confirmed, with_confirmed, without_own, with_epoch}
 use Rattle.record.specs.declared.image.SavedEnd.{SavedEnd}
 use Rattle.record.specs.declared.image.End.{End}
@@ -20,7 +24,7 @@ use Rattle.record.specs.declared.image.End.TheVariants.{Receives, Sends, Both}
 use Rattle.record.specs.declared.record.Tentative.{Tentative}
 use Rattle.ckpt_codec.specs.RecordText.{variables_of, items_of_end}
 use Rattle.ckpt_codec.specs.Lengths.{mode_length, process_length, end_length, saved_end_length, image_length}
-use Rattle.ckpt_codec.specs.Lengths.{decision_length, tentative_length, record_length}
+use Rattle.ckpt_codec.specs.Lengths.{decision_length, decisions_length, tentative_length, record_length}
 use Rattle.ckpt_codec.specs.declared.lengths.TheConstants.{MAX_RECORD_BYTES, MAX_RETAINED_ITEMS}
 
 -- Bounds
@@ -44,7 +48,8 @@ pub record IsImageWithin (most : ℕ) (image : ImageView) : Type 0 where
 -- a record of no more nodes than there are, both of whose images are within those bounds
 pub record IsRecordWithin (most : ℕ) (kept : RecordView) : Type 0 where
   pub nodes : length kept.highest ≤ MAX_NODES
-  pub decision : (d : DecisionView) → kept.decision ≡ Some d → length d.participants ≤ MAX_NODES
+  pub decided : length kept.decisions ≤ MAX_DECISIONS
+  pub decisions : (k : ℕ) (d : DecisionView) → slice_get kept.decisions k ≡ Some d → length d.participants ≤ MAX_NODES
   pub permanent : IsImageWithin most kept.permanent
   pub tentative : (t : Tentative) → kept.tentative ≡ Some t → IsImageWithin most t.image
 
@@ -100,10 +105,13 @@ image_fits most image within =
     let retained : sum_by items_at image.ends ≤ most = within.items in
     omega (arith, all, ends, processes, channels, retained)
 
-decision_fits : (decision : Option DecisionView)
-    → ((d : DecisionView) → decision ≡ Some d → length d.participants ≤ MAX_NODES) → decision_length decision ≤ 26
-decision_fits None few = omega arith
-decision_fits (Some d) few = let nodes = few d refl in omega (arith, nodes)
+decisions_fit : (ds : List DecisionView) → length ds ≤ MAX_DECISIONS
+    → ((k : ℕ) (d : DecisionView) → slice_get ds k ≡ Some d → length d.participants ≤ MAX_NODES)
+    → decisions_length ds ≤ 201
+decisions_fit ds few nodes =
+    let all : sum_by decision_length ds ≤ length ds * 25 =
+    sum_by_at_most decision_length 25 ds (λ k d is. (let some = nodes k d is in omega (arith, some))) in
+    omega (arith, all, few)
 
 tentative_fits : (most : ℕ) (tentative : Option Tentative)
     → ((t : Tentative) → tentative ≡ Some t → IsImageWithin most t.image)
@@ -115,10 +123,10 @@ tentative_fits most (Some t) within = let image = image_fits most t.image (withi
 pub record_fits : (kept : RecordView) → IsRecordWithin MAX_RETAINED_ITEMS kept → record_length kept ≤ MAX_RECORD_BYTES
 record_fits kept within =
     let nodes = within.nodes in
-    let decision = decision_fits kept.decision within.decision in
+    let decisions = decisions_fit kept.decisions within.decided within.decisions in
     let permanent = image_fits MAX_RETAINED_ITEMS kept.permanent within.permanent in
     let tentative = tentative_fits MAX_RETAINED_ITEMS kept.tentative within.tentative in
-    omega (arith, nodes, decision, permanent, tentative)
+    omega (arith, nodes, decisions, permanent, tentative)
 
 -- Moves
 
@@ -156,6 +164,29 @@ decision_is_shorter n kept = let last = last_is_shorter kept.permanent kept.tent
 pub epoch_is_shorter : (kept : RecordView) → record_length (with_epoch kept) ≤ record_length kept
 epoch_is_shorter kept = let own = own_is_shorter kept.node kept.tentative in omega (arith, own)
 
+-- decisions get no more by a confirmation
+one_at_most : (number node : ℕ) (d : DecisionView) → length (confirmed_one number node d) ≤ 1
+one_at_most number node d = at (d.number == number)
+  where
+    by : (ps : List ℕ) → length (decision_by number ps) ≤ 1
+    by [] = omega arith
+    by (p ∷ ps) = omega arith
+
+    at : (b : Bool) → length (cond b (decision_by number (without_node node d.participants)) (d ∷ [])) ≤ 1
+    at false = omega arith
+    at true = by (without_node node d.participants)
+
+pub confirmed_no_more : (number node : ℕ) (ds : List DecisionView) → length (confirmed number node ds) ≤ length ds
+confirmed_no_more number node [] = omega arith
+confirmed_no_more number node (d ∷ ds) =
+    let one = one_at_most number node d in
+    let rest = confirmed_no_more number node ds in
+    let sum : length (confirmed number node (d ∷ ds))
+    ≡ length (confirmed_one number node d) + length (confirmed number node ds) =
+    ap (length {A = DecisionView}) (flat_map-cons (confirmed_one number node) d ds)
+    ∙ length-append (confirmed_one number node d) (confirmed number node ds) in
+    omega (arith, one, rest, sum)
+
 -- and each move of a record within bounds gives one within bounds
 
 module _ (most : ℕ) (kept : RecordView) (within : IsRecordWithin most kept) where
@@ -164,32 +195,76 @@ module _ (most : ℕ) (kept : RecordView) (within : IsRecordWithin most kept) wh
   last_within None held = within.permanent
   last_within (Some t) held = held t refl
 
-  by_within : (number : ℕ) (participants : List ℕ) → length participants ≤ MAX_NODES → (d : DecisionView)
-      → decision_by number participants ≡ Some d → length d.participants ≤ MAX_NODES
-  by_within number [] few d is = absurd (cc)
-  by_within number (p ∷ ps) few d is =
-      let same : p ∷ ps ≡ d.participants = cc in
-      omega (arith, few, ap (length {A = ℕ}) same)
+  -- a decision of some list names few nodes
+  abbrev NameFew : List DecisionView → Type 0
+  NameFew ds = (k : ℕ) (d : DecisionView) → slice_get ds k ≡ Some d → length d.participants ≤ MAX_NODES
 
-  or_within : (number : ℕ) (participants : List ℕ) → length participants ≤ MAX_NODES → (d : DecisionView)
-      → decision_or kept.decision number participants ≡ Some d → length d.participants ≤ MAX_NODES
-  or_within number [] few d is = within.decision d is
-  or_within number (p ∷ ps) few d is = by_within number (p ∷ ps) few d is
+  name_few : (ds : List DecisionView) → AllByRecursion (λ (d : DecisionView). length d.participants ≤ MAX_NODES) ds
+      → NameFew ds
+  name_few [] all k d is = absurd (cc)
+  name_few (x ∷ ds) all zero d is =
+      let same : x ≡ d = cc in subst (λ (e : DecisionView). length e.participants ≤ MAX_NODES) same all.0
+  name_few (x ∷ ds) all (suc k) d is = name_few ds all.1 k d is
 
-  confirmed_within : (number node : ℕ) (decision : Option DecisionView)
-      → ((d : DecisionView) → decision ≡ Some d → length d.participants ≤ MAX_NODES)
-      → (d : DecisionView) → confirmed number node decision ≡ Some d → length d.participants ≤ MAX_NODES
-  confirmed_within number node None few d is = absurd (cc)
-  confirmed_within number node (Some e) few d is = at (e.number == number) is
+  all_few : (ds : List DecisionView) → NameFew ds
+      → AllByRecursion (λ (d : DecisionView). length d.participants ≤ MAX_NODES) ds
+  all_few [] few = tt
+  all_few (x ∷ ds) few = (few 0 x refl, all_few ds (λ k d is. few (suc k) d is))
+
+  by_few : (number : ℕ) (participants : List ℕ) → length participants ≤ MAX_NODES
+      → AllByRecursion (λ (d : DecisionView). length d.participants ≤ MAX_NODES) (decision_by number participants)
+  by_few number [] few = tt
+  by_few number (p ∷ ps) few = (few, tt)
+
+  below_few : (number : ℕ) (ds : List DecisionView)
+      → AllByRecursion (λ (d : DecisionView). length d.participants ≤ MAX_NODES) ds
+      → AllByRecursion (λ (d : DecisionView). length d.participants ≤ MAX_NODES) (decided_below number ds)
+  below_few number [] all = tt
+  below_few number (d ∷ ds) all = at (nat_lt d.number number) (below_few number ds all.1)
     where
-      at : (b : Bool) → cond b (decision_by number (without_node node e.participants)) (Some e) ≡ Some d
-          → length d.participants ≤ MAX_NODES
-      at false is = few d is
-      at true is =
-          let some = length-filter (λ (p : ℕ). not (p == node)) e.participants in
-          let all = count_by-le-length (λ (p : ℕ). not (p == node)) e.participants in
-          let before = few e refl in
-          by_within number (without_node node e.participants) (omega (arith, some, all, before)) d is
+      at : (b : Bool)
+          → AllByRecursion (λ (d : DecisionView). length d.participants ≤ MAX_NODES) (decided_below number ds)
+          → AllByRecursion (λ (d : DecisionView). length d.participants ≤ MAX_NODES)
+          (cond b (d ∷ decided_below number ds) (decided_below number ds))
+      at true rest = (all.0, rest)
+      at false rest = rest
+
+  few_append : (xs ys : List DecisionView)
+      → AllByRecursion (λ (d : DecisionView). length d.participants ≤ MAX_NODES) xs
+      → AllByRecursion (λ (d : DecisionView). length d.participants ≤ MAX_NODES) ys
+      → AllByRecursion (λ (d : DecisionView). length d.participants ≤ MAX_NODES) (xs ++ ys)
+  few_append [] ys one two = two
+  few_append (x ∷ xs) ys one two = (one.0, few_append xs ys one.1 two)
+
+  decided_few : (number : ℕ) (participants : List ℕ) → length participants ≤ MAX_NODES
+      → NameFew (decided_by number participants kept.decisions)
+  decided_few number [] few = within.decisions
+  decided_few number (p ∷ ps) few =
+      name_few (decided_by number (p ∷ ps) kept.decisions)
+      (few_append (decided_below number kept.decisions) (decision_by number (p ∷ ps))
+      (below_few number kept.decisions (all_few kept.decisions within.decisions)) (by_few number (p ∷ ps) few))
+
+  one_few : (number node : ℕ) (d : DecisionView) → length d.participants ≤ MAX_NODES
+      → AllByRecursion (λ (d : DecisionView). length d.participants ≤ MAX_NODES) (confirmed_one number node d)
+  one_few number node d few = at (d.number == number)
+    where
+      at : (b : Bool) → AllByRecursion (λ (d : DecisionView). length d.participants ≤ MAX_NODES)
+          (cond b (decision_by number (without_node node d.participants)) (d ∷ []))
+      at false = (few, tt)
+      at true =
+          let some = length-filter (λ (p : ℕ). not (p == node)) d.participants in
+          let all = count_by-le-length (λ (p : ℕ). not (p == node)) d.participants in
+          by_few number (without_node node d.participants) (omega (arith, some, all, few))
+
+  confirmed_few : (number node : ℕ) (ds : List DecisionView)
+      → AllByRecursion (λ (d : DecisionView). length d.participants ≤ MAX_NODES) ds
+      → AllByRecursion (λ (d : DecisionView). length d.participants ≤ MAX_NODES) (confirmed number node ds)
+  confirmed_few number node [] all = tt
+  confirmed_few number node (d ∷ ds) all =
+      subst (AllByRecursion (λ (d : DecisionView). length d.participants ≤ MAX_NODES))
+      (sym (flat_map-cons (confirmed_one number node) d ds))
+      (few_append (confirmed_one number node d) (confirmed number node ds) (one_few number node d all.0)
+      (confirmed_few number node ds all.1))
 
   own_within : (node : ℕ) (tentative : Option Tentative)
       → ((t : Tentative) → tentative ≡ Some t → IsImageWithin most t.image) → (t : Tentative)
@@ -205,7 +280,8 @@ module _ (most : ℕ) (kept : RecordView) (within : IsRecordWithin most kept) wh
       → IsRecordWithin most (with_tentative initiator number image kept)
   within_tentative initiator number image here = record {
     nodes = (let same = length-set kept.highest initiator number in let few = within.nodes in omega (arith, same, few));
-    decision = within.decision;
+    decided = within.decided;
+    decisions = within.decisions;
     permanent = within.permanent;
     tentative = λ t is. (let same : image ≡ t.image = cc in subst (IsImageWithin most) same here);
   }
@@ -214,7 +290,8 @@ module _ (most : ℕ) (kept : RecordView) (within : IsRecordWithin most kept) wh
   within_permanent =
       record {
         nodes = within.nodes;
-        decision = within.decision;
+        decided = within.decided;
+        decisions = within.decisions;
         permanent =
             last_within kept.tentative within.tentative;
         tentative = λ t is. absurd (cc);
@@ -224,17 +301,20 @@ module _ (most : ℕ) (kept : RecordView) (within : IsRecordWithin most kept) wh
   within_without_tentative =
       record {
         nodes = within.nodes;
-        decision = within.decision;
+        decided = within.decided;
+        decisions = within.decisions;
         permanent = within.permanent;
         tentative =
             λ t is. absurd (cc);
       }
 
   pub within_decision : (number : ℕ) (participants : List ℕ) → length participants ≤ MAX_NODES
+      → length (decided_by number participants kept.decisions) ≤ MAX_DECISIONS
       → IsRecordWithin most (with_decision number participants kept)
-  within_decision number participants few = record {
+  within_decision number participants few room = record {
     nodes = within.nodes;
-    decision = or_within number participants few;
+    decided = room;
+    decisions = decided_few number participants few;
     permanent = last_within kept.tentative within.tentative;
     tentative = λ t is. absurd (cc);
   }
@@ -243,7 +323,12 @@ module _ (most : ℕ) (kept : RecordView) (within : IsRecordWithin most kept) wh
   within_confirmed number node =
       record {
         nodes = within.nodes;
-        decision = confirmed_within number node kept.decision within.decision;
+        decided =
+            (let less = confirmed_no_more number node kept.decisions in let before = within.decided in
+            omega (arith, less, before));
+        decisions =
+            name_few (confirmed number node kept.decisions)
+            (confirmed_few number node kept.decisions (all_few kept.decisions within.decisions));
         permanent =
             within.permanent;
         tentative = within.tentative;
@@ -253,7 +338,8 @@ module _ (most : ℕ) (kept : RecordView) (within : IsRecordWithin most kept) wh
   within_epoch =
       record {
         nodes = within.nodes;
-        decision = within.decision;
+        decided = within.decided;
+        decisions = within.decisions;
         permanent = within.permanent;
         tentative =
             own_within kept.node kept.tentative within.tentative;

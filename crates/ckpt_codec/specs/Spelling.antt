@@ -95,15 +95,20 @@ pub record ImageHasItems (image : ImageView) : Type 0 where
 abbrev pub participants_text : List ℕ → List ℕ
 participants_text participants = flat_map (number_text 1) participants
 
-abbrev pub decision_text : Option DecisionView → List ℕ
-decision_text None = number_text 1 0
-decision_text (Some d) =
-    number_text 1 1
-    ++ (number_text 8 d.number ++ (number_text 1 (length d.participants) ++ participants_text d.participants))
+abbrev pub decision_text : DecisionView → List ℕ
+decision_text d =
+    number_text 8 d.number ++ (number_text 1 (length d.participants) ++ participants_text d.participants)
 
-abbrev pub IsShortDecision : Option DecisionView → Type 0
-IsShortDecision None = Unit {0}
-IsShortDecision (Some d) = length d.participants < 256
+abbrev pub decisions_text : List DecisionView → List ℕ
+decisions_text ds = number_text 1 (length ds) ++ flat_map decision_text ds
+
+abbrev pub IsShortDecision : DecisionView → Type 0
+IsShortDecision d = length d.participants < 256
+
+-- few decisions, each of few nodes
+pub record AreShortDecisions (decisions : List DecisionView) : Type 0 where
+  pub few : length decisions < 256
+  pub each : All IsShortDecision decisions
 
 abbrev pub tentative_text : Option Tentative → List ℕ
 tentative_text None = number_text 1 0
@@ -121,20 +126,21 @@ TentativeHasItems (Some t) = ImageHasItems t.image
 abbrev pub highest_text : List ℕ → List ℕ
 highest_text highest = flat_map (number_text 8) highest
 
-abbrev pub head_text : RecordView → List ℕ
-head_text kept =
-    number_text 1 1
+abbrev pub head_text : ℕ → RecordView → List ℕ
+head_text version kept =
+    number_text 1 version
     ++ (number_text 1 kept.node
     ++ (number_text 8 kept.epoch ++ (number_text 1 (length kept.highest) ++ highest_text kept.highest)))
 
-abbrev pub spelling : RecordView → List ℕ
-spelling kept =
-    head_text kept ++ (decision_text kept.decision ++ (image_text kept.permanent ++ tentative_text kept.tentative))
+abbrev pub spelling : ℕ → RecordView → List ℕ
+spelling version kept =
+    head_text version kept
+    ++ (decisions_text kept.decisions ++ (image_text kept.permanent ++ tentative_text kept.tentative))
 
 -- a record whose numbers can be written in their bytes
 pub record IsShortRecord (kept : RecordView) : Type 0 where
   pub nodes : length kept.highest < 256
-  pub decision : IsShortDecision kept.decision
+  pub decisions : AreShortDecisions kept.decisions
   pub permanent : IsShortImage kept.permanent
   pub tentative : IsShortTentative kept.tentative
 

@@ -3,15 +3,18 @@ ghost use Rattle.std.specs.Prelude.{◌≡◌, ◌↔◌, ◌<◌, [], length, s
 ghost use Rattle.kahn_net.specs.States.{standing_in};
 ghost use Rattle.kahn_net.specs.declared.limits.TheConstants.{MAX_PROCESSES, MAX_VARIABLES, MAX_CHANNELS};
 ghost use Rattle.record.specs.ProcessView.{SavedProcessView};
+ghost use Rattle.record.specs.declared.record.TheConstants.{MAX_DECISIONS};
+ghost use Rattle.ckpt_codec.specs.declared.version.TheConstants.{VERSION};
 ghost use Rattle.record.specs.declared.image.SavedEnd.{SavedEnd};
 ghost use Rattle.ckpt_codec.specs.Fields.{IsAllowed, AreAllowed};
-ghost use Rattle.ckpt_codec.specs.RecordText.{any, at_most, exactly, between, retained_count, wanted, wanted_or, count, variables_of, role_of, first_of, rest_of, processes_in, ends_in, mode_fields, participants as participant_fields, decision_fields, process_fields, processes_fields, end_fields, saved_end_fields, ends_fields, image_fields, tentative_fields, head_fields, IsRecord};
+ghost use Rattle.ckpt_codec.specs.RecordText.{any, at_most, exactly, between, retained_count, wanted, wanted_or, count, variables_of, role_of, first_of, rest_of, processes_in, ends_in, mode_fields, participants as participant_fields, decision_fields, each_decision_fields, decisions_fields, process_fields, processes_fields, end_fields, saved_end_fields, ends_fields, image_fields, tentative_fields, head_fields, IsRecord};
 ghost use Rattle.ckpt_codec.specs.Testing.{listed, log_fields, process_list_fields, end_list_fields, participant_field, participant_count_field, initiator_field, held_number_field, nodes_field};
 
 use crate::ends::role_number;
 use crate::images::{wanted_ends, wanted_processes};
+use crate::reading::entry_of;
 use kahn_net::{MAX_CHANNELS, MAX_COUNT, MAX_NODES, MAX_PROCESSES, MAX_VARIABLES, Mode};
-use record::{Decision, End, Image, Record, SavedEnd, SavedProcess, Tentative};
+use record::{Decision, End, Image, MAX_DECISIONS, Record, SavedEnd, SavedProcess, Tentative};
 use retained::{Log, MAX_LOG_ITEMS};
 
 fn number_stands(wanted: Option<u8>, least: u16, number: u8) -> bool
@@ -323,10 +326,10 @@ pub fn are_participants(node: u8, nodes: usize, participants: &[u8]) -> bool
     are_participants_from(node, nodes, 0, participants)
 }
 
-fn decided_number_stands(own: u64, number: u64) -> bool
-    ensures { IsTrue result ↔ IsAllowed (between 8 1 (suc own) number) }
+fn decided_number_stands(own: u64, least: u128, number: u64) -> bool
+    ensures { IsTrue result ↔ IsAllowed (between 8 least (suc own) number) }
 {
-    number >= 1 && number <= own
+    number as u128 >= least && number <= own
 }
 
 fn participant_count_stands(count: usize) -> bool
@@ -335,20 +338,48 @@ fn participant_count_stands(count: usize) -> bool
     count >= 1 && count < 256
 }
 
-// The decision of a node of so many, whose own entry is this.
-fn is_decision(node: u8, nodes: usize, own: u64, decision: &Option<Decision>) -> bool
-    ensures { IsTrue result ↔ AreAllowed (decision_fields node nodes own decision.now) }
+// A decision of a node of so many, whose own entry is this, with at least this number.
+fn is_decision(node: u8, nodes: usize, own: u64, least: u128, decision: &Decision) -> bool
+    ensures { IsTrue result ↔ AreAllowed (decision_fields node nodes own least decision.now) }
 {
-    let Some(decision) = decision else {
-        return true;
-    };
-    if !decided_number_stands(own, decision.number) {
+    if !decided_number_stands(own, least, decision.number) {
         return false;
     }
     if !participant_count_stands(decision.participants.len()) {
         return false;
     }
     are_participants_from(node, nodes, 0, decision.participants.as_slice())
+}
+
+// Decisions by ascending numbers, from the least that is left on.
+fn are_decisions(node: u8, nodes: usize, own: u64, least: u128, decisions: &[Decision]) -> bool
+    ensures { IsTrue result
+        ↔ AreAllowed (each_decision_fields node nodes own least decisions.now) }
+{
+    let [decision, behind @ ..] = decisions else {
+        return true;
+    };
+    if !is_decision(node, nodes, own, least, decision) {
+        return false;
+    }
+    are_decisions(node, nodes, own, decision.number as u128 + 1, behind)
+}
+
+fn decision_count_stands(count: usize) -> bool
+    ensures { IsTrue result ↔ IsAllowed (at_most 1 MAX_DECISIONS count) }
+{
+    count <= MAX_DECISIONS
+}
+
+// Decisions by ascending numbers, `MAX_DECISIONS` at most.
+fn are_few_decisions(node: u8, nodes: usize, own: u64, decisions: &[Decision]) -> bool
+    ensures { IsTrue result
+        ↔ AreAllowed (decisions_fields MAX_DECISIONS node nodes own decisions.now) }
+{
+    if !decision_count_stands(decisions.len()) {
+        return false;
+    }
+    are_decisions(node, nodes, own, 1, decisions)
 }
 
 fn initiator_stands(highest: &[u64], initiator: u8) -> bool
@@ -402,7 +433,7 @@ fn nodes_stand(node: u8, nodes: usize) -> bool
 }
 
 fn is_head(kept: &Record) -> bool
-    ensures stands { IsTrue result ↔ AreAllowed (head_fields kept.now) }
+    ensures stands { IsTrue result ↔ AreAllowed (head_fields VERSION kept.now) }
     ensures one { IsTrue result → kept.now.node < length kept.now.highest }
 {
     let nodes = nodes_stand(kept.node, kept.highest.len());
@@ -418,13 +449,14 @@ fn entries_stand(kept: &Record) -> bool
     are_counts(kept.highest.as_slice())
 }
 
-fn decision_stands(kept: &Record) -> bool
-    requires { kept.now.node < length kept.now.highest }
-    ensures { IsTrue result ↔ AreAllowed (decision_fields kept.now.node (length kept.now.highest)
-        (slice_index kept.now.highest kept.now.node) kept.now.decision) }
+fn decisions_stand(kept: &Record) -> bool
+    ensures { IsTrue result ↔ AreAllowed (decisions_fields MAX_DECISIONS kept.now.node
+        (length kept.now.highest) (slice_index kept.now.highest kept.now.node)
+        kept.now.decisions) }
 {
-    let own = kept.highest[usize::from(kept.node)];
-    is_decision(kept.node, kept.highest.len(), own, &kept.decision)
+    let highest = kept.highest.as_slice();
+    let own = entry_of(highest, kept.node);
+    are_few_decisions(kept.node, highest.len(), own, kept.decisions.as_slice())
 }
 
 fn permanent_stands(kept: &Record) -> bool
@@ -450,7 +482,7 @@ pub fn is_record(kept: &Record) -> bool
     if !entries_stand(kept) {
         return false;
     }
-    if !decision_stands(kept) {
+    if !decisions_stand(kept) {
         return false;
     }
     if !permanent_stands(kept) {

@@ -1,6 +1,6 @@
 // The fields of a record, read from the front of bytes: what was read, and what is left.
 ghost use Rattle.std.specs.Prelude.{◌≡◌, ◌≤◌, IfOk, IfSome, None};
-ghost use Rattle.ckpt_codec.specs.Reading.{Reads, number_at, item_at, count_at, flag_at, nodes_at, participant_at, decided_number_at, participant_count_at, mode_number_at, depth_at, process_number_at, variable_count_at, process_count_at, base_at, retained_at, role_at, channel_at, end_count_at, initiator_at, tentative_number_at};
+ghost use Rattle.ckpt_codec.specs.Reading.{Reads, number_at, item_at, count_at, flag_at, nodes_at, participant_at, decided_number_at, decision_count_at, participant_count_at, mode_number_at, depth_at, process_number_at, variable_count_at, process_count_at, base_at, retained_at, role_at, channel_at, end_count_at, initiator_at, tentative_number_at};
 
 use crate::fault::CodecFault;
 use byteorder::{BigEndian, ByteOrder};
@@ -110,15 +110,30 @@ pub(crate) fn participant_of(
     Ok((participant, rest))
 }
 
-// The number of a decision: this node's own entry is the highest that it used.
-pub(crate) fn decided_number_of(own: u64, bytes: &[u8]) -> Result<(u64, &[u8]), CodecFault>
-    ensures { Reads (λ x. (x.0, x.1.now)) result (decided_number_at own bytes.now) }
+// The number of a decision, from the least on: this node's own entry is the highest that it used.
+pub(crate) fn decided_number_of(
+    own: u64,
+    least: u128,
+    bytes: &[u8],
+) -> Result<(u64, &[u8]), CodecFault>
+    ensures { Reads (λ x. (x.0, x.1.now)) result (decided_number_at own least bytes.now) }
 {
     let (number, rest) = u64_of(bytes)?;
-    if number < 1 || number > own {
+    if (number as u128) < least || number > own {
         return Err(CodecFault::Malformed);
     }
     Ok((number, rest))
+}
+
+// How many decisions there are.
+pub(crate) fn decision_count_of(most: usize, bytes: &[u8]) -> Result<(u8, &[u8]), CodecFault>
+    ensures { Reads (λ x. (x.0, x.1.now)) result (decision_count_at most bytes.now) }
+{
+    let (count, rest) = u8_of(bytes)?;
+    if count as usize > most {
+        return Err(CodecFault::Malformed);
+    }
+    Ok((count, rest))
 }
 
 // How many nodes take part in a decision: one at least.

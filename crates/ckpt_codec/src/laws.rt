@@ -2,11 +2,12 @@
 ghost use Rattle.std.specs.Prelude.{◌≡◌, ◌≤◌, ◌++◌, [], List, length, ℕ};
 ghost use Rattle.record.specs.ImageView.{ImageView};
 ghost use Rattle.record.specs.RecordView.{RecordView};
-ghost use Rattle.record.specs.Moves.{with_tentative, with_permanent, without_tentative, with_decision, with_confirmed, with_epoch};
+ghost use Rattle.record.specs.Moves.{with_tentative, with_permanent, without_tentative, with_decision, with_confirmed, with_epoch, decided_by};
 ghost use Rattle.ckpt_codec.specs.RecordText.{IsRecordText};
 ghost use Rattle.ckpt_codec.specs.Lengths.{record_length};
 ghost use Rattle.ckpt_codec.specs.SizeLaws.{IsImageWithin, IsRecordWithin};
 ghost use Rattle.kahn_net.specs.declared.limits.TheConstants.{MAX_NODES};
+ghost use Rattle.record.specs.declared.record.TheConstants.{MAX_DECISIONS};
 ghost use Rattle.ckpt_codec.specs.declared.lengths.TheConstants.{MAX_RECORD_BYTES, MAX_RETAINED_ITEMS};
 
 /// No record's spelling begins another's: where one does, nothing follows it, and the records are one. So each text spells one
@@ -35,6 +36,7 @@ pub fn moves_keep_bounds()
     ensures without { (kept : RecordView) → IsRecordWithin MAX_RETAINED_ITEMS kept
         → IsRecordWithin MAX_RETAINED_ITEMS (without_tentative kept) }
     ensures decision { (kept : RecordView) (number : ℕ) (nodes : List ℕ) → length nodes ≤ MAX_NODES
+        → length (decided_by number nodes kept.decisions) ≤ MAX_DECISIONS
         → IsRecordWithin MAX_RETAINED_ITEMS kept
         → IsRecordWithin MAX_RETAINED_ITEMS (with_decision number nodes kept) }
     ensures confirmed { (kept : RecordView) (number node : ℕ)

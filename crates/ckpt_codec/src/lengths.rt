@@ -1,11 +1,11 @@
 // How many bytes spell a record, without writing them.
-ghost use Rattle.std.specs.Prelude.{◌≡◌, ◌≤◌, ◌<◌, ◌^◌, ◌+◌, [], All, length, sum_by, Option};
-ghost use Rattle.std.specs.Option.{ForSome};
+ghost use Rattle.std.specs.Prelude.{◌≡◌, ◌≤◌, ◌<◌, ◌^◌, ◌+◌, [], All, List, length, sum_by};
 ghost use Rattle.kahn_net.specs.States.{standing_in};
 ghost use Rattle.record.specs.DecisionView.{DecisionView};
+ghost use Rattle.record.specs.Moves.{last_image, with_permanent};
 ghost use Rattle.ckpt_codec.specs.RecordText.{IsRecord};
-ghost use Rattle.ckpt_codec.specs.Spelling.{IsShortProcess, IsShortImage, IsShortDecision, IsShortTentative, IsShortRecord};
-ghost use Rattle.ckpt_codec.specs.Lengths.{mode_length, process_length, end_length, saved_end_length, image_length, decision_length, named_length, tentative_length, undecided_length, record_length, spelled_length, named_count, with_decided};
+ghost use Rattle.ckpt_codec.specs.Spelling.{IsShortProcess, IsShortImage, AreShortDecisions, IsShortTentative, IsShortRecord};
+ghost use Rattle.ckpt_codec.specs.Lengths.{mode_length, process_length, end_length, saved_end_length, image_length, decisions_length, tentative_length, undecided_length, record_length, spelled_length, with_decided};
 
 use kahn_net::Mode;
 use record::{Decision, End, Image, Record, SavedEnd, SavedProcess, Tentative};
@@ -82,15 +82,16 @@ fn length_of_image(image: &Image) -> usize
     3 + processes + ends
 }
 
-fn length_of_decision(decision: &Option<Decision>) -> usize
-    requires { IsShortDecision decision.now }
-    ensures value { result ≡ decision_length decision.now }
-    ensures bound { result ≤ 265 }
+fn length_of_decisions(decisions: &[Decision]) -> usize
+    requires { AreShortDecisions decisions.now }
+    ensures value { result ≡ decisions_length decisions.now }
+    ensures bound { result ≤ 67841 }
 {
-    match decision {
-        None => 1,
-        Some(decision) => 10 + decision.participants.len(),
+    let mut total = 1;
+    for decision in decisions {
+        total += 9 + decision.participants.len();
     }
+    total
 }
 
 fn length_of_tentative(tentative: &Option<Tentative>) -> usize
@@ -104,18 +105,19 @@ fn length_of_tentative(tentative: &Option<Tentative>) -> usize
     }
 }
 
-fn length_of_named(named: Option<usize>) -> usize
-    requires { ForSome named (λ n. n < 2 ^ 63) }
-    ensures value { result ≡ named_length named }
-    ensures bound { result < 2 ^ 63 + 10 }
+// The length of the tentative image, or of the permanent one where none is held.
+fn length_of_last_image(kept: &Record) -> usize
+    requires { IsShortRecord kept.now }
+    ensures value { result ≡ image_length (last_image kept.now.permanent kept.now.tentative) }
+    ensures bound { result ≤ 34361769987 }
 {
-    match named {
-        None => 1,
-        Some(count) => 10 + count,
+    match &kept.tentative {
+        None => length_of_image(&kept.permanent),
+        Some(tentative) => length_of_image(&tentative.image),
     }
 }
 
-fn length_but_for_the_decision(kept: &Record) -> usize
+fn length_but_for_the_decisions(kept: &Record) -> usize
     requires { IsShortRecord kept.now }
     ensures value { result ≡ undecided_length kept.now }
     ensures bound { result < 2 ^ 40 }
@@ -125,11 +127,21 @@ fn length_but_for_the_decision(kept: &Record) -> usize
     11 + 8 * kept.highest.len() + permanent + tentative
 }
 
+// A record once its tentative image is the permanent one.
+fn length_but_for_decisions_once_permanent(kept: &Record) -> usize
+    requires { IsShortRecord kept.now }
+    ensures value { result ≡ undecided_length (with_permanent kept.now) }
+    ensures bound { result < 2 ^ 40 }
+{
+    let image = length_of_last_image(kept);
+    12 + 8 * kept.highest.len() + image
+}
+
 fn length_of_record(kept: &Record) -> usize
     requires { IsShortRecord kept.now }
     ensures { result ≡ record_length kept.now }
 {
-    length_but_for_the_decision(kept) + length_of_decision(&kept.decision)
+    length_but_for_the_decisions(kept) + length_of_decisions(kept.decisions.as_slice())
 }
 
 /// The most bytes of a record that a node keeps: 1 MiB. No call of this crate asks for it.
@@ -147,13 +159,23 @@ pub fn spelled_length(kept: &Record) -> usize
     length_of_record(kept)
 }
 
-/// How many bytes spell a record with a decision that names so many nodes in the place of its own, or with none. Takes no
-/// memory.
-pub fn spelled_length_with(kept: &Record, named: Option<usize>) -> usize
+/// How many bytes spell a record with decisions of so many bytes in the place of its own. Takes no memory.
+pub fn spelled_length_with(kept: &Record, decided: usize) -> usize
     requires record { IsRecord kept.now }
-    requires few { ForSome named (λ n. n < 2 ^ 63) }
-    ensures { (decision : Option DecisionView) → named_count decision ≡ named
-        → result ≡ spelled_length (with_decided decision kept.now) }
+    requires few { decided < 2 ^ 63 }
+    ensures { (decisions : List DecisionView) → decisions_length decisions ≡ decided
+        → result ≡ spelled_length (with_decided decisions kept.now) }
 {
-    length_but_for_the_decision(kept) + length_of_named(named)
+    length_but_for_the_decisions(kept) + decided
+}
+
+/// How many bytes spell a record once its tentative image is the permanent one, with decisions of so many bytes in the place
+/// of its own. Takes no memory.
+pub fn spelled_length_once_permanent(kept: &Record, decided: usize) -> usize
+    requires record { IsRecord kept.now }
+    requires few { decided < 2 ^ 63 }
+    ensures { (decisions : List DecisionView) → decisions_length decisions ≡ decided
+        → result ≡ spelled_length (with_decided decisions (with_permanent kept.now)) }
+{
+    length_but_for_decisions_once_permanent(kept) + decided
 }

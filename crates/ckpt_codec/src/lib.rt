@@ -15,6 +15,7 @@ mod numbers;
 mod processes;
 mod putting;
 mod reading;
+mod version;
 mod writing;
 
 pub use allowed::{are_participants, is_image, is_record};
@@ -22,6 +23,10 @@ pub use fault::CodecFault;
 pub use laws::{
     bounded_records_fit, moves_keep_bounds, moves_make_no_longer, no_spelling_begins_another,
 };
-pub use lengths::{MAX_RECORD_BYTES, MAX_RETAINED_ITEMS, spelled_length, spelled_length_with};
+pub use lengths::{
+    MAX_RECORD_BYTES, MAX_RETAINED_ITEMS, spelled_length, spelled_length_once_permanent,
+    spelled_length_with,
+};
 pub use reading::read_record;
+pub use version::{FIRST_VERSION, VERSION};
 pub use writing::write_record;

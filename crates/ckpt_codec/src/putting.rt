@@ -4,7 +4,7 @@ ghost use Rattle.std.specs.List.{flat_map};
 ghost use Rattle.kahn_net.specs.States.{standing_in, standing_of};
 ghost use Rattle.ckpt_codec.specs.Fields.{number_text};
 ghost use Rattle.ckpt_codec.specs.RecordText.{variables_of, items_of_end};
-ghost use Rattle.ckpt_codec.specs.Spelling.{mode_text, state_text, process_text, HasShortMode, IsShortState, IsShortProcess, HasItems, AreItems, items_text, log_text, end_text, saved_end_text, EndHasItems, process_list_text, end_list_text, image_text, IsShortImage, ImageHasItems, decision_text, IsShortDecision, tentative_text, IsShortTentative, TentativeHasItems};
+ghost use Rattle.ckpt_codec.specs.Spelling.{mode_text, state_text, process_text, HasShortMode, IsShortState, IsShortProcess, HasItems, AreItems, items_text, log_text, end_text, saved_end_text, EndHasItems, process_list_text, end_list_text, image_text, IsShortImage, ImageHasItems, decision_text, decisions_text, IsShortDecision, AreShortDecisions, tentative_text, IsShortTentative, TentativeHasItems};
 
 use crate::ends::role_number;
 use crate::numbers::{
@@ -144,19 +144,32 @@ pub(crate) fn put_image(out: &mut Vec<u8>, image: &Image) -> Result<(), AllocErr
     put_end_list(out, image.ends.as_slice())
 }
 
-pub(crate) fn put_decision(out: &mut Vec<u8>, decision: &Option<Decision>) -> Result<(), AllocError>
+fn put_decision(out: &mut Vec<u8>, decision: &Decision) -> Result<(), AllocError>
     requires { IsShortDecision decision.now }
     ensures { OnOk result (out.new.items ≡ out.old.items ++ decision_text decision.now) }
 {
-    match decision {
-        None => put_u8(out, 0),
-        Some(decision) => {
-            put_u8(out, 1)?;
-            put_u64(out, decision.number)?;
-            put_u8(out, decision.participants.len() as u8)?;
-            put_participants(out, decision.participants.as_slice())
-        }
+    put_u64(out, decision.number)?;
+    put_u8(out, decision.participants.len() as u8)?;
+    put_participants(out, decision.participants.as_slice())
+}
+
+fn put_each_decision(out: &mut Vec<u8>, decisions: &[Decision]) -> Result<(), AllocError>
+    requires { All IsShortDecision decisions.now }
+    ensures { OnOk result (out.new.items ≡ out.old.items ++ flat_map decision_text decisions.now) }
+{
+    for decision in decisions {
+        put_decision(out, decision)?;
     }
+    Ok(())
+}
+
+// How many decisions there are, and each of them.
+pub(crate) fn put_decisions(out: &mut Vec<u8>, decisions: &[Decision]) -> Result<(), AllocError>
+    requires { AreShortDecisions decisions.now }
+    ensures { OnOk result (out.new.items ≡ out.old.items ++ decisions_text decisions.now) }
+{
+    put_u8(out, decisions.len() as u8)?;
+    put_each_decision(out, decisions)
 }
 
 pub(crate) fn put_tentative(

@@ -1,18 +1,19 @@
 // From bytes to a record.
 ghost use Rattle.std.specs.Prelude.{◌≡◌, ◌<◌, IfOk, IfErr, slice_index};
-ghost use Rattle.ckpt_codec.specs.RecordText.{IsRecordText};
+ghost use Rattle.ckpt_codec.specs.RecordText.{most_decisions, IsRecord, IsRecordText};
 ghost use Rattle.ckpt_codec.specs.Faults.{IsCodecFault, IsReadUnlessMemory, IsRefusedUnlessMemory};
-ghost use Rattle.ckpt_codec.specs.Reading.{Reads, entries_at, highest_at, participants_at, participant_list_at, decided_at, decision_at, instance_at, pending_at, tentative_at, numbers_at, head_at, images_at, tail_at, body_at, whole_at};
+ghost use Rattle.ckpt_codec.specs.Reading.{Reads, entries_at, highest_at, participants_at, participant_list_at, decided_at, decided_so_many, decisions_at, instance_at, pending_at, tentative_at, numbers_at, head_at, images_at, tail_at, body_at, whole_at};
 ghost use Rattle.ckpt_codec.specs.declared.fault.CodecFault.{CodecFault as FaultValue};
 ghost use Rattle.record.specs.RecordView.{RecordView};
 
 use crate::fault::CodecFault;
 use crate::fields::{
-    count_of, decided_number_of, flag_of, initiator_of, nodes_of, participant_count_of,
-    participant_of, tentative_number_of, u8_of,
+    count_of, decided_number_of, decision_count_of, flag_of, initiator_of, nodes_of,
+    participant_count_of, participant_of, tentative_number_of, u8_of,
 };
 use crate::images::image_of;
-use record::{Decision, Image, Record, Tentative};
+use crate::version::{FIRST_VERSION, VERSION};
+use record::{Decision, Image, MAX_DECISIONS, Record, Tentative};
 use std::alloc::Global;
 
 // So many entries.
@@ -81,11 +82,12 @@ fn decided_of(
     node: u8,
     nodes: usize,
     own: u64,
+    least: u128,
     bytes: &[u8],
 ) -> Result<(Decision, &[u8]), CodecFault>
-    ensures { Reads (λ x. (x.0, x.1.now)) result (decided_at node nodes own bytes.now) }
+    ensures { Reads (λ x. (x.0, x.1.now)) result (decided_at node nodes own least bytes.now) }
 {
-    let (number, rest) = decided_number_of(own, bytes)?;
+    let (number, rest) = decided_number_of(own, least, bytes)?;
     let (participants, rest) = participant_list_of(alloc, node, nodes, rest)?;
     let decision = Decision {
         number,
@@ -94,23 +96,45 @@ fn decided_of(
     Ok((decision, rest))
 }
 
-// A decision, or none.
-#[tactic(auto, unfolding(crate::specs::Reading::decision_at))]
-fn decision_of(
+// So many decisions, by ascending numbers.
+fn decided_by_count(
     alloc: Global,
     node: u8,
     nodes: usize,
     own: u64,
+    count: u8,
     bytes: &[u8],
-) -> Result<(Option<Decision>, &[u8]), CodecFault>
-    ensures { Reads (λ x. (x.0, x.1.now)) result (decision_at node nodes own bytes.now) }
+) -> Result<(Vec<Decision>, &[u8]), CodecFault>
+    ensures { Reads (λ x. (x.0.items, x.1.now)) result
+        (decided_so_many node nodes own count bytes.now) }
 {
-    let (follows, rest) = flag_of(bytes)?;
-    if !follows {
-        return Ok((None, rest));
+    let mut decisions = Vec::new(alloc);
+    let mut rest = bytes;
+    let mut least: u128 = 1;
+    for _ in 0..count {
+        let (decision, after) = decided_of(alloc, node, nodes, own, least, rest)?;
+        least = decision.number as u128 + 1;
+        decisions.push(decision)?;
+        rest = after;
     }
-    let (decision, rest) = decided_of(alloc, node, nodes, own, rest)?;
-    Ok((Some(decision), rest))
+    Ok((decisions, rest))
+}
+
+// Decisions, at most so many.
+#[tactic(auto, unfolding(crate::specs::Reading::decisions_at))]
+fn decisions_of(
+    alloc: Global,
+    most: usize,
+    node: u8,
+    nodes: usize,
+    own: u64,
+    bytes: &[u8],
+) -> Result<(Vec<Decision>, &[u8]), CodecFault>
+    ensures { Reads (λ x. (x.0.items, x.1.now)) result
+        (decisions_at most node nodes own bytes.now) }
+{
+    let (count, rest) = decision_count_of(most, bytes)?;
+    decided_by_count(alloc, node, nodes, own, count, rest)
 }
 
 // An initiator, and the number of its checkpoint.
@@ -196,25 +220,27 @@ fn images_of<'a>(
     Ok((permanent, tentative, rest))
 }
 
-// What follows the head.
+// What follows the head, with at most so many decisions.
 #[tactic(auto, unfolding(crate::specs::Reading::tail_at))]
 fn tail_of<'a>(
     alloc: Global,
+    most: usize,
     node: u8,
     highest: &[u64],
     bytes: &'a [u8],
-) -> Result<(Option<Decision>, Image, Option<Tentative>, &'a [u8]), CodecFault>
-    ensures { Reads (λ x. (record { decision = x.0; permanent = x.1; tentative = x.2 }, x.3.now))
-        result (tail_at node highest.now bytes.now) }
+) -> Result<(Vec<Decision>, Image, Option<Tentative>, &'a [u8]), CodecFault>
+    ensures { Reads
+        (λ x. (record { decisions = x.0.items; permanent = x.1; tentative = x.2 }, x.3.now))
+        result (tail_at most node highest.now bytes.now) }
 {
     let own = entry_of(highest, node);
-    let (decision, rest) = decision_of(alloc, node, highest.len(), own, bytes)?;
+    let (decisions, rest) = decisions_of(alloc, most, node, highest.len(), own, bytes)?;
     let (permanent, tentative, rest) = images_of(alloc, highest, rest)?;
-    Ok((decision, permanent, tentative, rest))
+    Ok((decisions, permanent, tentative, rest))
 }
 
 // The entry of a node.
-fn entry_of(highest: &[u64], node: u8) -> u64
+pub(crate) fn entry_of(highest: &[u64], node: u8) -> u64
     ensures { result ≡ slice_index highest.now node }
 {
     match highest.get(node as usize) {
@@ -223,18 +249,36 @@ fn entry_of(highest: &[u64], node: u8) -> u64
     }
 }
 
+// How many decisions a record may have in a version.
+fn most_decisions(version: u8) -> usize
+    ensures { result ≡ most_decisions version }
+{
+    if version == FIRST_VERSION {
+        1
+    } else {
+        MAX_DECISIONS
+    }
+}
+
 // What follows the version.
 #[tactic(auto, unfolding(crate::specs::Reading::body_at))]
-fn body_of(alloc: Global, bytes: &[u8]) -> Result<(Record, &[u8]), CodecFault>
-    ensures { Reads (λ x. (x.0, x.1.now)) result (body_at bytes.now) }
+fn body_of(alloc: Global, version: u8, bytes: &[u8]) -> Result<(Record, &[u8]), CodecFault>
+    ensures { Reads (λ x. (x.0, x.1.now)) result (body_at version bytes.now) }
 {
     let (node, epoch, highest, rest) = head_of(alloc, bytes)?;
-    let (decision, permanent, tentative, rest) = tail_of(alloc, node, highest.as_slice(), rest)?;
+    let most = most_decisions(version);
+    let (decisions, permanent, tentative, rest) = tail_of(
+        alloc,
+        most,
+        node,
+        highest.as_slice(),
+        rest,
+    )?;
     let kept = Record {
         node,
         epoch,
         highest,
-        decision,
+        decisions,
         permanent,
         tentative,
     };
@@ -249,24 +293,27 @@ fn whole_of(alloc: Global, bytes: &[u8]) -> Result<Record, CodecFault>
     let [version, rest @ ..] = bytes else {
         return Err(CodecFault::Truncated);
     };
-    if *version != 1 {
+    if *version < FIRST_VERSION || *version > VERSION {
         return Err(CodecFault::Version);
     }
-    let (kept, rest) = body_of(alloc, rest)?;
+    let (kept, rest) = body_of(alloc, *version, rest)?;
     if !rest.is_empty() {
         return Err(CodecFault::Malformed);
     }
     Ok(kept)
 }
 
-/// The record that these bytes spell, all of them.
+/// The record that these bytes spell, all of them, in either version.
 ///
 /// Refuses by the first offence from the left: with `Truncated` (30) where the bytes end and more is wanted, with
-/// `Version` (31) at a first byte of another version, with `Malformed` (32) at a value that can't stand where it does
+/// `Version` (31) at a first byte of no version, with `Malformed` (32) at a value that can't stand where it does
 /// or at a byte behind the record; and with `NoMemory` (1).
 pub fn read_record(alloc: Global, bytes: &[u8]) -> Result<Record, CodecFault>
     // These bytes spell the record that is answered.
     ensures found { IfOk result (λ kept. IsRecordText kept bytes.now) }
+
+    // It may be written.
+    ensures whole { IfOk result (λ kept. IsRecord kept) }
 
     // The record that they spell is answered, or memory runs out.
     ensures only { (kept : RecordView) → IsRecordText kept bytes.now

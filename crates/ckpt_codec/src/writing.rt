@@ -1,20 +1,22 @@
 // From a record to bytes.
 ghost use Rattle.std.specs.Prelude.{◌≡◌, ◌++◌, ◌<◌, OnOk, IfOk, length};
-ghost use Rattle.ckpt_codec.specs.RecordText.{IsRecord, IsRecordText};
+ghost use Rattle.ckpt_codec.specs.RecordText.{IsRecord, IsTextIn};
+ghost use Rattle.ckpt_codec.specs.declared.version.TheConstants.{VERSION};
 ghost use Rattle.ckpt_codec.specs.Spelling.{head_text, spelling, IsShortRecord, RecordHasItems};
 
 use crate::lengths::spelled_length;
 use crate::numbers::{put_highest, put_u8, put_u64};
-use crate::putting::{put_decision, put_image, put_tentative};
+use crate::putting::{put_decisions, put_image, put_tentative};
+use crate::version::VERSION;
 use record::Record;
 use std::alloc::{AllocError, Global};
 
 // Version, node, epoch and the highest numbers.
 fn put_head(out: &mut Vec<u8>, kept: &Record) -> Result<(), AllocError>
     requires { length kept.now.highest < 256 }
-    ensures { OnOk result (out.new.items ≡ out.old.items ++ head_text kept.now) }
+    ensures { OnOk result (out.new.items ≡ out.old.items ++ head_text VERSION kept.now) }
 {
-    put_u8(out, 1)?;
+    put_u8(out, VERSION)?;
     put_u8(out, kept.node)?;
     put_u64(out, kept.epoch)?;
     put_u8(out, kept.highest.len() as u8)?;
@@ -23,19 +25,19 @@ fn put_head(out: &mut Vec<u8>, kept: &Record) -> Result<(), AllocError>
 
 fn put_record(out: &mut Vec<u8>, kept: &Record) -> Result<(), AllocError>
     requires { IsShortRecord kept.now }
-    ensures put { OnOk result (out.new.items ≡ out.old.items ++ spelling kept.now) }
+    ensures put { OnOk result (out.new.items ≡ out.old.items ++ spelling VERSION kept.now) }
     ensures fit { OnOk result (RecordHasItems kept.now) }
 {
     put_head(out, kept)?;
-    put_decision(out, &kept.decision)?;
+    put_decisions(out, kept.decisions.as_slice())?;
     put_image(out, &kept.permanent)?;
     put_tentative(out, &kept.tentative)
 }
 
-/// The spelling of a record. Refuses for want of memory alone.
+/// The spelling of a record in the version in which records are written. Refuses for want of memory alone.
 pub fn write_record(alloc: Global, kept: &Record) -> Result<Vec<u8>, AllocError>
     requires { IsRecord kept.now }
-    ensures { IfOk result (λ bytes. IsRecordText kept.now bytes.items) }
+    ensures { IfOk result (λ bytes. IsTextIn VERSION kept.now bytes.items) }
 {
     let mut out = Vec::with_capacity(alloc, spelled_length(kept))?;
     put_record(&mut out, kept)?;

@@ -8,3 +8,4 @@ pub mod Undone
 pub mod Changes
 pub mod Seen
 pub mod Room
+mod Decisions

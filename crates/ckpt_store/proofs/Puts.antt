@@ -1,5 +1,5 @@
 -- How a put of the cell is a put of a record.
-use Rattle.std.proofs.Common.{◌≡◌, ◌⊎◌, inl, inr, ⊎_elim, ℕ, ◌<◌, true, false, List, length, Option, Some, Err, refl}
+use Rattle.std.proofs.Common.{◌≡◌, ◌⊎◌, inl, inr, ⊎_elim, ℕ, ◌<◌, true, false, List, length, Option, Some, Ok, Err, refl}
 use Rattle.std.proofs.Common.{sym, ◌∙◌, ap, subst, arith}
 use Rattle.std.specs.Prelude.{◌↔◌, ◌&&◌, nat_le, IsTrue, IsErrOf}
 use Rattle.std.proofs.lemmas.Bool.{lt-leb, and_right, true≢false}
@@ -11,7 +11,8 @@ use Rattle.gate_cell.specs.declared.fault.CellFault.{CellFault}
 use Rattle.gate_cell.specs.declared.fault.CellFault.TheVariants as cell
 use Rattle.gate_cell.specs.CellFault.{HasCause}
 use Rattle.record.specs.RecordView.{RecordView}
-use Rattle.ckpt_codec.specs.RecordText.{IsRecordText}
+use Rattle.ckpt_codec.specs.RecordText.{version_of, IsRecordText}
+use Rattle.ckpt_codec.proofs.Sizes.{length-text}
 use Rattle.ckpt_codec.specs.Lengths.{spelled_length}
 use Rattle.ckpt_codec.specs.declared.lengths.TheConstants.{MAX_RECORD_BYTES}
 use Rattle.ckpt_store.specs.StoreFault.{of_cell}
@@ -20,8 +21,7 @@ use Rattle.ckpt_store.specs.Putting.{IsPut}
 
 -- bytes that spell a record are as long as its spelling
 pub length_spelled : (kept : RecordView) (bytes : List ℕ) → IsRecordText kept bytes → spelled_length kept ≡ length bytes
-unfolding spelled_length
-length_spelled kept bytes text = ap (length {A = ℕ}) (sym text.spelled)
+length_spelled kept bytes text = sym (ap (length {A = ℕ}) text.text.spelled ∙ length-text (version_of bytes) kept)
 
 -- and so a cell that has room for the spelling has room for them
 within : (capacity : ℕ) (kept : RecordView) (bytes : List ℕ) → IsRecordText kept bytes → fits_in capacity kept ≡ true
@@ -52,6 +52,22 @@ module _ {C : Type 0} (words : CellWords C) (next : RecordView) where
         weakened words.moment words.left_since old new (λ left. words.may_leave old left ⊎ Spells next left)
         (λ left. words.may_leave old left ⊎ (left ≡ Some bytes)) moments
         (λ left now. ⊎_elim (λ had. inl had) (λ is. inr (subst (Spells next) (sym is) text)) now)
+
+    -- the cell took them
+    pub put_done : words.value new ≡ bytes
+        → HasCause {T = Unit {0}} (words.failure_count old) (words.failure_count new) (words.is_ready old)
+        (words.is_ready new) (Ok tt)
+        → IsPut words next old new {T = Unit {0}} (Ok tt)
+    put_done value cause = record {
+      ready = cause.stays_ready ∙ was_ready;
+      spelled = subst (IsRecordText next) (sym value) text;
+      refusals = tt;
+      fits = fits;
+      failures = record { device = λ e. cc; otherwise = λ not_device. cause.otherwise (λ e. cc) };
+      unchanged = tt;
+      any_moment = moments_spelled;
+      same_setup = same_setup;
+    }
 
     -- the cell refused them
     pub put_refused : (fault : CellFault)

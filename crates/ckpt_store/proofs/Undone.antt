@@ -1,7 +1,7 @@
 -- What takes a tentative image back that was taken gives the record before it.
-use Rattle.std.proofs.Common.{◌≡◌, ℕ, zero, suc, ◌-◌, ◌<◌, ◌≤◌, Bool, true, false, List, [], ◌∷◌, length, get_or}
+use Rattle.std.proofs.Common.{◌≡◌, ℕ, zero, suc, ◌<◌, ◌≤◌, Bool, true, false, List, [], ◌∷◌, length, get_or}
 use Rattle.std.proofs.Common.{Option, Some, None, refl, sym, ◌∙◌, ap, subst, arith}
-use Rattle.std.specs.Prelude.{if◌then◌else◌, is_some, ◌==◌, ◌&&◌, nat_le, nat_lt, slice_set, slice_index}
+use Rattle.std.specs.Prelude.{if◌then◌else◌, ◌==◌, ◌&&◌, nat_le, nat_lt, slice_set, slice_index}
 use Rattle.std.proofs.lemmas.Bool.{eqb-true, and_parts, not-false, leb-false, ltb-false}
 use Rattle.std.proofs.lemmas.Option.{none-some, same_Some}
 use Rattle.std.proofs.lemmas.List.{length-set}
@@ -16,7 +16,7 @@ use Rattle.ckpt_codec.specs.RecordText.{IsRecord, flag, image_fields, tentative_
 use Rattle.ckpt_store.specs.Restoring.{untaken, with_held}
 use Rattle.ckpt_store.specs.Undoing.{TakesBack}
 use Rattle.ckpt_store.specs.declared.undo.Undo.TheVariants.{Take}
-use Rattle.ckpt_store.specs.Refusals.{is_held, is_other_held, refusal_to_take}
+use Rattle.ckpt_store.specs.Refusals.{is_full, is_held, is_other_held, refusal_to_take}
 use Rattle.ckpt_store.specs.declared.fault.StoreFault.{StoreFault}
 use Rattle.ckpt_store.specs.declared.fault.StoreFault.TheVariants.{HoldsOther, PastNumber, Unsettled, Spent}
 use Rattle.ckpt_store.proofs.Parts.{parts_of}
@@ -45,11 +45,11 @@ pub may_take : (initiator number : ℕ) (kept : RecordView) → refusal_to_take 
 may_take initiator number kept is =
     let spent : Option StoreFault = if nat_lt MAX_COUNT number then Some Spent else None in
     let unsettled : Option StoreFault =
-    if (initiator == kept.node) && is_some kept.decision then Some Unsettled else spent in
+    if (initiator == kept.node) && is_full kept.decisions then Some Unsettled else spent in
     let past : Option StoreFault = if nat_le number (highest_seen initiator kept) then Some PastNumber else unsettled in
     let a = goes_on (is_other_held initiator number kept.tentative) HoldsOther past is in
     let b = goes_on (nat_le number (highest_seen initiator kept)) PastNumber unsettled a.1 in
-    let c = goes_on ((initiator == kept.node) && is_some kept.decision) Unsettled spent b.1 in
+    let c = goes_on ((initiator == kept.node) && is_full kept.decisions) Unsettled spent b.1 in
     let d = goes_on (nat_lt MAX_COUNT number) Spent None c.1 in
     record {
       no_other = a.0;
@@ -63,11 +63,11 @@ pub take_of_record : (initiator number : ℕ) (kept : RecordView) (fault : Store
 take_of_record initiator number kept fault is =
     let spent : Option StoreFault = if nat_lt MAX_COUNT number then Some Spent else None in
     let unsettled : Option StoreFault =
-    if (initiator == kept.node) && is_some kept.decision then Some Unsettled else spent in
+    if (initiator == kept.node) && is_full kept.decisions then Some Unsettled else spent in
     let past : Option StoreFault = if nat_le number (highest_seen initiator kept) then Some PastNumber else unsettled in
     its_or_later IsOfRecord (is_other_held initiator number kept.tentative) HoldsOther fault past tt
     (its_or_later IsOfRecord (nat_le number (highest_seen initiator kept)) PastNumber fault unsettled tt
-    (its_or_later IsOfRecord ((initiator == kept.node) && is_some kept.decision) Unsettled fault spent tt
+    (its_or_later IsOfRecord ((initiator == kept.node) && is_full kept.decisions) Unsettled fault spent tt
     (its_or_later IsOfRecord (nat_lt MAX_COUNT number) Spent fault None tt (λ e. absurd (none-some fault e))))) is
 
 -- then nothing is held: an instance that is held has the highest number seen of its initiator

@@ -7,3 +7,4 @@ pub mod Spelling
 pub mod Putting
 pub mod Loading
 pub mod StoreView
+pub mod Decided

@@ -1,6 +1,5 @@
 -- A record with parts of it as they were before a move.
-use Rattle.std.specs.Prelude.{ℕ, ◌-◌, ◌==◌, if◌then◌else◌, Bool, false, List, [], ◌∷◌, Option, Some, None, slice_set}
-use Rattle.record.specs.DecisionView.{DecisionView}
+use Rattle.std.specs.Prelude.{ℕ, ◌-◌, ◌==◌, if◌then◌else◌, Bool, false, Option, Some, None, slice_set}
 use Rattle.record.specs.ImageView.{ImageView}
 use Rattle.record.specs.RecordView.{RecordView}
 use Rattle.record.specs.declared.record.Tentative.{Tentative}
@@ -19,20 +18,6 @@ demoted initiator number permanent kept = record kept {
 -- with this tentative image, or none
 abbrev pub with_held : Option Tentative → RecordView → RecordView
 with_held held kept = record kept { tentative = held }
-
--- the decision that another one took the place of, if one did
-abbrev pub replaced : List ℕ → Option DecisionView → Option (Option DecisionView)
-replaced [] decision = None
-replaced (p ∷ ps) decision = Some decision
-
--- the decision before, where it was replaced
-abbrev pub restored : Option (Option DecisionView) → Option DecisionView → Option DecisionView
-restored None decision = decision
-restored (Some before) decision = before
-
--- with this decision, or none
-abbrev pub with_unsettled : Option DecisionView → RecordView → RecordView
-with_unsettled decision kept = record kept { decision = decision }
 
 -- what is held of the node's own instance
 abbrev pub is_own : ℕ → Option Tentative → Bool

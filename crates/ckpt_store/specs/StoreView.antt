@@ -31,7 +31,7 @@ blank = record {
   node = 0;
   epoch = 0;
   highest = [];
-  decision = None;
+  decisions = [];
   permanent = record { processes = []; ends = [] };
   tentative =
       None;

@@ -2,18 +2,22 @@
 //
 // A change is made in place, with its memory taken first, and is taken back where the put is refused. Where the device
 // failed no record is known any more: the cell's value spells the old one or the next one.
-ghost use Rattle.std.specs.Prelude.{◌≡◌, ◌<◌, length, IsTrue, false};
+ghost use Rattle.std.specs.Prelude.{◌≡◌, ◌<◌, ℕ, List, length, IsTrue, false};
+ghost use Rattle.ckpt_codec.specs.RecordText.{IsRecord};
+ghost use Rattle.ckpt_codec.specs.Lengths.{spelled_length};
 ghost use Rattle.std.specs.Option.{ForSome};
 ghost use Rattle.record.specs.Moves.{with_tentative, with_permanent, without_tentative, with_decision, with_confirmed, with_epoch};
 ghost use Rattle.ckpt_store.specs.Refusals.{refusal_to_take, refusal_unless_held, refusal_to_decide, refusal_to_raise, no_refusal, has_effect};
 ghost use Rattle.ckpt_store.specs.Spelling.{IsKept, IsLike, AreOthers};
 ghost use Rattle.ckpt_store.specs.Putting.{IsChange, IsIdle};
 
+use crate::deciding::{confirmed_by, confirmed_bytes, decided_by, decided_bytes};
 use crate::fault::StoreFault;
 use crate::moving;
-use crate::moving::{confirmed_by, confirmed_length, give_up, promote, raise, settle, take};
+use crate::moving::{give_up, promote, raise, settle, take};
 use crate::putting::{has_room, put_changed};
-use crate::refusing::{is_held, is_named, refusal_to_take};
+use crate::refusing::{is_held, is_named, refusal_to_decide, refusal_to_take};
+use ckpt_codec::{spelled_length_once_permanent, spelled_length_with};
 use gate_cell::StableCell;
 use kahn_net::MAX_COUNT;
 use record::{Image, Record};
@@ -94,6 +98,31 @@ pub fn drop_tentative<C: StableCell>(
     put_changed(alloc, cell, known, kept, undo)
 }
 
+// How many bytes spell the record in which the tentative image is the permanent one, and which so many nodes have to
+// confirm. Takes no memory.
+fn decided_length(kept: &Record, number: u64, count: usize) -> usize
+    requires record { IsRecord kept.now }
+    requires some { (0 < count) × (count < 256) }
+    ensures { (nodes : List ℕ) → length nodes ≡ count
+        → result ≡ spelled_length (with_decision number nodes kept.now) }
+{
+    spelled_length_once_permanent(
+        kept,
+        decided_bytes(kept.decisions.as_slice(), number, count),
+    )
+}
+
+// How many bytes spell the record that a node's confirmation of this number leaves. Takes no memory.
+fn confirmed_length(kept: &Record, number: u64, node: u8) -> usize
+    requires { IsRecord kept.now }
+    ensures { result ≡ spelled_length (with_confirmed number node kept.now) }
+{
+    spelled_length_with(
+        kept,
+        confirmed_bytes(kept.decisions.as_slice(), number, node),
+    )
+}
+
 // The tentative image of the node's own instance becomes permanent, with a decision that these nodes have to confirm.
 pub fn decide<C: StableCell>(
     alloc: Global,
@@ -105,18 +134,35 @@ pub fn decide<C: StableCell>(
     requires kept { IsKept C.value C.is_ready C.may_leave cell.old known.old }
     requires others { ForSome known.old (λ kept. AreOthers kept participants.items) }
     ensures kept { IsKept C.value C.is_ready C.may_leave cell.new known.new }
-    ensures change { IsChange ⟦<C as StableCell>⟧ (refusal_to_decide number) (with_decision number participants.items)
+    ensures change { IsChange ⟦<C as StableCell>⟧ (refusal_to_decide number participants.items) (with_decision number participants.items)
         cell.old cell.new known.old known.new result }
 {
     let Some(mut kept) = known.take() else {
         return Err(StoreFault::Reopen);
     };
-    if !is_held(&kept, kept.node, number) {
+    if let Some(fault) = refusal_to_decide(&kept, number, participants.as_slice()) {
         *known = Some(kept);
-        return Err(StoreFault::NotHeld);
+        return Err(fault);
     }
-    let undo = moving::decide(&mut kept, number, participants);
-    put_changed(alloc, cell, known, kept, undo)
+    if participants.is_empty() {
+        let initiator = kept.node;
+        let undo = promote(&mut kept, initiator, number);
+        return put_changed(alloc, cell, known, kept, undo);
+    }
+    if !has_room(cell, decided_length(&kept, number, participants.len())) {
+        *known = Some(kept);
+        return Err(StoreFault::TooLarge);
+    }
+    match decided_by(alloc, kept.decisions.as_slice(), number, participants) {
+        Ok(decisions) => {
+            let undo = moving::decide(&mut kept, number, decisions);
+            put_changed(alloc, cell, known, kept, undo)
+        }
+        Err(_) => {
+            *known = Some(kept);
+            Err(StoreFault::NoMemory)
+        }
+    }
 }
 
 // A node of a decision has confirmed it.
@@ -146,15 +192,16 @@ pub fn confirm<C: StableCell>(
         *known = Some(kept);
         return Err(StoreFault::TooLarge);
     }
-    let decision = match confirmed_by(alloc, &kept, number, node) {
-        Ok(decision) => decision,
+    match confirmed_by(alloc, kept.decisions.as_slice(), number, node) {
+        Ok(decisions) => {
+            let undo = settle(&mut kept, decisions);
+            put_changed(alloc, cell, known, kept, undo)
+        }
         Err(_) => {
             *known = Some(kept);
-            return Err(StoreFault::NoMemory);
+            Err(StoreFault::NoMemory)
         }
-    };
-    let undo = settle(&mut kept, decision);
-    put_changed(alloc, cell, known, kept, undo)
+    }
 }
 
 // The epoch rises, and a tentative image of the node's own goes with it.

@@ -2,6 +2,7 @@
 #![tactic(auto)]
 
 mod changing;
+mod deciding;
 mod fault;
 mod loading;
 mod moving;

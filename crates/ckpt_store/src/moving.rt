@@ -1,19 +1,16 @@
 // The moves of a record, each in place, with what takes it back. No image is copied.
-ghost use Rattle.std.specs.Prelude.{◌≡◌, ◌<◌, ◌≤◌, ◌^◌, length, IsSome, IsTrue, IfOk, Some, None};
-ghost use Rattle.std.specs.Option.{ForSome};
-ghost use Rattle.record.specs.Moves.{highest_seen, with_tentative, with_permanent, without_tentative, with_decision, with_confirmed, with_epoch, confirmed, without_node, without_own, decision_or, decision_by};
+ghost use Rattle.std.specs.Prelude.{◌≡◌, ◌<◌, length, IsSome, IsTrue, None};
+ghost use Rattle.record.specs.Moves.{highest_seen, with_tentative, with_permanent, without_tentative, with_epoch, without_own};
 ghost use Rattle.ckpt_codec.specs.RecordText.{IsRecord};
-ghost use Rattle.ckpt_codec.specs.Lengths.{spelled_length, named_count};
-ghost use Rattle.ckpt_store.specs.Refusals.{is_held, is_named_by, refusal_to_take};
-ghost use Rattle.ckpt_store.specs.Restoring.{with_held, with_unsettled, replaced, own_in};
+ghost use Rattle.ckpt_codec.specs.Lengths.{with_decided};
+ghost use Rattle.ckpt_store.specs.Refusals.{is_held, refusal_to_take};
+ghost use Rattle.ckpt_store.specs.Restoring.{with_held, own_in};
 ghost use Rattle.ckpt_store.specs.Undoing.{TakesBack};
 
 use crate::refusing::is_own_held;
 use crate::undo::Undo;
-use ckpt_codec::spelled_length_with;
 use kahn_net::MAX_COUNT;
 use record::{Decision, Image, Record, Tentative};
-use std::alloc::{AllocError, Global};
 use std::mem;
 
 // The highest number seen of an initiator.
@@ -67,7 +64,6 @@ pub fn promote(kept: &mut Record, initiator: u8, number: u64) -> Undo
         initiator,
         number,
         permanent,
-        decision: None,
     }
 }
 
@@ -80,133 +76,30 @@ pub fn give_up(kept: &mut Record) -> Undo
     Undo::GiveUp { held }
 }
 
-// Adds the decision that these nodes have to confirm, if there are any, and gives the one whose place it took.
-fn add_decision(kept: &mut Record, number: u64, participants: Vec<u8>) -> Option<Option<Decision>>
-    ensures next { kept.new
-        ≡ with_unsettled (decision_or kept.old.decision number participants.items) kept.old }
-    ensures before { result ≡ replaced participants.items kept.old.decision }
-{
-    if participants.is_empty() {
-        return None;
-    }
-    Some(mem::replace(
-        &mut kept.decision,
-        Some(Decision {
-            number,
-            participants,
-        }),
-    ))
-}
-
-/// Makes the tentative image of the node's own instance permanent, with the decision that these nodes have to confirm,
-/// if there are any.
-pub fn decide(kept: &mut Record, number: u64, participants: Vec<u8>) -> Undo
+/// Makes the tentative image of the node's own instance permanent, and puts these decisions in the place of those before.
+pub fn decide(kept: &mut Record, number: u64, decisions: Vec<Decision>) -> Undo
     requires { IsTrue (is_held kept.old.node number kept.old.tentative) }
-    ensures next { kept.new ≡ with_decision number participants.items kept.old }
+    ensures next { kept.new ≡ with_decided decisions.items (with_permanent kept.old) }
     ensures back { TakesBack kept.old kept.new result }
 {
     let initiator = kept.node;
     let permanent = swap_image(kept);
-    let decision = add_decision(kept, number, participants);
-    Undo::Promote {
+    let decisions = mem::replace(&mut kept.decisions, decisions);
+    Undo::Decide {
         initiator,
         number,
         permanent,
-        decision,
+        decisions,
     }
 }
 
-/// Puts a decision, or none, in the place of the one before.
-pub fn settle(kept: &mut Record, decision: Option<Decision>) -> Undo
-    ensures next { kept.new ≡ with_unsettled decision kept.old }
+/// Puts decisions in the place of those before.
+pub fn settle(kept: &mut Record, decisions: Vec<Decision>) -> Undo
+    ensures next { kept.new ≡ with_decided decisions.items kept.old }
     ensures back { TakesBack kept.old kept.new result }
 {
-    let before = mem::replace(&mut kept.decision, decision);
-    Undo::Settle { decision: before }
-}
-
-// The nodes of a decision but one.
-fn nodes_without(alloc: Global, participants: &[u8], node: u8) -> Result<Vec<u8>, AllocError>
-    ensures { IfOk result (λ left. left.items ≡ without_node node participants.now) }
-{
-    participants
-        .iter()
-        .filter(|p| **p != node)
-        .copied()
-        .collect(alloc)
-}
-
-// The decision that a node's confirmation leaves.
-fn confirmed_decision(
-    alloc: Global,
-    decision: &Decision,
-    node: u8,
-) -> Result<Option<Decision>, AllocError>
-    ensures { IfOk result (λ left. left
-        ≡ decision_by decision.now.number (without_node node decision.now.participants)) }
-{
-    let participants = nodes_without(alloc, decision.participants.as_slice(), node)?;
-    if participants.is_empty() {
-        return Ok(None);
-    }
-    Ok(Some(Decision {
-        number: decision.number,
-        participants,
-    }))
-}
-
-/// The decision that a node's confirmation of this number leaves.
-pub fn confirmed_by(
-    alloc: Global,
-    kept: &Record,
-    number: u64,
-    node: u8,
-) -> Result<Option<Decision>, AllocError>
-    requires { IsTrue (is_named_by number node kept.now.decision) }
-    ensures { IfOk result (λ left. left ≡ confirmed number node kept.now.decision) }
-{
-    match &kept.decision {
-        Some(decision) => confirmed_decision(alloc, decision, node),
-        None => Ok(None),
-    }
-}
-
-fn count_without(participants: &[u8], node: u8) -> usize
-    ensures value { result ≡ length (without_node node participants.now) }
-    ensures bound { result ≤ length participants.now }
-{
-    participants.iter().filter(|p| **p != node).count()
-}
-
-// How many nodes a decision names but this one, if there are any.
-fn named_without(decision: &Decision, node: u8) -> Option<usize>
-    ensures value { result
-        ≡ named_count (decision_by decision.now.number (without_node node decision.now.participants)) }
-    ensures bound { ForSome result (λ n. n < 2 ^ 63) }
-{
-    let count = count_without(decision.participants.as_slice(), node);
-    if count == 0 { None } else { Some(count) }
-}
-
-// How many nodes the decision names that a node's confirmation of this number leaves, if it leaves one.
-fn named_then(kept: &Record, number: u64, node: u8) -> Option<usize>
-    requires { IsTrue (is_named_by number node kept.now.decision) }
-    ensures value { result ≡ named_count (confirmed number node kept.now.decision) }
-    ensures bound { ForSome result (λ n. n < 2 ^ 63) }
-{
-    match &kept.decision {
-        Some(decision) => named_without(decision, node),
-        None => None,
-    }
-}
-
-/// How many bytes spell the record that a node's confirmation of this number leaves. Takes no memory.
-pub fn confirmed_length(kept: &Record, number: u64, node: u8) -> usize
-    requires record { IsRecord kept.now }
-    requires named { IsTrue (is_named_by number node kept.now.decision) }
-    ensures { result ≡ spelled_length (with_confirmed number node kept.now) }
-{
-    spelled_length_with(kept, named_then(kept, number, node))
+    let decisions = mem::replace(&mut kept.decisions, decisions);
+    Undo::Settle { decisions }
 }
 
 // Lets go of a tentative image of the node's own, and gives that.

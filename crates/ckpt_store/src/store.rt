@@ -137,8 +137,8 @@ impl<C: StableCell> Store<C> {
     }
 
     /// Makes the tentative image of the node's own instance permanent, and adds the decision that these nodes have to
-    /// confirm, if there are any: it takes the place of one before. Refuses with `NotHeld` (42) where that instance isn't
-    /// held, and then as each change.
+    /// confirm, if there are any: it takes the place of one of its number. Refuses with `NotHeld` (42) where that instance
+    /// isn't held, with `Unsettled` (43) where it would be one decision too many, and then as each change.
     pub fn decide(
         &mut self,
         alloc: Global,
@@ -146,14 +146,14 @@ impl<C: StableCell> Store<C> {
         participants: Vec<u8>,
     ) -> Result<(), StoreFault>
         requires { ForSome (known_in self.old) (λ kept. AreOthers kept participants.items) }
-        ensures { Changes (refusal_to_decide number) (with_decision number participants.items)
+        ensures { Changes (refusal_to_decide number participants.items) (with_decision number participants.items)
             self.old self.new result }
     {
         changing::decide(alloc, &mut self.cell, &mut self.known, number, participants)
     }
 
-    /// Takes a node out of the decision of this number; with its last one the decision goes. Where no decision of this
-    /// number names the node, nothing is put. Refuses as each change.
+    /// Takes a node out of the decision of this number, and touches no other; with its last one the decision goes. Where no
+    /// decision of this number names the node, nothing is put. Refuses as each change.
     pub fn confirm(&mut self, alloc: Global, number: u64, node: u8) -> Result<(), StoreFault>
         ensures change { IsTrue (has_effect number node (known_in self.old))
             → Changes no_refusal (with_confirmed number node) self.old self.new result }

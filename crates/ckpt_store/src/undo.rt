@@ -1,6 +1,6 @@
 //! What takes a move of a record back.
 ghost use Rattle.std.specs.Prelude.{◌≡◌, ◌<◌, length};
-ghost use Rattle.ckpt_store.specs.Restoring.{untaken, demoted, with_held, with_unsettled, restored, lowered};
+ghost use Rattle.ckpt_store.specs.Restoring.{untaken, demoted, with_held, lowered};
 
 use record::{Decision, Image, Record, Tentative};
 use std::mem;
@@ -13,20 +13,26 @@ pub enum Undo {
         initiator: u8,
         entry: u64,
     },
-    /// That of an instance became permanent: the permanent one before, and the decision where another took its place.
+    /// That of an instance became permanent: the permanent one before.
     Promote {
         initiator: u8,
         number: u64,
         permanent: Image,
-        decision: Option<Option<Decision>>,
+    },
+    /// And decisions took the place of these.
+    Decide {
+        initiator: u8,
+        number: u64,
+        permanent: Image,
+        decisions: Vec<Decision>,
     },
     /// A tentative image went: the one that was held.
     GiveUp {
         held: Option<Tentative>,
     },
-    /// A decision took the place of another one: that, or none.
+    /// Decisions took the place of these.
     Settle {
-        decision: Option<Decision>,
+        decisions: Vec<Decision>,
     },
     /// The epoch rose: the tentative image that went with it, if one did.
     Raise {
@@ -59,14 +65,6 @@ fn hold(kept: &mut Record, held: Option<Tentative>)
     kept.tentative = held;
 }
 
-fn unsettle(kept: &mut Record, before: Option<Option<Decision>>)
-    ensures { kept.new ≡ with_unsettled (restored before kept.old.decision) kept.old }
-{
-    if let Some(decision) = before {
-        kept.decision = decision;
-    }
-}
-
 fn lower(kept: &mut Record, own: Option<Tentative>)
     ensures { kept.new ≡ lowered own kept.old }
 {
@@ -90,13 +88,18 @@ impl Undo {
                 initiator,
                 number,
                 permanent,
-                decision,
+            } => demote(kept, initiator, number, permanent),
+            Undo::Decide {
+                initiator,
+                number,
+                permanent,
+                decisions,
             } => {
-                unsettle(kept, decision);
+                kept.decisions = decisions;
                 demote(kept, initiator, number, permanent);
             }
             Undo::GiveUp { held } => hold(kept, held),
-            Undo::Settle { decision } => kept.decision = decision,
+            Undo::Settle { decisions } => kept.decisions = decisions,
             Undo::Raise { own } => lower(kept, own),
         }
     }

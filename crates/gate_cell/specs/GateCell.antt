@@ -1,9 +1,10 @@
 -- What a cell on a disk shows. `disk` stands for the disk's own words.
-use Rattle.std.specs.Prelude.{◌≡◌, ℕ, Bool, List, length, take, Option, Some, IsTrue}
+use Rattle.std.specs.Prelude.{◌≡◌, ℕ, Bool, true, List, length, take, Option, Some, IsTrue}
 use Rattle.sector_disk.specs.declared.disk.ArmedFault.{ArmedFault}
 use Rattle.sector_disk.specs.declared.disk.Disk.{Ghosts as DiskWords}
 use Rattle.sector_disk.specs.Clock.{Only}
 use Rattle.gate_cell.specs.Layout.{stands_for, value_on, room_on, named, frame_size, IsGate, IsFrame}
+use Rattle.gate_cell.specs.Whole.{ValueCall}
 use Rattle.gate_cell.specs.Stands.{MayStand, StoodSince}
 use Rattle.gate_cell.specs.declared.gate.GateCell.{GateCell}
 
@@ -53,6 +54,14 @@ calls_of {D} {disk} cell = disk.call_count cell.disk
 -- nothing on this disk is in doubt
 abbrev pub IsDurable : {D : Type 0} → (D → List ℕ) → (D → List ℕ → Type 0) → D → Type 0
 IsDurable content may_leave disk = Only (content disk) (may_leave disk)
+
+-- nothing lies beside its value
+abbrev pub nothing_beside : {D : Type 0} {disk : DiskWords D} → ValueCall → GateCell D disk → GateCell D disk → Type 0
+nothing_beside call old new = Unit {0}
+
+-- a put takes memory for the frame of its value
+abbrev pub asks_memory_of : {D : Type 0} {disk : DiskWords D} → GateCell D disk → Bool
+asks_memory_of cell = true
 
 -- the area that the gate names begins with the frame of this value
 abbrev pub HoldsFrame : List ℕ → ℕ → List ℕ → Type 0

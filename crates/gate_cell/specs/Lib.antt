@@ -4,3 +4,7 @@ pub mod Setup
 pub mod Layout
 pub mod Stands
 pub mod GateCell
+pub mod Whole
+pub mod SplitLayout
+pub mod SplitStands
+pub mod SplitCell

@@ -4,6 +4,7 @@ ghost use Rattle.sector_disk.specs.Clock.{Only, LeavesOnly};
 ghost use Rattle.sector_disk.specs.declared.disk.ArmedFault.{ArmedFault};
 ghost use Rattle.gate_cell.specs.CellFault.{HasCause, HasDeviceCause};
 ghost use Rattle.gate_cell.specs.Setup.{LeavesSetup};
+ghost use Rattle.gate_cell.specs.Whole.{ValueCall};
 ghost use Rattle.gate_cell.specs.declared.TheConstants.{MAX_VALUE_BYTES};
 
 use crate::fault::CellFault;
@@ -51,6 +52,12 @@ pub trait StableCell: Drop {
     /// too.
     ghost left_since: { Self → ℕ → Option (List ℕ) → Type 0 };
 
+    /// What a call of the value does to what the cell holds beside it. A cell that holds nothing else says nothing here.
+    ghost beside: { ValueCall → Self → Self → Type 0 };
+
+    /// Whether a put may be refused for want of memory.
+    ghost asks_memory: { Self → Bool };
+
     /// The most bytes of a value that fits.
     fn room(&self) -> usize
         ensures { result ≡ capacity self.now };
@@ -65,6 +72,7 @@ pub trait StableCell: Drop {
 
         // A crash at any moment of the call leaves what it might have left before.
         ensures any_moment { LeavesOnly moment left_since self.old self.new (may_leave self.old) }
+        ensures beside { beside ValueCall.Looks self.old self.new }
         ensures same_value { value self.new ≡ value self.old }
         ensures same_setup { LeavesSetup capacity armed call_count self.old self.new }
 
@@ -82,8 +90,10 @@ pub trait StableCell: Drop {
         // A crash at any moment of the call leaves what it might have left before, or the new value.
         ensures any_moment { LeavesOnly moment left_since self.old self.new
             (λ left. may_leave self.old left ⊎ (left ≡ Some new.now)) }
+        ensures beside { beside (ValueCall.Puts new.now) self.old self.new }
         ensures same_setup { LeavesSetup capacity armed call_count self.old self.new }
 
+        ensures memory { IsErrOf result CellFault.NoMemory → IsTrue (asks_memory self.old) }
         ensures too_large { IsErrOf result CellFault.TooLarge
             ↔ (IsTrue (is_ready self.old) × (capacity self.old < length new.now)) }
         ensures unchanged { (IsErrOf result CellFault.NoMemory ⊎ IsErrOf result CellFault.TooLarge
@@ -98,6 +108,7 @@ pub trait StableCell: Drop {
         ensures left { may_leave self.old (Some (value self.new)) }
         ensures settled { Only (Some (value self.new)) (may_leave self.new) }
         ensures any_moment { LeavesOnly moment left_since self.old self.new (may_leave self.old) }
+        ensures beside { beside ValueCall.Crashes self.old self.new }
         ensures same_setup { LeavesSetup capacity armed call_count self.old self.new }
         ensures same_calls { call_count self.new ≡ call_count self.old }
         ensures down { is_ready self.new ≡ false }
@@ -110,6 +121,7 @@ pub trait StableCell: Drop {
         ensures not_ready { OnErr result (is_ready self.new ≡ false) }
         ensures same_value { value self.new ≡ value self.old }
         ensures any_moment { LeavesOnly moment left_since self.old self.new (may_leave self.old) }
+        ensures beside { beside ValueCall.Looks self.old self.new }
         ensures same_setup { LeavesSetup capacity armed call_count self.old self.new }
         ensures cause { HasDeviceCause (failure_count self.old) (failure_count self.new) result };
 
@@ -117,6 +129,7 @@ pub trait StableCell: Drop {
     fn arm(&mut self, fault: ArmedFault) -> Result<(), AllocError>
         ensures same_value { value self.new ≡ value self.old }
         ensures any_moment { LeavesOnly moment left_since self.old self.new (may_leave self.old) }
+        ensures beside { beside ValueCall.Looks self.old self.new }
         ensures same_room { capacity self.new ≡ capacity self.old }
         ensures same_calls { call_count self.new ≡ call_count self.old }
         ensures same_readiness { is_ready self.new ≡ is_ready self.old }
@@ -129,6 +142,7 @@ pub trait StableCell: Drop {
     fn recount(&mut self)
         ensures same_value { value self.new ≡ value self.old }
         ensures any_moment { LeavesOnly moment left_since self.old self.new (may_leave self.old) }
+        ensures beside { beside ValueCall.Looks self.old self.new }
         ensures same_room { capacity self.new ≡ capacity self.old }
         ensures same_faults { armed self.new ≡ armed self.old }
         ensures same_readiness { is_ready self.new ≡ is_ready self.old }

@@ -7,12 +7,15 @@ ghost use Rattle.gate_cell.specs.CellFault.{HasCause, HasDeviceCause};
 ghost use Rattle.gate_cell.specs.Layout.{other_area, HoldsNoValue, HasNoRoom, IsGate, IsSettled};
 ghost use Rattle.gate_cell.specs.Stands.{AlwaysStands, Looks, only_value, stands_for_content, stands_for_one, stood_fits, room_bound};
 ghost use Rattle.gate_cell.specs.Setup.{LeavesSetup};
+ghost use Rattle.gate_cell.specs.Whole.{ValueCall};
 ghost use Rattle.gate_cell.specs.declared.fault.CellFault.TheVariants.{NoMemory, Device, TooLarge, Reopen};
 
-use crate::access::{find_value, look, make_sure, write_sectors, write_through};
+use crate::access::look;
 use crate::cell::StableCell;
 use crate::fault::CellFault;
-use crate::frame::{area_of, frame_len, framed, gate_bytes, room_of, unframed};
+use crate::formatting::lay_out;
+use crate::frame::{area_of, frame_len, framed, room_of, unframed};
+use crate::gated::{find_value, put_value};
 use sector_disk::{ArmedFault, Disk};
 use std::alloc::{AllocError, Global};
 
@@ -69,16 +72,9 @@ impl<D: Disk> GateCell<D> {
             Ok(frame) => frame,
             Err(_) => return Err((CellFault::NoMemory, disk)),
         };
-        if let Err(fault) = write_sectors(&mut disk, 1, &frame) {
+        if let Err(fault) = lay_out(&mut disk, sectors, &frame) {
             return Err((fault, disk));
         }
-        if let Err(fault) = write_sectors(&mut disk, 0, &gate_bytes(0)) {
-            return Err((fault, disk));
-        }
-        if let Err(fault) = make_sure(&mut disk) {
-            return Err((fault, disk));
-        }
-        disk.recount();
         Ok(GateCell {
             alloc,
             disk,
@@ -160,7 +156,7 @@ impl<D: Disk> GateCell<D> {
 }
 
 impl<D: Disk> StableCell for GateCell<D> {
-    ghost use Rattle.gate_cell.specs.GateCell.{disk_in, value_of, is_ready_of, capacity_of, failures_of, failed_call_of, moment_of, may_leave_of, left_since_of, content_of, armed_of, calls_of, IsDurable, HoldsFrame};
+    ghost use Rattle.gate_cell.specs.GateCell.{disk_in, value_of, is_ready_of, capacity_of, failures_of, failed_call_of, moment_of, may_leave_of, left_since_of, content_of, armed_of, calls_of, nothing_beside, asks_memory_of, IsDurable, HoldsFrame};
 
     ghost value = { value_of };
 
@@ -181,6 +177,10 @@ impl<D: Disk> StableCell for GateCell<D> {
     ghost may_leave = { may_leave_of };
 
     ghost left_since = { left_since_of };
+
+    ghost beside = { nothing_beside };
+
+    ghost asks_memory = { asks_memory_of };
 
     ghost settled = { λ g ready. only_value _ _ _ _ _ (g.settled ready) };
 
@@ -210,6 +210,7 @@ impl<D: Disk> StableCell for GateCell<D> {
         ensures value { IfOk result (λ bytes. bytes.items ≡ value_of self.old) }
         ensures any_moment { LeavesOnly moment_of left_since_of self.old self.new
             (may_leave_of self.old) }
+        ensures beside { nothing_beside ValueCall.Looks self.old self.new }
         ensures same_value { value_of self.new ≡ value_of self.old }
         ensures same_setup { LeavesSetup capacity_of armed_of calls_of self.old self.new }
         ensures too_large { ¬ (IsErrOf result CellFault.TooLarge) }
@@ -240,7 +241,9 @@ impl<D: Disk> StableCell for GateCell<D> {
         ensures ok { OnOk result (value_of self.new ≡ new.now) }
         ensures any_moment { LeavesOnly moment_of left_since_of self.old self.new
             (λ left. may_leave_of self.old left ⊎ (left ≡ Some new.now)) }
+        ensures beside { nothing_beside (ValueCall.Puts new.now) self.old self.new }
         ensures same_setup { LeavesSetup capacity_of armed_of calls_of self.old self.new }
+        ensures memory { IsErrOf result CellFault.NoMemory → IsTrue (asks_memory_of self.old) }
         ensures too_large { IsErrOf result CellFault.TooLarge
             ↔ (IsTrue (is_ready_of self.old) × (capacity_of self.old < length new.now)) }
         ensures unchanged { (IsErrOf result CellFault.NoMemory ⊎ IsErrOf result CellFault.TooLarge
@@ -266,11 +269,9 @@ impl<D: Disk> StableCell for GateCell<D> {
             return Err(CellFault::TooLarge);
         }
         let frame = framed(self.alloc, new)?;
-        let other = 1 - self.active;
         self.ready = false;
-        write_through(&mut self.disk, 1 + other * area_of(sectors), &frame)?;
-        write_through(&mut self.disk, 0, &gate_bytes(other as u8))?;
-        self.active = other;
+        put_value(&mut self.disk, sectors, self.active, &frame)?;
+        self.active = 1 - self.active;
         self.value_len = new.len();
         self.ready = true;
         Ok(())
@@ -281,6 +282,7 @@ impl<D: Disk> StableCell for GateCell<D> {
         ensures settled { Only (Some (value_of self.new)) (may_leave_of self.new) }
         ensures any_moment { LeavesOnly moment_of left_since_of self.old self.new
             (may_leave_of self.old) }
+        ensures beside { nothing_beside ValueCall.Crashes self.old self.new }
         ensures same_setup { LeavesSetup capacity_of armed_of calls_of self.old self.new }
         ensures same_calls { calls_of self.new ≡ calls_of self.old }
         ensures down { is_ready_of self.new ≡ false }
@@ -302,6 +304,7 @@ impl<D: Disk> StableCell for GateCell<D> {
         ensures same_value { value_of self.new ≡ value_of self.old }
         ensures any_moment { LeavesOnly moment_of left_since_of self.old self.new
             (may_leave_of self.old) }
+        ensures beside { nothing_beside ValueCall.Looks self.old self.new }
         ensures same_setup { LeavesSetup capacity_of armed_of calls_of self.old self.new }
         ensures cause { HasDeviceCause (failures_of self.old) (failures_of self.new) result }
 
@@ -328,6 +331,7 @@ impl<D: Disk> StableCell for GateCell<D> {
         ensures same_value { value_of self.new ≡ value_of self.old }
         ensures any_moment { LeavesOnly moment_of left_since_of self.old self.new
             (may_leave_of self.old) }
+        ensures beside { nothing_beside ValueCall.Looks self.old self.new }
         ensures same_room { capacity_of self.new ≡ capacity_of self.old }
         ensures same_calls { calls_of self.new ≡ calls_of self.old }
         ensures same_readiness { is_ready_of self.new ≡ is_ready_of self.old }
@@ -343,6 +347,7 @@ impl<D: Disk> StableCell for GateCell<D> {
         ensures same_value { value_of self.new ≡ value_of self.old }
         ensures any_moment { LeavesOnly moment_of left_since_of self.old self.new
             (may_leave_of self.old) }
+        ensures beside { nothing_beside ValueCall.Looks self.old self.new }
         ensures same_room { capacity_of self.new ≡ capacity_of self.old }
         ensures same_faults { armed_of self.new ≡ armed_of self.old }
         ensures same_readiness { is_ready_of self.new ≡ is_ready_of self.old }

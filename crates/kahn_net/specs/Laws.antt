@@ -9,7 +9,6 @@ pub mod Streams
 pub mod Got
 pub mod Resuming
 pub mod NextActs
-pub mod Sites
 pub mod Rests
 pub mod Approximations
 pub mod Fixpoints

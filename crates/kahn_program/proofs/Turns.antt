@@ -1,6 +1,6 @@
 -- Turns of a run.
-use Rattle.std.proofs.Common.{◌≡◌, ◌≢◌, ◌++◌, ◌⊎◌, Ok, Err, inl, inr, ◌<◌, ◌∙◌, ◌∷◌, [], ◌+◌, ◌≤◌, ℕ, zero, suc, ℤ}
-use Rattle.std.proofs.Common.{Bool, true, false, List, length, map, Option, refl, sym, ap, subst, arith}
+use Rattle.std.proofs.Common.{◌≡◌, ◌≢◌, ◌++◌, ◌⊎◌, Ok, Err, inl, inr, ◌∙◌, ◌∷◌, [], ◌+◌, ◌≤◌, ℕ, zero, suc, ℤ}
+use Rattle.std.proofs.Common.{Bool, true, false, List, map, Option, refl, sym, ap, subst, arith}
 use Rattle.std.specs.List.{AllByRecursion}
 use Rattle.std.specs.Prelude.{replicate, OnOk, Result}
 use Rattle.kahn_net.specs.Nodes.{node_count}
@@ -25,7 +25,7 @@ use Rattle.wire.specs.Traffic.{opening_traffic}
 use Rattle.protocol.specs.World.OpeningWorld.{opening_outlet, opening_stations, opening_world}
 use Rattle.world.specs.OpeningWorld.{IsUnused}
 use Rattle.protocol.specs.World.Sound.{output_channels}
-use Rattle.protocol.specs.World.StationView.{OutletView, StationView}
+use Rattle.protocol.specs.World.StationView.{OutletView}
 use Rattle.world.specs.StationView.{outlet_view, outlet_views}
 use Rattle.protocol.specs.World.Steps.{WorldView, IsStep}
 use Rattle.protocol.specs.World.EventView.{EventView}

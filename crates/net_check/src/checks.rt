@@ -17,6 +17,7 @@ use crate::net::Net;
 use crate::resolve::resolve;
 use kahn_net::Program;
 use net_text::NetText;
+use proc_code::compile_all;
 use std::alloc::Global;
 
 /// The network of a text: valid, by its type.
@@ -50,6 +51,7 @@ fn check_in_order(alloc: Global, text: NetText) -> Result<Net, NetFault>
     let channels = join(alloc, &declared.channels, &resolved.ends)?;
     let channel_names = names_of_channels(alloc, declared.channels)?;
     let process_names = names_of_processes(alloc, declared.processes)?;
+    let codes = compile_all(alloc, &resolved.processes)?;
     Ok(Net {
         program: Program {
             channels,
@@ -57,5 +59,6 @@ fn check_in_order(alloc: Global, text: NetText) -> Result<Net, NetFault>
         },
         channel_names,
         process_names,
+        codes,
     })
 }

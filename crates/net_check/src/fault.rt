@@ -4,6 +4,7 @@ ghost use Rattle.std.specs.Prelude.{◌≡◌};
 ghost use Rattle.net_check.specs.Faults.{number_of, line_of};
 ghost use Rattle.net_check.specs.declared.fault.NetFault.TheVariants.{NoMemory};
 
+use proc_code::Fault;
 use std::alloc::{AllocError, AllocFailed};
 use thiserror::Error;
 
@@ -92,6 +93,14 @@ impl<T: Drop> From<AllocFailed<T>> for NetFault {
     ghost from_gives = { λ _ e. e ≡ NoMemory };
 
     fn from(_: AllocFailed<T>) -> Self {
+        NetFault::NoMemory
+    }
+}
+
+impl From<Fault> for NetFault {
+    ghost from_gives = { λ _ e. e ≡ NoMemory };
+
+    fn from(_: Fault) -> Self {
         NetFault::NoMemory
     }
 }

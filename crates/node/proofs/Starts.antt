@@ -1,19 +1,22 @@
 -- A start and a decision as puts of the next record.
 use Rattle.std.proofs.Common.{◌≡◌, ℕ, ◌+◌, ◌<◌, ◌≤◌, Bool, true, false, ◌&&◌, List, [], length, Option, Some, None}
 use Rattle.std.proofs.Common.{Result, refl, sym, ◌∙◌, ap, subst, arith, eqb}
-use Rattle.std.specs.Prelude.{IsTrue, is_some, cond, nat_le, nat_lt}
-use Rattle.std.proofs.lemmas.Bool.{le-ltb, lt-ltb, eq-eqb}
+use Rattle.std.specs.Prelude.{IsTrue, cond, nat_le, nat_lt}
+use Rattle.std.proofs.lemmas.Bool.{le-leb, le-ltb, lt-leb, lt-ltb, eq-eqb, eqb-true}
 use Rattle.std.proofs.lemmas.List.{length-set}
 use Rattle.sector_disk.specs.Clock.{Only}
 use Rattle.gate_cell.specs.declared.cell.StableCell.{Ghosts as CellWords}
+use Rattle.record.specs.DecisionView.{DecisionView}
 use Rattle.record.specs.ImageView.{ImageView}
+use Rattle.record.specs.declared.record.TheConstants.{MAX_DECISIONS}
 use Rattle.record.specs.RecordView.{RecordView}
 use Rattle.record.specs.Moves.{highest_seen, with_tentative, with_decision}
 use Rattle.record.specs.declared.record.Tentative.{Tentative}
 use Rattle.kahn_net.specs.declared.limits.TheConstants.{MAX_COUNT}
 use Rattle.ckpt_store.proofs.Room.{decision_fits, record_fits}
 use Rattle.gate_cell.specs.declared.TheConstants.{MAX_VALUE_BYTES}
-use Rattle.ckpt_store.specs.Refusals.{is_held, is_other_held, refusal_to_take, refusal_to_decide}
+use Rattle.ckpt_store.specs.Refusals.{is_full, is_held, is_other_held, refusal_to_take, refusal_to_decide}
+use Rattle.ckpt_store.proofs.Seen.{known_few}
 use Rattle.ckpt_store.specs.StoreView.{cell_in, record_in, Changes}
 use Rattle.ckpt_store.specs.declared.store.Store.{Store}
 use Rattle.ckpt_store.specs.declared.fault.StoreFault.{StoreFault}
@@ -32,6 +35,7 @@ use Rattle.protocol.specs.declared.outcome.Outcome.{Outcome}
 use Rattle.protocol.specs.declared.outcome.Outcome.TheVariants as outcome
 use Rattle.node.specs.Putting.{IsPutEvent}
 use Rattle.node.proofs.Checkpoints.{Ends, ended, ends_event, ends_kept}
+use Rattle.node.proofs.Records.{some_known}
 
 none_is : {A : Type 0} (o : Option A) → is_none o ≡ true → o ≡ None
 none_is None is = refl
@@ -57,9 +61,11 @@ none_other : (initiator number : ℕ) (o : Option Tentative) → o ≡ None → 
 none_other initiator number None is = refl
 none_other initiator number (Some held) is = absurd (cc)
 
-none_some : {A : Type 0} (a : Bool) (o : Option A) → o ≡ None → (a && is_some o) ≡ false
-none_some a None is = and_false a
-none_some a (Some x) is = absurd (cc)
+-- where no decision is unsettled there is place for one
+not_full : (a : Bool) (ds : List DecisionView) → length ds ≡ 0 → (a && is_full ds) ≡ false
+not_full a ds none =
+    let few : is_full ds ≡ false = lt-leb MAX_DECISIONS (length ds) (omega (arith, none)) in
+    ap (λ (b : Bool). a && b) few ∙ and_false a
 
 not_above : (n m : ℕ) → m < n → nat_le n m ≡ false
 not_above n m less = grind (arith, less)
@@ -95,13 +101,13 @@ module _ (number highest : ℕ) (image : ImageView) (kept : RecordView) (version
 
   pub own_fine : may_start view ≡ true → highest < MAX_COUNT → refusal_to_take number (highest + 1) kept ≡ None
   own_fine due less =
-      let parts = both_of (is_running mode) (is_none kept.tentative && is_none kept.decision) due in
-      let free = both_of (is_none kept.tentative) (is_none kept.decision) parts.1 in
+      let parts = both_of (is_running mode) (is_none kept.tentative && eqb (length kept.decisions) 0) due in
+      let free = both_of (is_none kept.tentative) (eqb (length kept.decisions) 0) parts.1 in
       all_false (is_other_held number (highest + 1) kept.tentative) (nat_le (highest + 1) (highest_seen number kept))
-      (eqb number kept.node && is_some kept.decision) (nat_lt MAX_COUNT (highest + 1)) _ _ _ _
+      (eqb number kept.node && is_full kept.decisions) (nat_lt MAX_COUNT (highest + 1)) _ _ _ _
       (none_other number (highest + 1) kept.tentative (none_is kept.tentative free.0))
       (not_above (highest + 1) (highest_seen number kept) (omega (arith, seen)))
-      (none_some (eqb number kept.node) kept.decision (none_is kept.decision free.1)) (not_past highest less)
+      (not_full (eqb number kept.node) kept.decisions (eqb-true (length kept.decisions) 0 free.1)) (not_past highest less)
 
 module _ {C : Type 0} (words : CellWords C)
     (includes_now : (cell : C) (t : ℕ) (left : Option (List ℕ)) → t ≤ words.moment cell → words.may_leave cell left
@@ -187,12 +193,12 @@ module _ {C : Type 0} (words : CellWords C)
 
   module _ (held : ℕ) (participants : List ℕ) (nobody : participants ≡ [])
       (runs : is_running (mode_view before.mode) ≡ true) (is : own_number number (record_in old).tentative ≡ Some held)
-      (changes : Changes (refusal_to_decide held) (with_decision held participants) old mid put) where
+      (changes : Changes (refusal_to_decide held participants) (with_decision held participants) old mid put) where
     pub decide_ends : Ends (decided (record_in old)) restart old new before after put
     decide_ends =
         subst (λ (next : RecordView). Ends next restart old new before after put) next
-        (ended words includes_now may_stay ready_settled (refusal_to_decide held) (with_decision held participants) old
-        mid new put (has.ready (up runs)) fine changes has.settled restart before after stays crash)
+        (ended words includes_now may_stay ready_settled (refusal_to_decide held participants) (with_decision held participants)
+        old mid new put (has.ready (up runs)) fine changes has.settled restart before after stays crash)
       where
         next : with_decision held participants (record_in old) ≡ decided (record_in old)
         next =
@@ -200,10 +206,20 @@ module _ {C : Type 0} (words : CellWords C)
             ∙ ap (λ (n : ℕ). with_decision n [] (record_in old))
             (sym (own_is number (record_in old).tentative held is).0)
 
-        fine : refusal_to_decide held (record_in old) ≡ None
-        fine = ap (λ (b : Bool). cond b None (Some fault.NotHeld))
+        few : nat_le (length ((record_in old).decisions)) MAX_DECISIONS ≡ true
+        few = le-leb (length ((record_in old).decisions)) MAX_DECISIONS
+            (known_few words old (record_in old) (some_known words old (has.ready (up runs))))
+
+        -- nobody has to confirm it, so it takes no place
+        fine : refusal_to_decide held participants (record_in old) ≡ None
+        fine =
+            ap (λ (ps : List ℕ). refusal_to_decide held ps (record_in old)) nobody
+            ∙ (ap (λ (b : Bool). cond b
+            (cond (nat_le (length ((record_in old).decisions)) MAX_DECISIONS) None (Some fault.Unsettled))
+            (Some fault.NotHeld))
             (ap (λ (node : ℕ). is_held node held (record_in old).tentative) has.named
             ∙ (own_is number (record_in old).tentative held is).1)
+            ∙ ap (λ (b : Bool). cond b None (Some fault.Unsettled)) few)
 
     pub decide_kept : HasRecord number (mode_view after.mode) new
     decide_kept = ends_kept (decided (record_in old)) restart old new before after put decide_ends number has refl refl

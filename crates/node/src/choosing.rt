@@ -89,7 +89,7 @@ fn is_ready(
         ≡ is_ready (network_of net.now.program) inputs.now image.now inboxes.now saved.now }
 {
     match net.program.processes.get(usize::from(saved.number)) {
-        Some(process) => match next_act(process, &saved.state) {
+        Some(_) => match next_act(net, usize::from(saved.number), &saved.state) {
             NextAct::Begin => true,
             NextAct::Get { channel } => {
                 has_item(&net.program.channels, inputs, image, inboxes, channel)

@@ -7,12 +7,12 @@ ghost use Rattle.protocol.specs.Node.Modes.{is_down};
 ghost use Rattle.record.specs.RecordView.{RecordView};
 
 use crate::addresses::names_right;
+use crate::popping::take_next;
 use crate::state::NodeState;
 use datagram::{Packet, PacketFault, read_packet};
 use kahn_net::MAX_COUNT;
 use net_check::Net;
 use protocol::{Delivery, Inbox, MAX_INBOX_ITEMS, Outbox};
-use retained::LogFault;
 use std::alloc::{AllocError, Global};
 use window_link::Arrival;
 
@@ -29,7 +29,7 @@ fn read_for(alloc: Global, net: &Net, home: u8, bytes: &[u8]) -> Result<Option<P
     }
 }
 
-// An item of a position came to an inbox.
+// An item of a position came to an inbox. While there is no place for it, its window doesn't see it.
 fn take_item(inbox: &mut Inbox, position: u64, item: i64) -> Result<(), AllocError>
     ensures ok { OnOk result (inbox.new ≡ taking position item inbox.old) }
     ensures err { OnErr result (inbox.new ≡ inbox.old) }
@@ -37,14 +37,10 @@ fn take_item(inbox: &mut Inbox, position: u64, item: i64) -> Result<(), AllocErr
     if inbox.log.len() >= MAX_INBOX_ITEMS || inbox.log.end() >= MAX_COUNT {
         return Ok(());
     }
-    let mut window = inbox.window;
-    if let Arrival::Taken = window.take(position, item) {
-        match inbox.log.push(item) {
-            Ok(()) => inbox.window = window,
-            Err(LogFault::NoMemory) => return Err(AllocError),
-            Err(LogFault::Full) => {}
-        }
+    if let Arrival::Taken = inbox.window.arrival(position) {
+        return take_next(inbox, position, item);
     }
+    inbox.window.take(position, item);
     Ok(())
 }
 
@@ -68,8 +64,9 @@ fn outbox_place(outboxes: &[Outbox], channel: u16) -> Option<usize>
         .position(|outbox| u16::from(outbox.channel) == channel)
 }
 
-/// An item of a channel came. It is dropped where it isn't the next one, where there is no place for it, and where no
-/// such channel comes to the node.
+/// An item of a channel came. It is taken where it is the next one, with those that were held behind it, and held where it
+/// overtook others. It is dropped where it came before, lies past the window, where there is no place for it, and where
+/// no such channel comes to the node.
 pub(crate) fn hear_item(
     inboxes: &mut [Inbox],
     channel: u16,
@@ -81,7 +78,10 @@ pub(crate) fn hear_item(
     ensures err { OnErr result (inboxes.new ≡ inboxes.old) }
 {
     match inbox_place(inboxes, channel) {
-        Some(place) => take_item(&mut inboxes[place], position, item),
+        Some(place) => {
+            take_item(&mut inboxes[place], position, item)?;
+            Ok(())
+        }
         None => Ok(()),
     }
 }

@@ -3,11 +3,12 @@ ghost use Rattle.std.specs.Prelude.{◌≡◌, ◌≤◌, ◌+◌, ◌-◌, ◌+
 ghost use Rattle.kahn_net.specs.States.{standing_of};
 ghost use Rattle.record.specs.Ends.{received_at, log_at};
 ghost use Rattle.record.specs.Changes.{LogTakes};
-ghost use Rattle.protocol.specs.Node.Installing.{taken_from, put_on, saved_pushed, saved_counted, moved, installed, inbox_taken, inboxes_taken, ImageTakes};
+ghost use Rattle.protocol.specs.Node.Installing.{taken_from, put_on, saved_pushed, saved_counted, moved, installed, inbox_turned, ImageTakes};
 ghost use Rattle.record.specs.declared.image.SavedEnd.{SavedEnd};
 ghost use Rattle.kahn_net.specs.declared.limits.TheConstants.{MAX_COUNT};
 
 use crate::granting::is_at;
+use crate::popping::{turn_inbox, turned_log};
 use kahn_net::{Channel, History, ProcState};
 use protocol::Inbox;
 use record::{End, Image, SavedEnd, SavedProcess};
@@ -95,32 +96,6 @@ fn count_all(ends: &mut Vec<SavedEnd>, channels: &[Channel], process: usize, tak
     }
 }
 
-// Takes what a process got out of an inbox.
-fn take_from(inbox: &mut Inbox, channels: &[Channel], process: usize, taken: &[usize])
-    ensures { inbox.new ≡ inbox_taken channels.now process taken.now inbox.old }
-{
-    let count = count_taken(channels, process, taken, inbox.channel);
-    let base = inbox.log.base();
-    if count as u64 <= inbox.log.end() - base {
-        inbox.log.trim(base + count as u64);
-    }
-}
-
-// Takes what a process got out of each inbox. Takes no memory.
-pub(crate) fn take_out(
-    inboxes: &mut Vec<Inbox>,
-    channels: &[Channel],
-    process: usize,
-    taken: &[usize],
-)
-    ensures { inboxes.new.items
-        ≡ inboxes_taken channels.now process taken.now inboxes.old.items }
-{
-    for inbox in inboxes.iter_mut() {
-        take_from(inbox, channels, process, taken);
-    }
-}
-
 // Puts a process where it stands now.
 fn move_process(processes: &mut Vec<SavedProcess>, process: usize, state: ProcState)
     ensures { processes.new.items ≡ moved process (standing_of state) processes.old.items }
@@ -154,5 +129,46 @@ pub(crate) fn install_turn(
     push_sent(&mut image.ends, 0, channels, process, sent)?;
     count_all(&mut image.ends, channels, process, taken);
     move_process(&mut image.processes, process, state);
+    Ok(())
+}
+
+// Takes a turn of a process into an image and into the inboxes from this one on: everything or nothing. What takes memory
+// comes first. Refuses for want of memory alone.
+pub(crate) fn install_from(
+    alloc: Global,
+    image: &mut Image,
+    inboxes: &mut Vec<Inbox>,
+    from: usize,
+    channels: &[Channel],
+    process: usize,
+    state: &ProcState,
+    taken: &[usize],
+    sent: &[History],
+) -> Result<(), LogFault>
+    requires within { from ≤ length inboxes.old.items }
+    requires takes { ImageTakes channels.now process taken.now sent.now image.old }
+    ensures image { OnOk result (image.new
+        ≡ installed channels.now process (standing_of state.now) taken.now sent.now image.old) }
+    ensures inboxes { OnOk result (inboxes.new.items ≡ take from inboxes.old.items
+        ++ map (inbox_turned channels.now process taken.now) (drop from inboxes.old.items)) }
+    ensures err { OnErr result ((image.new ≡ image.old) × (inboxes.new.items ≡ inboxes.old.items)) }
+    ensures full { ¬ (IsErrOf result LogFault.Full) }
+{
+    if from == inboxes.len() {
+        return install_turn(alloc, image, channels, process, state, taken, sent);
+    }
+    let prepared = turned_log(alloc, &inboxes[from], channels, process, taken)?;
+    install_from(
+        alloc,
+        image,
+        inboxes,
+        from + 1,
+        channels,
+        process,
+        state,
+        taken,
+        sent,
+    )?;
+    turn_inbox(&mut inboxes[from], prepared, channels, process, taken);
     Ok(())
 }

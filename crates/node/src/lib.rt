@@ -13,6 +13,7 @@ mod mode;
 mod node;
 mod nodes;
 mod opening;
+mod popping;
 mod preparing;
 mod recover;
 mod releasing;

@@ -110,20 +110,20 @@ pub fn opening_record(
         node: number,
         epoch: 0,
         highest: vec![in alloc; 0; nodes]?,
-        decision: None,
+        decisions: Vec::new(alloc),
         permanent: open_image(alloc, net, number)?,
         tentative: None,
     })
 }
 
-fn new_inbox(alloc: Global, channel: u8) -> Inbox
-    ensures { result ≡ new_inbox channel }
+fn new_inbox(alloc: Global, channel: u8) -> Result<Inbox, AllocError>
+    ensures { IfOk result (λ inbox. inbox ≡ new_inbox channel) }
 {
-    Inbox {
+    Ok(Inbox {
         channel,
-        window: RecvWindow::new(),
+        window: RecvWindow::new(alloc, WINDOW)?,
         log: Log::new(alloc),
-    }
+    })
 }
 
 fn new_outbox(channel: u8) -> Outbox
@@ -143,7 +143,7 @@ fn open_inboxes(alloc: Global, net: &Net, home: u8) -> Result<Vec<Inbox>, AllocE
     let mut inboxes = Vec::with_capacity(alloc, net.program.channels.len())?;
     for number in 0..net.program.channels.len() {
         if is_incoming(net, home, number) {
-            inboxes.push(new_inbox(alloc, number as u8))?;
+            inboxes.push(new_inbox(alloc, number as u8)?)?;
         }
     }
     Ok(inboxes)

@@ -12,7 +12,7 @@ ghost use Rattle.node.specs.JobView.{job_view};
 use crate::choosing::next_process;
 use crate::delivering::{hear_acknowledgement, hear_item};
 use crate::granting::make_job;
-use crate::installing::{install_turn, take_out};
+use crate::installing::install_from;
 use crate::sending::{add_all_answers, add_all_outgoing};
 use datagram::{Body, Packet};
 use kahn_net::{Channel, MAX_COUNT};
@@ -171,16 +171,17 @@ impl Running {
         if !self.is_out(&done.job) {
             return Ok(false);
         }
-        install_turn(
+        install_from(
             alloc,
             &mut self.current,
+            &mut self.inboxes,
+            0,
             channels,
             done.job.process,
             &done.state,
             &done.taken,
             &done.sent,
         )?;
-        take_out(&mut self.inboxes, channels, done.job.process, &done.taken);
         self.out = None;
         Ok(true)
     }

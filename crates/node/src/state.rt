@@ -75,7 +75,7 @@ impl NodeState {
     pub fn can_start(&self, kept: &Record) -> bool
         ensures { result ≡ may_start (node_view kept.now self.now) }
     {
-        self.is_running() && kept.tentative.is_none() && kept.decision.is_none()
+        self.is_running() && kept.tentative.is_none() && kept.decisions.is_empty()
     }
 
     /// Whether a node with this record can grant a job now.

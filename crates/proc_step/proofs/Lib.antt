@@ -2,4 +2,6 @@ pub mod Stages
 pub mod Units
 pub mod Counts
 pub mod Lifting
-pub mod Few
+pub mod Machines
+pub mod Rounds
+pub mod Coded

@@ -3,3 +3,4 @@ pub mod Parts
 pub mod Jobs
 pub mod NextView
 pub mod TurnLaws
+pub mod Stepping

@@ -1,11 +1,11 @@
--- Parts of traces: what the walk over a process's statements has made so far, and how it stopped.
+-- Parts of traces: what a process's code has made so far, and how it stopped.
 use Rattle.std.specs.Prelude.{◌≡◌, ◌-◌, ℕ, ℤ, List, [], ◌∷◌, ◌++◌, length}
 use Rattle.kahn_net.specs.Statements.{Step, Trace, End, Ended, Stopped as StopsAt, point_at}
 use Rattle.kahn_net.specs.Processes.{Standing, At, Done, standing_at}
 use Rattle.kahn_net.specs.Puts.{put_after}
 use Rattle.kahn_net.specs.Resuming.{left_after}
-use Rattle.proc_step.specs.declared.statements.Flow.{Flow}
-use Rattle.proc_step.specs.declared.statements.Flow.TheVariants.{RanOut, Stopped, Stands}
+use Rattle.proc_step.specs.declared.machine.Flow.{Flow}
+use Rattle.proc_step.specs.declared.machine.Flow.TheVariants.{RanOut, Stopped, Stands}
 use Rattle.proc_step.specs.Turns.{CanAllBeMade, IsNextHeldBack}
 
 -- how a part of a trace stopped: it was the whole, or the next act can't be made

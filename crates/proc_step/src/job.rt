@@ -14,7 +14,7 @@ use thiserror::Error;
 /// The number of the one refusal.
 const NO_MEMORY: u8 = 1;
 
-/// What a process is to do: a share of its network, its number there, the version of its node, the
+/// What a process is to do: a share of its network and so of its code, its number there, the version of its node, the
 /// state from which it goes on, the items at hand for each channel from which it gets, in order,
 /// and the places of room on each channel on which it puts. Items and room are lists by channel
 /// number; where one is too short, there is nothing at hand and no room.
@@ -75,7 +75,8 @@ impl Job {
     {
         let net: &Net = &self.net;
         let process = &net.program.processes[self.process];
-        match take_turn(alloc, process, &self.state, &self.items, &self.room) {
+        let code = &net.codes[self.process];
+        match take_turn(alloc, process, code, &self.state, &self.items, &self.room) {
             Ok(after) => Ok(Done {
                 job: self,
                 state: after.state,

@@ -4,11 +4,10 @@
 
 mod comparing;
 mod job;
+mod machine;
 mod next;
 mod outcome;
 mod room;
-mod sites;
-mod statements;
 mod turn;
 
 pub use job::{Done, Job, JobFault};

@@ -1,16 +1,17 @@
 //! What a process does next.
 
-ghost use Rattle.std.specs.Prelude.{◌≡◌, ◌+◌, ◌<◌, ◌≤◌, ◌^◌};
-ghost use Rattle.kahn_net.specs.Syntax.{Nothing, block_of, code_of, then_of};
-ghost use Rattle.kahn_net.specs.NextActs.{next_at, next_of, next_on};
-ghost use Rattle.kahn_net.specs.Statements.{sites_of};
+ghost use Rattle.std.specs.Prelude.{◌≡◌, ◌<◌, Some, length, slice_get};
+ghost use Rattle.kahn_net.specs.Syntax.{network_of};
+ghost use Rattle.kahn_net.specs.Syntax.{Code as Syntax};
+ghost use Rattle.kahn_net.specs.NextActs.{next_of, next_at};
 ghost use Rattle.kahn_net.specs.States.{standing_of};
-ghost use Rattle.kahn_net.specs.Valid.{block_units, body_units};
+ghost use Rattle.proc_code.specs.CodeView.{code_view};
+ghost use Rattle.proc_code.specs.Translation.{flat_code};
 ghost use Rattle.proc_step.specs.NextView.{next_view};
-ghost use Rattle.kahn_net.specs.declared.limits.TheConstants.{MAX_UNITS};
 
-use crate::sites::{count_in, count_sites};
-use kahn_net::{Mode, ProcState, Process, Statement};
+use kahn_net::{Mode, ProcState};
+use net_check::Net;
+use proc_code::{Code, SiteAct};
 
 /// What a process does next from where it stands.
 #[derive(Clone, Copy, Debug, PartialEq, Eq)]
@@ -25,73 +26,30 @@ pub enum NextAct {
     Nothing,
 }
 
-/// The get or put of this site, in a statement whose first site has this number.
-#[cycle(next)]
-fn act_in(statement: &Statement, number: usize, site: usize) -> NextAct
-    requires above { number ≤ site }
-    requires below { site < number + sites_of (then_of statement.now Nothing) }
-    requires few { number + sites_of (then_of statement.now Nothing) < 2 ^ 64 }
-    ensures { next_view result ≡ next_on number (then_of statement.now Nothing) site }
+/// The get or put of a site: one look into the table.
+fn act_of(code: &Code, site: usize) -> NextAct
+    ensures { (process : Syntax) → code_view code.now ≡ flat_code process
+        → next_view result ≡ next_at process site }
 {
-    match statement {
-        Statement::Get { channel, .. } => NextAct::Get { channel: *channel },
-        Statement::Assign { .. } => NextAct::Nothing,
-        Statement::Put { channel, .. } => NextAct::Put { channel: *channel },
-        Statement::Stop => NextAct::Nothing,
-        Statement::If { first, second, .. } => {
-            let second_number = number + count_sites(first);
-            if site < second_number {
-                act_at(first, number, site)
-            } else {
-                act_at(second, second_number, site)
-            }
-        }
-    }
-}
-
-/// The get or put of this site, among statements whose first site has this number.
-#[cycle(next)]
-fn act_at(statements: &[Statement], first: usize, site: usize) -> NextAct
-    requires above { first ≤ site }
-    requires few { first + sites_of (block_of statements.now) < 2 ^ 64 }
-    ensures { next_view result ≡ next_on first (block_of statements.now) site }
-{
-    let mut number = first;
-    for statement in statements {
-        let next = number + count_in(statement);
-        if site < next {
-            return act_in(statement, number, site);
-        }
-        number = next;
-    }
-    NextAct::Nothing
-}
-
-/// The get or put of a site of a process.
-fn act_of(process: &Process, site: usize) -> NextAct
-    requires { block_units (code_of process.now).prelude + body_units (code_of process.now).body
-        ≤ MAX_UNITS }
-    ensures { next_view result ≡ next_at (code_of process.now) site }
-{
-    let sites = count_sites(&process.prelude);
-    if site < sites {
-        return act_at(&process.prelude, 0, site);
-    }
-    match &process.body {
+    match code.sites.get(site) {
+        Some(row) => match row.act {
+            SiteAct::Get { channel } => NextAct::Get { channel },
+            SiteAct::Put { channel } => NextAct::Put { channel },
+        },
         None => NextAct::Nothing,
-        Some(body) => act_at(body, sites, site),
     }
 }
 
-/// What a process does next from this state. Takes no memory.
-pub fn next_act(process: &Process, state: &ProcState) -> NextAct
-    requires { block_units (code_of process.now).prelude + body_units (code_of process.now).body
-        ≤ MAX_UNITS }
-    ensures { next_view result ≡ next_of (code_of process.now) (standing_of state.now) }
+/// What the process of this number does next from this state. Takes no memory, and the same time whatever the
+/// process's text is.
+pub fn next_act(net: &Net, process: usize, state: &ProcState) -> NextAct
+    requires { process < length net.now.program.processes.items }
+    ensures { (code : Syntax) → slice_get (network_of net.now.program).codes process ≡ Some code
+        → next_view result ≡ next_of code (standing_of state.now) }
 {
     match &state.mode {
         Mode::NotBegun => NextAct::Begin,
-        Mode::At(place) => act_of(process, place.site),
+        Mode::At(place) => act_of(&net.codes[process], place.site),
         Mode::Finished => NextAct::Nothing,
     }
 }

@@ -1,19 +1,20 @@
 //! What a turn comes to.
 
-ghost use Rattle.std.specs.Prelude.{◌≡◌, ◌≤◌, ◌+◌, ℕ, ℤ, List, length, IfOk};
+ghost use Rattle.std.specs.Prelude.{◌≡◌, ◌≤◌, ℕ, ℤ, List, [], length, IfOk};
 ghost use Rattle.kahn_net.specs.Streams.{history_of};
 ghost use Rattle.kahn_net.specs.Syntax.{code_of};
 ghost use Rattle.kahn_net.specs.Processes.{HasPassingLoop};
 ghost use Rattle.kahn_net.specs.States.{standing_in, standing_of};
-ghost use Rattle.kahn_net.specs.Valid.{block_units, body_units};
+ghost use Rattle.proc_code.specs.CodeView.{code_view};
+ghost use Rattle.proc_code.specs.Translation.{flat_code};
 ghost use Rattle.proc_step.specs.Turns.{IsTurn, nothing_sent};
 ghost use Rattle.proc_step.specs.Parts.{stands_as, taken_of};
-ghost use Rattle.kahn_net.specs.declared.limits.TheConstants.{MAX_UNITS};
 
+use crate::machine::Flow;
 use crate::room::empty_histories;
-use crate::statements::Flow;
 use crate::turn::play;
 use kahn_net::{History, Mode, Place, ProcState, Process};
+use proc_code::Code;
 use std::alloc::{AllocError, Global};
 use stream_eq::{Unread, all_unread};
 
@@ -69,7 +70,9 @@ struct Stop {
 fn turn_from(
     alloc: Global,
     process: &Process,
+    code: &Code,
     mode: &Mode,
+    stack: &mut Vec<i64>,
     variables: &mut [i64],
     items: &[History],
     left: &mut [Unread<'_>],
@@ -77,15 +80,17 @@ fn turn_from(
     sent: &mut [History],
 ) -> Result<Stop, AllocError>
     requires passing { HasPassingLoop (code_of process.now) }
-    requires units { block_units (code_of process.now).prelude + body_units
-        (code_of process.now).body ≤ MAX_UNITS }
+    requires compiled { code_view code.now ≡ flat_code (code_of process.now) }
+    requires empty { stack.old.items ≡ [] }
     requires untaken { left.old ≡ items.now }
     requires unsent { sent.old ≡ nothing_sent room.now }
     ensures { IfOk result (λ stop. IsTurn (code_of process.now)
         (standing_in mode.now variables.old) items.now room.now
         (standing_in stop.mode variables.new) stop.taken.items sent.new) }
 {
-    let flow = play(process, mode, variables, left, room, sent)?;
+    let flow = play(
+        process, code, mode, items, stack, variables, left, room, sent,
+    )?;
     let taken = count_taken(alloc, items, left)?;
     Ok(Stop {
         mode: mode_of(alloc, flow),
@@ -93,28 +98,32 @@ fn turn_from(
     })
 }
 
-/// Makes a turn of a process from this state, on these items and this room.
+/// Makes a turn of a process with this code from this state, on these items and this room.
 pub fn take_turn(
     alloc: Global,
     process: &Process,
+    code: &Code,
     state: &ProcState,
     items: &[History],
     room: &[usize],
 ) -> Result<Outcome, AllocError>
     requires passing { HasPassingLoop (code_of process.now) }
-    requires units { block_units (code_of process.now).prelude + body_units
-        (code_of process.now).body ≤ MAX_UNITS }
+    requires compiled { code_view code.now ≡ flat_code (code_of process.now) }
     ensures { IfOk result (λ after. IsTurn (code_of process.now)
         (standing_of state.now) items.now room.now
         (standing_of after.state) after.taken.items after.sent.items) }
 {
+    // The stack has its room before the first act, so that no instruction asks for more.
+    let mut stack = Vec::with_capacity(alloc, code.deepest)?;
     let mut variables = Vec::from_slice(alloc, state.variables.as_slice())?;
     let mut left = all_unread(alloc, items)?;
     let mut sent = empty_histories(alloc, room)?;
     let stop = turn_from(
         alloc,
         process,
+        code,
         &state.mode,
+        &mut stack,
         &mut variables,
         items,
         &mut left,

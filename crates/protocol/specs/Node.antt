@@ -6,6 +6,7 @@ pub mod Plans
 pub mod ArmedRestarts
 pub mod Sharing
 pub mod Granting
+pub mod Popping
 pub mod Installing
 pub mod Starting
 pub mod Recovering

@@ -6,6 +6,7 @@ pub mod PlaceLaws
 pub mod LogLaws
 pub mod CountLaws
 pub mod InnerLaws
+pub mod PoppingLaws
 pub mod LinkLaws
 pub mod LiftLaws
 pub mod InstallLaws

@@ -1,6 +1,7 @@
 -- The moves of a record: what it becomes by each put of it.
-use Rattle.std.specs.Prelude.{ℕ, ◌+◌, ◌==◌, not, if◌then◌else◌, List, [], ◌∷◌, filter, Option, Some, None, slice_index}
-use Rattle.std.specs.Prelude.{slice_set}
+use Rattle.std.specs.Prelude.{ℕ, ◌+◌, ◌==◌, not, nat_lt, if◌then◌else◌, List, [], ◌∷◌, ◌++◌, filter, Option, Some, None}
+use Rattle.std.specs.Prelude.{slice_index, slice_set}
+use Rattle.std.specs.List.{flat_map}
 use Rattle.record.specs.DecisionView.{DecisionView}
 use Rattle.record.specs.ImageView.{ImageView}
 use Rattle.record.specs.RecordView.{RecordView}
@@ -32,19 +33,23 @@ abbrev pub without_tentative : RecordView → RecordView
 without_tentative kept = record kept { tentative = None }
 
 -- a decision that these nodes have to confirm; with none of them there is no decision
-abbrev pub decision_by : ℕ → List ℕ → Option DecisionView
-decision_by number [] = None
-decision_by number (p ∷ ps) = Some (record { number = number; participants = p ∷ ps })
+abbrev pub decision_by : ℕ → List ℕ → List DecisionView
+decision_by number [] = []
+decision_by number (p ∷ ps) = record { number = number; participants = p ∷ ps } ∷ []
 
--- the decision that these nodes have to confirm, or the one before where there are none
-abbrev pub decision_or : Option DecisionView → ℕ → List ℕ → Option DecisionView
-decision_or before number [] = before
-decision_or before number (p ∷ ps) = decision_by number (p ∷ ps)
+-- the decisions of lower numbers
+abbrev pub decided_below : ℕ → List DecisionView → List DecisionView
+decided_below number decisions = filter (λ (d : DecisionView). nat_lt d.number number) decisions
+
+-- behind the decisions of lower numbers the one that these nodes have to confirm; where there are none, nothing changes
+abbrev pub decided_by : ℕ → List ℕ → List DecisionView → List DecisionView
+decided_by number [] decisions = decisions
+decided_by number (p ∷ ps) decisions = decided_below number decisions ++ decision_by number (p ∷ ps)
 
 -- the record with its tentative image as the permanent one, and with the decision of its number
 abbrev pub with_decision : ℕ → List ℕ → RecordView → RecordView
 with_decision number participants kept = record kept {
-  decision = decision_or kept.decision number participants;
+  decisions = decided_by number participants kept.decisions;
   permanent = last_image kept.permanent kept.tentative;
   tentative = None;
 }
@@ -53,15 +58,18 @@ with_decision number participants kept = record kept {
 abbrev pub without_node : ℕ → List ℕ → List ℕ
 without_node node participants = filter (λ p. not (p == node)) participants
 
--- a decision that this node has confirmed, where it has this number
-abbrev pub confirmed : ℕ → ℕ → Option DecisionView → Option DecisionView
-confirmed number node None = None
-confirmed number node (Some decision) =
-    if decision.number == number then decision_by number (without_node node decision.participants) else Some decision
+-- what is left of a decision once this node has confirmed that of this number
+abbrev pub confirmed_one : ℕ → ℕ → DecisionView → List DecisionView
+confirmed_one number node decision =
+    if decision.number == number then decision_by number (without_node node decision.participants) else decision ∷ []
+
+-- the decisions once this node has confirmed that of this number
+abbrev pub confirmed : ℕ → ℕ → List DecisionView → List DecisionView
+confirmed number node decisions = flat_map (confirmed_one number node) decisions
 
 -- the record with this node's confirmation of the decision of this number
 abbrev pub with_confirmed : ℕ → ℕ → RecordView → RecordView
-with_confirmed number node kept = record kept { decision = confirmed number node kept.decision }
+with_confirmed number node kept = record kept { decisions = confirmed number node kept.decisions }
 
 -- what is held of another's instance
 abbrev pub without_own : ℕ → Option Tentative → Option Tentative

@@ -8,6 +8,6 @@ pub record RecordView : Type 0 where
   pub node : ℕ
   pub epoch : ℕ
   pub highest : List ℕ
-  pub decision : Option DecisionView
+  pub decisions : List DecisionView
   pub permanent : ImageView
   pub tentative : Option Tentative

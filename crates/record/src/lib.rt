@@ -5,4 +5,4 @@ mod image;
 mod record;
 
 pub use image::{End, Image, SavedEnd, SavedProcess};
-pub use record::{Decision, Record, Tentative};
+pub use record::{Decision, MAX_DECISIONS, Record, Tentative};

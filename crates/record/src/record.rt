@@ -5,7 +5,10 @@ use crate::image::Image;
 use std::alloc::{AllocError, Global};
 use std::marker::Model;
 
-/// The coordinator's decision that a checkpoint is permanent.
+/// The most decisions of a record: with so many unsettled, a node begins no checkpoint.
+pub const MAX_DECISIONS: usize = 8;
+
+/// The coordinator's decision that a checkpoint is permanent, with the nodes that haven't confirmed it yet.
 #[derive(Drop)]
 pub struct Decision {
     pub number: u64,
@@ -60,7 +63,8 @@ pub struct Record {
     pub epoch: u64,
     /// The highest number seen of each initiator, by node.
     pub highest: Vec<u64>,
-    pub decision: Option<Decision>,
+    /// The decisions that some node hasn't confirmed yet, by ascending numbers: `MAX_DECISIONS` at most.
+    pub decisions: Vec<Decision>,
     /// The last permanent checkpoint.
     pub permanent: Image,
     pub tentative: Option<Tentative>,
@@ -75,19 +79,20 @@ impl Model for Record {
       node = kept.node;
       epoch = kept.epoch;
       highest = kept.highest.items;
-      decision = kept.decision;
+      decisions = kept.decisions.items;
       permanent = kept.permanent;
       tentative = kept.tentative;
     } };
 }
 
-fn copy_decision(alloc: Global, decision: &Option<Decision>) -> Result<Option<Decision>, AllocError>
-    ensures { IfOk result (λ copy. copy ≡ decision.now) }
+fn copy_decisions(alloc: Global, decisions: &[Decision]) -> Result<Vec<Decision>, AllocError>
+    ensures { IfOk result (λ copy. copy.items ≡ decisions.now) }
 {
-    match decision {
-        Some(decision) => Ok(Some(decision.copy(alloc)?)),
-        None => Ok(None),
+    let mut copies = Vec::with_capacity(alloc, decisions.len())?;
+    for decision in decisions {
+        copies.push(decision.copy(alloc)?)?;
     }
+    Ok(copies)
 }
 
 fn copy_tentative(
@@ -110,7 +115,7 @@ impl Record {
             node: self.node,
             epoch: self.epoch,
             highest: Vec::from_slice(alloc, self.highest.as_slice())?,
-            decision: copy_decision(alloc, &self.decision)?,
+            decisions: copy_decisions(alloc, self.decisions.as_slice())?,
             permanent: self.permanent.copy(alloc)?,
             tentative: copy_tentative(alloc, &self.tentative)?,
         })

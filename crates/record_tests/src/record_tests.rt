@@ -8,14 +8,14 @@ use std::test::Fail;
 
 /// What a node with one process of two variables, an input and an output keeps before its first step.
 const OPENING: [u8; 69] = [
-    1, 0, 0, 0, 0, 0, 0, 0, 0, 0, 1, 0, 0, 0, 0, 0, 0, 0, 0, 0, 1, 0, 0, 2, 0, 0, 0, 0, 0, 0, 0, 0,
+    2, 0, 0, 0, 0, 0, 0, 0, 0, 0, 1, 0, 0, 0, 0, 0, 0, 0, 0, 0, 1, 0, 0, 2, 0, 0, 0, 0, 0, 0, 0, 0,
     0, 0, 0, 0, 0, 0, 0, 0, 0, 2, 0, 0, 0, 0, 0, 0, 0, 0, 0, 0, 0, 0, 1, 1, 0, 0, 0, 0, 0, 0, 0, 0,
     0, 0, 0, 0, 0,
 ];
 
 /// The same node after three items: the process waits at its get, and the log retains what it put.
 const LATER: [u8; 98] = [
-    1, 0, 0, 0, 0, 0, 0, 0, 0, 0, 1, 0, 0, 0, 0, 0, 0, 0, 1, 0, 1, 0, 1, 0, 0, 0, 0, 0, 2, 0, 0, 0,
+    2, 0, 0, 0, 0, 0, 0, 0, 0, 0, 1, 0, 0, 0, 0, 0, 0, 0, 1, 0, 1, 0, 1, 0, 0, 0, 0, 0, 2, 0, 0, 0,
     0, 0, 0, 0, 6, 0, 0, 0, 0, 0, 0, 0, 3, 0, 2, 0, 0, 0, 0, 0, 0, 0, 0, 0, 0, 3, 0, 1, 1, 0, 0, 0,
     0, 0, 0, 0, 0, 0, 0, 0, 3, 0, 0, 0, 0, 0, 0, 0, 1, 0, 0, 0, 0, 0, 0, 0, 3, 0, 0, 0, 0, 0, 0, 0,
     6, 0,
@@ -23,7 +23,7 @@ const LATER: [u8; 98] = [
 
 /// Node 1 of two, which has decided on a checkpoint that node 0 is to confirm.
 const DECIDED: [u8; 116] = [
-    1, 1, 0, 0, 0, 0, 0, 0, 0, 0, 2, 0, 0, 0, 0, 0, 0, 0, 0, 0, 0, 0, 0, 0, 0, 0, 1, 1, 0, 0, 0, 0,
+    2, 1, 0, 0, 0, 0, 0, 0, 0, 0, 2, 0, 0, 0, 0, 0, 0, 0, 0, 0, 0, 0, 0, 0, 0, 0, 1, 1, 0, 0, 0, 0,
     0, 0, 0, 1, 1, 0, 1, 1, 1, 0, 0, 0, 0, 0, 2, 0, 0, 0, 0, 0, 0, 0, 6, 0, 0, 0, 0, 0, 0, 0, 3, 0,
     2, 0, 1, 0, 0, 0, 0, 0, 0, 0, 0, 3, 0, 2, 1, 0, 0, 0, 0, 0, 0, 0, 0, 0, 0, 0, 3, 0, 0, 0, 0, 0,
     0, 0, 1, 0, 0, 0, 0, 0, 0, 0, 3, 0, 0, 0, 0, 0, 0, 0, 6, 0,
@@ -31,7 +31,7 @@ const DECIDED: [u8; 116] = [
 
 /// Node 1 of three, with a decision, a tentative image, all three modes and all three roles.
 const WHOLE: [u8; 285] = [
-    1, 1, 0, 0, 0, 0, 0, 0, 0, 9, 3, 0, 0, 0, 0, 0, 0, 0, 4, 0, 0, 0, 0, 0, 0, 0, 6, 0, 0, 0, 0, 0,
+    2, 1, 0, 0, 0, 0, 0, 0, 0, 9, 3, 0, 0, 0, 0, 0, 0, 0, 4, 0, 0, 0, 0, 0, 0, 0, 6, 0, 0, 0, 0, 0,
     0, 0, 0, 1, 0, 0, 0, 0, 0, 0, 0, 5, 2, 0, 2, 3, 0, 0, 1, 255, 255, 255, 255, 255, 255, 255,
     255, 2, 1, 0, 0, 0, 7, 0, 2, 0, 0, 0, 0, 0, 0, 0, 3, 128, 0, 0, 0, 0, 0, 0, 0, 63, 2, 0, 0, 3,
     0, 0, 0, 0, 0, 0, 0, 0, 0, 0, 8, 0, 7, 1, 0, 0, 0, 0, 0, 0, 0, 2, 0, 0, 0, 2, 0, 0, 0, 0, 0, 0,
@@ -42,6 +42,12 @@ const WHOLE: [u8; 285] = [
     0, 0, 0, 0, 2, 0, 0, 0, 2, 0, 0, 0, 0, 0, 0, 0, 1, 255, 255, 255, 255, 255, 255, 255, 254, 0,
     255, 2, 0, 0, 0, 0, 0, 0, 0, 4, 0, 0, 0, 0, 0, 0, 0, 3, 0, 0, 0, 1, 127, 255, 255, 255, 255,
     255, 255, 255,
+];
+
+/// Node 1 of three, whose decision 3 nodes 0 and 2 have to confirm, and whose decision 5 node 2 has to.
+const TWO_DECIDED: [u8; 61] = [
+    2, 1, 0, 0, 0, 0, 0, 0, 0, 0, 3, 0, 0, 0, 0, 0, 0, 0, 0, 0, 0, 0, 0, 0, 0, 0, 5, 0, 0, 0, 0, 0,
+    0, 0, 0, 2, 0, 0, 0, 0, 0, 0, 0, 3, 2, 0, 2, 0, 0, 0, 0, 0, 0, 0, 5, 1, 2, 0, 0, 0, 0,
 ];
 
 /// The number of the refusal of these bytes, or 0 where they are read as a record that is spelled so again.
@@ -85,6 +91,22 @@ fn is_refused(rt: &impl Abort, alloc: Global, bytes: &[u8], wanted: u8) {
     }
 }
 
+/// With the version before they are read as well, and spelled in this one.
+fn is_read_from_before(rt: &impl Abort, alloc: Global, bytes: &[u8]) -> Result<(), Fail> {
+    let mut before = Vec::from_slice(alloc, bytes)?;
+    if let Some(version) = before.first_mut() {
+        *version = 1;
+    }
+    match read_record(alloc, before.as_slice()) {
+        Ok(kept) => {
+            let written = write_record(alloc, &kept)?;
+            holds(rt, written.as_slice() == bytes, "the version before");
+        }
+        Err(_) => holds(rt, false, "the version before is read"),
+    }
+    Ok(())
+}
+
 /// These bytes spell a record. Each beginning of them is truncated, and with a byte more they are malformed.
 fn is_spelling(rt: &impl Abort, alloc: Global, bytes: &[u8]) -> Result<(), Fail> {
     is_refused(rt, alloc, bytes, 0);
@@ -113,12 +135,25 @@ fn stands_each_change(rt: &impl Abort, alloc: Global, bytes: &[u8]) -> Result<()
 }
 
 #[test]
-fn four_records(rt: HostRuntime) -> Result<(), Fail> {
+fn five_records(rt: HostRuntime) -> Result<(), Fail> {
     let alloc = rt.alloc();
     is_spelling(&rt, alloc, &OPENING)?;
     is_spelling(&rt, alloc, &LATER)?;
     is_spelling(&rt, alloc, &DECIDED)?;
     is_spelling(&rt, alloc, &WHOLE)?;
+    is_spelling(&rt, alloc, &TWO_DECIDED)?;
+    Ok(())
+}
+
+#[test]
+fn the_version_before(rt: HostRuntime) -> Result<(), Fail> {
+    let alloc = rt.alloc();
+    is_read_from_before(&rt, alloc, &OPENING)?;
+    is_read_from_before(&rt, alloc, &LATER)?;
+    is_read_from_before(&rt, alloc, &DECIDED)?;
+    is_read_from_before(&rt, alloc, &WHOLE)?;
+    // it had place for one decision
+    row(&rt, alloc, &TWO_DECIDED, 0, 1, 32);
     Ok(())
 }
 
@@ -128,13 +163,14 @@ fn one_bit_turned(rt: HostRuntime) -> Result<(), Fail> {
     stands_each_change(&rt, alloc, &OPENING)?;
     stands_each_change(&rt, alloc, &LATER)?;
     stands_each_change(&rt, alloc, &WHOLE)?;
+    stands_each_change(&rt, alloc, &TWO_DECIDED)?;
     Ok(())
 }
 
 #[test]
 fn the_head(rt: HostRuntime) {
     let alloc = rt.alloc();
-    row(&rt, alloc, &OPENING, 0, 2, 31);
+    row(&rt, alloc, &OPENING, 0, 3, 31);
     row(&rt, alloc, &OPENING, 0, 0, 31);
     // the epoch and the entry
     row(&rt, alloc, &OPENING, 9, 1, 0);
@@ -145,14 +181,14 @@ fn the_head(rt: HostRuntime) {
     row(&rt, alloc, &OPENING, 10, 0, 32);
     row(&rt, alloc, &OPENING, 10, 17, 32);
     row(&rt, alloc, &OPENING, 1, 1, 32);
-    is_refused(&rt, alloc, &[1, 16, 0, 0, 0, 0, 0, 0, 0, 0], 30);
-    is_refused(&rt, alloc, &[1, 16, 0, 0, 0, 0, 0, 0, 0, 0, 16], 32);
+    is_refused(&rt, alloc, &[2, 16, 0, 0, 0, 0, 0, 0, 0, 0], 30);
+    is_refused(&rt, alloc, &[2, 16, 0, 0, 0, 0, 0, 0, 0, 0, 16], 32);
 }
 
 #[test]
 fn a_decision(rt: HostRuntime) {
     let alloc = rt.alloc();
-    row(&rt, alloc, &OPENING, 19, 2, 32);
+    row(&rt, alloc, &OPENING, 19, 1, 32);
     // its number, up to the entry of the node
     row(&rt, alloc, &WHOLE, 43, 6, 0);
     row(&rt, alloc, &WHOLE, 43, 7, 32);
@@ -163,6 +199,21 @@ fn a_decision(rt: HostRuntime) {
     row(&rt, alloc, &WHOLE, 46, 0, 32);
     row(&rt, alloc, &WHOLE, 46, 1, 32);
     row(&rt, alloc, &WHOLE, 46, 3, 32);
+}
+
+#[test]
+fn two_decisions(rt: HostRuntime) {
+    let alloc = rt.alloc();
+    // how many: of eight the third is missing, and nine are too many
+    row(&rt, alloc, &TWO_DECIDED, 35, 1, 32);
+    row(&rt, alloc, &TWO_DECIDED, 35, 8, 30);
+    row(&rt, alloc, &TWO_DECIDED, 35, 9, 32);
+    // their numbers ascend, up to the entry of the node
+    row(&rt, alloc, &TWO_DECIDED, 43, 4, 0);
+    row(&rt, alloc, &TWO_DECIDED, 43, 5, 32);
+    row(&rt, alloc, &TWO_DECIDED, 54, 4, 0);
+    row(&rt, alloc, &TWO_DECIDED, 54, 3, 32);
+    row(&rt, alloc, &TWO_DECIDED, 54, 6, 32);
 }
 
 #[test]

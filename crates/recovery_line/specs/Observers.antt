@@ -2,6 +2,7 @@
 -- decisions.
 use Rattle.std.specs.Prelude.{◌≡◌, ◌≢◌, ℕ, ◌<◌, Bool, false, ◌==◌, ◌&&◌, ◌||◌, List, [], ◌∷◌, length, Option, Some}
 use Rattle.std.specs.Prelude.{None, slice_index}
+use Rattle.std.specs.List.{AllByRecursion}
 use Rattle.record.specs.DecisionView.{DecisionView}
 use Rattle.record.specs.ImageView.{ImageView}
 use Rattle.record.specs.RecordView.{RecordView}
@@ -28,11 +29,6 @@ abbrev pub has_node : ℕ → List ℕ → Bool
 has_node node [] = false
 has_node node (p ∷ ps) = (p == node) || has_node node ps
 
--- the decisions of a record: one at most, so far
-abbrev pub decisions_of : Option DecisionView → List DecisionView
-decisions_of None = []
-decisions_of (Some decision) = decision ∷ []
-
 -- the number is that of one of these decisions
 abbrev pub decides : List DecisionView → ℕ → Bool
 decides [] number = false
@@ -46,8 +42,8 @@ names (d ∷ ds) number node = ((d.number == number) && has_node node d.particip
 abbrev pub record_seen : RecordView → Record
 record_seen kept = record {
   highest = slice_index kept.highest;
-  decided = decides (decisions_of kept.decision);
-  named = names (decisions_of kept.decision);
+  decided = decides kept.decisions;
+  named = names kept.decisions;
   permanent = image_seen kept.permanent;
   tentative = tentative_seen kept.tentative;
 }
@@ -62,10 +58,11 @@ TakingMoves =
     → Takes (record_seen kept) (record_seen (with_tentative initiator number image kept)) initiator number
     (image_seen image)
 
--- an image becomes permanent by a decision, while no other is unsettled
+-- an image becomes permanent by a decision, while the unsettled ones are all of lower numbers
 abbrev pub DecidingMoves : Type 0
 DecidingMoves =
-    (kept : RecordView) (held : HeldImage) (participants : List ℕ) → kept.tentative ≡ Some held → kept.decision ≡ None
+    (kept : RecordView) (held : HeldImage) (participants : List ℕ) → kept.tentative ≡ Some held
+    → AllByRecursion (λ (d : DecisionView). d.number < held.number) kept.decisions
     → Decides (record_seen kept) (record_seen (with_decision held.number participants kept)) held.initiator held.number
     (image_seen held.image) (λ p. has_node p participants)
 

@@ -19,7 +19,7 @@
 //! | `put 42`, `get -> 42`, `room -> 1016` | a cell's value; more than 64 bytes of it are shown as `504 bytes` |
 //! | `store` | a cell becomes the store of its record; where that is refused it stays a cell |
 //! | `take 1 5`, `make permanent 1 5`, `drop 1 5`, `decide 5`, `confirm 5 1`, `raise epoch` | of a store: a tentative image of nothing is taken, by its initiator and number, and so on |
-//! | `record -> epoch 0 entries 0 5 decision none held 5` | of a store's record what changes: a decision is `5 of 1 2`, of these nodes |
+//! | `record -> epoch 0 entries 0 5 decisions none held 5` | of a store's record what changes: decisions are `3 of 1 2, 5 of 2`, of these nodes |
 //! | `arm call 2 fill 0`, `recount`, `crash`, `crash fill 255` | a failure of a call, counted from here where it is recounted; a crash. Of a disk, a cell or a store |
 //! | `reopen` | of a cell or a store, behind a crash or a failure |
 //! | `close` | a store becomes its cell, a cell its disk |

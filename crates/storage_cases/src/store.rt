@@ -50,27 +50,33 @@ fn decide(alloc: Global, store: &mut CaseStore, number: u64) -> Answer {
     answer_of(store.decide(alloc, number, Vec::new(alloc)))
 }
 
-/// A decision, as `5 of 1 2`.
-fn decision_text(alloc: Global, decision: &Option<Decision>) -> Result<String, AllocError> {
-    match decision {
-        None => String::from_str(alloc, "none"),
-        Some(decision) => {
-            let participants = listed(alloc, decision.participants.as_slice())?;
-            format!(in alloc; "{} of {participants}", decision.number)
-        }
+/// Decisions, as `3 of 1 2, 5 of 2`.
+fn decisions_text(alloc: Global, decisions: &[Decision]) -> Result<String, AllocError> {
+    if decisions.is_empty() {
+        return String::from_str(alloc, "none");
     }
+    let mut text = String::new(alloc);
+    for decision in decisions {
+        let gap = if text.is_empty() { "" } else { ", " };
+        let participants = listed(alloc, decision.participants.as_slice())?;
+        text.push_str(gap)?;
+        text.push_str(format!(in alloc; "{} of {participants}", decision.number)?.as_str())?;
+    }
+    Ok(text)
 }
 
-/// A record, as `epoch 0 entries 0 5 decision none held 5`.
+/// A record, as `epoch 0 entries 0 5 decisions none held 5`.
 fn record_text(alloc: Global, kept: &Record) -> Result<String, AllocError> {
     let entries = listed(alloc, kept.highest.as_slice())?;
-    let decision = decision_text(alloc, &kept.decision)?;
+    let decisions = decisions_text(alloc, kept.decisions.as_slice())?;
     let epoch = kept.epoch;
     match &kept.tentative {
-        None => format!(in alloc; "epoch {epoch} entries {entries} decision {decision} held none"),
+        None => {
+            format!(in alloc; "epoch {epoch} entries {entries} decisions {decisions} held none")
+        }
         Some(held) => {
             let number = held.number;
-            format!(in alloc; "epoch {epoch} entries {entries} decision {decision} held {number}")
+            format!(in alloc; "epoch {epoch} entries {entries} decisions {decisions} held {number}")
         }
     }
 }

@@ -15,7 +15,7 @@ fn one_if_so(holds: bool) -> i64
 }
 
 /// The value of an operator on two values.
-fn operate(operator: Operator, left: i64, right: i64) -> i64
+pub fn operate(operator: Operator, left: i64, right: i64) -> i64
     ensures { result ≡ apply operator left right }
 {
     match operator {

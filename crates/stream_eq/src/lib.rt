@@ -13,7 +13,7 @@ mod solution;
 mod unread;
 
 pub use approximation::approx;
-pub use evaluate::{is_zero, set_variable, value};
+pub use evaluate::{is_zero, operate, set_variable, value};
 pub use fault::Fault;
 pub use histories::{Histories, are_same};
 pub use laws::{

@@ -154,8 +154,7 @@ fn next(alloc: Global, net: &Net, place: Where) -> Result<NextAct, Fail> {
         return Err(Fail::new("the network has no process"));
     }
     let here = state(alloc, place, &[0])?;
-    let process = &net.program.processes[0];
-    Ok(next_act(process, &here))
+    Ok(next_act(net, 0, &here))
 }
 
 /// Takes what may go to another thread.

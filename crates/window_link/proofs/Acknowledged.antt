@@ -3,13 +3,16 @@ use Rattle.std.proofs.Common.{◌≡◌, ℕ, ◌+◌, ◌<◌, ◌≤◌, ◌&&
 use Rattle.std.proofs.Common.{Option, Some, None, refl, ap, subst, ◌∙◌, arith}
 use Rattle.std.specs.Prelude.{slice_get}
 use Rattle.std.specs.List.{AllByRecursion}
+use Rattle.std.specs.Option.{option_to_list}
 use Rattle.std.proofs.lemmas.Bool.{eq-eqb, eqb-true, ltb-true, ltb-false, leb-true}
 use Rattle.std.proofs.lemmas.List.{length-append, length-take-le}
-use Rattle.kahn_net.specs.declared.limits.TheConstants.{MAX_COUNT}
+use Rattle.window_link.specs.declared.receiving.Arrival.{Arrival}
+use Rattle.window_link.specs.declared.receiving.Arrival.TheVariants.{Taken, Held, Dropped}
 use Rattle.window_link.specs.declared.receiving.Ack.{Ack}
-use Rattle.window_link.specs.Windows.{Sender, Receiver, Received, is_due, sender_after, received}
+use Rattle.window_link.specs.Windows.{Sender, Receiver, is_due, sender_after, arrival_at, advanced, with_held, window_after}
+use Rattle.window_link.specs.Windows.{next_held, window_without}
 use Rattle.window_link.specs.Link.{LinkPacket, Item, Acknowledgement, LinkEvent, Appended, SenderSetBack}
-use Rattle.window_link.specs.Link.{ReceiverSetBack, ItemSent, AcknowledgementSent, Delivered, Link, with_reached}
+use Rattle.window_link.specs.Link.{ReceiverSetBack, ItemSent, AcknowledgementSent, Delivered, ItemPopped, Link, with_reached}
 use Rattle.window_link.specs.Link.{handed_out, with_item_sent, with_delivered, after, run, opening}
 use Rattle.window_link.proofs.Lists.{by_cases, and_both, at_place, each_weaker}
 
@@ -59,11 +62,11 @@ begins reached epoch later next lt e le =
 
 -- the receiver goes on in its epoch
 goes_on : (sender : Sender) (receiver : Receiver) (taken : List ℤ) (reached : ℕ → ℕ) (sent : List LinkPacket)
-    (more : List ℤ) (next : ℕ)
+    (more : List ℤ) (next : ℕ) (held : List (Option ℤ))
     → next ≡ receiver.next + length more → Acked sender receiver taken reached sent
-    → (let window : Receiver = record { epoch = receiver.epoch; next = next } in
+    → (let window : Receiver = record { epoch = receiver.epoch; next = next; held = held } in
     Acked sender window (taken ++ more) (with_reached reached receiver.epoch next) sent)
-goes_on sender receiver taken reached sent more next is acked =
+goes_on sender receiver taken reached sent more next held is acked =
     let up = rises reached receiver.epoch receiver.next next acked.present (omega arith) in
     let reached_more = up sender.epoch in
     record {
@@ -76,19 +79,30 @@ goes_on sender receiver taken reached sent more next is acked =
       count = omega (arith, acked.count, length-append taken more);
     }
 
+-- whatever becomes of an item that comes
 item_came : (sender : Sender) (receiver : Receiver) (taken : List ℤ) (reached : ℕ → ℕ) (sent : List LinkPacket)
-    (position : ℕ) (item : ℤ)
+    (position : ℕ) (item : ℤ) (answer : Arrival)
     → Acked sender receiver taken reached sent
-    → (let come = received receiver position item in
-    Acked sender come.window (taken ++ handed_out come.answer item)
-    (with_reached reached come.window.epoch come.window.next) sent)
-item_came sender receiver taken reached sent position item acked =
-    by_cases
-    (λ (come : Received). Acked sender come.window (taken ++ handed_out come.answer item)
-    (with_reached reached come.window.epoch come.window.next) sent)
-    (nat_eq position receiver.next && nat_lt position MAX_COUNT) _ _
-    (λ next. goes_on sender receiver taken reached sent (item ∷ []) (receiver.next + 1) refl acked)
-    (λ other. goes_on sender receiver taken reached sent [] receiver.next (omega arith) acked)
+    → (let window : Receiver = window_after answer receiver position item in
+    Acked sender window (taken ++ handed_out answer item) (with_reached reached window.epoch window.next) sent)
+item_came sender receiver taken reached sent position item Taken acked =
+    goes_on sender receiver taken reached sent (item ∷ []) (receiver.next + 1) (advanced receiver).held refl acked
+item_came sender receiver taken reached sent position item Held acked =
+    goes_on sender receiver taken reached sent [] receiver.next (with_held receiver position item).held (omega arith)
+    acked
+item_came sender receiver taken reached sent position item Dropped acked =
+    goes_on sender receiver taken reached sent [] receiver.next receiver.held (omega arith) acked
+
+-- a pop, whether it gives an item or not
+item_popped : (sender : Sender) (receiver : Receiver) (taken : List ℤ) (reached : ℕ → ℕ) (sent : List LinkPacket)
+    (item : Option ℤ)
+    → Acked sender receiver taken reached sent
+    → (let window : Receiver = window_without item receiver in
+    Acked sender window (taken ++ option_to_list item) (with_reached reached window.epoch window.next) sent)
+item_popped sender receiver taken reached sent None acked =
+    goes_on sender receiver taken reached sent [] receiver.next receiver.held (omega arith) acked
+item_popped sender receiver taken reached sent (Some item) acked =
+    goes_on sender receiver taken reached sent (item ∷ []) (receiver.next + 1) (advanced receiver).held refl acked
 
 ack_came : (sender : Sender) (receiver : Receiver) (taken : List ℤ) (reached : ℕ → ℕ) (sent : List LinkPacket)
     (ack : Ack)
@@ -125,7 +139,8 @@ came : (link : Link) (place : ℕ) (packet : Option LinkPacket) → slice_get li
     → AckedLink (with_delivered link packet)
 came link place None e acked = acked
 came link place (Some (Item position item)) e acked =
-    item_came link.sender link.receiver link.taken link.reached link.sent position item acked
+    item_came link.sender link.receiver link.taken link.reached link.sent position item
+    (arrival_at link.receiver position) acked
 came link place (Some (Acknowledgement ack)) e acked =
     ack_came link.sender link.receiver link.taken link.reached link.sent ack
     (at_place (IsHonest link.receiver.epoch link.reached) link.sent acked.each place (Acknowledgement ack) e) acked
@@ -185,6 +200,8 @@ acked_after link AcknowledgementSent acked =
       count = acked.count;
     }
 acked_after link (Delivered place) acked = came link place (slice_get link.sent place) refl acked
+acked_after link ItemPopped acked =
+    item_popped link.sender link.receiver link.taken link.reached link.sent (next_held link.receiver) acked
 
 pub acked_over : (events : List LinkEvent) (link : Link) → AckedLink link → AckedLink (run events link)
 acked_over [] link acked = acked

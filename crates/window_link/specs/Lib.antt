@@ -1,2 +1,3 @@
 pub mod Windows
+pub mod Laws
 pub mod Link

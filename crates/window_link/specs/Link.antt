@@ -1,10 +1,11 @@
 -- A link as a whole: its two ends, what they sent, and whatever may happen to them.
 use Rattle.std.specs.Prelude.{◌≡◌, ◌==◌, ◌&&◌, ℕ, ℤ, nat_lt, nat_le, if◌then◌else◌, List, [], ◌∷◌, ◌++◌, length, take}
-use Rattle.std.specs.Prelude.{slice_get, Contains, Option, Some, None}
+use Rattle.std.specs.Prelude.{slice_get, Contains, replicate, Option, Some, None}
+use Rattle.std.specs.Option.{option_to_list}
 use Rattle.window_link.specs.declared.receiving.Arrival.{Arrival}
 use Rattle.window_link.specs.declared.receiving.Arrival.TheVariants.{Taken, Held, Dropped}
 use Rattle.window_link.specs.declared.receiving.Ack.{Ack}
-use Rattle.window_link.specs.Windows.{Sender, Receiver, is_due, sender_after, sender_reset, received, ack_of}
+use Rattle.window_link.specs.Windows.{Sender, Receiver, is_due, sender_after, sender_reset, received, popped, ack_of}
 
 pub data LinkPacket : Type 0 where
   Item : (position : ℕ) (item : ℤ) → LinkPacket
@@ -15,13 +16,15 @@ pub data LinkEvent : Type 0 where
   Appended : (item : ℤ) → LinkEvent
   -- the sender goes on as after a restart: its list is cut to so many items, and it knows of no acknowledgement
   SenderSetBack : (count : ℕ) → LinkEvent
-  -- the receiver goes on from an earlier position, in a higher epoch
+  -- the receiver goes on from an earlier position, in a higher epoch, and holds nothing
   ReceiverSetBack : (next epoch : ℕ) → LinkEvent
   -- the item at a position that is due is sent, for a log from `base` on
   ItemSent : (base position : ℕ) → LinkEvent
   AcknowledgementSent : LinkEvent
   -- a packet that was sent at any time before comes, also again and in any order
   Delivered : (place : ℕ) → LinkEvent
+  -- the receiver takes the item of its next position from those that it holds
+  ItemPopped : LinkEvent
 
 pub record Link : Type 0 where
   pub sender : Sender
@@ -82,7 +85,7 @@ after link (SenderSetBack count) =
 after link (ReceiverSetBack next epoch) =
     if nat_lt link.receiver.epoch epoch && nat_le next link.receiver.next
     then record link {
-      receiver = record { epoch = epoch; next = next };
+      receiver = record { epoch = epoch; next = next; held = replicate (length link.receiver.held) None };
       taken = take next link.taken;
       reached = with_reached link.reached epoch next;
     }
@@ -94,18 +97,25 @@ after link (ItemSent base position) =
 after link AcknowledgementSent =
     record link { sent = Acknowledgement (ack_of link.receiver) ∷ link.sent }
 after link (Delivered place) = with_delivered link (slice_get link.sent place)
+after link ItemPopped =
+    let left = popped link.receiver in
+    record link {
+      receiver = left.window;
+      taken = link.taken ++ option_to_list left.item;
+      reached = with_reached link.reached left.window.epoch left.window.next;
+    }
 
 -- whatever happens, one event after another
 abbrev pub run : List LinkEvent → Link → Link
 run [] link = link
 run (event ∷ events) link = run events (after link event)
 
--- a link on which nothing has happened yet
+-- a link on which nothing has happened yet, with windows of this size at both ends
 abbrev pub opening : ℕ → Link
 opening size =
     record {
       sender = record { size = size; epoch = 0; acknowledged = 0 };
-      receiver = record { epoch = 0; next = 0 };
+      receiver = record { epoch = 0; next = 0; held = replicate size None };
       appended = [];
       longest = [];
       appends = [];

@@ -12,7 +12,7 @@ use Rattle.protocol.specs.World.StationView.{StationView}
 use Rattle.protocol.specs.World.Steps.{WorldView}
 use Rattle.protocol.specs.WorldLaws.ClosedLaws.{joined, AreOutputsFrom, closed_channels}
 use Rattle.world.specs.Closing.{all_outputs}
-use Rattle.world.specs.StationView.{outlet_view, outlet_views}
+use Rattle.world.specs.StationView.{outlet_views}
 use Rattle.world.specs.WorldView.{station_view}
 use Rattle.world.specs.declared.output.Output.{Output}
 use Rattle.world.specs.declared.station.Station.{Station}

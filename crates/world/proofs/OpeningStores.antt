@@ -2,7 +2,6 @@
 use Rattle.std.proofs.Common.{◌≡◌, inl, inr, ℕ, ◌+◌, ◌*◌, ◌<◌, ◌≤◌, List, length, get_or, take, drop, Option, Some}
 use Rattle.std.proofs.Common.{None, refl, sym, ap, subst, ◌∙◌, length-take, arith}
 use Rattle.std.specs.Prelude.{◌%◌, false, Err, IsSome, IsTrue, IsErrOf}
-use Rattle.sector_disk.specs.Clock.{Only}
 use Rattle.sector_disk.specs.declared.TheConstants.{SECTOR_BYTES}
 use Rattle.gate_cell.specs.GateCell.{HoldsFrame}
 use Rattle.gate_cell.specs.Layout.{area_sectors, frame_size, named, room_on, HasNoRoom}
@@ -13,10 +12,10 @@ use Rattle.gate_cell.specs.declared.fault.CellFault.{CellFault}
 use Rattle.gate_cell.specs.declared.fault.CellFault.TheVariants as cell
 use Rattle.record.specs.RecordView.{RecordView}
 use Rattle.ckpt_codec.specs.Lengths.{spelled_length}
-use Rattle.ckpt_codec.specs.RecordText.{IsRecordText}
+use Rattle.ckpt_codec.specs.RecordText.{IsRecordText, IsTextIn}
+use Rattle.ckpt_codec.specs.declared.version.TheConstants.{VERSION}
 use Rattle.ckpt_codec.specs.SizeLaws.{IsRecordWithin}
 use Rattle.ckpt_codec.specs.declared.lengths.TheConstants.{MAX_RECORD_BYTES, MAX_RETAINED_ITEMS}
-use Rattle.ckpt_store.specs.Spelling.{Spells}
 use Rattle.ckpt_store.specs.Loading.{IsLoad, IsOfCell}
 use Rattle.ckpt_store.specs.StoreFault.{of_cell}
 use Rattle.ckpt_store.specs.StoreView.{cell_in, known_in, record_in, record_or, record_spelled, Holds, IsUntouched}
@@ -81,13 +80,13 @@ formatted_room sectors value content few frame =
     (omega (arith, room), omega (arith, room, few))
 
 -- the bytes of a record are as many as are told
-pub bytes_long : (kept : RecordView) (bytes : List ℕ) → IsRecordText kept bytes → length bytes ≡ spelled_length kept
+pub bytes_long : (kept : RecordView) (bytes : List ℕ) → IsTextIn VERSION kept bytes → length bytes ≡ spelled_length kept
 unfolding spelled_length
 bytes_long kept bytes text = ap (length {A = ℕ}) text.spelled
 
 -- a disk that is formatted with a record's bytes has room for them
 pub kept_room : (kept : RecordView) (bytes value content : List ℕ) (before now : ℕ)
-    → IsRecordWithin MAX_RETAINED_ITEMS kept → IsRecordText kept bytes → value ≡ bytes → now ≡ before
+    → IsRecordWithin MAX_RETAINED_ITEMS kept → IsTextIn VERSION kept bytes → value ≡ bytes → now ≡ before
     → HoldsFrame value now content
     → HasRoom before (spelled_length kept)
 kept_room kept bytes value content before now within text same sectors frame =
@@ -96,17 +95,6 @@ kept_room kept bytes value content before now within text same sectors frame =
     let few : length value ≤ MAX_VALUE_BYTES = omega (arith, long, short) in
     subst (λ (n : ℕ). HasRoom n (spelled_length kept)) sectors
     (subst (HasRoom now) long (formatted_room now value content few frame))
-
--- what a crash leaves of a store that holds a record, and leaves nothing else
-pub leaves_only : {C : Type 0} (words : CellWords C) (kept first : RecordView) (opened held : Store C words)
-    → first ≡ kept → held ≡ opened → Holds opened first
-    → Only (Some (words.value (cell_in held))) (words.may_leave (cell_in held)) → (left : Option (List ℕ))
-    → words.may_leave (cell_in held) left → Spells kept left
-leaves_only words kept first opened held is same holds settled left might =
-    let text : IsRecordText kept (words.value (cell_in held)) =
-    subst (λ (r : RecordView). IsRecordText r (words.value (cell_in held))) is
-    (subst (λ (s : Store _ words). IsRecordText first (words.value (cell_in s))) (sym same) holds) in
-    subst (Spells kept) (sym (settled left might)) text
 
 -- Refusals
 
@@ -184,10 +172,3 @@ load_back words sectors failures given back old new fault load room_before room_
       omega (arith, more, before, now));
   otherwise = λ other. sym now ∙ (load.failures.otherwise (λ e. other (cc)) ∙ before);
 }
-
--- of one on which a store was opened, but no node
-pub store_back : {D : Type 0} (sectors failures : D → ℕ) (given back : D)
-    → room_on (sectors back) ≡ room_on (sectors given)
-    → failures back ≡ failures given → IsNotOpened sectors failures given back store.NoMemory
-store_back sectors failures given back room same =
-    record { room = room; failed = λ device. absurd (cc); otherwise = λ other. same }

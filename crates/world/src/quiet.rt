@@ -100,7 +100,7 @@ fn is_at_rest<C: StableCell, O: Outlet>(
         (map (station_view O.taken O.failures) stations.now) image.now saved.now }
 {
     match net.program.processes.get(usize::from(saved.number)) {
-        Some(process) => match next_act(process, &saved.state) {
+        Some(_) => match next_act(net, usize::from(saved.number), &saved.state) {
             NextAct::Begin => false,
             NextAct::Get { channel } => has_got_all(
                 net,

@@ -54,7 +54,7 @@ ended_then t go v u h = at t.end refl h
     at (Stopped y) is f = absurd (cc)
 
 -- one after another, three of them
-then_do_then : (t : Trace) (f g : List ℤ → List (List ℤ) → Trace)
+pub then_do_then : (t : Trace) (f g : List ℤ → List (List ℤ) → Trace)
     → then_do (then_do t f) g ≡ then_do t (λ v u. then_do (f v u) g)
 then_do_then t f g = at t.end refl
   where

@@ -1,10 +1,8 @@
 -- What a packet does to the node that it is for.
-use Rattle.std.specs.Prelude.{ℕ, ◌==◌, ◌&&◌, nat_lt, Bool, true, false, not, if◌then◌else◌, List, [], ◌∷◌, ℤ, length}
+use Rattle.std.specs.Prelude.{ℕ, ◌==◌, ◌&&◌, Bool, true, false, not, if◌then◌else◌, List, [], ◌∷◌, ℤ}
 use Rattle.std.specs.Prelude.{Option, Some, None, option_map, slice_get, slice_set}
 use Rattle.std.specs.List.{position_from}
 use Rattle.kahn_net.specs.Syntax.{Network}
-use Rattle.kahn_net.specs.declared.limits.TheConstants.{MAX_COUNT}
-use Rattle.retained.specs.LogState.{LogState, log_end}
 use Rattle.record.specs.Changes.{log_with}
 use Rattle.window_link.specs.Windows.{Receiver, Received, received, sender_after}
 use Rattle.window_link.specs.declared.receiving.Arrival.{Arrival}
@@ -17,28 +15,26 @@ use Rattle.datagram.specs.declared.packet.Body.TheVariants.{Ended, Settled, Undo
 use Rattle.protocol.specs.Node.Addresses.{names_right}
 use Rattle.protocol.specs.Node.NodeView.{NodeView, RunningView, on_running}
 use Rattle.protocol.specs.Node.Modes.{is_down}
+use Rattle.protocol.specs.Node.Popping.{has_place, popping}
 use Rattle.protocol.specs.Node.Plans.{Prospect, becoming, if_due}
 use Rattle.protocol.specs.declared.delivery.Delivery.{Delivery}
 use Rattle.protocol.specs.declared.delivery.Delivery.TheVariants.{NotDue, Delivered, Dropped}
 use Rattle.protocol.specs.declared.links.Inbox.{Inbox}
 use Rattle.protocol.specs.declared.links.Outbox.{Outbox}
-use Rattle.protocol.specs.declared.limits.TheConstants.{MAX_INBOX_ITEMS}
 
--- an inbox has a place for one item more
-abbrev pub has_place : LogState → Bool
-has_place log = nat_lt (length log.items) MAX_INBOX_ITEMS && nat_lt (log_end log) MAX_COUNT
-
--- the inbox after an item came of which the window made this
+-- The inbox after an item came of which the window made this. Behind one that is taken come those that the window held
+-- for the positions after it.
 abbrev pub with_arrival : Arrival → Receiver → ℤ → Inbox → Inbox
 with_arrival arrival.Taken window item inbox =
-    record { channel = inbox.channel; window = window; log = log_with (item ∷ []) inbox.log }
-with_arrival arrival.Held window item inbox = inbox
+    popping (record { channel = inbox.channel; window = window; log = log_with (item ∷ []) inbox.log })
+with_arrival arrival.Held window item inbox =
+    record { channel = inbox.channel; window = window; log = inbox.log }
 with_arrival arrival.Dropped window item inbox = inbox
 
 abbrev pub after_arrival : Received → ℤ → Inbox → Inbox
 after_arrival received item inbox = with_arrival received.answer received.window item inbox
 
--- the item of a position is taken where it is the next one and there is a place for it
+-- the item of a position comes to the window where there is a place for one, and else is dropped
 abbrev pub taking : ℕ → ℤ → Inbox → Inbox
 taking position item inbox =
     if has_place inbox.log then after_arrival (received inbox.window position item) item inbox else inbox

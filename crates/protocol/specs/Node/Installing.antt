@@ -12,6 +12,7 @@ use Rattle.protocol.specs.Node.JobView.{JobView}
 use Rattle.protocol.specs.Node.NodeView.{NodeView, ModeView, Down, InDoubt, Runs, RunningView, RunningNode, on_mode}
 use Rattle.protocol.specs.Node.NodeView.{on_running}
 use Rattle.protocol.specs.Node.Granting.{is_process}
+use Rattle.protocol.specs.Node.Popping.{popping}
 use Rattle.protocol.specs.declared.links.Inbox.{Inbox}
 use Rattle.record.specs.declared.image.SavedEnd.{SavedEnd}
 use Rattle.kahn_net.specs.declared.limits.TheConstants.{MAX_COUNT}
@@ -67,8 +68,12 @@ inbox_taken channels process taken inbox =
           trimmed_log (inbox.log.base + taken_from channels process taken inbox.channel) inbox.log;
     }
 
-abbrev pub inboxes_taken : List Channel → ℕ → List ℕ → List Inbox → List Inbox
-inboxes_taken channels process taken inboxes = map (inbox_taken channels process taken) inboxes
+-- and with what its window held for the places that are free then
+abbrev pub inbox_turned : List Channel → ℕ → List ℕ → Inbox → Inbox
+inbox_turned channels process taken inbox = popping (inbox_taken channels process taken inbox)
+
+abbrev pub inboxes_turned : List Channel → ℕ → List ℕ → List Inbox → List Inbox
+inboxes_turned channels process taken inboxes = map (inbox_turned channels process taken) inboxes
 
 -- an end takes what the turn took and put
 pub record EndTakes (channels : List Channel) (process : ℕ) (taken : List ℕ) (sent : List (List ℤ))
@@ -86,7 +91,7 @@ abbrev pub with_turn : List Channel → ℕ → Standing → List ℕ → List (
 with_turn channels process standing taken sent node = record node {
   current = installed channels process standing taken sent node.current;
   out = None;
-  inboxes = inboxes_taken channels process taken node.inboxes;
+  inboxes = inboxes_turned channels process taken node.inboxes;
 }
 
 -- the same of what it has in memory; and how what comes back is taken in there, or left
@@ -94,7 +99,7 @@ abbrev pub turned : List Channel → ℕ → Standing → List ℕ → List (Lis
 turned channels process standing taken sent running = record running {
   current = installed channels process standing taken sent running.current;
   out = None;
-  inboxes = inboxes_taken channels process taken running.inboxes;
+  inboxes = inboxes_turned channels process taken running.inboxes;
 }
 
 abbrev pub IsTaken : List Channel → JobView → Standing → List ℕ → List (List ℤ) → RunningView → Bool → RunningView

@@ -49,7 +49,7 @@ opening_record net nodes number =
       node = number;
       epoch = 0;
       highest = replicate nodes 0;
-      decision = None;
+      decisions = [];
       permanent =
           opening_image net number;
       tentative = None;
@@ -58,7 +58,11 @@ opening_record net nodes number =
 -- an inbox to which nothing has come, and an outbox of which nothing is under way
 abbrev pub new_inbox : ℕ → Inbox
 new_inbox channel =
-    record { channel = channel; window = record { epoch = 0; next = 0 }; log = record { base = 0; items = [] } }
+    record {
+      channel = channel;
+      window = record { epoch = 0; next = 0; held = replicate WINDOW None };
+      log = record { base = 0; items = [] };
+    }
 
 abbrev pub new_outbox : ℕ → Outbox
 new_outbox channel = record { channel = channel; window = record { size = WINDOW; epoch = 0; acknowledged = 0 } }

@@ -15,6 +15,7 @@ use Rattle.record.specs.ProcessView.{SavedProcessView}
 use Rattle.record.specs.ImageView.{ImageView}
 use Rattle.record.specs.Ends.{received_at, received_of, log_at}
 use Rattle.ckpt_codec.specs.RecordText.{role_of}
+use Rattle.window_link.specs.Laws.Holding.{HoldsOf}
 use Rattle.protocol.specs.Node.JobView.{JobView}
 use Rattle.protocol.specs.Node.Layout.{role_here, processes_on, ends_on, incoming_on, outgoing_on}
 use Rattle.protocol.specs.Node.NodeView.{RunningNode}
@@ -124,10 +125,11 @@ pub record LinksAreLaidOut (net : Network) (home : ℕ) (node : RunningNode) : T
   pub outgoing : map (λ (outbox : Outbox). outbox.channel) node.outboxes ≡ outgoing_on net home
   pub inboxes : (k : ℕ) (inbox : Inbox) → slice_get node.inboxes k ≡ Some inbox → InboxIsSound node.current inbox
 
--- what an inbox holds comes next of its channel's history
+-- what an inbox holds comes next of its channel's history, and what its window holds stands there at its positions
 pub record InboxStands (histories : List (List ℤ)) (inbox : Inbox) : Type 0 where
   pub within : log_end inbox.log ≤ length (history_of histories inbox.channel)
   pub items : inbox.log.items ≡ take (length inbox.log.items) (drop inbox.log.base (history_of histories inbox.channel))
+  pub held : HoldsOf (history_of histories inbox.channel) inbox.window
 
 abbrev pub InboxesStand : List (List ℤ) → List Inbox → Type 0
 InboxesStand histories inboxes =

@@ -1,5 +1,5 @@
 -- A node's record while a checkpoint of its own is taken and decided.
-use Rattle.std.specs.Prelude.{◌≡◌, ℕ, ◌+◌, ◌≤◌, ◌==◌, nat_lt, if◌then◌else◌, Bool, true, false, ◌&&◌, [], Option, Some}
+use Rattle.std.specs.Prelude.{◌≡◌, ℕ, ◌+◌, ◌≤◌, ◌==◌, nat_lt, if◌then◌else◌, Bool, true, false, ◌&&◌, [], length, Option, Some}
 use Rattle.std.specs.Prelude.{None}
 use Rattle.record.specs.ImageView.{ImageView}
 use Rattle.record.specs.Ends.{received_of, base_of, sent_of}
@@ -14,7 +14,7 @@ use Rattle.kahn_net.specs.declared.limits.TheConstants.{MAX_COUNT}
 
 -- a node may take a tentative image of its own: it runs, it holds none, and no decision is unsettled
 abbrev pub may_start : NodeView → Bool
-may_start node = is_running node.mode && (is_none node.kept.tentative && is_none node.kept.decision)
+may_start node = is_running node.mode && (is_none node.kept.tentative && (length node.kept.decisions == 0))
 
 -- the record with this image as a tentative one of the node's own, under its next number
 abbrev pub with_own : ℕ → ImageView → RecordView → RecordView

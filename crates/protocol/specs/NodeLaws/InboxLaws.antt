@@ -1,4 +1,5 @@
--- Laws of a turn at inboxes: what it took of a channel is out of the inbox, which then begins where the image counts.
+-- Laws of a turn at inboxes: what it took of a channel is out of the inbox, which then begins where the image counts, and
+-- what came out of its window since is behind what was left.
 use Rattle.std.proofs.Common.{◌≡◌, ◌⊎◌, inl, inr, ℕ, ◌+◌, ◌-◌, ◌≤◌, Bool, true, false, eqb, ℤ, List, length, drop}
 use Rattle.std.proofs.Common.{Option, Some, None, option_map, refl, sym, ap, subst, ◌∙◌, arith}
 use Rattle.std.specs.Prelude.{slice_get, find, not, IsTrue}
@@ -23,7 +24,7 @@ use Rattle.protocol.specs.Node.JobView.{JobView}
 use Rattle.protocol.specs.Node.NodeView.{RunningNode}
 use Rattle.protocol.specs.Node.Granting.{first_log, inbox_log, source_of, next_in_log, next_items}
 use Rattle.protocol.specs.Node.Installing.{taken_from, put_on, saved_pushed, saved_counted, installed, inbox_taken}
-use Rattle.protocol.specs.Node.Installing.{inboxes_taken, with_turn}
+use Rattle.protocol.specs.Node.Installing.{inbox_turned, inboxes_turned, with_turn}
 use Rattle.protocol.specs.Node.Layout.{has_process, port_on, port_away, comes_in, is_incoming, role_by}
 use Rattle.protocol.specs.Node.Reached.{HasReached, IsLaidOut, LinksAreLaidOut, InboxIsSound, InboxStands, InboxesStand}
 use Rattle.protocol.specs.Node.Reached.{IsJobOf, IsTurnOf, is_counting}
@@ -34,6 +35,7 @@ use Rattle.protocol.specs.NodeLaws.FitLaws.{taken_at_hand, log_left, end_install
 use Rattle.protocol.specs.NodeLaws.LiftLaws.{IsAtHand}
 use Rattle.protocol.specs.NodeLaws.LinkLaws.{prefix_behind}
 use Rattle.protocol.specs.NodeLaws.LogLaws.{trimmed_cases, trimmed_end_stays, trimmed_within}
+use Rattle.protocol.specs.NodeLaws.PoppingLaws.{popping_sound, popping_stands}
 use Rattle.protocol.specs.NodeLaws.NumberedLaws.{where_mark, where_find}
 use Rattle.protocol.specs.declared.links.Inbox.{Inbox}
 
@@ -66,14 +68,20 @@ inbox_stands channels process taken histories inbox stands =
       within = omega (arith, end, few);
       items =
           next_trimmed position inbox.log (history_of histories inbox.channel) stands.items;
+      held = stands.held;
     }
 
 pub inboxes_installed : (channels : List Channel) (process : ℕ) (taken : List ℕ) (histories : List (List ℤ))
-    (inboxes : List Inbox) → InboxesStand histories inboxes
-    → InboxesStand histories (inboxes_taken channels process taken inboxes)
-inboxes_installed channels process taken histories inboxes stand k inbox is =
-    let old = map_got (inbox_taken channels process taken) inboxes k inbox is in
-    subst (InboxStands histories) old.2 (inbox_stands channels process taken histories old.0 (stand k old.0 old.1))
+    (inboxes : List Inbox)
+    → ((k : ℕ) (inbox : Inbox) → slice_get inboxes k ≡ Some inbox → inbox.window.next ≡ log_end inbox.log)
+    → InboxesStand histories inboxes → InboxesStand histories (inboxes_turned channels process taken inboxes)
+inboxes_installed channels process taken histories inboxes next stand k inbox is =
+    let old = map_got (inbox_turned channels process taken) inboxes k inbox is in
+    let end =
+    trimmed_end_stays (old.0.log.base + taken_from channels process taken old.0.channel) old.0.log in
+    subst (InboxStands histories) old.2
+    (popping_stands histories (inbox_taken channels process taken old.0) (next k old.0 old.1 ∙ sym end.0)
+    (inbox_stands channels process taken histories old.0 (stand k old.0 old.1)))
 
 -- What is counted
 
@@ -222,11 +230,12 @@ module _ (net : Network) (home : ℕ) (inputs : List (List ℤ)) (node : Running
   pub links_installed : LinksAreLaidOut net home (with_turn net.channels job.process after taken sent node)
   links_installed = record {
     incoming =
-        map_keeps (λ (i : Inbox). i.channel) (inbox_taken net.channels job.process taken) node.inboxes (λ i. refl)
+        map_keeps (λ (i : Inbox). i.channel) (inbox_turned net.channels job.process taken) node.inboxes (λ i. refl)
         ∙ links.incoming;
     outgoing = links.outgoing;
     inboxes = λ k inbox is. (
-        let old = map_got (inbox_taken net.channels job.process taken) node.inboxes k inbox is in
+        let old = map_got (inbox_turned net.channels job.process taken) node.inboxes k inbox is in
         subst (InboxIsSound (installed net.channels job.process after taken sent node.current)) old.2
-        (inbox_sound k old.0 old.1));
+        (popping_sound (installed net.channels job.process after taken sent node.current)
+        (inbox_taken net.channels job.process taken old.0) (inbox_sound k old.0 old.1)));
   }

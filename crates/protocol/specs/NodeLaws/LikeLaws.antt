@@ -30,7 +30,9 @@ use Rattle.record.specs.declared.image.End.TheVariants.{Receives, Sends, Both}
 use Rattle.ckpt_codec.specs.Fields.{Field, IsAllowed, AreAllowed}
 use Rattle.ckpt_codec.specs.RecordText.{any, at_most, exactly, count, item, flag, between, variables_of, mode_fields}
 use Rattle.ckpt_codec.specs.RecordText.{process_fields, processes_fields, role_of, retained_count, end_fields}
-use Rattle.ckpt_codec.specs.RecordText.{saved_end_fields, ends_fields, image_fields, IsRecord}
+use Rattle.ckpt_codec.specs.RecordText.{saved_end_fields, ends_fields, image_fields, version_field, IsRecord}
+use Rattle.ckpt_codec.specs.declared.version.TheConstants.{VERSION}
+use Rattle.record.specs.declared.record.TheConstants.{MAX_DECISIONS}
 use Rattle.ckpt_codec.specs.ItemLaws.{item_allowed}
 use Rattle.ckpt_store.specs.Shapes.{HasShapeOf}
 use Rattle.ckpt_store.specs.Spelling.{IsLike}
@@ -438,7 +440,7 @@ opening_allowed net nodes number valid below few =
     let none : IsAllowed (flag 0) = limited_allowed 1 1 0 (omega arith) (omega arith) in
     whole (opening_record net nodes number) (record {
       head =
-          All-cons IsAllowed (exactly 1 1 1) (any 1 number ∷ count 0 ∷ last ∷ []) (omega arith, refl)
+          All-cons IsAllowed (version_field VERSION) (any 1 number ∷ count 0 ∷ last ∷ []) (omega arith, refl)
           (All-cons IsAllowed (any 1 number) (count 0 ∷ last ∷ []) (omega (arith, below, few), refl)
           (All-cons IsAllowed (count 0) (last ∷ []) (count_allowed 0 (omega arith))
           (one_field last (
@@ -447,7 +449,7 @@ opening_allowed net nodes number valid below few =
                 (lt-ltb number (length highest) above) (le-leb (length highest) MAX_NODES small),
           ))));
       entries = entries_opening nodes;
-      decision = one_field (flag 0) none;
+      decisions = one_field (at_most 1 MAX_DECISIONS 0) (omega arith, refl);
       permanent = opening_image_allowed net number valid;
       tentative = one_field (flag 0) none;
     })

@@ -11,6 +11,7 @@ use Rattle.kahn_net.specs.Approximations.{approximation}
 use Rattle.kahn_net.specs.Laws.Approximations.{approximation_grows}
 use Rattle.kahn_net.specs.Laws.Prefixes.{prefix_of, prefix_trans, prefix_length, followed}
 use Rattle.retained.specs.LogState.{LogState}
+use Rattle.window_link.specs.Laws.Holding.{holds_longer}
 use Rattle.protocol.specs.Node.Granting.{inbox_log}
 use Rattle.record.specs.RecordView.{RecordView}
 use Rattle.protocol.specs.Node.JobView.{JobView}
@@ -65,6 +66,7 @@ inbox_further histories later inbox longer stands =
       within = omega (arith, few, more);
       items = prefix_trans inbox.log.items (drop inbox.log.base before) (drop inbox.log.base now) stands.items
           (prefix_behind before now inbox.log.base longer begun);
+      held = holds_longer before now inbox.window longer stands.held;
     }
 
 -- and of the next approximation

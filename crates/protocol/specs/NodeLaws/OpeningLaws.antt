@@ -2,6 +2,7 @@
 use Rattle.std.proofs.Common.{◌≡◌, ℕ, zero, suc, ◌+◌, ◌<◌, ◌≤◌, Bool, true, false, eqb, cond, ℤ, List, [], ◌∷◌, length}
 use Rattle.std.proofs.Common.{get_or, drop, map, Option, Some, None, option_map, refl, sym, ap, subst, ◌∙◌, arith}
 use Rattle.std.specs.Prelude.{slice_get, find, ◌==◌}
+use Rattle.kahn_net.specs.Streams.{history_of}
 use Rattle.kahn_net.specs.Syntax.{Code, Network}
 use Rattle.kahn_net.specs.Processes.{Standing, NotBegun, StandsAt, got_on, sent_on}
 use Rattle.kahn_net.specs.declared.program.Channel.{Channel}
@@ -22,7 +23,9 @@ use Rattle.protocol.specs.NodeLaws.CountLaws.{count_limit, receives_within, send
 use Rattle.protocol.specs.Node.Reached.{first_acts, EndStands, ImageStands, HasReached, IsLaidOut, LinksAreLaidOut}
 use Rattle.protocol.specs.Node.Reached.{CountIsWithin, CountsAreWithin, LogsAreWithin, InboxIsSound, InboxStands}
 use Rattle.protocol.specs.Node.Reached.{InboxesStand}
+use Rattle.window_link.specs.Laws.Holding.{holds_none}
 use Rattle.protocol.specs.NodeLaws.ImageLaws.{map_got}
+use Rattle.protocol.specs.declared.limits.TheConstants.{WINDOW}
 use Rattle.protocol.specs.declared.links.Inbox.{Inbox}
 use Rattle.protocol.specs.declared.links.Outbox.{Outbox}
 use Rattle.record.specs.declared.image.SavedEnd.{SavedEnd}
@@ -427,4 +430,9 @@ pub inboxes_opening : (net : Network) (home : ℕ) (histories : List (List ℤ))
     → InboxesStand histories (opening_inboxes net home)
 inboxes_opening net home histories k inbox is =
     let old = map_got new_inbox (incoming_on net home) k inbox is in
-    subst (InboxStands histories) old.2 (record { within = omega arith; items = refl })
+    subst (InboxStands histories) old.2
+    (record {
+      within = omega arith;
+      items = refl;
+      held = holds_none (history_of histories old.0) 0 0 WINDOW;
+    })

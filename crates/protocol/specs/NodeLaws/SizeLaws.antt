@@ -105,7 +105,8 @@ opening_within net nodes number valid few =
     record {
       nodes = (let same : length (opening_record net nodes number).highest ≡ nodes = length-replicate nodes 0 in
           omega (arith, same, few));
-      decision = λ d is. absurd (cc);
+      decided = omega arith;
+      decisions = λ k d is. absurd (cc);
       permanent =
           image_within net number (approximation net [] reached.n) reached.permanent_acts (opening_image net number)
           valid (laid_out_opening net number) reached.permanent (logs_opening net number);
@@ -123,3 +124,4 @@ pub decided_within : (kept : RecordView) → IsRecordWithin MAX_RETAINED_ITEMS k
     → IsRecordWithin MAX_RETAINED_ITEMS (decided kept)
 decided_within kept within =
     within_decision MAX_RETAINED_ITEMS kept within (held_number kept.tentative) [] (omega arith)
+    within.decided

@@ -1,5 +1,5 @@
 -- What is true of a node's record with its outputs, in whatever mode the node is: it can start again from it.
-use Rattle.std.specs.Prelude.{◌≡◌, ℕ, ◌≤◌, ℤ, List, map, length, Some, None, slice_get}
+use Rattle.std.specs.Prelude.{◌≡◌, ℕ, ◌≤◌, ℤ, List, [], map, length, Some, slice_get}
 use Rattle.kahn_net.specs.Streams.{IsPrefix}
 use Rattle.kahn_net.specs.Syntax.{Network}
 use Rattle.kahn_net.specs.Processes.{sent_on}
@@ -59,6 +59,6 @@ pub record RecordIsSound (net : Network) (inputs : List (List ℤ)) (kept : Reco
       → ImageIsSound net kept.node inputs tentative.image outputs
   pub ahead : (tentative : Tentative) → kept.tentative ≡ Some tentative → IsBehind kept.permanent tentative.image
   pub covered : CoversAll kept.permanent outputs
-  pub undecided : kept.decision ≡ None
+  pub undecided : kept.decisions ≡ []
   pub bounded : IsRecordWithin MAX_RETAINED_ITEMS kept
   pub come : ∥ RecordHasCome net inputs kept outputs ∥₁

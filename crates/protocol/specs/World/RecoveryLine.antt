@@ -1,7 +1,7 @@
 -- The recovery line of a world: what all nodes restart from, if they crash together. The words of the line are those of
 -- the abstract machine (the crate `recovery_line`); here stands how a world is seen there, and what it is for a line to
 -- be in order.
-use Rattle.std.specs.Prelude.{◌≡◌, ℕ, ◌≤◌, List, map, length, Option, Some, None, slice_get}
+use Rattle.std.specs.Prelude.{◌≡◌, ℕ, ◌≤◌, List, [], map, length, Option, Some, None, slice_get}
 use Rattle.kahn_net.specs.Nodes.{IsOnOneNode}
 use Rattle.kahn_net.specs.Syntax.{Network}
 use Rattle.record.specs.Ends.{base_of, received_of, sent_of}
@@ -90,7 +90,7 @@ LinesFollow =
 -- that image has received no more than it put and no less than its log let go of, the log of each output begins no
 -- later than the outlet ends, and that image has put all that has left.
 pub record FitsOutputs (net : Network) (home : ℕ) (outputs : List OutputView) (kept : RecordView) : Type 0 where
-  pub undecided : kept.decision ≡ None
+  pub undecided : kept.decisions ≡ []
   pub inside : (c : ℕ) → producer_of net (slice_get net.channels c) ≡ Some home
       → consumer_of net (slice_get net.channels c) ≡ Some home
       → (base_of kept.permanent c ≤ received_of kept.permanent c)

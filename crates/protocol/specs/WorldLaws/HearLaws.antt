@@ -28,18 +28,24 @@ use Rattle.record.specs.Changes.{log_with}
 use Rattle.record.specs.Ends.{received_of, log_of}
 use Rattle.record.specs.ImageView.{ImageView}
 use Rattle.record.specs.RecordView.{RecordView}
-use Rattle.window_link.specs.Windows.{received}
-use Rattle.window_link.specs.declared.receiving.Arrival.TheVariants.{Taken, Dropped}
+use Rattle.window_link.specs.Windows.{received, arrival_at, window_after, advanced, with_held}
+use Rattle.window_link.specs.Laws.Arriving.{IsTaken, IsHeld, arrival_tells}
+use Rattle.window_link.specs.Laws.Holding.{holds_advanced, holds_with_held}
+use Rattle.window_link.specs.declared.receiving.Arrival.{Arrival}
+use Rattle.window_link.specs.declared.receiving.Arrival.TheVariants as arrival
+use Rattle.window_link.specs.declared.receiving.Arrival.TheVariants.{Dropped}
 use Rattle.datagram.specs.declared.packet.Body.{Body}
 use Rattle.datagram.specs.declared.packet.Body.TheVariants.{Data, Ack, Kept, Ask, Took, Covered, Refused, Query, Commit}
 use Rattle.datagram.specs.declared.packet.Body.TheVariants.{Ended, Settled, Undone}
-use Rattle.protocol.specs.Node.Delivering.{has_place, after_arrival, taking, acknowledged, put_at, changed_at}
+use Rattle.protocol.specs.Node.Popping.{has_place, items_out, popping}
+use Rattle.protocol.specs.Node.Delivering.{with_arrival, after_arrival, taking, acknowledged, put_at, changed_at}
 use Rattle.protocol.specs.Node.Delivering.{inbox_place, outbox_place, hearing}
 use Rattle.protocol.specs.Node.Granting.{is_process, next_in_log, next_items, items_from, first_log, inbox_log}
 use Rattle.protocol.specs.Node.Granting.{source_of}
 use Rattle.protocol.specs.Node.NodeView.{RunningView, RunningNode, running_node}
 use Rattle.protocol.specs.Node.Reached.{InboxIsSound, LinksAreLaidOut, InboxStands}
 use Rattle.protocol.specs.Node.Starting.{AreInOrder}
+use Rattle.protocol.specs.NodeLaws.PoppingLaws.{popping_sound, popping_stands}
 use Rattle.protocol.specs.NodeLaws.ReachedLaws.{items_of_channel, length-items_from}
 use Rattle.protocol.specs.World.OutputView.{OutputView}
 use Rattle.protocol.specs.World.Sound.{HasCome, IsSound}
@@ -176,63 +182,66 @@ inbox_placed inboxes channel k inbox found is =
 
 -- ---- an inbox that an item comes to
 
+-- the item goes last into the log, and the window goes on
+abbrev pub with_next : ℤ → Inbox → Inbox
+with_next item inbox =
+    record { channel = inbox.channel; window = advanced inbox.window; log = log_with (item ∷ []) inbox.log }
+
+-- the item goes into the window
+abbrev pub with_later : ℕ → ℤ → Inbox → Inbox
+with_later position item inbox =
+    record { channel = inbox.channel; window = with_held inbox.window position item; log = inbox.log }
+
 -- the item is the next one, and there is a place for it
 pub record IsTaking (position : ℕ) (item : ℤ) (inbox later : Inbox) : Type 0 where
   pub next : position ≡ inbox.window.next
   pub few : length inbox.log.items < MAX_INBOX_ITEMS
   pub below : log_end inbox.log < MAX_COUNT
-  pub same : later
-      ≡ record {
-        channel = inbox.channel;
-        window = record { epoch = inbox.window.epoch; next = inbox.window.next + 1 };
-        log =
-            log_with (item ∷ []) inbox.log;
-      }
+  pub same : later ≡ popping (with_next item inbox)
+
+-- the item is a later one, and there is a place for it
+pub record IsHolding (position : ℕ) (item : ℤ) (inbox later : Inbox) : Type 0 where
+  pub low : inbox.window.next ≤ position
+  pub same : later ≡ with_later position item inbox
 
 both_true : (a b : Bool) → (a && b) ≡ true → (a ≡ true) × (b ≡ true)
 both_true true b is = (refl, is)
 both_true false b is = absurd (cc)
 
--- it is taken, or the inbox stays
+-- it is taken or held, or the inbox stays
 pub taking_cases : (position : ℕ) (item : ℤ) (inbox : Inbox)
-    → (taking position item inbox ≡ inbox) ⊎ IsTaking position item inbox (taking position item inbox)
-taking_cases position item inbox =
-    at (has_place inbox.log) refl (position == inbox.window.next && nat_lt position MAX_COUNT) refl
+    → (taking position item inbox ≡ inbox)
+    ⊎ (IsHolding position item inbox (taking position item inbox)
+    ⊎ IsTaking position item inbox (taking position item inbox))
+taking_cases position item inbox = at (has_place inbox.log) refl (arrival_tells inbox.window position)
   where
-    arriving : ℕ → ℤ → Inbox → Bool → Inbox
-    arriving position item inbox next =
-        after_arrival
-        (cond next
-        (record { window = record { epoch = inbox.window.epoch; next = inbox.window.next + 1 }; answer = Taken })
-        (record { window = inbox.window; answer = Dropped })) item inbox
+    placed_there : has_place inbox.log ≡ true → (answer : Arrival) → arrival_at inbox.window position ≡ answer
+        → taking position item inbox ≡ with_arrival answer (window_after answer inbox.window position item) item inbox
+    placed_there has answer is =
+        ap (λ (b : Bool). cond b (after_arrival (received inbox.window position item) item inbox) inbox) has
+        ∙ ap (λ (a : Arrival). with_arrival a (window_after a inbox.window position item) item inbox) is
 
-    is_next : eqb position inbox.window.next ≡ true → position ≡ inbox.window.next
-    is_next is = by_test (eqb_tells position inbox.window.next)
-      where
-        by_test : ((eqb position inbox.window.next ≡ true) × (position ≡ inbox.window.next))
-            ⊎ ((eqb position inbox.window.next ≡ false) × (position ≢ inbox.window.next)) → position ≡ inbox.window.next
-        by_test (inl same) = same.1
-        by_test (inr other) = absurd (cc)
-
-    at : (place : Bool) → has_place inbox.log ≡ place → (next : Bool)
-        → (position == inbox.window.next && nat_lt position MAX_COUNT) ≡ next
-        → (taking position item inbox ≡ inbox) ⊎ IsTaking position item inbox (taking position item inbox)
-    at false shut next is =
+    at : (place : Bool) → has_place inbox.log ≡ place
+        → IsTaken inbox.window position
+        ⊎ (IsHeld inbox.window position ⊎ (arrival_at inbox.window position ≡ Dropped))
+        → (taking position item inbox ≡ inbox)
+        ⊎ (IsHolding position item inbox (taking position item inbox)
+        ⊎ IsTaking position item inbox (taking position item inbox))
+    at false shut tells =
         inl (ap (λ (b : Bool). cond b (after_arrival (received inbox.window position item) item inbox) inbox) shut)
-    at true has false is =
-        inl (ap (λ (b : Bool). cond b (after_arrival (received inbox.window position item) item inbox) inbox) has
-        ∙ ap (arriving position item inbox) is)
-    at true has true is =
+    at true has (inl next) =
         let place =
         both_true (nat_lt (length inbox.log.items) MAX_INBOX_ITEMS) (nat_lt (log_end inbox.log) MAX_COUNT) has in
-        let next = both_true (position == inbox.window.next) (nat_lt position MAX_COUNT) is in
-        inr (record {
-          next = is_next next.0;
+        inr (inr (record {
+          next = next.next;
           few = ltb-true (length inbox.log.items) MAX_INBOX_ITEMS place.0;
           below = ltb-true (log_end inbox.log) MAX_COUNT place.1;
-          same = ap (λ (b : Bool). cond b (after_arrival (received inbox.window position item) item inbox) inbox) has
-              ∙ ap (arriving position item inbox) is;
-        })
+          same = placed_there has arrival.Taken next.is;
+        }))
+    at true has (inr (inl later)) =
+        let low = later.later in
+        inr (inl (record { low = omega (arith, low); same = placed_there has arrival.Held later.is }))
+    at true has (inr (inr dropped)) = inl (placed_there has Dropped dropped)
 
 -- ---- what is at hand grows
 
@@ -263,10 +272,13 @@ module _ (inputs : List (List ℤ)) (image : ImageView) (position : ℕ) (item :
   keeps_channel : (inbox : Inbox) → (taking position item inbox).channel ≡ inbox.channel
   keeps_channel inbox = at (taking_cases position item inbox)
     where
-      at : (taking position item inbox ≡ inbox) ⊎ IsTaking position item inbox (taking position item inbox)
+      at : (taking position item inbox ≡ inbox)
+          ⊎ (IsHolding position item inbox (taking position item inbox)
+          ⊎ IsTaking position item inbox (taking position item inbox))
           → (taking position item inbox).channel ≡ inbox.channel
       at (inl same) = ap (λ (i : Inbox). i.channel) same
-      at (inr taken) = ap (λ (i : Inbox). i.channel) taken.same
+      at (inr (inl held)) = ap (λ (i : Inbox). i.channel) held.same
+      at (inr (inr taken)) = ap (λ (i : Inbox). i.channel) taken.same
 
   -- the same of one inbox
   logged_grows : (k received : ℕ) (inbox : Inbox)
@@ -274,15 +286,25 @@ module _ (inputs : List (List ℤ)) (image : ImageView) (position : ℕ) (item :
       (take k (items_since (taking position item inbox).log received))
   logged_grows k received inbox = at (taking_cases position item inbox)
     where
-      at : (taking position item inbox ≡ inbox) ⊎ IsTaking position item inbox (taking position item inbox)
+      at : (taking position item inbox ≡ inbox)
+          ⊎ (IsHolding position item inbox (taking position item inbox)
+          ⊎ IsTaking position item inbox (taking position item inbox))
           → IsPrefix (take k (items_since inbox.log received))
           (take k (items_since (taking position item inbox).log received))
       at (inl same) =
           subst (λ (i : Inbox). IsPrefix (take k (items_since inbox.log received))
           (take k (items_since i.log received))) (sym same) (prefix_refl (take k (items_since inbox.log received)))
-      at (inr taken) =
+      at (inr (inl held)) =
           subst (λ (i : Inbox). IsPrefix (take k (items_since inbox.log received))
-          (take k (items_since i.log received))) (sym taken.same) (next_grows k received inbox.log (item ∷ []))
+          (take k (items_since i.log received))) (sym held.same) (prefix_refl (take k (items_since inbox.log received)))
+      at (inr (inr taken)) =
+          subst (λ (i : Inbox). IsPrefix (take k (items_since inbox.log received))
+          (take k (items_since i.log received))) (sym taken.same)
+          (prefix_trans (take k (items_since inbox.log received))
+          (take k (items_since (log_with (item ∷ []) inbox.log) received)) _
+          (next_grows k received inbox.log (item ∷ []))
+          (next_grows k received (log_with (item ∷ []) inbox.log)
+          (items_out (log_with (item ∷ []) inbox.log) (advanced inbox.window).held)))
 
   hand_grows : (received c : ℕ)
       → IsPrefix (next_in_log received (source_of image inboxes c))
@@ -362,61 +384,98 @@ module _ (inputs : List (List ℤ)) (image : ImageView) (position : ℕ) (item :
 one_more : (items : List ℤ) (item : ℤ) → length (items ++ item ∷ []) ≡ length items + 1
 one_more items item = length-append items (item ∷ [])
 
+sound_next : (image : ImageView) (item : ℤ) (inbox : Inbox) → length inbox.log.items < MAX_INBOX_ITEMS
+    → log_end inbox.log < MAX_COUNT → InboxIsSound image inbox → InboxIsSound image (with_next item inbox)
+sound_next image item inbox few below sound =
+    let count = one_more inbox.log.items item in
+    let next = sound.next in
+    record {
+      begins = sound.begins;
+      next = omega (arith, next, count);
+      count =
+          omega (arith, few, count);
+      last = omega (arith, below, count);
+      epoch = sound.epoch;
+    }
+
 pub sound_taking : (image : ImageView) (position : ℕ) (item : ℤ) (inbox : Inbox) → InboxIsSound image inbox
     → InboxIsSound image (taking position item inbox)
 sound_taking image position item inbox sound = at (taking_cases position item inbox)
   where
-    at : (taking position item inbox ≡ inbox) ⊎ IsTaking position item inbox (taking position item inbox)
+    at : (taking position item inbox ≡ inbox)
+        ⊎ (IsHolding position item inbox (taking position item inbox)
+        ⊎ IsTaking position item inbox (taking position item inbox))
         → InboxIsSound image (taking position item inbox)
     at (inl same) = subst (InboxIsSound image) (sym same) sound
-    at (inr taken) =
-        let count = one_more inbox.log.items item in
-        let next = sound.next in
-        let few = taken.few in
-        let below = taken.below in
-        subst (InboxIsSound image) (sym taken.same)
+    at (inr (inl held)) =
+        subst (InboxIsSound image) (sym held.same)
         (record {
           begins = sound.begins;
-          next = omega (arith, next, count);
-          count =
-              omega (arith, few, count);
-          last = omega (arith, below, count);
+          next = sound.next;
+          count = sound.count;
+          last = sound.last;
           epoch = sound.epoch;
         })
+    at (inr (inr taken)) =
+        subst (InboxIsSound image) (sym taken.same)
+        (popping_sound image (with_next item inbox) (sound_next image item inbox taken.few taken.below sound))
 
 -- what it holds comes next of its channel's history, if the item is the history's
+stands_next : (histories : List (List ℤ)) (item : ℤ) (inbox : Inbox)
+    → slice_get (history_of histories inbox.channel) (log_end inbox.log) ≡ Some item
+    → InboxStands histories inbox → InboxStands histories (with_next item inbox)
+stands_next histories item inbox belongs stands =
+    let whole : List ℤ = history_of histories inbox.channel in
+    let count : length (inbox.log.items ++ item ∷ []) ≡ length inbox.log.items + 1 =
+    one_more inbox.log.items item in
+    let within : log_end inbox.log < length whole = slice_get_within whole (log_end inbox.log) item belongs in
+    let long : length (drop inbox.log.base whole) ≡ length whole - inbox.log.base =
+    length-drop inbox.log.base whole in
+    let there : length inbox.log.items < length (drop inbox.log.base whole) = omega (arith, within, long) in
+    let read : get_or (drop inbox.log.base whole) (length inbox.log.items) item ≡ item =
+    get_or-drop inbox.log.base whole (length inbox.log.items) item
+    ∙ get_or_from_slice_get whole (log_end inbox.log) item item belongs in
+    let items : inbox.log.items ++ item ∷ []
+    ≡ take (length (inbox.log.items ++ item ∷ [])) (drop inbox.log.base whole) =
+    ap (λ (xs : List ℤ). xs ++ item ∷ []) stands.items
+    ∙ (ap (λ (x : ℤ). take (length inbox.log.items) (drop inbox.log.base whole) ++ x ∷ []) (sym read)
+    ∙ (sym (take-suc (drop inbox.log.base whole) (length inbox.log.items) item there)
+    ∙ ap (λ (k : ℕ). take k (drop inbox.log.base whole)) (more (length inbox.log.items) ∙ sym count))) in
+    record {
+      within = omega (arith, within, count);
+      items = items;
+      held = holds_advanced whole inbox.window stands.held;
+    }
+  where
+    more : (n : ℕ) → suc n ≡ n + 1
+    more n = omega arith
+
 pub stands_taking : (histories : List (List ℤ)) (position : ℕ) (item : ℤ) (inbox : Inbox)
     → inbox.window.next ≡ log_end inbox.log → slice_get (history_of histories inbox.channel) position ≡ Some item
     → InboxStands histories inbox → InboxStands histories (taking position item inbox)
 stands_taking histories position item inbox next belongs stands = at (taking_cases position item inbox)
   where
-    at : (taking position item inbox ≡ inbox) ⊎ IsTaking position item inbox (taking position item inbox)
+    at : (taking position item inbox ≡ inbox)
+        ⊎ (IsHolding position item inbox (taking position item inbox)
+        ⊎ IsTaking position item inbox (taking position item inbox))
         → InboxStands histories (taking position item inbox)
     at (inl same) = subst (InboxStands histories) (sym same) stands
-    at (inr taken) =
-        let whole : List ℤ = history_of histories inbox.channel in
-        let count : length (inbox.log.items ++ item ∷ []) ≡ length inbox.log.items + 1 =
-        one_more inbox.log.items item in
+    at (inr (inl held)) =
+        subst (InboxStands histories) (sym held.same)
+        (record {
+          within = stands.within;
+          items = stands.items;
+          held =
+              holds_with_held (history_of histories inbox.channel) inbox.window position item held.low belongs
+              stands.held;
+        })
+    at (inr (inr taken)) =
         let place : position ≡ log_end inbox.log = taken.next ∙ next in
-        let within : position < length whole = slice_get_within whole position item belongs in
-        let long : length (drop inbox.log.base whole) ≡ length whole - inbox.log.base =
-        length-drop inbox.log.base whole in
-        let there : length inbox.log.items < length (drop inbox.log.base whole) = omega (arith, place, within, long) in
-        let read : get_or (drop inbox.log.base whole) (length inbox.log.items) item ≡ item =
-        get_or-drop inbox.log.base whole (length inbox.log.items) item
-        ∙ (ap (λ (k : ℕ). get_or whole k item) (sym place)
-        ∙ get_or_from_slice_get whole position item item belongs) in
-        let items : inbox.log.items ++ item ∷ []
-        ≡ take (length (inbox.log.items ++ item ∷ [])) (drop inbox.log.base whole) =
-        ap (λ (xs : List ℤ). xs ++ item ∷ []) stands.items
-        ∙ (ap (λ (x : ℤ). take (length inbox.log.items) (drop inbox.log.base whole) ++ x ∷ []) (sym read)
-        ∙ (sym (take-suc (drop inbox.log.base whole) (length inbox.log.items) item there)
-        ∙ ap (λ (k : ℕ). take k (drop inbox.log.base whole)) (more (length inbox.log.items) ∙ sym count))) in
+        let count = one_more inbox.log.items item in
         subst (InboxStands histories) (sym taken.same)
-        (record { within = omega (arith, place, within, count); items = items })
-      where
-        more : (n : ℕ) → suc n ≡ n + 1
-        more n = omega arith
+        (popping_stands histories (with_next item inbox) (omega (arith, next, count))
+        (stands_next histories item inbox
+        (subst (λ (k : ℕ). slice_get (history_of histories inbox.channel) k ≡ Some item) place belongs) stands))
 
 -- ---- a node that hears
 

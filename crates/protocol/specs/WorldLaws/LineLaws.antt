@@ -23,7 +23,7 @@ use Rattle.protocol.specs.NodeLaws.PlaceLaws.{node_below, some_node}
 use Rattle.protocol.specs.Node.Starting.{IsBehind}
 use Rattle.recovery_line.specs.Images.{Image, AtMost, IsOutput}
 use Rattle.recovery_line.specs.Line.{Sound, NotBehind}
-use Rattle.recovery_line.specs.Observers.{decisions_of, decides}
+use Rattle.recovery_line.specs.Observers.{decides}
 use Rattle.recovery_line.specs.Records.{Record, Tentative, effective, chosen}
 use Rattle.protocol.specs.World.Covered.{LeavesEither}
 use Rattle.protocol.specs.World.EventView.{EventView, ByNode, ByNetwork, Install, Release}
@@ -186,7 +186,7 @@ module _ (setting : Setting) (sure : IsSoundSetting setting) where
 
 -- no decision stands in these records
 abbrev pub NoneDecided : List RecordView → Type 0
-NoneDecided records = (i : ℕ) (kept : RecordView) → slice_get records i ≡ Some kept → kept.decision ≡ None
+NoneDecided records = (i : ℕ) (kept : RecordView) → slice_get records i ≡ Some kept → kept.decisions ≡ []
 
 -- so no image counts but a permanent one
 nobody_decides : (records : List RecordView) → NoneDecided records → (x n : ℕ)
@@ -195,7 +195,7 @@ nobody_decides records none x n = at (slice_get records x) refl
   where
     at : (o : Option RecordView) → slice_get records x ≡ o → (record_or_new o).decided n ≡ false
     at None is = refl
-    at (Some kept) is = ap (λ (d : Option DecisionView). decides (decisions_of d) n) (none x kept is)
+    at (Some kept) is = ap (λ (ds : List DecisionView). decides ds n) (none x kept is)
 
 permanent_counts : (records : ℕ → Record) → ((x n : ℕ) → (records x).decided n ≡ false)
     → (permanent : Image) (o : Option Tentative) → chosen records permanent o ≡ permanent
@@ -289,7 +289,7 @@ module _ (net : Network) (inputs : List (List ℤ)) (valid : IsValid net) where
   fit_undecided [] (r ∷ records) fit i kept is = absurd fit
   fit_undecided (s ∷ stations) [] fit i kept is = absurd fit
   fit_undecided (s ∷ stations) (r ∷ records) fit zero kept is = let same : r ≡ kept = cc in
-      subst (λ (k : RecordView). k.decision ≡ None) same fit.0.undecided
+      subst (λ (k : RecordView). k.decisions ≡ []) same fit.0.undecided
   fit_undecided (s ∷ stations) (r ∷ records) fit (suc i) kept is = fit_undecided stations records fit.1 i kept is
 
   module _ (stations : List StationView) (records : List RecordView) (count : length stations ≡ node_count net)
@@ -423,7 +423,7 @@ module _ (net : Network) (inputs : List (List ℤ)) (valid : IsValid net) where
   pub kept_undecided : (stations : List StationView) → AreSound net inputs stations → NoneDecided (records_of stations)
   kept_undecided stations sound i kept is =
       let station = map_got (λ (s : StationView). s.node.kept) stations i kept is in
-      subst (λ (r : RecordView). r.decision ≡ None) station.2 (sound i station.0 station.1).kept.undecided
+      subst (λ (r : RecordView). r.decisions ≡ []) station.2 (sound i station.0 station.1).kept.undecided
 
   -- and the line of some records isn't behind that of what these stations keep, where none of the permanent images is
   pub line_ahead : (stations : List StationView) (records : List RecordView) → AreSound net inputs stations

@@ -140,7 +140,7 @@ module _ (net : Network) (inputs : List (List ℤ)) (outputs : List OutputView) 
   }
 
   -- so the record of a node that runs is sound where its images are, no decision stands in it, and it is within bounds
-  pub record_of : (node : RunningNode) → node.kept.decision ≡ None → IsRecordWithin MAX_RETAINED_ITEMS node.kept
+  pub record_of : (node : RunningNode) → node.kept.decisions ≡ [] → IsRecordWithin MAX_RETAINED_ITEMS node.kept
       → ImageIsSound net node.kept.node inputs node.kept.permanent outputs
       → ((tentative : Tentative) → node.kept.tentative ≡ Some tentative
       → ImageIsSound net node.kept.node inputs tentative.image outputs) → AreInOrder node.kept node.current

@@ -8,6 +8,7 @@ use Rattle.record.specs.RecordView.{RecordView}
 use Rattle.ckpt_codec.specs.Lengths.{record_length, spelled_length}
 use Rattle.ckpt_codec.specs.SizeLaws.{IsRecordWithin, record_fits}
 use Rattle.ckpt_codec.specs.declared.lengths.TheConstants.{MAX_RECORD_BYTES, MAX_RETAINED_ITEMS}
+use Rattle.ckpt_codec.specs.declared.version.TheConstants.{VERSION}
 use Rattle.ckpt_codec.proofs.Sizes.{length-record}
 use Rattle.ckpt_store.specs.Spelling.{fits_in}
 use Rattle.protocol.specs.Node.Plans.{Prospect, Undue, Exhausted, Planned, IsPut, room_for}
@@ -29,7 +30,7 @@ use Rattle.protocol.specs.WorldLaws.StepKeeps.{world_station, world_sure}
 -- how long a record is, by its parts
 spelled_is_long : (kept : RecordView) → spelled_length kept ≡ record_length kept
 unfolding spelled_length
-spelled_is_long kept = length-record kept
+spelled_is_long kept = length-record VERSION kept
 
 pub bounded_is_short : (kept : RecordView) → IsRecordWithin MAX_RETAINED_ITEMS kept
     → spelled_length kept ≤ MAX_RECORD_BYTES

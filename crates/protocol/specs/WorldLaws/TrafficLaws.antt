@@ -1,9 +1,7 @@
 -- Laws of what is in flight: whatever becomes of it, it stays sound, and what arrives of it is.
-use Rattle.std.proofs.Common.{◌≡◌, ℕ, ℤ, List, All, Some, option_map, refl, subst}
+use Rattle.std.proofs.Common.{◌≡◌, ℕ, ℤ, List, All, Some, option_map, refl}
 use Rattle.std.specs.Prelude.{IsTrue, slice_get}
-use Rattle.std.proofs.Math.Logic.{∥∥₁_map}
 use Rattle.kahn_net.specs.Syntax.{Network}
-use Rattle.datagram.proofs.Exactness.{one_packet}
 use Rattle.datagram.specs.PacketText.{IsPacketText}
 use Rattle.datagram.specs.declared.packet.Packet.{Packet}
 use Rattle.wire.proofs.Passing.{arrived_passes}
@@ -52,12 +50,3 @@ module _ (net : Network) (inputs : List (List ℤ)) where
       → BytesAreSound net inputs to bytes
   arrives_sound traffic to place bytes sound is =
       arrived_passes (BytesAreSound net inputs to) (flights_to traffic to) place bytes (sound to) is
-
-  -- and so is the packet that they are read as
-  pub read_sound : (packet : Packet) (to : ℕ) (bytes : List ℕ) → BytesAreSound net inputs to bytes
-      → IsPacketText packet bytes
-      → ∥ ((packet.to ≡ to) × IsTrue (names_right net packet) × PacketIsSound net inputs packet) ∥₁
-  read_sound packet to bytes sound text = ∥∥₁_map sound (λ says.
-      let same : says.packet ≡ packet = one_packet packet says.packet bytes text says.text in
-      subst (λ (p : Packet). (p.to ≡ to) × IsTrue (names_right net p) × PacketIsSound net inputs p) same
-      (says.here, says.names, says.sound))

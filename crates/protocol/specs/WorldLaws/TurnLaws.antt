@@ -16,7 +16,7 @@ use Rattle.protocol.specs.Node.JobView.{JobView}
 use Rattle.protocol.specs.Node.NodeView.{RunningNode}
 use Rattle.record.specs.Ends.{log_at, base_of}
 use Rattle.record.specs.Changes.{LogTakes}
-use Rattle.protocol.specs.Node.Installing.{put_on, installed, inbox_taken, inboxes_taken, with_turn, ImageTakes}
+use Rattle.protocol.specs.Node.Installing.{put_on, installed, inbox_turned, inboxes_turned, with_turn, ImageTakes}
 use Rattle.protocol.specs.Node.Sharing.{log_share, IsWithinShare}
 use Rattle.protocol.specs.Node.Reached.{IsJobOf, IsTurnOf, LinksAreLaidOut, InboxesStand, CountIsWithin}
 use Rattle.protocol.specs.Node.Reached.{CountsAreWithin, LogsAreWithin}
@@ -145,7 +145,7 @@ module _ (net : Network) (inputs : List (List ℤ)) (valid : IsValid net) (node 
       → LinksAreLaidOut net node.kept.node (with_turn net.channels job.process after taken sent node)
   links_then fits sound out turn = record {
     incoming =
-        map_keeps (λ (i : Inbox). i.channel) (inbox_taken net.channels job.process taken) node.inboxes (λ i. refl)
+        map_keeps (λ (i : Inbox). i.channel) (inbox_turned net.channels job.process taken) node.inboxes (λ i. refl)
         ∙ sound.kept.links.incoming;
     outgoing = sound.kept.links.outgoing;
     inboxes = λ k inbox is. record {
@@ -180,11 +180,12 @@ module _ (net : Network) (inputs : List (List ℤ)) (valid : IsValid net) (node 
         (come.out job out) turn;
     inboxes =
         subst (λ (m : ℕ). InboxesStand (approximation net inputs m)
-        (inboxes_taken net.channels job.process taken node.inboxes))
+        (inboxes_turned net.channels job.process taken node.inboxes))
         (sym (on_install net node.kept.node inputs node job after taken sent
         (reached_on_next net inputs node valid fits come.reached) sound.kept.laid_out (hand_of fits sound come out)
         (come.out job out) turn).same)
         (inboxes_installed net.channels job.process taken (approximation net inputs (suc come.reached.n)) node.inboxes
+        (λ k inbox is. (sound.kept.links.inboxes k inbox is).next)
         (inboxes_on_next net inputs come.reached.n node.inboxes valid fits come.inboxes));
     out = λ other is. absurd (cc);
     released = λ j p output channel is on from.

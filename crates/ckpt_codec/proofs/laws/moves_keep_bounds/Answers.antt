@@ -16,7 +16,7 @@ returns-clause-without c = λ kept within. within_without_tentative MAX_RETAINED
 
 pub returns-clause-decision : goal.returns-clause-decision
 returns-clause-decision c =
-    λ kept number nodes few within. within_decision MAX_RETAINED_ITEMS kept within number nodes few
+    λ kept number nodes few room within. within_decision MAX_RETAINED_ITEMS kept within number nodes few room
 
 pub returns-clause-confirmed : goal.returns-clause-confirmed
 returns-clause-confirmed c = λ kept number node within. within_confirmed MAX_RETAINED_ITEMS kept within number node

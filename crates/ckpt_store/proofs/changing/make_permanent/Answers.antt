@@ -1,5 +1,6 @@
 use Rattle.std.proofs.Common.{sym, subst}
 use Rattle.ckpt_codec.specs.RecordText.{IsRecord}
+use Rattle.ckpt_codec.proofs.Versions.{text_is_record}
 use Rattle.ckpt_store.proofs.Allowed.{allowed_permanent}
 use Rattle.ckpt_store.proofs.changing.make_permanent.Goals as goal
 
@@ -7,4 +8,4 @@ pub put_changed-requires-clause-record : goal.put_changed-requires-clause-record
 put_changed-requires-clause-record g c =
     let kept = c.in-Some.kept in
     subst IsRecord (sym c.promote-undo.ensures.next)
-    (allowed_permanent kept (c.requires.holds kept (sym c.in-Some.ensures.value)).allowed)
+    (allowed_permanent kept (text_is_record kept _ (c.requires.holds kept (sym c.in-Some.ensures.value))))

@@ -1,6 +1,7 @@
-use Rattle.std.proofs.Common.{◌≡◌, Some, None, Err, rules, sym, subst, ◌∙◌}
+use Rattle.std.proofs.Common.{◌≡◌, Some, None, Err, sym, subst, ◌∙◌}
 use Rattle.record.specs.Moves.{with_tentative}
 use Rattle.ckpt_codec.specs.RecordText.{IsRecord}
+use Rattle.ckpt_codec.proofs.Versions.{text_is_record}
 use Rattle.ckpt_store.specs.Refusals.{refusal_to_take}
 use Rattle.ckpt_store.specs.Putting.{IsChange}
 use Rattle.ckpt_store.proofs.Allowed.{allowed_tentative}
@@ -23,7 +24,7 @@ returns-in-Some-refusal_to_take-clause-change g c =
     due)
 
 pub take-undo-requires-clause-record : goal.take-undo-requires-clause-record
-take-undo-requires-clause-record g c = (c.requires.kept.holds c.in-Some.kept (sym c.in-Some.ensures.value)).allowed
+take-undo-requires-clause-record g c = text_is_record c.in-Some.kept _ (c.requires.kept.holds c.in-Some.kept (sym c.in-Some.ensures.value))
 
 pub put_changed-requires-clause-record : goal.put_changed-requires-clause-record
 put_changed-requires-clause-record g c =
@@ -33,5 +34,5 @@ put_changed-requires-clause-record g c =
     sym c.refusal_to_take.ensures ∙ c.in_default-refusal_to_take.is in
     let may = may_take c.args.initiator c.args.number kept fine in
     subst IsRecord (sym c.take-undo.ensures.next)
-    (allowed_tentative kept c.args.initiator c.args.number c.args.image (c.requires.kept.holds kept is).allowed
+    (allowed_tentative kept c.args.initiator c.args.number c.args.image (text_is_record kept _ (c.requires.kept.holds kept is))
     (c.requires.listed kept is) may.above may.fits (c.requires.like kept is).allowed)

@@ -7,7 +7,9 @@ use Rattle.net_text.specs.declared.tree.ProcessText.{ProcessText}
 use Rattle.net_check.specs.Joints.{AreJoined, EndFaultAmong}
 use Rattle.net_check.specs.Ready.{IsFit}
 use Rattle.net_check.specs.Resolution.{AllDifferent}
+use Rattle.kahn_net.specs.declared.program.Process.{Process}
 use Rattle.kahn_net.specs.Syntax.{code_of}
+use Rattle.proc_code.specs.Translation.{flat_code}
 use Rattle.net_check.proofs.Checked.{end_fault_in, resolves, valid}
 use Rattle.net_check.proofs.checks.check_in_order.Goals as goal
 
@@ -47,6 +49,8 @@ invariant_of-result c =
           ∙ sym r.count ∙ length-map c.in_ok-resolved.resolved.processes.items code_of;
       channels_differ = subst AllDifferent (sym c.in_ok-channel_names.ensures) d.declared.channels_differ;
       processes_differ = subst AllDifferent (sym c.in_ok-process_names.ensures) d.declared.processes_differ;
+      compiled =
+          c.in_ok-codes.ensures ∙ ap (λ (ps : List Process). map flat_code (map code_of ps)) c.deref-3.ensures.value;
     }
 
 pub returns-clause-resolved : goal.returns-clause-resolved

@@ -4,14 +4,14 @@ use Rattle.protocol.specs.Node.Layout.{is_incoming}
 use Rattle.protocol.specs.Node.Opening.{new_inbox}
 use Rattle.node.proofs.Walking.{taken_next, passed_next}
 use Rattle.node.proofs.opening.open_inboxes.Goals as goal
-use Rattle.node.proofs.opening.open_inboxes.Goals.{then-is_incoming+in_ok-push, else-is_incoming}
+use Rattle.node.proofs.opening.open_inboxes.Goals.{then-is_incoming+in_ok-new_inbox+in_ok-push, else-is_incoming}
 
 pub loop-number-preserved : goal.loop-number-preserved
 loop-number-preserved c =
     let below = c.loop-number-test.true in
     let count = c.len-number-end.ensures in
     elim c.if-is_incoming.branch [
-      | then-is_incoming+in_ok-push w ↦
+      | then-is_incoming+in_ok-new_inbox+in_ok-push w ↦
           taken_next new_inbox (is_incoming (network_of c.args.net.now.program) c.args.home) _ _ _ c.loop-number.number
           _ (omega (arith, below, count)) c.loop-number.invariant
           (sym c.is_incoming.ensures ∙ w.if-is_incoming.true) (search rules)

@@ -1,6 +1,7 @@
 use Rattle.std.proofs.Common.{ℕ, length, sym, ap, subst, ◌∙◌}
 use Rattle.ckpt_codec.specs.Lengths.{spelled_length}
 use Rattle.ckpt_codec.specs.RecordText.{IsRecordText}
+use Rattle.ckpt_codec.proofs.Exactness.{written_is_text}
 use Rattle.gate_cell.specs.GateCell.{content_of, disk_in}
 use Rattle.gate_cell.specs.Layout.{room_on}
 use Rattle.world.proofs.OpeningStores.{opened_record, opened_failures, opened_holds, opened_room, bytes_long, kept_room}
@@ -10,7 +11,8 @@ use Rattle.world.proofs.opening.open_store.Goals as goal
 pub returns-clause-record : goal.returns-clause-record
 returns-clause-record g c =
     opened_record _ c.args.kept.now c.in-Ok.bytes.items c.in-Ok-format.cell c.in-Ok-open.store c.recount.new.self
-    c.in-Ok-open.ensures.opens c.recount.ensures.untouched c.in-Ok.ensures
+    c.in-Ok-open.ensures.opens c.recount.ensures.untouched
+    (written_is_text c.args.kept.now c.in-Ok.bytes.items c.in-Ok.ensures)
     (c.in-Ok-format.ensures.formatted.holds ∙ c.as_slice.ensures.value)
 
 pub returns-clause-failures : goal.returns-clause-failures
@@ -22,7 +24,8 @@ returns-clause-failures g c =
 pub returns-clause-holds : goal.returns-clause-holds
 returns-clause-holds g c =
     opened_holds _ c.args.kept.now c.in-Ok.bytes.items c.in-Ok-format.cell c.in-Ok-open.store c.recount.new.self
-    c.in-Ok-open.ensures.opens c.recount.ensures.untouched c.in-Ok.ensures
+    c.in-Ok-open.ensures.opens c.recount.ensures.untouched
+    (written_is_text c.args.kept.now c.in-Ok.bytes.items c.in-Ok.ensures)
     (c.in-Ok-format.ensures.formatted.holds ∙ c.as_slice.ensures.value)
 
 pub returns-clause-room : goal.returns-clause-room
@@ -51,7 +54,7 @@ returns-in-Err-open-clause-refused g c =
     open_refusal _ c.args.kept.now c.in-Ok-format.cell c.in-Err-open.refused.cell c.in-Err-open.refused.fault
     (g.D.Disk.sector_count c.args.disk) (spelled_length c.args.kept.now) c.in-Err-open.ensures.opens
     (subst (IsRecordText c.args.kept.now) (sym (c.in-Ok-format.ensures.formatted.holds ∙ c.as_slice.ensures.value))
-    c.in-Ok.ensures) c.in-Ok-format.ensures.formatted.ready
+    (written_is_text c.args.kept.now c.in-Ok.bytes.items c.in-Ok.ensures)) c.in-Ok-format.ensures.formatted.ready
     (kept_room c.args.kept.now c.in-Ok.bytes.items c.as_slice.result.now (content_of c.in-Ok-format.cell)
     (g.D.Disk.sector_count c.args.disk) (g.D.Disk.sector_count (disk_in c.in-Ok-format.cell)) c.requires.bounded
     c.in-Ok.ensures c.as_slice.ensures.value

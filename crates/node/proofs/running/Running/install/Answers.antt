@@ -2,8 +2,8 @@ use Rattle.std.proofs.Common.{List, ℕ, ℤ, sym, subst}
 use Rattle.protocol.specs.Node.Installing.{ImageTakes}
 use Rattle.node.proofs.running.Running.install.Goals as goal
 
-pub install_turn-requires : goal.install_turn-requires
-install_turn-requires c =
+pub install_from-requires-clause-takes : goal.install_from-requires-clause-takes
+install_from-requires-clause-takes c =
     let done = c.args.done.now in
     let takes : ImageTakes c.args.channels.now done.job.process done.taken.items done.sent.items
     c.args.self.now.current =

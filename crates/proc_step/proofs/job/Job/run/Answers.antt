@@ -1,5 +1,8 @@
-use Rattle.std.proofs.Common.{◌≡◌, ap, sym, subst, ◌∙◌, length, get_or, ◌<◌, Some}
-use Rattle.kahn_net.specs.Syntax.{Code, code_of}
+use Rattle.std.proofs.Common.{◌≡◌, ap, sym, subst, ◌∙◌, length, get_or, ◌<◌, Some, arith}
+use Rattle.std.proofs.lemmas.Option.{slice_get-get_or}
+use Rattle.std.proofs.lemmas.List.{length-map}
+use Rattle.kahn_net.specs.Syntax.{Code, code_of, network_of}
+use Rattle.proc_code.specs.Laws.Codes.{own_code, as_many}
 use Rattle.kahn_net.specs.States.{standing_of}
 use Rattle.kahn_net.specs.Laws.Valid.{valid_at, code_at}
 use Rattle.net_check.specs.declared.net.Net.{Net}
@@ -14,13 +17,18 @@ take_turn-requires-clause-passing c =
     c.args.self.named in
     (valid_at net.program c.args.self.process c.index-process.result.now net.valid lt c.index-process.ensures).passes
 
-pub take_turn-requires-clause-units : goal.take_turn-requires-clause-units
-take_turn-requires-clause-units c =
+pub take_turn-requires-clause-compiled : goal.take_turn-requires-clause-compiled
+take_turn-requires-clause-compiled c =
     let net = c.deref-net.result.now in
+    let p = c.args.self.process in
     let lt =
-    subst (λ (n : Net). c.args.self.process < length n.program.processes.items) (sym c.deref-net.ensures)
-    c.args.self.named in
-    (valid_at net.program c.args.self.process c.index-process.result.now net.valid lt c.index-process.ensures).units
+    subst (λ (n : Net). p < length n.program.processes.items) (sym c.deref-net.ensures) c.args.self.named in
+    let code = c.index-code.result.now in
+    let many = as_many net.codes.items (network_of net.program).codes net.compiled in
+    let named = length-map net.program.processes.items code_of in
+    own_code net.codes.items (network_of net.program).codes net.compiled p code (code_of c.index-process.result.now)
+    (slice_get-get_or net.codes.items p code (omega (arith, many, named, lt)) ∙ ap Some (sym c.index-code.ensures))
+    (code_at net.program.processes.items p c.index-process.result.now lt c.index-process.ensures)
 
 pub invariant_of-result : goal.invariant_of-result
 invariant_of-result c =

@@ -1,11 +1,11 @@
-use Rattle.std.proofs.Common.{ℤ, List, length, map, ap, sym, subst, ◌∙◌}
+use Rattle.std.proofs.Common.{List, length, map, ap, sym, subst, ◌∙◌}
 use Rattle.kahn_net.specs.Syntax.{network_of}
 use Rattle.ckpt_store.specs.Spelling.{fits_in}
 use Rattle.ckpt_store.specs.StoreView.{cell_in}
 use Rattle.world.specs.EventView.{event_view}
 use Rattle.protocol.specs.World.Headline.{AreApproximated}
 use Rattle.protocol.specs.WorldLaws.PrefixLaws.{released_prefix}
-use Rattle.protocol.specs.World.Invariant.{StationInvariant, WorldInvariant}
+use Rattle.protocol.specs.World.Invariant.{WorldInvariant}
 use Rattle.world.specs.ReplyView.{reply_view}
 use Rattle.protocol.specs.WorldLaws.DropLaws.{never_dropped}
 use Rattle.protocol.specs.WorldLaws.RoomLaws.{never_too_large, rooms_of}

@@ -1,4 +1,4 @@
-use Rattle.std.proofs.Common.{rules, ◌↔◌, ◌⊎◌, inl, inr, IsTrue, ◌≡◌, true, false, refl, sym, ◌∙◌}
+use Rattle.std.proofs.Common.{rules, inl, inr, true, false, refl, sym, ◌∙◌}
 use Rattle.std.proofs.lemmas.Bool.{false≢true}
 use Rattle.world_cases.proofs.Beginnings.{begins, only_behind}
 use Rattle.world_cases.proofs.stream.Stream.may_follow.Goals as goal

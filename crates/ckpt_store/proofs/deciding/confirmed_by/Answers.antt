@@ -1,0 +1,10 @@
+use Rattle.std.proofs.Common.{◌<◌, length, arith}
+use Rattle.ckpt_store.proofs.Decisions.{confirmed_more}
+use Rattle.ckpt_store.proofs.deciding.confirmed_by.Goals as goal
+
+pub loop-decision-preserved : goal.loop-decision-preserved
+loop-decision-preserved c =
+    let lt : c.loop-decision.decision-index < length c.args.decisions.now = omega arith in
+    confirmed_more c.args.number c.args.node c.args.decisions.now c.loop-decision.decision-index
+    c.decision-item.result c.loop-decision.left.items c.push_some.new.all.items _ lt c.decision-item.is
+    c.loop-decision.invariant c.in_ok-one.ensures c.in_ok-push_some.ensures

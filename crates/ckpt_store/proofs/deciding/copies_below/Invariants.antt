@@ -1,0 +1,6 @@
+use Rattle.std.proofs.Common.{◌≡◌, take}
+use Rattle.record.specs.Moves.{decided_below}
+use Rattle.ckpt_store.proofs.deciding.copies_below.Given as goal
+
+abbrev pub invariant-loop-decision : goal.invariant-loop-decision
+invariant-loop-decision l = l.all.items ≡ decided_below l.number (take l.decision-index l.decisions)

@@ -1,0 +1,7 @@
+pub mod Running
+pub mod Blocks
+pub mod Resuming
+pub mod Processes
+pub mod Sites
+pub mod Acts
+pub mod Codes

@@ -1,0 +1,311 @@
+-- The code of a block perform what the block perform, and goes on behind it.
+use Rattle.std.proofs.Common.{◌≡◌, ℕ, suc, ◌+◌, ◌≤◌, Bool, true, false, cond, List, ℤ, pos, [], ◌∷◌, ◌++◌, set, length}
+use Rattle.std.proofs.Common.{Some, refl, sym, ap, ◌∙◌, subst, arith, length-append}
+use Rattle.std.specs.Prelude.{slice_get}
+use Rattle.std.specs.Ordering.{int_eq}
+use Rattle.std.specs.Int.{int_wrapping_neg, w64}
+use Rattle.kahn_net.specs.Streams.{history_of}
+use Rattle.kahn_net.specs.Syntax.{Tree, Number, Name, Minus, Chain, Links, NoLinks, LinkThen, Block, Nothing, GetThen}
+use Rattle.kahn_net.specs.Syntax.{AssignThen, PutThen, StopThen, IfThen}
+use Rattle.kahn_net.specs.Statements.{Got, Sent, Trace, Ended, no_steps, point_at, after_step, on_get, then_do}
+use Rattle.kahn_net.specs.Statements.{trace_of, choose, value_of, value_along, apply, sites_of}
+use Rattle.kahn_net.specs.Laws.Traces.{then_do_then}
+use Rattle.proc_code.specs.declared.instruction.Instruction.{Instruction}
+use Rattle.proc_code.specs.declared.instruction.Instruction.TheVariants.{Constant, Load, Store, Negate, Apply, Get, Put}
+use Rattle.proc_code.specs.declared.instruction.Instruction.TheVariants.{Jump, JumpIfZero, Stop}
+use Rattle.proc_code.specs.Machine.{Continuation, perform, Runs}
+use Rattle.proc_code.specs.Translation.{expr_code, links_code, if_code, block_code}
+use Rattle.proc_code.specs.Laws.Running.{IsCodeAt, first_part, later_part, rephrased, in_more_steps, single_step}
+use Rattle.proc_code.specs.Laws.Running.{not_moved, first_moves, first_makes, ends_at}
+
+module _ (code : List Instruction) where
+  -- the machine comes to another place, with another stack, in at most so many steps
+  abbrev Reaches : ℕ → ℕ → List ℤ → List ℕ → List ℤ → List (List ℤ) → ℕ → List ℤ → Type 0
+  Reaches m at stack left v u at' stack' = Runs code m at stack left v u (λ go. go at' stack' left v u)
+
+  reaches_further : (m n at at1 at2 : ℕ) (s s1 s2 : List ℤ) (left : List ℕ) (v : List ℤ) (u : List (List ℤ))
+      → Reaches m at s left v u at1 s1 → Reaches n at1 s1 left v u at2 s2 → Reaches (m + n) at s left v u at2 s2
+  reaches_further m n at at1 at2 s s1 s2 left v u a b =
+      first_moves code (λ t. t) at at1 s s1 left left v v u u (λ go. go at2 s2 left v u) a b
+
+  reaches_same : (m m' at at1 at2 : ℕ) (s s1 : List ℤ) (left : List ℕ) (v : List ℤ) (u : List (List ℤ)) → at1 ≡ at2
+      → m ≤ m' → Reaches m at s left v u at1 s1 → Reaches m' at s left v u at2 s1
+  reaches_same m m' at at1 at2 s s1 left v u e h d =
+      in_more_steps code m m' at s left v u (λ go. go at2 s1 left v u) h
+      (subst (λ (n : ℕ). Reaches m at s left v u n s1) e d)
+
+  -- an instruction behind an expression's code
+  reaches_past : (m at at1 at2 : ℕ) (s s1 s2 : List ℤ) (left : List ℕ) (v : List ℤ) (u : List (List ℤ))
+      (i : Instruction) → Reaches m at s left v u at1 s1 → slice_get code at1 ≡ Some i
+      → ((go : Continuation) → perform (Some i) go at1 s1 left v u ≡ go (at1 + 1) s2 left v u) → at1 + 1 ≡ at2
+      → Reaches (m + 1) at s left v u at2 s2
+  reaches_past m at at1 at2 s s1 s2 left v u i a h same e =
+      reaches_further m 1 at at1 at2 s s1 s2 left v u a
+      (reaches_same 1 1 at1 (at1 + 1) at2 s1 s2 left v u e (omega arith)
+      (rephrased code at1 s1 left v u _ _ same (single_step code at1 s1 left v u i h)))
+
+  mutual
+    pub expr_reached : (e : Tree) (at : ℕ) (s : List ℤ) (left : List ℕ) (v : List ℤ) (u : List (List ℤ))
+        → IsCodeAt code at (expr_code e)
+        → Reaches (length (expr_code e)) at s left v u (at + length (expr_code e)) (value_of e v ∷ s)
+    expr_reached (Number n) at s left v u h = single_step code at s left v u (Constant n) h.0
+    expr_reached (Name x) at s left v u h = single_step code at s left v u (Load x) h.0
+    expr_reached (Minus e) at s left v u h =
+        let m = length (expr_code e) in
+        let here = at + m in
+        let whole = length (expr_code e ++ Negate ∷ []) in
+        let last = later_part code at (expr_code e) (Negate ∷ []) h in
+        let long : whole ≡ m + 1 = length-append (expr_code e) (Negate ∷ []) in
+        reaches_same (m + 1) whole at (here + 1) (at + whole) s (int_wrapping_neg w64 (value_of e v) ∷ s) left v u
+        (omega (arith, long)) (omega (arith, long))
+        (reaches_past m at here (here + 1) s (value_of e v ∷ s) (int_wrapping_neg w64 (value_of e v) ∷ s) left v u
+        Negate
+        (expr_reached e at s left v u (first_part code at (expr_code e) (Negate ∷ []) h)) last.0 (λ go. refl) refl)
+    expr_reached (Chain first links) at s left v u h =
+        let m = length (expr_code first) in
+        let n = length (links_code links) in
+        let here = at + m in
+        let whole = length (expr_code first ++ links_code links) in
+        let long : whole ≡ m + n = length-append (expr_code first) (links_code links) in
+        reaches_same (m + n) whole at (here + n) (at + whole) s (value_along links v (value_of first v) ∷ s) left v u
+        (omega (arith, long)) (omega (arith, long))
+        (reaches_further m n at here (here + n) s (value_of first v ∷ s) (value_along links v (value_of first v) ∷ s)
+        left v u
+        (expr_reached first at s left v u (first_part code at (expr_code first) (links_code links) h))
+        (links_reached links here (value_of first v) s left v u
+        (later_part code at (expr_code first) (links_code links) h)))
+
+    pub links_reached : (links : Links) (at : ℕ) (x : ℤ) (s : List ℤ) (left : List ℕ) (v : List ℤ) (u : List (List ℤ))
+        → IsCodeAt code at (links_code links)
+        → Reaches (length (links_code links)) at (x ∷ s) left v u (at + length (links_code links))
+        (value_along links v x ∷ s)
+    links_reached NoLinks at x s left v u h =
+        reaches_same 0 0 at at (at + 0) (x ∷ s) (x ∷ s) left v u (let e : at ≡ at + 0 = omega arith in e) (omega arith)
+        (not_moved code at (x ∷ s) left v u)
+    links_reached (LinkThen operator e rest) at x s left v u h =
+        let m = length (expr_code e) in
+        let n = length (links_code rest) in
+        let here = at + m in
+        let later = later_part code at (expr_code e) (Apply operator ∷ links_code rest) h in
+        let y = apply operator x (value_of e v) in
+        let whole = length (expr_code e ++ Apply operator ∷ links_code rest) in
+        let long : whole ≡ m + (n + 1) =
+        length-append (expr_code e) (Apply operator ∷ links_code rest)
+        ∙ (let k : m + suc n ≡ m + (n + 1) = omega arith in k) in
+        reaches_same (m + 1 + n) whole at (here + 1 + n) (at + whole) (x ∷ s) (value_along rest v y ∷ s) left v u
+        (omega (arith, long)) (omega (arith, long))
+        (reaches_further (m + 1) n at (here + 1) (here + 1 + n) (x ∷ s) (y ∷ s) (value_along rest v y ∷ s) left v u
+        (reaches_past m at here (here + 1) (x ∷ s) (value_of e v ∷ x ∷ s) (y ∷ s) left v u (Apply operator)
+        (expr_reached e at (x ∷ s) left v u (first_part code at (expr_code e) (Apply operator ∷ links_code rest) h))
+        later.0 (λ go. refl) refl)
+        (links_reached rest (here + 1) y s left v u later.1))
+
+  -- what statements do, and then what stands at this place
+  abbrev pub Makes : ℕ → ℕ → List ℤ → List ℕ → List ℤ → List (List ℤ) → Trace → ℕ → Type 0
+  Makes m at s left v u t at' = Runs code m at s left v u (λ go. then_do t (λ v' u'. go at' s left v' u'))
+
+  -- one after the other
+  pub makes_both : (m n : ℕ) (t : Trace) (f : List ℤ → List (List ℤ) → Trace) (at at1 at2 : ℕ) (s : List ℤ)
+      (left : List ℕ) (v : List ℤ) (u : List (List ℤ)) → Makes m at s left v u t at1
+      → ((v' : List ℤ) (u' : List (List ℤ)) → Makes n at1 s left v' u' (f v' u') at2)
+      → Makes (m + n) at s left v u (then_do t f) at2
+  makes_both m n t f at at1 at2 s left v u a b =
+      rephrased code at s left v u _ _ (λ go. sym (then_do_then t f (λ v' u'. go at2 s left v' u')))
+      (first_makes code t at at1 s s left left v u (λ v' u' go. then_do (f v' u') (λ v2 u2. go at2 s left v2 u2)) a
+      (λ v' u' e. b v' u'))
+
+  -- and then a jump
+  pub makes_and_jumps : (m : ℕ) (t : Trace) (at at1 to : ℕ) (s : List ℤ) (left : List ℕ) (v : List ℤ)
+      (u : List (List ℤ)) → slice_get code at1 ≡ Some (Jump to) → Makes m at s left v u t at1
+      → Makes (m + 1) at s left v u t to
+  makes_and_jumps m t at at1 to s left v u h a =
+      first_makes code t at at1 s s left left v u (λ v' u' go. go to s left v' u') a
+      (λ v' u' e. single_step code at1 s left v' u' (Jump to) h)
+
+  -- a choice: its parts, and where they stand
+  module _ (at : ℕ) (test : List Instruction) (first second : ℕ → List Instruction) where
+    abbrev one_at : ℕ
+    one_at = at + length test + 1
+
+    abbrev jump_at : ℕ
+    jump_at = one_at + length (first one_at)
+
+    abbrev two_at : ℕ
+    two_at = one_at + length (first one_at) + 1
+
+    abbrev end_at : ℕ
+    end_at = two_at + length (second two_at)
+
+    pub at_end : end_at ≡ at + length (if_code at test first second)
+    at_end =
+        omega (
+          arith,
+          length-append test (JumpIfZero two_at ∷ (first one_at ++ Jump end_at ∷ second two_at)),
+          length-append (first one_at) (Jump end_at ∷ second two_at),
+        )
+
+    behind_test : IsCodeAt code at (if_code at test first second)
+        → IsCodeAt code (at + length test) (JumpIfZero two_at ∷ (first one_at ++ Jump end_at ∷ second two_at))
+    behind_test h = later_part code at test (JumpIfZero two_at ∷ (first one_at ++ Jump end_at ∷ second two_at)) h
+
+    pub first_stands : IsCodeAt code at (if_code at test first second) → IsCodeAt code one_at (first one_at)
+    first_stands h = first_part code one_at (first one_at) (Jump end_at ∷ second two_at) (behind_test h).1
+
+    -- the jump past the second block, and that block
+    pub second_stands : IsCodeAt code at (if_code at test first second)
+        → IsCodeAt code jump_at (Jump end_at ∷ second two_at)
+    second_stands h = later_part code one_at (first one_at) (Jump end_at ∷ second two_at) (behind_test h).1
+
+    abbrev if_length : ℕ
+    if_length = length (if_code at test first second)
+
+    pub if_length_is : if_length ≡ length test + (1 + (length (first one_at) + (1 + length (second two_at))))
+    if_length_is = omega (arith, at_end)
+
+    choice_made : (x : ℤ) (a b : Trace) (s : List ℤ) (left : List ℕ) (v : List ℤ) (u : List (List ℤ))
+        → IsCodeAt code at (if_code at test first second)
+        → Reaches (length test) at s left v u (at + length test) (x ∷ s)
+        → (IsCodeAt code one_at (first one_at) → Makes (length (first one_at)) one_at s left v u a jump_at)
+        → (IsCodeAt code two_at (second two_at) → Makes (length (second two_at)) two_at s left v u b end_at)
+        → Makes if_length at s left v u (choose x a b) (at + if_length)
+    choice_made x a b s left v u h tested p q =
+        ends_at code if_length if_length at end_at (at + if_length) s s left v u (choose x a b) at_end (omega arith)
+        (by (int_eq x (pos 0)) refl)
+      where
+        tests : Runs code (length test + 1) at s left v u
+            (λ go. cond (int_eq x (pos 0)) (go two_at s left v u) (go one_at s left v u))
+        tests = first_moves code (λ t. t) at (at + length test) s (x ∷ s) left left v v u u
+            (λ go. cond (int_eq x (pos 0)) (go two_at s left v u) (go one_at s left v u)) tested
+            (single_step code (at + length test) (x ∷ s) left v u (JumpIfZero two_at) (behind_test h).0)
+
+        by : (zero_is : Bool) → int_eq x (pos 0) ≡ zero_is
+            → Makes if_length at s left v u (cond (int_eq x (pos 0)) b a) end_at
+        by true is =
+            in_more_steps code (length test + 1 + length (second two_at)) if_length at s left v u
+            _ (omega (arith, if_length_is))
+            (rephrased code at s left v u
+            _ _ (λ go. ap (λ (z : Bool). then_do (cond z b a) (λ v' u'. go end_at s left v' u')) (sym is))
+            (first_moves code (λ t. t) at two_at s s left left v v u u
+            (λ go. then_do b (λ v' u'. go end_at s left v' u'))
+            (rephrased code at s left v u
+            _ _ (λ go. ap (λ (z : Bool). cond z (go two_at s left v u) (go one_at s left v u)) is) tests)
+            (q (second_stands h).1)))
+        by false is =
+            in_more_steps code (length test + 1 + (length (first one_at) + 1)) if_length at s left v u
+            _ (omega (arith, if_length_is))
+            (rephrased code at s left v u
+            _ _ (λ go. ap (λ (z : Bool). then_do (cond z b a) (λ v' u'. go end_at s left v' u')) (sym is))
+            (first_moves code (λ t. t) at one_at s s left left v v u u
+            (λ go. then_do a (λ v' u'. go end_at s left v' u'))
+            (rephrased code at s left v u
+            _ _ (λ go. ap (λ (z : Bool). cond z (go two_at s left v u) (go one_at s left v u)) is) tests)
+            (makes_and_jumps (length (first one_at)) a one_at jump_at end_at s left v u (second_stands h).0
+            (p (first_stands h)))))
+
+  -- the code of statements perform what they do
+  pub block_made : (b : Block) (at site : ℕ) (s : List ℤ) (left : List ℕ) (v : List ℤ) (u : List (List ℤ))
+      → IsCodeAt code at (block_code at site b)
+      → Makes (length (block_code at site b)) at s left v u (trace_of site left b v u)
+      (at + length (block_code at site b))
+  block_made Nothing at site s left v u h =
+      ends_at code 0 0 at at (at + 0) s s left v u (no_steps (Ended v u)) (let e : at ≡ at + 0 = omega arith in e)
+      (omega arith) (not_moved code at s left v u)
+  block_made (GetThen x c rest) at site s left v u h =
+      by (history_of u c) (single_step code at s left v u (Get x c site) h.0)
+      (λ w x. block_made rest (at + 1) (site + 1) s left w x h.1)
+    where
+      by : (all : List ℤ)
+          → Runs code 1 at s left v u
+          (λ go. on_get all (point_at site left) c v (λ item later. go (at + 1) s left (set v x item) (set u c later)))
+          → ((w : List ℤ) (y : List (List ℤ))
+          → Makes (length (block_code (at + 1) (site + 1) rest)) (at + 1) s left w y
+          (trace_of (site + 1) left rest w y) (at + 1 + length (block_code (at + 1) (site + 1) rest)))
+          → Makes (length (block_code at site (GetThen x c rest))) at s left v u
+          (on_get all (point_at site left) c v
+          (λ item later. trace_of (site + 1) left rest (set v x item) (set u c later)))
+          (at + length (block_code at site (GetThen x c rest)))
+      by [] a more =
+          in_more_steps code 1 (length (block_code at site (GetThen x c rest))) at s left v u _ (omega arith) a
+      by (item ∷ later) a more =
+          let n = length (block_code (at + 1) (site + 1) rest) in
+          let t = trace_of (site + 1) left rest (set v x item) (set u c later) in
+          let to = at + length (block_code at site (GetThen x c rest)) in
+          in_more_steps code (1 + n) (length (block_code at site (GetThen x c rest))) at s left v u _ (omega arith)
+          (first_moves code (after_step (record { point = point_at site left; vars = v; act = Got c item })) at
+          (at + 1) s s left left v (set v x item) u (set u c later)
+          (λ go. then_do t (λ v' u'. go to s left v' u')) a
+          (ends_at code n n (at + 1) (at + 1 + n) to s s left (set v x item) (set u c later) t (omega arith)
+          (omega arith)
+          (more (set v x item) (set u c later))))
+  block_made (AssignThen x e rest) at site s left v u h =
+      let m = length (expr_code e) in
+      let c = expr_code e ++ Store x ∷ [] in
+      let r = block_code (at + length c) site rest in
+      let mine = first_part code at c r h in
+      let w = set v x (value_of e v) in
+      let here = at + m in
+      let c_long : length c ≡ m + 1 = length-append (expr_code e) (Store x ∷ []) in
+      let all_long : length (c ++ r) ≡ length c + length r = length-append c r in
+      in_more_steps code (m + 1 + length r) (length (c ++ r)) at s left v u _ (omega (arith, c_long, all_long))
+      (first_moves code (λ t. t) at (at + length c) s s left left v w u u
+      (λ go. then_do (trace_of site left rest w u) (λ v' u'. go (at + length (c ++ r)) s left v' u'))
+      (first_moves code (λ t. t) at here s (value_of e v ∷ s) left left v v u u (λ go. go (at + length c) s left w u)
+      (expr_reached e at s left v u (first_part code at (expr_code e) (Store x ∷ []) mine))
+      (subst (λ (n : ℕ). Runs code 1 here (value_of e v ∷ s) left v u (λ go. go n s left w u))
+      (let e1 : here + 1 ≡ at + length c = omega (arith, c_long) in e1)
+      (single_step code here (value_of e v ∷ s) left v u (Store x)
+      (later_part code at (expr_code e) (Store x ∷ []) mine).0)))
+      (ends_at code (length r) (length r) (at + length c) (at + length c + length r) (at + length (c ++ r)) s s left w
+      u (trace_of site left rest w u) (omega (arith, all_long)) (omega arith)
+      (block_made rest (at + length c) site s left w u (later_part code at c r h))))
+  block_made (PutThen e d rest) at site s left v u h =
+      let m = length (expr_code e) in
+      let c = expr_code e ++ Put d site ∷ [] in
+      let r = block_code (at + length c) (site + 1) rest in
+      let mine = first_part code at c r h in
+      let here = at + m in
+      let puts = after_step (record { point = point_at site left; vars = v; act = Sent d (value_of e v) }) in
+      let c_long : length c ≡ m + 1 = length-append (expr_code e) (Put d site ∷ []) in
+      let all_long : length (c ++ r) ≡ length c + length r = length-append c r in
+      in_more_steps code (m + 1 + length r) (length (c ++ r)) at s left v u _ (omega (arith, c_long, all_long))
+      (first_moves code puts at (at + length c) s s left left v v u u
+      (λ go. then_do (trace_of (site + 1) left rest v u) (λ v' u'. go (at + length (c ++ r)) s left v' u'))
+      (first_moves code (λ t. t) at here s (value_of e v ∷ s) left left v v u u
+      (λ go. puts (go (at + length c) s left v u))
+      (expr_reached e at s left v u (first_part code at (expr_code e) (Put d site ∷ []) mine))
+      (subst (λ (n : ℕ). Runs code 1 here (value_of e v ∷ s) left v u (λ go. puts (go n s left v u)))
+      (let e1 : here + 1 ≡ at + length c = omega (arith, c_long) in e1)
+      (single_step code here (value_of e v ∷ s) left v u (Put d site)
+      (later_part code at (expr_code e) (Put d site ∷ []) mine).0)))
+      (ends_at code (length r) (length r) (at + length c) (at + length c + length r) (at + length (c ++ r)) s s left v
+      u (trace_of (site + 1) left rest v u) (omega (arith, all_long)) (omega arith)
+      (block_made rest (at + length c) (site + 1) s left v u (later_part code at c r h))))
+  block_made (StopThen rest) at site s left v u h =
+      in_more_steps code 1 (length (block_code at site (StopThen rest))) at s left v u _ (omega arith)
+      (single_step code at s left v u Stop h.0)
+  block_made (IfThen test first second rest) at site s left v u h =
+      let one = λ (n : ℕ). block_code n site first in
+      let two = λ (n : ℕ). block_code n (site + sites_of first) second in
+      let c = if_code at (expr_code test) one two in
+      let r = block_code (at + length c) (site + sites_of first + sites_of second) rest in
+      let x = value_of test v in
+      let mine = first_part code at c r h in
+      let one_place = at + length (expr_code test) + 1 in
+      let two_place = one_place + length (one one_place) + 1 in
+      let all_long : length (c ++ r) ≡ length c + length r = length-append c r in
+      ends_at code (length c + length r) (length (c ++ r)) at (at + length c + length r) (at + length (c ++ r)) s s
+      left v u (trace_of site left (IfThen test first second rest) v u) (omega (arith, all_long))
+      (omega (arith, all_long))
+      (makes_both (length c) (length r)
+      (choose x (trace_of site left first v u) (trace_of (site + sites_of first) left second v u))
+      (trace_of (site + sites_of first + sites_of second) left rest)
+      at (at + length c) (at + length c + length r) s left v u
+      (choice_made at (expr_code test) one two x (trace_of site left first v u)
+      (trace_of (site + sites_of first) left second v u) s left v u mine
+      (expr_reached test at s left v u
+      (first_part code at (expr_code test)
+      (JumpIfZero two_place ∷ (one one_place ++ Jump (two_place + length (two two_place)) ∷ two two_place)) mine))
+      (λ k. block_made first one_place site s left v u k)
+      (λ k. block_made second two_place (site + sites_of first) s left v u k))
+      (λ v' u'. block_made rest (at + length c) (site + sites_of first + sites_of second) s left v' u'
+      (later_part code at c r h)))

@@ -1,0 +1,5 @@
+pub mod Machine
+pub mod Translation
+pub mod CodeView
+pub mod Emitting
+pub mod Laws

@@ -1,0 +1,69 @@
+-- What code does: one instruction, and so many of them.
+use Rattle.std.specs.Prelude.{◌≡◌, ℕ, zero, suc, ◌+◌, ◌≤◌, ℤ, pos, List, [], ◌∷◌, Option, Some, None, cond}
+use Rattle.std.specs.Prelude.{slice_get, slice_index_or, slice_set}
+use Rattle.std.specs.Int.{int_wrapping_neg, w64}
+use Rattle.std.specs.Ordering.{int_eq}
+use Rattle.kahn_net.specs.Streams.{history_of}
+use Rattle.kahn_net.specs.Statements.{Sent, Ended, Stopped, Trace, no_steps, after_step, on_get, point_at, apply}
+use Rattle.proc_code.specs.declared.instruction.Instruction.{Instruction}
+use Rattle.proc_code.specs.declared.instruction.Instruction.TheVariants.{Constant, Load, Store, Negate, Apply, Get, Put}
+use Rattle.proc_code.specs.declared.instruction.Instruction.TheVariants.{Jump, JumpIfZero, Stop, End}
+
+-- The trace of a machine from a state on: the place of its next instruction, its stack of values (the topmost first),
+-- the passes that remain of each repetition round the place (the outermost first), its variables, and what is unread of
+-- each channel.
+abbrev pub Continuation : Type 0
+Continuation = ℕ → List ℤ → List ℕ → List ℤ → List (List ℤ) → Trace
+
+-- the topmost value; an empty stack has 0 there
+abbrev pub top : List ℤ → ℤ
+top [] = pos 0
+top (value ∷ stack) = value
+
+-- the values under it
+abbrev pub below : List ℤ → List ℤ
+below [] = []
+below (value ∷ stack) = stack
+
+-- The trace from a state on whose next instruction is this, where `go` says the trace from the state behind it. Past
+-- the last instruction the process has ended.
+abbrev pub perform : Option Instruction → Continuation → Continuation
+perform None go place stack left vars unread = no_steps (Ended vars unread)
+perform (Some (Constant value)) go place stack left vars unread = go (place + 1) (value ∷ stack) left vars unread
+perform (Some (Load x)) go place stack left vars unread =
+    go (place + 1) (slice_index_or vars x (pos 0) ∷ stack) left vars unread
+perform (Some (Store x)) go place stack left vars unread =
+    go (place + 1) (below stack) left (slice_set vars x (top stack)) unread
+perform (Some Negate) go place stack left vars unread =
+    go (place + 1) (int_wrapping_neg w64 (top stack) ∷ below stack) left vars unread
+perform (Some (Apply operator)) go place stack left vars unread =
+    go (place + 1) (apply operator (top (below stack)) (top stack) ∷ below (below stack)) left vars unread
+perform (Some (Get x channel site)) go place stack left vars unread =
+    on_get (history_of unread channel) (point_at site left) channel vars
+    (λ item later. go (place + 1) stack left (slice_set vars x item) (slice_set unread channel later))
+perform (Some (Put channel site)) go place stack left vars unread =
+    after_step (record { point = point_at site left; vars = vars; act = Sent channel (top stack) })
+    (go (place + 1) (below stack) left vars unread)
+perform (Some (Jump target)) go place stack left vars unread = go target stack left vars unread
+perform (Some (JumpIfZero target)) go place stack left vars unread =
+    cond (int_eq (top stack) (pos 0)) (go target (below stack) left vars unread)
+    (go (place + 1) (below stack) left vars unread)
+perform (Some Stop) go place stack left vars unread = no_steps (Stopped vars)
+perform (Some End) go place stack left vars unread = no_steps (Ended vars unread)
+
+-- the instruction at the place, and then what follows
+abbrev pub step : List Instruction → Continuation → Continuation
+step code go place = perform (slice_get code place) go place
+
+-- so many instructions, and then what follows
+abbrev pub run : List Instruction → ℕ → Continuation → Continuation
+run code zero go = go
+run code (suc n) go = step code (run code n go)
+
+-- From this state on the code comes to this, in at most so many instructions, whatever follows them. A trace in which
+-- `go` doesn't occur is one at whose end the machine is within these instructions.
+pub record Runs (code : List Instruction) (most : ℕ) (place : ℕ) (stack : List ℤ) (left : List ℕ) (vars : List ℤ)
+    (unread : List (List ℤ)) (what : Continuation → Trace) : Type 0 where
+  pub steps : ℕ
+  pub within : steps ≤ most
+  pub gives : (go : Continuation) → run code steps go place stack left vars unread ≡ what go

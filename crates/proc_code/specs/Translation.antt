@@ -1,0 +1,160 @@
+-- The code of a process, and the table of its sites.
+use Rattle.std.specs.Prelude.{ℕ, ◌+◌, ◌-◌, List, [], ◌∷◌, ◌++◌, length, Option, Some, None, cond, ◌==◌}
+use Rattle.std.specs.Prelude.{nat_lt}
+use Rattle.std.specs.Prelude.{max}
+use Rattle.kahn_net.specs.Syntax.{Tree, Number, Name, Minus, Chain, Links, NoLinks, LinkThen, Block, Nothing, GetThen}
+use Rattle.kahn_net.specs.Syntax.{AssignThen, PutThen, StopThen, IfThen, Code}
+use Rattle.kahn_net.specs.NextActs.{Next, Gets, Puts}
+use Rattle.kahn_net.specs.Statements.{sites_of}
+use Rattle.proc_code.specs.declared.instruction.Instruction.{Instruction}
+use Rattle.proc_code.specs.declared.instruction.Instruction.TheVariants.{Constant, Load, Store, Negate, Apply, Get, Put}
+use Rattle.proc_code.specs.declared.instruction.Instruction.TheVariants.{Jump, JumpIfZero, Stop, End}
+use Rattle.proc_code.specs.declared.instruction.Site.{Site}
+use Rattle.proc_code.specs.declared.instruction.SiteAct.{SiteAct}
+use Rattle.proc_code.specs.declared.instruction.SiteAct.TheVariants.{Get as GetAct, Put as PutAct}
+
+-- puts an expression's value on the stack
+abbrev mutual
+  pub expr_code : Tree → List Instruction
+  expr_code (Number n) = Constant n ∷ []
+  expr_code (Name x) = Load x ∷ []
+  expr_code (Minus value) = expr_code value ++ Negate ∷ []
+  expr_code (Chain first links) = expr_code first ++ links_code links
+
+  pub links_code : Links → List Instruction
+  links_code NoLinks = []
+  links_code (LinkThen operator value rest) = expr_code value ++ Apply operator ∷ links_code rest
+
+-- An if whose code begins at this place: its test, a jump to the second block where that gives 0, the first block, a
+-- jump behind the second one, and the second block. Where a block's code begins, it says what it is.
+abbrev pub if_code : ℕ → List Instruction → (ℕ → List Instruction) → (ℕ → List Instruction) → List Instruction
+if_code at test first second =
+    let one = at + length test + 1 in
+    let two = one + length (first one) + 1 in
+    test ++ JumpIfZero two ∷ (first one ++ Jump (two + length (second two)) ∷ second two)
+
+-- statements whose code begins at this place, and whose first get or put has this site
+abbrev pub block_code : ℕ → ℕ → Block → List Instruction
+block_code at site Nothing = []
+block_code at site (GetThen x channel rest) = Get x channel site ∷ block_code (at + 1) (site + 1) rest
+block_code at site (AssignThen x e rest) =
+    let assign = expr_code e ++ Store x ∷ [] in
+    assign ++ block_code (at + length assign) site rest
+block_code at site (PutThen e channel rest) =
+    let put = expr_code e ++ Put channel site ∷ [] in
+    put ++ block_code (at + length put) (site + 1) rest
+block_code at site (StopThen rest) = Stop ∷ block_code (at + 1) site rest
+block_code at site (IfThen test first second rest) =
+    let choice = if_code at (expr_code test) (λ n. block_code n site first)
+    (λ n. block_code n (site + sites_of first) second) in
+    choice ++ block_code (at + length choice) (site + sites_of first + sites_of second) rest
+
+-- a loop's body, and a jump back to it; where there is no loop, the end
+abbrev pub loop_code : ℕ → ℕ → Option Block → List Instruction
+loop_code at site None = End ∷ []
+loop_code at site (Some body) = block_code at site body ++ Jump at ∷ []
+
+-- a process: its prelude, and then its loop
+abbrev pub process_code : Code → List Instruction
+process_code code =
+    block_code 0 0 code.prelude ++ loop_code (length (block_code 0 0 code.prelude)) (sites_of code.prelude) code.body
+
+-- Where the code of a site begins, among statements whose first site has the number `number`: of a get at its own
+-- instruction, of a put at the first one of its expression. Of a site past theirs it is where their code ends.
+abbrev pub entry_at : ℕ → ℕ → Block → ℕ → ℕ
+entry_at at number Nothing site = at
+entry_at at number (GetThen x channel rest) site =
+    cond (number == site) at (entry_at (at + 1) (number + 1) rest site)
+entry_at at number (AssignThen x e rest) site = entry_at (at + length (expr_code e ++ Store x ∷ [])) number rest site
+entry_at at number (PutThen e channel rest) site =
+    cond (number == site) at
+    (entry_at (at + length (expr_code e ++ Put channel number ∷ [])) (number + 1) rest site)
+entry_at at number (StopThen rest) site = entry_at (at + 1) number rest site
+entry_at at number (IfThen test first second rest) site =
+    let one = at + length (expr_code test) + 1 in
+    let two = one + length (block_code one number first) + 1 in
+    let choice = if_code at (expr_code test) (λ n. block_code n number first)
+    (λ n. block_code n (number + sites_of first) second) in
+    cond (nat_lt site (number + sites_of first)) (entry_at one number first site)
+    (cond (nat_lt site (number + sites_of first + sites_of second)) (entry_at two (number + sites_of first) second site)
+    (entry_at (at + length choice) (number + sites_of first + sites_of second) rest site))
+
+abbrev pub loop_entry : ℕ → ℕ → Option Block → ℕ → ℕ
+loop_entry at number None site = at
+loop_entry at number (Some body) site = entry_at at number body site
+
+-- where the code of a site of a process begins
+abbrev pub entry_of : Code → ℕ → ℕ
+entry_of code site =
+    cond (nat_lt site (sites_of code.prelude)) (entry_at 0 0 code.prelude site)
+    (loop_entry (length (block_code 0 0 code.prelude)) (sites_of code.prelude) code.body site)
+
+abbrev pub get_site : ℕ → ℕ → Site
+get_site channel entry = record { act = GetAct channel; entry = entry }
+
+abbrev pub put_site : ℕ → ℕ → Site
+put_site channel entry = record { act = PutAct channel; entry = entry }
+
+-- the sites of statements whose code begins at this place, in order of the text
+abbrev pub sites_at : ℕ → ℕ → Block → List Site
+sites_at at number Nothing = []
+sites_at at number (GetThen x channel rest) = get_site channel at ∷ sites_at (at + 1) (number + 1) rest
+sites_at at number (AssignThen x e rest) = sites_at (at + length (expr_code e ++ Store x ∷ [])) number rest
+sites_at at number (PutThen e channel rest) =
+    put_site channel at ∷ sites_at (at + length (expr_code e ++ Put channel number ∷ [])) (number + 1) rest
+sites_at at number (StopThen rest) = sites_at (at + 1) number rest
+sites_at at number (IfThen test first second rest) =
+    let one = at + length (expr_code test) + 1 in
+    let two = one + length (block_code one number first) + 1 in
+    let choice = if_code at (expr_code test) (λ n. block_code n number first)
+    (λ n. block_code n (number + sites_of first) second) in
+    (sites_at one number first ++ sites_at two (number + sites_of first) second)
+    ++ sites_at (at + length choice) (number + sites_of first + sites_of second) rest
+
+abbrev pub loop_sites : ℕ → ℕ → Option Block → List Site
+loop_sites at number None = []
+loop_sites at number (Some body) = sites_at at number body
+
+abbrev pub process_sites : Code → List Site
+process_sites code =
+    sites_at 0 0 code.prelude
+    ++ loop_sites (length (block_code 0 0 code.prelude)) (sites_of code.prelude) code.body
+
+-- what a process does next that stands there
+abbrev pub next_by : SiteAct → Next
+next_by (GetAct channel) = Gets channel
+next_by (PutAct channel) = Puts channel
+
+-- how many values are on the stack behind an instruction, where so many were before it
+abbrev pub height_after : Instruction → ℕ → ℕ
+height_after (Constant value) height = height + 1
+height_after (Load x) height = height + 1
+height_after (Store x) height = height - 1
+height_after Negate height = height
+height_after (Apply operator) height = height - 1
+height_after (Get x channel site) height = height
+height_after (Put channel site) height = height - 1
+height_after (Jump target) height = height
+height_after (JumpIfZero target) height = height - 1
+height_after Stop height = height
+height_after End height = height
+
+-- The most values that are on the stack at once: so many before these instructions, where so many are on it now, or as
+-- many as one of them leaves there. Jumps don't count, since there is nothing on the stack between statements.
+abbrev pub greatest_height : ℕ → ℕ → List Instruction → ℕ
+greatest_height greatest height [] = greatest
+greatest_height greatest height (i ∷ code) =
+    greatest_height (max greatest (height_after i height)) (height_after i height) code
+
+-- a process's code as data: its instructions, its sites in order, and the room that its stack takes
+pub record FlatCode : Type 0 where
+  pub instructions : List Instruction
+  pub sites : List Site
+  pub deepest : ℕ
+
+abbrev pub flat_code : Code → FlatCode
+flat_code code = record {
+  instructions = process_code code;
+  sites = process_sites code;
+  deepest = greatest_height 0 0 (process_code code);
+}

@@ -1,0 +1,73 @@
+//! From a process to its code.
+
+ghost use Rattle.std.specs.Prelude.{◌≡◌, ◌+◌, ◌<◌, ◌^◌, map, IfOk};
+ghost use Rattle.kahn_net.specs.Syntax.{code_of};
+ghost use Rattle.proc_code.specs.CodeView.{code_view};
+ghost use Rattle.proc_code.specs.Translation.{flat_code, greatest_height, height_after};
+
+use crate::code::Code;
+use crate::emitting::{emit_loop, emit_statements};
+use crate::fault::Fault;
+use crate::instruction::Instruction;
+use kahn_net::Process;
+use std::alloc::Global;
+
+/// How many values are on the stack behind an instruction, where so many were before it.
+fn height_after(instruction: Instruction, height: usize) -> usize
+    requires { height + 1 < 2 ^ 64 }
+    ensures { result ≡ height_after instruction height }
+{
+    match instruction {
+        Instruction::Constant { .. } | Instruction::Load { .. } => height + 1,
+        Instruction::Store { .. }
+        | Instruction::Apply { .. }
+        | Instruction::Put { .. }
+        | Instruction::JumpIfZero { .. } => height.saturating_sub(1),
+        Instruction::Negate
+        | Instruction::Get { .. }
+        | Instruction::Jump { .. }
+        | Instruction::Stop
+        | Instruction::End => height,
+    }
+}
+
+/// The most values that are on the stack at once.
+fn deepest(code: &[Instruction]) -> usize
+    ensures { result ≡ greatest_height 0 0 code.now }
+{
+    let mut height = 0;
+    let mut deepest = 0;
+    for instruction in code {
+        height = height_after(*instruction, height);
+        deepest = deepest.max(height);
+    }
+    deepest
+}
+
+/// The code of a process. Refuses for want of memory alone.
+pub fn compile(alloc: Global, process: &Process) -> Result<Code, Fault>
+    ensures { IfOk result (λ code. code_view code ≡ flat_code (code_of process.now)) }
+{
+    let mut instructions = Vec::new(alloc);
+    let mut sites = Vec::new(alloc);
+    emit_statements(&mut instructions, &mut sites, &process.prelude)?;
+    emit_loop(&mut instructions, &mut sites, &process.body)?;
+    let deepest = deepest(&instructions);
+    Ok(Code {
+        instructions,
+        sites,
+        deepest,
+    })
+}
+
+/// The code of each of these processes, in order. Refuses for want of memory alone.
+pub fn compile_all(alloc: Global, processes: &[Process]) -> Result<Vec<Code>, Fault>
+    ensures { IfOk result
+        (λ codes. map code_view codes.items ≡ map flat_code (map code_of processes.now)) }
+{
+    let mut codes = Vec::with_capacity(alloc, processes.len())?;
+    for process in processes {
+        codes.push(compile(alloc, process)?)?;
+    }
+    Ok(codes)
+}

@@ -1,0 +1,163 @@
+//! The code of expressions and statements, behind what was written so far.
+
+ghost use Rattle.std.specs.Prelude.{◌≡◌, [], ◌∷◌, ◌++◌, OnOk, length};
+ghost use Rattle.kahn_net.specs.Syntax.{tree_of, then_of, block_of, body_of};
+ghost use Rattle.proc_code.specs.Translation.{expr_code, block_code, sites_at, loop_code, loop_sites};
+ghost use Rattle.proc_code.specs.Emitting.{Emits};
+
+use crate::instruction::{Instruction, Site, SiteAct};
+use kahn_net::{Expr, Statement};
+use std::alloc::AllocError;
+
+/// One more instruction.
+fn emit(code: &mut Vec<Instruction>, instruction: Instruction) -> Result<(), AllocError>
+    ensures { OnOk result (code.new.items ≡ code.old.items ++ instruction ∷ []) }
+{
+    code.push(instruction)?;
+    Ok(())
+}
+
+/// One more site, whose code is what is written next.
+fn enter(sites: &mut Vec<Site>, act: SiteAct, entry: usize) -> Result<(), AllocError>
+    ensures { OnOk result
+        (sites.new.items ≡ sites.old.items ++ record { act = act; entry = entry } ∷ []) }
+{
+    sites.push(Site { act, entry })?;
+    Ok(())
+}
+
+/// The code of an expression.
+fn emit_expr(code: &mut Vec<Instruction>, expr: &Expr) -> Result<(), AllocError>
+    ensures { OnOk result (code.new.items ≡ code.old.items ++ expr_code (tree_of expr.now)) }
+{
+    match expr {
+        Expr::Literal(value) => emit(code, Instruction::Constant { value: *value }),
+        Expr::Variable(variable) => emit(
+            code,
+            Instruction::Load {
+                variable: *variable,
+            },
+        ),
+        Expr::Negate(value) => {
+            emit_expr(code, value)?;
+            emit(code, Instruction::Negate)
+        }
+        Expr::Chain { first, links } => {
+            emit_expr(code, first)?;
+            for link in links {
+                emit_expr(code, &link.value)?;
+                emit(
+                    code,
+                    Instruction::Apply {
+                        operator: link.operator,
+                    },
+                )?;
+            }
+            Ok(())
+        }
+    }
+}
+
+/// The code of a statement.
+#[cycle(emitting)]
+fn emit_statement(
+    code: &mut Vec<Instruction>,
+    sites: &mut Vec<Site>,
+    statement: &Statement,
+) -> Result<(), AllocError>
+    ensures { OnOk result (Emits code.old.items sites.old.items code.new.items sites.new.items
+        (then_of statement.now)) }
+{
+    match statement {
+        Statement::Get { variable, channel } => {
+            let site = sites.len();
+            enter(sites, SiteAct::Get { channel: *channel }, code.len())?;
+            emit(
+                code,
+                Instruction::Get {
+                    variable: *variable,
+                    channel: *channel,
+                    site,
+                },
+            )
+        }
+        Statement::Assign { variable, value } => {
+            emit_expr(code, value)?;
+            emit(
+                code,
+                Instruction::Store {
+                    variable: *variable,
+                },
+            )
+        }
+        Statement::Put { value, channel } => {
+            let site = sites.len();
+            enter(sites, SiteAct::Put { channel: *channel }, code.len())?;
+            emit_expr(code, value)?;
+            emit(
+                code,
+                Instruction::Put {
+                    channel: *channel,
+                    site,
+                },
+            )
+        }
+        Statement::Stop => emit(code, Instruction::Stop),
+        Statement::If {
+            test,
+            first,
+            second,
+        } => {
+            emit_expr(code, test)?;
+            let test_end = code.len();
+            emit(code, Instruction::JumpIfZero { target: 0 })?;
+            emit_statements(code, sites, first)?;
+            let first_end = code.len();
+            emit(code, Instruction::Jump { target: 0 })?;
+            emit_statements(code, sites, second)?;
+            // Only now is it known where the blocks begin and end.
+            code[test_end] = Instruction::JumpIfZero {
+                target: first_end + 1,
+            };
+            code[first_end] = Instruction::Jump { target: code.len() };
+            Ok(())
+        }
+    }
+}
+
+/// The code of statements.
+#[cycle(emitting)]
+pub(crate) fn emit_statements(
+    code: &mut Vec<Instruction>,
+    sites: &mut Vec<Site>,
+    statements: &[Statement],
+) -> Result<(), AllocError>
+    ensures code { OnOk result (code.new.items ≡ code.old.items
+        ++ block_code (length code.old.items) (length sites.old.items) (block_of statements.now)) }
+    ensures sites { OnOk result (sites.new.items ≡ sites.old.items
+        ++ sites_at (length code.old.items) (length sites.old.items) (block_of statements.now)) }
+{
+    for statement in statements {
+        emit_statement(code, sites, statement)?;
+    }
+    Ok(())
+}
+
+/// The code of a loop with this body; where there is none, the end.
+pub(crate) fn emit_loop(
+    code: &mut Vec<Instruction>,
+    sites: &mut Vec<Site>,
+    body: &Option<Vec<Statement>>,
+) -> Result<(), AllocError>
+    ensures code { OnOk result (code.new.items ≡ code.old.items
+        ++ loop_code (length code.old.items) (length sites.old.items) (body_of body.now)) }
+    ensures sites { OnOk result (sites.new.items ≡ sites.old.items
+        ++ loop_sites (length code.old.items) (length sites.old.items) (body_of body.now)) }
+{
+    let Some(body) = body else {
+        return emit(code, Instruction::End);
+    };
+    let target = code.len();
+    emit_statements(code, sites, body)?;
+    emit(code, Instruction::Jump { target })
+}

@@ -1,0 +1,29 @@
+use Rattle.std.proofs.Common.{◌++◌, ◌∷◌, [], ℤ, set, w64, FitsSigned, rules, ap, ◌∙◌}
+use mathlib.Core.List.{reverse}
+use Rattle.std.proofs.lemmas.Int.{to_z-of_z}
+use Rattle.kahn_net.specs.Streams.{history_of}
+use Rattle.proc_step.proofs.Machines.{get_moves, put_moves}
+use Rattle.proc_step.proofs.machine.perform.Goals as goal
+
+pub returns-in-Some-clause-step : goal.returns-in-Some-clause-step
+returns-in-Some-clause-step c =
+    let h = c.in-Some.ensures.some in
+    let f : FitsSigned w64 c.in-Some.item = search rules in
+    get_moves c.args.instruction c.in-Get.variable c.in-Get.channel c.in-Get.site c.args.place
+    (reverse c.args.stack.now.items) c.args.variables.now c.args.unread.now c.args.room.now c.args.sent.now
+    c.in-Some.item h.0 c.set_variable-in-Get.new.variables c.take_item.new.unread
+    c.in-Get.is h.1 h.2
+    (c.set_variable-in-Get.ensures
+    ∙ ap (λ (v : ℤ). set c.args.variables.now c.in-Get.variable v) (to_z-of_z w64 _ f))
+
+pub returns-in_ok-send-in-Put-clause-step : goal.returns-in_ok-send-in-Put-clause-step
+returns-in_ok-send-in-Put-clause-step c =
+    let f : FitsSigned w64 c.pop-item.result = search rules in
+    let same = to_z-of_z w64 _ f ∙ c.pop-item.ensures.value in
+    put_moves c.args.instruction c.in-Put.channel c.in-Put.site c.args.place (reverse c.args.stack.now.items)
+    (reverse c.pop-item.new.stack.items) c.args.variables.now c.args.unread.now c.args.room.now c.args.sent.now
+    c.send.new.sent
+    c.in-Put.is (c.has_room.ensures.0 c.if-not-has_room.false)
+    (c.in_ok-send-in-Put.ensures
+    ∙ ap (λ (v : ℤ). set c.args.sent.now c.in-Put.channel (history_of c.args.sent.now c.in-Put.channel ++ v ∷ []))
+    same) c.pop-item.ensures.rest
