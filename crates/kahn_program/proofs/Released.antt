@@ -27,7 +27,8 @@ use Rattle.net_check.specs.declared.net.Net.{Net}
 use Rattle.kahn_program.specs.Report.{one_if_output, output_count, report_text}
 use Rattle.kahn_program.specs.Readings.{IsNetOf, AreInputsOf}
 use Rattle.kahn_program.specs.Statuses.{status_of_run}
-use Rattle.kahn_program.specs.Runs.{released_streams, cut_at, first_items, is_whole, run_text, IsRun, IsLast, IsReport}
+use Rattle.kahn_program.specs.Turning.{cut_at}
+use Rattle.kahn_program.specs.Runs.{released_streams, first_items, is_whole, run_text, IsRun, IsLast, IsReport}
 use Rattle.kahn_program.specs.Runs.{IsReportOf, IsReported, HasWritten}
 use Rattle.kahn_program.specs.Runnable.{IsReportFailure}
 use Rattle.kahn_program.specs.declared.failure.Failure.{Failure}
@@ -214,14 +215,14 @@ run_of_readers approx rounds items net_bytes input_bytes net inputs (Err e) of_n
 run_of_readers approx rounds items net_bytes input_bytes net inputs (Ok r) of_net of_inputs report =
     ∣ (net, inputs, of_net, of_inputs, report) ∣₁
 
-pub failed_run : {T : Type 0} (approx : Option ℕ) (net_bytes input_bytes : Option (List ℕ)) (net : Net)
-    (inputs : List (List ℤ)) (result : Result T Failure) → IfSome net_bytes (λ bytes. IsNetOf bytes net)
+pub failed_run : {T : Type 0} (approx : Option ℕ) (rounds : ℕ) (items : Option ℕ)
+    (net_bytes input_bytes : Option (List ℕ)) (net : Net) (inputs : List (List ℤ)) (result : Result T Failure) → IfSome net_bytes (λ bytes. IsNetOf bytes net)
     → IfSome input_bytes (λ bytes. AreInputsOf bytes net inputs)
-    → IfErr result (IsReportFailure approx (network_of net.program) inputs)
+    → IfErr result (IsReportFailure approx (network_of net.program) inputs rounds items)
     → IfErr result (IsRunFailure approx net_bytes input_bytes)
-failed_run approx net_bytes input_bytes net inputs (Ok value) of_net of_inputs err = tt
-failed_run approx net_bytes input_bytes net inputs (Err failure) of_net of_inputs err =
-    of_report net inputs of_net of_inputs err
+failed_run approx rounds items net_bytes input_bytes net inputs (Ok value) of_net of_inputs err = tt
+failed_run approx rounds items net_bytes input_bytes net inputs (Err failure) of_net of_inputs err =
+    of_report net inputs rounds items of_net of_inputs err
 
 -- what was written where the status is that of a report
 one_status : (a b : Bool) → status_of_run a ≡ status_of_run b → a ≡ b

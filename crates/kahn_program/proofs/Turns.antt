@@ -2,7 +2,7 @@
 use Rattle.std.proofs.Common.{◌≡◌, ◌≢◌, ◌++◌, ◌⊎◌, Ok, Err, inl, inr, ◌∙◌, ◌∷◌, [], ◌+◌, ◌≤◌, ℕ, zero, suc, ℤ}
 use Rattle.std.proofs.Common.{Bool, true, false, List, map, Option, refl, sym, ap, subst, arith}
 use Rattle.std.specs.List.{AllByRecursion}
-use Rattle.std.specs.Prelude.{replicate, OnOk, Result}
+use Rattle.std.specs.Prelude.{replicate, IfErr, OnOk, Result}
 use Rattle.kahn_net.specs.Nodes.{node_count}
 use Rattle.kahn_net.specs.Syntax.{Network}
 use Rattle.kahn_net.specs.Valid.{IsValid}
@@ -41,54 +41,39 @@ use Rattle.world.specs.declared.event.Reply.TheVariants.{Started, Decided, Refus
 use Rattle.world.specs.declared.event.Reply.TheVariants.{Recovered, InDoubt, Down, Acted, Idled, NotDue}
 use Rattle.world.specs.declared.output.Output.{Output}
 use Rattle.world.specs.declared.station.Station.{Station}
-use Rattle.kahn_program.specs.Turning.{turn_node, CameTo, first_world, Follows, IsRunRoom, IsRunStep, IsWorldTurn}
-use Rattle.kahn_program.specs.Turning.{run_rooms, unused_outlet}
-use Rattle.kahn_program.specs.Runnable.{IsStoreFailure, store_failure}
-use Rattle.kahn_program.specs.Runs.{is_over, IsLast}
+use Rattle.kahn_program.specs.Turning.{turn_node, CameTo, first_world, Follows, HasFailed, IsRunRoom, IsRunStep}
+use Rattle.kahn_program.specs.Turning.{IsWorldTurn, is_over, run_rooms, unused_outlet}
+use Rattle.kahn_program.specs.Runnable.{HasRunFailed, IsStoreFailure, store_failure}
+use Rattle.kahn_program.specs.Runs.{IsLast}
+use Rattle.kahn_program.specs.declared.failure.Failure.{Failure}
+use Rattle.kahn_program.specs.declared.failure.Failure.TheVariants as failure
 use Rattle.kahn_program.specs.declared.network_run.TheConstants.{MAX_TURNS}
 
 -- where no job was granted nothing follows
 pub nothing_follows : (answer : Reply) (now : WorldView) → ((job : Job) → answer ≡ Granted job → ⊥)
     → Follows (reply_view answer) now now
 nothing_follows (Granted job) now other = absurd (other job refl)
-nothing_follows Delivered now other = refl
-nothing_follows Dropped now other = refl
-nothing_follows Installed now other = refl
-nothing_follows Discarded now other = refl
-nothing_follows Sent now other = refl
-nothing_follows Started now other = refl
-nothing_follows Decided now other = refl
-nothing_follows (Refused refusal) now other = refl
-nothing_follows (Released freed) now other = refl
-nothing_follows OutletFailed now other = refl
-nothing_follows Crashed now other = refl
-nothing_follows Recovered now other = refl
-nothing_follows InDoubt now other = refl
-nothing_follows Down now other = refl
-nothing_follows Acted now other = refl
-nothing_follows Idled now other = refl
-nothing_follows NotDue now other = refl
+nothing_follows answer now other = refl
 
 -- that no device failed is told by the answer
 pub is_not_down : (answer : Reply) → (answer ≡ Down → ⊥) → reply_view answer ≢ view.Down
 is_not_down Down other same = absurd (other refl)
-is_not_down (Granted job) other same = absurd (cc)
-is_not_down Delivered other same = absurd (cc)
-is_not_down Dropped other same = absurd (cc)
-is_not_down Installed other same = absurd (cc)
-is_not_down Discarded other same = absurd (cc)
-is_not_down Sent other same = absurd (cc)
-is_not_down Started other same = absurd (cc)
-is_not_down Decided other same = absurd (cc)
-is_not_down (Refused refusal) other same = absurd (cc)
-is_not_down (Released freed) other same = absurd (cc)
-is_not_down OutletFailed other same = absurd (cc)
-is_not_down Crashed other same = absurd (cc)
-is_not_down Recovered other same = absurd (cc)
-is_not_down InDoubt other same = absurd (cc)
-is_not_down Acted other same = absurd (cc)
-is_not_down Idled other same = absurd (cc)
-is_not_down NotDue other same = absurd (cc)
+is_not_down answer other same = absurd (cc)
+
+-- a failing device is told for a reason that follows from another
+pub failure_by : {P Q : Type 0} → (P → Q) → (failure : Failure) → IsStoreFailure P failure → IsStoreFailure Q failure
+failure_by go (failure.Line source line number) why = why
+failure_by go (failure.Whole source number) why = why
+failure_by go (failure.NotText source) why = why
+failure_by go (failure.Unreadable source) why = why
+failure_by go (failure.Approximation number) why = why
+failure_by go failure.NoMemory why = why
+failure_by go (failure.Other number) why = (why.0, go why.1)
+
+pub on_err_by : {T P Q : Type 0} (result : Result T Failure) → (P → Q) → IfErr result (IsStoreFailure P)
+    → IfErr result (IsStoreFailure Q)
+on_err_by (Ok value) go why = tt
+on_err_by (Err failure) go why = failure_by go failure why
 
 -- what holds of an Ok in two ways
 pub on_ok_both : {A E : Type 0} (P Q : Type 0) (result : Result A E) → OnOk result P → OnOk result Q
@@ -150,16 +135,16 @@ rooms_given {D} sectors disks rooms are all = subst (AllByRecursion IsRunRoom) (
     at (d ∷ list) all = (ap room_on all.0, at list all.1)
 
 -- Why a run isn't opened: no disk is too small for an opening record
-pub run_refused : {D : Type 0} (sectors : D → ℕ) (net : Network) (number : ℕ) (disks : List D) (fault : StoreFault)
-    → IsValid net
+pub run_refused : {D : Type 0} (Failed : Type 0) (sectors : D → ℕ) (net : Network) (number : ℕ) (disks : List D)
+    (fault : StoreFault) → IsValid net
     → AllByRecursion (λ (disk : D). sectors disk ≡ SECTORS) disks
-    → IsWorldRefusal net number (map (λ (disk : D). sectors disk) disks) fault
-    → IsStoreFailure (store_failure fault)
-run_refused sectors net number [] fault valid all refused =
-    subst (λ (f : StoreFault). IsStoreFailure (store_failure f)) (sym refused) tt
-run_refused {D} sectors net number (d ∷ disks) fault valid all (inr refused) =
-    run_refused sectors net (suc number) disks fault valid all.1 refused
-run_refused {D} sectors net number (d ∷ disks) fault valid all (inl refused) = at fault refused
+    → IsWorldRefusal net number (map (λ (disk : D). sectors disk) disks) fault → (fault ≡ Device → Failed)
+    → IsStoreFailure Failed (store_failure fault)
+run_refused Failed sectors net number [] fault valid all refused failed =
+    subst (λ (f : StoreFault). IsStoreFailure Failed (store_failure f)) (sym refused) tt
+run_refused {D} Failed sectors net number (d ∷ disks) fault valid all (inr refused) failed =
+    run_refused Failed sectors net (suc number) disks fault valid all.1 refused failed
+run_refused {D} Failed sectors net number (d ∷ disks) fault valid all (inl refused) failed = at fault refused failed
   where
     short : opening_length net number ≤ MAX_RECORD_BYTES
     short = bounded_is_short (opening_record net (node_count net) number)
@@ -172,20 +157,31 @@ run_refused {D} sectors net number (d ∷ disks) fault valid all (inl refused) =
         small (inl few) = omega (arith, few)
         small (inr little) = omega (arith, little, short)
 
-    at : (f : StoreFault) → IsOpeningRefusal (sectors d) (opening_length net number) f
-        → IsStoreFailure (store_failure f)
-    at NoMemory why = tt
-    at Device why = refl
-    at TooLarge why = absurd (has_room why)
-    at Reopen why = absurd why
-    at Truncated why = absurd why
-    at Version why = absurd why
-    at Malformed why = absurd why
-    at HoldsOther why = absurd why
-    at PastNumber why = absurd why
-    at NotHeld why = absurd why
-    at Unsettled why = absurd why
-    at Spent why = absurd why
+    at : (f : StoreFault) → IsOpeningRefusal (sectors d) (opening_length net number) f → (f ≡ Device → Failed)
+        → IsStoreFailure Failed (store_failure f)
+    at NoMemory why failed = tt
+    at Device why failed = (refl, failed refl)
+    at TooLarge why failed = absurd (has_room why)
+    at Reopen why failed = absurd why
+    at Truncated why failed = absurd why
+    at Version why failed = absurd why
+    at Malformed why failed = absurd why
+    at HoldsOther why failed = absurd why
+    at PastNumber why failed = absurd why
+    at NotHeld why failed = absurd why
+    at Unsettled why failed = absurd why
+    at Spent why failed = absurd why
+
+-- Why a run ends early: turns lead to one in which a device fails
+pub run_failed : (net : Network) (inputs : List (List ℤ)) (given : List Channel) (rounds nodes : ℕ) (items : Option ℕ)
+    (first : WorldView) → given ≡ net.channels → nodes ≡ node_count net → first ≡ first_world net inputs
+    → HasFailed (is_over (output_channels 0 given) rounds items) nodes first
+    → HasRunFailed net inputs rounds items
+run_failed net inputs given rounds nodes items first channels all opened failed =
+    ∣ inr (subst (HasFailed (is_over (output_channels 0 net.channels) rounds items) (node_count net)) opened
+    (subst (λ (n : ℕ). HasFailed (is_over (output_channels 0 net.channels) rounds items) n first) all
+    (subst (λ (cs : List Channel). HasFailed (is_over (output_channels 0 cs) rounds items) nodes first) channels
+    failed))) ∣₁
 
 -- one turn more
 pub more_turns : (over : WorldView → Bool) (nodes turns : ℕ) (first before now : WorldView)

@@ -1,10 +1,18 @@
 -- Why a network on its inputs comes to no report.
 use Rattle.std.specs.Prelude.{◌≡◌, ◌⊎◌, ℕ, ℤ, List, Option, Some, None}
+use Rattle.std.specs.List.{AllByRecursion}
+use Rattle.kahn_net.specs.Nodes.{node_count}
 use Rattle.kahn_net.specs.Syntax.{Network}
+use Rattle.sector_disk.specs.MemDisk.{failures_of, sectors_of}
+use Rattle.sector_disk.specs.declared.memory.MemDisk.{MemDisk}
+use Rattle.gate_cell.specs.declared.TheConstants.{SECTORS}
 use Rattle.stream_eq.specs.Limits.{HasLongHistory}
 use Rattle.ckpt_store.specs.StoreFault.{refusal_number}
 use Rattle.ckpt_store.specs.declared.fault.StoreFault.{StoreFault}
 use Rattle.ckpt_store.specs.declared.fault.StoreFault.TheVariants as fault
+use Rattle.protocol.specs.World.Sound.{output_channels}
+use Rattle.world.specs.OpeningWorld.{SomeFailed}
+use Rattle.kahn_program.specs.Turning.{HasFailed, first_world, is_over}
 use Rattle.kahn_program.specs.declared.failure.Failure.{Failure}
 use Rattle.kahn_program.specs.declared.failure.Failure.TheVariants.{Line, Whole, NotText, Unreadable, Approximation}
 use Rattle.kahn_program.specs.declared.failure.Failure.TheVariants.{NoMemory, Other}
@@ -29,17 +37,31 @@ store_failure fault.NotHeld = Other (refusal_number fault.NotHeld)
 store_failure fault.Unsettled = Other (refusal_number fault.Unsettled)
 store_failure fault.Spent = Other (refusal_number fault.Spent)
 
--- a device failed (20), or memory is missing
-abbrev pub IsStoreFailure : Failure → Type 0
-IsStoreFailure (Line source line number) = ⊥
-IsStoreFailure (Whole source number) = ⊥
-IsStoreFailure (NotText source) = ⊥
-IsStoreFailure (Unreadable source) = ⊥
-IsStoreFailure (Approximation number) = ⊥
-IsStoreFailure NoMemory = Unit {0}
-IsStoreFailure (Other number) = number ≡ refusal_number fault.Device
+-- memory is missing, or a device failed (20): then this holds
+abbrev pub IsStoreFailure : Type 0 → Failure → Type 0
+IsStoreFailure Failed (Line source line number) = ⊥
+IsStoreFailure Failed (Whole source number) = ⊥
+IsStoreFailure Failed (NotText source) = ⊥
+IsStoreFailure Failed (Unreadable source) = ⊥
+IsStoreFailure Failed (Approximation number) = ⊥
+IsStoreFailure Failed NoMemory = Unit {0}
+IsStoreFailure Failed (Other number) = (number ≡ refusal_number fault.Device) × Failed
+
+-- one of the disks of a run failed while its world was made
+pub record HasFailedAtOnce : Type 0 where
+  pub disks : List MemDisk
+  pub backs : List MemDisk
+  pub sectors : AllByRecursion (λ (disk : MemDisk). sectors_of disk ≡ SECTORS) disks
+  pub failed : SomeFailed failures_of disks backs
+
+-- a device of a run failed: while its world was made, or in a turn to which turns lead
+abbrev pub HasRunFailed : Network → List (List ℤ) → ℕ → Option ℕ → Type 0
+HasRunFailed net inputs rounds items =
+    ∥ HasFailedAtOnce ⊎ HasFailed (is_over (output_channels 0 net.channels) rounds items) (node_count net)
+    (first_world net inputs) ∥₁
 
 -- why there is no report of this approximation, or of a run: by a failing device, as for want of memory
-abbrev pub IsReportFailure : Option ℕ → Network → List (List ℤ) → Failure → Type 0
-IsReportFailure (Some n) net inputs failure = IsApproximationFailure net inputs n failure
-IsReportFailure None net inputs failure = IsStoreFailure failure
+abbrev pub IsReportFailure : Option ℕ → Network → List (List ℤ) → ℕ → Option ℕ → Failure → Type 0
+IsReportFailure (Some n) net inputs rounds items failure = IsApproximationFailure net inputs n failure
+IsReportFailure None net inputs rounds items failure =
+    IsStoreFailure (HasRunFailed net inputs rounds items) failure

@@ -1,7 +1,6 @@
 -- What a run of a network releases, and its report.
-use Rattle.std.specs.Prelude.{◌≡◌, ◌⊎◌, ◌≤◌, ◌||◌, is_some, ◌↔◌, ℕ, Bool, true, false, IsTrue, if◌then◌else◌, nat_le, ℤ}
+use Rattle.std.specs.Prelude.{◌≡◌, ◌⊎◌, ◌≤◌, ◌↔◌, ℕ, Bool, true, false, IsTrue, ℤ}
 use Rattle.std.specs.Prelude.{List, Option, Some, None, IfSome, length, map, take, slice_get}
-use Rattle.std.specs.List.{list_all}
 use Rattle.std.specs.Io.KnownBytes.{Appends}
 use Rattle.kahn_net.specs.Streams.{history_of, IsPrefix}
 use Rattle.kahn_net.specs.Nodes.{node_count}
@@ -15,7 +14,7 @@ use Rattle.protocol.specs.World.StationView.{StationView}
 use Rattle.kahn_program.specs.Readings.{IsNetOf, AreInputsOf}
 use Rattle.kahn_program.specs.Report.{report_text}
 use Rattle.protocol.specs.World.Steps.{WorldView}
-use Rattle.kahn_program.specs.Turning.{CameTo, first_world}
+use Rattle.kahn_program.specs.Turning.{CameTo, cut_at, first_world, is_over}
 use Rattle.kahn_program.specs.declared.network_run.TheConstants.{MAX_TURNS}
 
 -- what the stations' outlets took, for each of a network's outputs in order
@@ -44,12 +43,6 @@ pub record IsRun (net : Network) (inputs streams : List (List ℤ)) (complete : 
   pub prefix : ∥ ((n : ℕ) × AreWithin net inputs streams n) ∥₁
   pub whole : IsTrue complete → ∥ ((n : ℕ) × IsReached net inputs n × AreAll net inputs streams n) ∥₁
 
--- Where the streams of a run are cut: at so many items, where that was asked for and each has them.
-abbrev pub cut_at : Option ℕ → List (List ℤ) → Option ℕ
-cut_at None released = None
-cut_at (Some items) released =
-    if list_all (λ (stream : List ℤ). nat_le items (length stream)) released then Some items else None
-
 -- what is printed of a stream, and whether the run is told to be complete: a run whose streams are cut isn't
 abbrev pub first_items : Option ℕ → List ℤ → List ℤ
 first_items None stream = stream
@@ -64,13 +57,6 @@ abbrev pub run_text : Net → Option ℕ → List (List ℤ) → Bool → List �
 run_text net cut released complete =
     report_text net.program.channels.items net.channel_names.items (map (first_items cut) released)
     (is_whole cut complete)
-
--- a run is over: nothing is left to do, the rounds are over, or each of these outputs has the items that are asked for
-abbrev pub is_over : List ℕ → ℕ → Option ℕ → WorldView → Bool
-is_over outputs rounds items now =
-    are_quiet now ||
-    (nat_le rounds now.round || is_some
-    (cut_at items (map (λ (channel : ℕ). released_of channel now.stations) outputs)))
 
 -- The world at the end of a run: turn by turn it came from the first one, until the run was over, or so many turns were
 -- taken that nobody waits for them.

@@ -1,6 +1,7 @@
 -- A run of a network, turn by turn.
-use Rattle.std.specs.Prelude.{◌≡◌, ◌≢◌, ℕ, zero, suc, ◌%◌, nat_lt, if◌then◌else◌, Bool, false, ℤ, List, [], map}
-use Rattle.std.specs.Prelude.{replicate, None}
+use Rattle.std.specs.Prelude.{◌≡◌, ◌≢◌, ◌||◌, ℕ, zero, suc, ◌%◌, nat_le, nat_lt, if◌then◌else◌, Bool, false, ℤ, List, []}
+use Rattle.std.specs.Prelude.{length, map, replicate, Option, Some, None, is_some}
+use Rattle.std.specs.List.{list_all}
 use Rattle.kahn_net.specs.Nodes.{node_count}
 use Rattle.kahn_net.specs.Syntax.{Network}
 use Rattle.gate_cell.specs.Layout.{room_on}
@@ -10,6 +11,8 @@ use Rattle.protocol.specs.World.Choice.{choice}
 use Rattle.protocol.specs.World.DoneView.{DoneView}
 use Rattle.protocol.specs.World.EventView.{EventView, Install}
 use Rattle.protocol.specs.World.OpeningWorld.{opening_world}
+use Rattle.protocol.specs.World.Quiet.{are_quiet}
+use Rattle.protocol.specs.World.Released.{released_of}
 use Rattle.protocol.specs.World.ReplyView.{ReplyView, Granted, Down}
 use Rattle.protocol.specs.World.Sound.{output_channels}
 use Rattle.protocol.specs.World.StationView.{OutletView, StationView}
@@ -42,6 +45,10 @@ pub record IsWorldTurn (node : ℕ) (old new : WorldView) : Type 0 where
   pub unfailed : answer ≢ Down
   pub follows : Follows answer between new
 
+-- a turn of a node in which a device fails
+abbrev pub FailsIn : ℕ → WorldView → Type 0
+FailsIn node old = (after : WorldView) × IsRunStep (choice old node) old Down after
+
 -- the node of a turn, the first one being 0: the nodes, so many, take their turns one after another
 abbrev pub turn_node : ℕ → ℕ → ℕ
 turn_node nodes turn = if nat_lt 0 nodes then turn % nodes else 0
@@ -52,6 +59,27 @@ CameTo over nodes zero first now = now ≡ first
 CameTo over nodes (suc turns) first now =
     (before : WorldView) × CameTo over nodes turns first before × (over before ≡ false)
     × IsWorldTurn (turn_node nodes turns) before now
+
+-- such turns lead to one in which a device fails
+pub record HasFailed (over : WorldView → Bool) (nodes : ℕ) (first : WorldView) : Type 0 where
+  pub turns : ℕ
+  pub before : WorldView
+  pub came : CameTo over nodes turns first before
+  pub goes_on : over before ≡ false
+  pub fails : FailsIn (turn_node nodes turns) before
+
+-- Where the streams of a run are cut: at so many items, where that was asked for and each has them.
+abbrev pub cut_at : Option ℕ → List (List ℤ) → Option ℕ
+cut_at None released = None
+cut_at (Some items) released =
+    if list_all (λ (stream : List ℤ). nat_le items (length stream)) released then Some items else None
+
+-- a run is over: nothing is left to do, the rounds are over, or each of these outputs has the items that are asked for
+abbrev pub is_over : List ℕ → ℕ → Option ℕ → WorldView → Bool
+is_over outputs rounds items now =
+    are_quiet now ||
+    (nat_le rounds now.round || is_some
+    (cut_at items (map (λ (channel : ℕ). released_of channel now.stations) outputs)))
 
 -- an outlet in memory that took nothing
 abbrev pub unused_outlet : ℕ → OutletView

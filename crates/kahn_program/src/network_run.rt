@@ -14,9 +14,9 @@ ghost use Rattle.world.specs.ReplyView.{reply_view};
 ghost use Rattle.world.specs.WholeView.{world_of};
 ghost use Rattle.world.specs.WorldView.{capacities};
 ghost use Rattle.gate_cell.specs.declared.TheConstants.{SECTORS};
-ghost use Rattle.kahn_program.specs.Turning.{CameTo, Follows, IsRunRoom, IsWorldTurn, turn_node};
-ghost use Rattle.kahn_program.specs.Runnable.{IsStoreFailure, store_failure};
-ghost use Rattle.kahn_program.specs.Runs.{IsReport, cut_at, first_items, is_over, is_whole};
+ghost use Rattle.kahn_program.specs.Turning.{CameTo, FailsIn, Follows, HasFailed, IsRunRoom, IsWorldTurn, cut_at, is_over, turn_node};
+ghost use Rattle.kahn_program.specs.Runnable.{HasRunFailed, IsStoreFailure, store_failure};
+ghost use Rattle.kahn_program.specs.Runs.{IsReport, first_items, is_whole};
 ghost use Rattle.kahn_net.specs.declared.limits.TheConstants.{MAX_CHANNELS, MAX_NODES};
 
 use crate::failure::Failure;
@@ -81,7 +81,7 @@ fn follow(alloc: Global, world: &mut RunWorld, answer: Reply) -> Result<(), Fail
     ensures unfailed { OnOk result (reply_view answer ≢ Down) }
     ensures follows { OnOk result
         (Follows (reply_view answer) (world_of world.old) (world_of world.new)) }
-    ensures err { IfErr result IsStoreFailure }
+    ensures err { IfErr result (IsStoreFailure (reply_view answer ≡ Down)) }
 {
     match answer {
         Reply::Granted(job) => {
@@ -115,7 +115,7 @@ fn take_turn(alloc: Global, world: &mut RunWorld, node: u8) -> Result<(), Failur
     ensures same { (world.new.net ≡ world.old.net) × (world.new.inputs ≡ world.old.inputs) }
     ensures room { AllByRecursion IsRunRoom (capacities world.new.stations.items) }
     ensures turn { OnOk result (IsWorldTurn node (world_of world.old) (world_of world.new)) }
-    ensures err { IfErr result IsStoreFailure }
+    ensures err { IfErr result (IsStoreFailure (FailsIn node (world_of world.old))) }
 {
     let event = world.pick(node);
     match world.apply(alloc, event) {
@@ -224,7 +224,9 @@ fn take_turns(
         (world_of world.old) (world_of world.new)
         × ((is_over (output_channels 0 channels.now) rounds items (world_of world.new) ≡ true)
         ⊎ (MAX_TURNS ≤ turns))) }
-    ensures err { IfErr result IsStoreFailure }
+    ensures err { IfErr result (IsStoreFailure
+        (HasFailed (is_over (output_channels 0 channels.now) rounds items) nodes
+        (world_of world.old))) }
 {
     // A node at which something was left to do when it was last asked.
     let mut busy: u8 = 0;
@@ -312,7 +314,8 @@ pub fn report_of_run(
     requires fitting { Fits (network_of net.program) inputs }
     ensures ok { IfOk result (λ report. IsReport net rounds items inputs report.0.items report.1) }
     // A device failed (20), or memory is missing (1).
-    ensures err { IfErr result IsStoreFailure }
+    ensures err { IfErr result (IsStoreFailure
+        (HasRunFailed (network_of net.program) inputs rounds items)) }
 {
     let Ok(outputs) = list_outputs(alloc, &net) else {
         return Err(Failure::NoMemory);

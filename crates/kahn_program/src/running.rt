@@ -30,7 +30,8 @@ fn report_of(
     ensures ok { IfOk result (λ report. IsReportOf
         options.now.approx options.now.rounds options.now.items net inputs report.0.items report.1) }
     ensures err { IfErr result
-        (IsReportFailure options.now.approx (network_of net.program) inputs) }
+        (IsReportFailure options.now.approx (network_of net.program) inputs
+        options.now.rounds options.now.items) }
 {
     match options.approx {
         Some(n) => report_of_approximation(alloc, &net, &inputs, n),

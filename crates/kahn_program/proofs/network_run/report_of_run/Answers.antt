@@ -1,14 +1,15 @@
-use Rattle.std.proofs.Common.{refl, ◌≡◌, ℕ, ℤ, List, length, sym, ap, subst, ◌∙◌}
+use Rattle.std.proofs.Common.{refl, ◌≡◌, ℕ, ℤ, List, length, inl, sym, ap, subst, ◌∙◌}
+use Rattle.std.proofs.lemmas.Result.{err_from_is_err_and}
 use Rattle.kahn_net.specs.Syntax.{network_of}
 use Rattle.sector_disk.specs.MemDisk.{sectors_of}
 use Rattle.net_check.specs.declared.net.Net.{Net}
 use Rattle.protocol.specs.World.Released.{released_of}
 use Rattle.world.specs.WholeView.{world_of}
 use Rattle.kahn_program.specs.Report.{output_count, report_text}
-use Rattle.kahn_program.specs.Runnable.{IsStoreFailure}
+use Rattle.kahn_program.specs.Runnable.{HasRunFailed, IsStoreFailure}
 use Rattle.kahn_program.specs.Runs.{first_items}
 use Rattle.kahn_program.proofs.Released.{counted_streams, run_of, reported}
-use Rattle.kahn_program.proofs.Turns.{last_world, opens_first, rooms_given, run_refused}
+use Rattle.kahn_program.proofs.Turns.{failure_by, last_world, opens_first, rooms_given, run_failed, run_refused}
 use Rattle.std.specs.Prelude.{replicate}
 use Rattle.kahn_net.specs.Nodes.{node_count}
 use Rattle.kahn_program.proofs.network_run.report_of_run.Goals as goal
@@ -72,10 +73,38 @@ new-requires-3-clause-each c =
 pub returns-in-Err-clause-err : goal.returns-in-Err-clause-err
 returns-in-Err-clause-err c =
     let shared = c.in-Ok-try_clone.ensures ∙ c.in-Ok-new.ensures.ok in
-    subst IsStoreFailure (sym c.store_failure.ensures)
-    (run_refused sectors_of (network_of c.in-Ok-try_clone.share.value.program) 0 c.in-Ok-empty_disks.disks.items
-    c.in-Err.refused.fault
-    c.in-Ok-try_clone.share.value.valid c.in-Ok-empty_disks.ensures.sectors c.in-Err.ensures.refused)
+    let disks = c.in-Ok-empty_disks.disks.items in
+    subst (IsStoreFailure (HasRunFailed (network_of c.args.net.program) c.args.inputs c.args.rounds c.args.items))
+    (sym c.store_failure.ensures)
+    (run_refused (HasRunFailed (network_of c.args.net.program) c.args.inputs c.args.rounds c.args.items) sectors_of
+    (network_of c.in-Ok-try_clone.share.value.program) 0 disks c.in-Err.refused.fault
+    c.in-Ok-try_clone.share.value.valid c.in-Ok-empty_disks.ensures.sectors c.in-Err.ensures.refused
+    (λ is. ∣ inl (record {
+      disks = disks;
+      backs = c.in-Err.refused.disks.items;
+      sectors = c.in-Ok-empty_disks.ensures.sectors;
+      failed = c.in-Err.ensures.handed_back.failed is;
+    }) ∣₁))
+
+pub returns-in_err-take_turns-clause-err : goal.returns-in_err-take_turns-clause-err
+returns-in_err-take_turns-clause-err c =
+    let p = err_from_is_err_and c.from_residual.result c.from_residual.ensures.1 in
+    let net = c.args.net in
+    let first = c.in-Ok-new-3.world in
+    let shared = c.in-Ok-try_clone.ensures ∙ c.in-Ok-new.ensures.ok in
+    let given : c.as_slice-channels.result.now ≡ net.program.channels.items =
+    c.as_slice-channels.ensures.value
+    ∙ ap (λ (n : Net). n.program.channels.items) (c.deref.ensures ∙ c.in-Ok-new.ensures.ok) in
+    let opened =
+    opens_first _ _ (λ outlet. refl) (network_of net.program) _ c.args.inputs _ c.in-Ok.outputs.items
+    (world_of first) (ap (λ (n : Net). network_of n.program) shared) c.in-Ok-new-2.ensures.ok
+    _ (c.in-Ok-empty_disks.ensures.unfailed ∙ ap (λ (n : ℕ). replicate n 0) c.node_count-nodes.ensures.count)
+    c.in-Ok-new-3.ensures.opening c.in-Ok.ensures.listed c.in-Ok.ensures.empty in
+    rw (p.1, p.2)
+    (failure_by
+    (run_failed (network_of net.program) c.args.inputs c.as_slice-channels.result.now c.args.rounds
+    c.node_count-nodes.result c.args.items (world_of first) given c.node_count-nodes.ensures.count opened)
+    c.in_err-take_turns.field-0 c.in_err-take_turns.ensures.err)
 
 pub take_turns-requires-clause-room : goal.take_turns-requires-clause-room
 take_turns-requires-clause-room c =

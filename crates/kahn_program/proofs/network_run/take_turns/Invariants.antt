@@ -3,8 +3,7 @@ use Rattle.std.specs.List.{AllByRecursion}
 use Rattle.world.specs.WholeView.{world_of}
 use Rattle.world.specs.WorldView.{capacities}
 use Rattle.protocol.specs.World.Sound.{output_channels}
-use Rattle.kahn_program.specs.Runs.{is_over}
-use Rattle.kahn_program.specs.Turning.{CameTo, IsRunRoom}
+use Rattle.kahn_program.specs.Turning.{CameTo, IsRunRoom, is_over}
 use Rattle.kahn_program.proofs.network_run.take_turns.Given as goal
 
 -- the network and the inputs are the same as before, each cell has the room of a run, and so many turns led to where
