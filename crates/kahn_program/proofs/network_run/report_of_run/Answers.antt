@@ -104,7 +104,7 @@ returns-in_err-take_turns-clause-err c =
     (failure_by
     (run_failed (network_of net.program) c.args.inputs c.as_slice-channels.result.now c.args.rounds
     c.node_count-nodes.result c.args.items (world_of first) given c.node_count-nodes.ensures.count opened)
-    c.in_err-take_turns.field-0 c.in_err-take_turns.ensures.err)
+    c.in_err-take_turns.field-0.0 c.in_err-take_turns.ensures.err)
 
 pub take_turns-requires-clause-room : goal.take_turns-requires-clause-room
 take_turns-requires-clause-room c =

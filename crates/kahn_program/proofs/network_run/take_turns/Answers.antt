@@ -35,4 +35,4 @@ returns-in_err-take_turn-clause-err c =
       came = c.loop-turn.invariant.came;
       goes_on = sym c.is_over.ensures ∙ c.if-is_over.false;
       fails = subst (λ (n : ℕ). FailsIn n (world_of c.loop-turn.world)) c.turn_node.ensures fails;
-    }) c.in_err-take_turn.field-0 c.in_err-take_turn.ensures.err)
+    }) c.in_err-take_turn.field-0.0 c.in_err-take_turn.ensures.err)
