@@ -1,8 +1,9 @@
 //! Checkpoints of growing images, as a store makes them: a line for each size, with the nanoseconds of taking a tentative image
 //! and of making it permanent, and the bytes of the record that each puts.
 
-ghost use Rattle.std.specs.Prelude.{◌*◌, ◌^◌, ◌<◌};
+ghost use Rattle.std.specs.Prelude.{◌*◌, ◌^◌, ◌<◌, length, IsTrue};
 ghost use Rattle.sector_disk.specs.declared.TheConstants.{SECTOR_BYTES};
+ghost use Rattle.ckpt_store.specs.Spelling.{IsLike};
 
 use crate::clock::processor_nanos;
 use crate::records::spelling;
@@ -41,7 +42,10 @@ fn image_of(alloc: Global, bytes: &[u8]) -> anyhow::Result<Image> {
 }
 
 // Whether an instance of node 0 may have this image.
-fn takes(kept: &Record, image: &Image) -> bool {
+fn takes(kept: &Record, image: &Image) -> bool
+    ensures listed { IsTrue result → 0 < length kept.now.highest }
+    ensures like { IsTrue result → IsLike kept.now.permanent image.now }
+{
     !kept.highest.is_empty() && is_like(&kept.permanent, image)
 }
 
@@ -53,7 +57,14 @@ fn start(
     image: Image,
     number: u64,
 ) -> anyhow::Result<u64> {
-    anyhow::ensure!(takes(store.record()?, &image), "another image");
+    match store.record() {
+        Ok(kept) => {
+            if !takes(kept, &image) {
+                anyhow::bail!("another image");
+            }
+        }
+        Err(fault) => return Err(fault.into()),
+    }
     let before = processor_nanos(rt)?;
     store.take_tentative(alloc, image, 0, number)?;
     Ok(processor_nanos(rt)?.saturating_sub(before))
