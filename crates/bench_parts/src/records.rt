@@ -13,8 +13,8 @@ fn put_item(out: &mut Vec<u8>, item: i64) -> anyhow::Result<()> {
     Ok(())
 }
 
-// The bytes of a record of one process, which retains so many items of one output.
-fn spelling(alloc: Global, items: u32) -> anyhow::Result<Vec<u8>> {
+/// The bytes of a record of one process, which retains so many items of one output.
+pub fn spelling(alloc: Global, items: u32) -> anyhow::Result<Vec<u8>> {
     let mut out = Vec::new(alloc);
     // Version, node 0, epoch 0, one node, its entry, no decision.
     out.extend_from_slice(&[1, 0, 0, 0, 0, 0, 0, 0, 0, 0, 1, 0, 0, 0, 0, 0, 0, 0, 0, 0])?;

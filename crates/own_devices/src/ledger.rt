@@ -1,25 +1,40 @@
 //! An outlet of one's own: it keeps what it took, and the sum of it.
 
-ghost use Rattle.std.specs.Prelude.{◌≡◌, []};
+ghost use Rattle.std.specs.Prelude.{◌≡◌, [], if◌then◌else◌};
 
 use outlet::{Outlet, OutletFault};
 use std::alloc::Global;
 
-/// Items, and their sum, which wraps. It never fails.
+/// When a ledger fails: once, at the item that comes next when it has so many.
+#[derive(Clone, Copy, Debug, PartialEq, Eq)]
+pub enum Weakness {
+    /// It never fails.
+    None,
+    /// It fails before it takes the item.
+    Before(usize),
+    /// It fails when it has taken the item.
+    Behind(usize),
+}
+
+/// Items, and their sum, which wraps. Want of memory aside it fails once at most.
 #[derive(Drop)]
 pub struct Ledger {
     items: Vec<i64>,
     sum: i64,
+    weakness: Weakness,
+    has_failed: bool,
 }
 
 impl Ledger {
     /// It took no item yet.
-    pub fn new(alloc: Global) -> Ledger
+    pub fn new(alloc: Global, weakness: Weakness) -> Ledger
         ensures { result.items.items ≡ [] }
     {
         Ledger {
             items: Vec::new(alloc),
             sum: 0,
+            weakness,
+            has_failed: false,
         }
     }
 
@@ -31,7 +46,7 @@ impl Ledger {
 impl Outlet for Ledger {
     ghost taken = { λ ledger. ledger.items.items };
 
-    ghost failures = { λ _. 0 };
+    ghost failures = { λ ledger. if ledger.has_failed then 1 else 0 };
 
     fn len(&self) -> u64 {
         self.items.len() as u64
@@ -42,8 +57,17 @@ impl Outlet for Ledger {
     }
 
     fn append(&mut self, item: i64) -> Result<(), OutletFault> {
+        let count = self.items.len();
+        if !self.has_failed && self.weakness == Weakness::Before(count) {
+            self.has_failed = true;
+            return Err(OutletFault::Failed);
+        }
         self.items.push(item)?;
         self.sum = self.sum.wrapping_add(item);
+        if !self.has_failed && self.weakness == Weakness::Behind(count) {
+            self.has_failed = true;
+            return Err(OutletFault::Failed);
+        }
         Ok(())
     }
 }

@@ -1,5 +1,5 @@
-//! A world over a disk and outlets of one's own: a network with two outputs, event by event, with a crash in the middle. `embedded` is
-//! the same with the disk and the outlet that are there.
+//! Worlds over a disk and outlets of one's own: a network with two outputs, event by event, once with a crash in the middle, and twice
+//! with an outlet that fails. `embedded` is the same with the disk and the outlet that are there.
 #![tactic(auto)]
 
 mod counting;
@@ -13,7 +13,7 @@ ghost use Rattle.protocol.specs.World.Sound.{output_channels};
 ghost use Rattle.world.specs.OpeningWorld.{IsUnused};
 
 use crate::counting::CountingDisk;
-use crate::ledger::Ledger;
+use crate::ledger::{Ledger, Weakness};
 use gate_cell::GateCell;
 use net_check::{Net, bind, check};
 use net_text::{parse, parse_inputs};
@@ -44,19 +44,19 @@ fn empty_disk(alloc: Global, sectors: usize) -> Result<OwnDisk, AllocError>
 }
 
 /// An output that has a ledger of its own.
-fn output_by(alloc: Global, channel: u8) -> Output<Ledger>
+fn output_by(alloc: Global, channel: u8, weakness: Weakness) -> Output<Ledger>
     ensures channel { result.channel ≡ channel }
     ensures empty { IsUnused (λ ledger. ledger.items.items) result }
 {
     Output {
         channel,
-        outlet: Ledger::new(alloc),
+        outlet: Ledger::new(alloc, weakness),
         failed: None,
     }
 }
 
-/// The two outputs of the network. Their channels are those of the outlets that `world` would make.
-fn own_outputs(alloc: Global, net: &Net) -> anyhow::Result<Vec<Output<Ledger>>>
+/// The two outputs of the network, the first of which may fail. Their channels are those of the outlets that `world` would make.
+fn own_outputs(alloc: Global, net: &Net, weakness: Weakness) -> anyhow::Result<Vec<Output<Ledger>>>
     ensures listed { IfOk result
         (λ outputs. map (λ output. output.channel) outputs.items
         ≡ output_channels 0 (network_of net.now.program).channels) }
@@ -67,8 +67,8 @@ fn own_outputs(alloc: Global, net: &Net) -> anyhow::Result<Vec<Output<Ledger>>>
     let mut own = Vec::with_capacity(alloc, 2)?;
     match listed.as_slice() {
         [first, second] => {
-            own.push(output_by(alloc, first.channel))?;
-            own.push(output_by(alloc, second.channel))?;
+            own.push(output_by(alloc, first.channel, weakness))?;
+            own.push(output_by(alloc, second.channel, Weakness::None))?;
             Ok(own)
         }
         _ => anyhow::bail!("not two outputs"),
@@ -76,11 +76,11 @@ fn own_outputs(alloc: Global, net: &Net) -> anyhow::Result<Vec<Output<Ledger>>>
 }
 
 /// The world before its first event.
-fn open(alloc: Global) -> anyhow::Result<OwnWorld> {
+fn open(alloc: Global, weakness: Weakness) -> anyhow::Result<OwnWorld> {
     let net = check(alloc, parse(alloc, NET)?)?;
     anyhow::ensure!(node_count(&net) == 1, "several nodes");
     let inputs = bind(alloc, &net, parse_inputs(alloc, "i: 1 2 3")?)?;
-    let outputs = own_outputs(alloc, &net)?;
+    let outputs = own_outputs(alloc, &net, weakness)?;
     let net = Arc::new(alloc, net)?;
     let inputs = Arc::new(alloc, inputs)?;
     let mut disks = Vec::with_capacity(alloc, 1)?;
@@ -99,37 +99,54 @@ fn apply(alloc: Global, world: &mut OwnWorld, event: Event) -> anyhow::Result<Re
     }
 }
 
-/// The event that is next for node 0. A job that it grants is run, and what came of it is brought back.
-fn step(alloc: Global, world: &mut OwnWorld) -> anyhow::Result<()> {
-    let event = world.pick(0);
-    if let Reply::Granted(job) = apply(alloc, world, event)? {
-        let Ok(done) = job.run(alloc) else {
-            return Err(anyhow::anyhow!("no memory"));
-        };
-        apply(alloc, world, Event::Install(done))?;
+/// Tells what a release answers: the channel, and how many items have left by it.
+fn tell(rt: &HostRuntime, reply: &Reply) -> anyhow::Result<()> {
+    match reply {
+        Reply::Released(freed) => print!(rt; " {}.{}", freed.output, freed.number)?,
+        Reply::OutletFailed => print!(rt; " failed")?,
+        _ => {}
     }
     Ok(())
 }
 
-/// Goes on until the world is complete.
-fn run(alloc: Global, world: &mut OwnWorld) -> anyhow::Result<()> {
+/// The event that is next for node 0. A job that it grants is run, and what came of it is brought back.
+fn step(rt: &HostRuntime, world: &mut OwnWorld) -> anyhow::Result<()> {
+    let alloc = rt.alloc();
+    let event = world.pick(0);
+    match apply(alloc, world, event)? {
+        Reply::Granted(job) => {
+            let Ok(done) = job.run(alloc) else {
+                return Err(anyhow::anyhow!("no memory"));
+            };
+            apply(alloc, world, Event::Install(done))?;
+        }
+        reply => tell(rt, &reply)?,
+    }
+    Ok(())
+}
+
+/// The node crashes: what it had in memory is gone. It may be recovered a round later.
+fn crash() -> Event {
+    Event::Crash {
+        node: 0,
+        fill: 0,
+        rounds: 1,
+    }
+}
+
+/// Goes on until the world is complete. It crashes before the turn `CRASHES_AT`, where it is to.
+fn run(rt: &HostRuntime, world: &mut OwnWorld, crashes: bool) -> anyhow::Result<()> {
+    print!(rt; "left:")?;
     for turn in 0..100 {
         if world.complete() {
             break;
         }
-        if turn == CRASHES_AT {
-            apply(
-                alloc,
-                world,
-                Event::Crash {
-                    node: 0,
-                    fill: 0,
-                    rounds: 1,
-                },
-            )?;
+        if crashes && turn == CRASHES_AT {
+            apply(rt.alloc(), world, crash())?;
         }
-        step(alloc, world)?;
+        step(rt, world)?;
     }
+    println!(rt; "")?;
     Ok(())
 }
 
@@ -165,10 +182,33 @@ fn print_items(rt: &HostRuntime, name: &str, items: &[i64]) -> anyhow::Result<()
     Ok(())
 }
 
+/// One run, and what it led to.
+fn run_whole(
+    rt: &HostRuntime,
+    name: &str,
+    weakness: Weakness,
+    crashes: bool,
+) -> anyhow::Result<()> {
+    println!(rt; "{name}")?;
+    let mut world = open(rt.alloc(), weakness)?;
+    run(rt, &mut world, crashes)?;
+    print_items(rt, "same", world.released(1))?;
+    print_items(rt, "total", world.released(2))?;
+    report(rt, world)
+}
+
 fn main(rt: HostRuntime) -> anyhow::Result<()> {
-    let mut world = open(rt.alloc())?;
-    run(rt.alloc(), &mut world)?;
-    print_items(&rt, "same", world.released(1))?;
-    print_items(&rt, "total", world.released(2))?;
-    report(&rt, world)
+    run_whole(&rt, "a crash", Weakness::None, true)?;
+    run_whole(
+        &rt,
+        "an outlet that fails before an item",
+        Weakness::Before(1),
+        false,
+    )?;
+    run_whole(
+        &rt,
+        "an outlet that fails behind an item",
+        Weakness::Behind(1),
+        false,
+    )
 }
