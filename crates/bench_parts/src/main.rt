@@ -5,6 +5,7 @@
 mod approx;
 mod checkpoints;
 mod clock;
+mod links;
 mod packets;
 mod puts;
 mod records;
@@ -18,6 +19,7 @@ fn measure(rt: &HostRuntime, word: &str) -> anyhow::Result<()> {
     match word {
         "approx" => approx::measure(rt, alloc),
         "checkpoints" => checkpoints::measure(rt, alloc),
+        "links" => links::measure(rt, alloc),
         "packets" => packets::measure(rt, alloc),
         "puts" => puts::measure(rt, alloc),
         "records" => records::measure(rt, alloc),

@@ -1,4 +1,5 @@
-//! Turns of growing lengths.
+//! Turns of growing lengths, and what an item costs in processes of several forms, which `bench/turns` sets beside a plain program that
+//! interprets the same instructions.
 
 use crate::clock::processor_micros;
 use kahn_net::History;
@@ -15,18 +16,49 @@ const ITEMS: usize = 250_000;
 // Turns of one item each, in each row.
 const TURNS: usize = 20_000;
 
-// The running sum, behind a prelude of so many assignments.
-fn network(alloc: Global, statements: usize) -> anyhow::Result<Arc<Net>> {
+// The least of so many readings is what a form costs.
+const READINGS: usize = 5;
+
+// Two expressions of a dozen operators each.
+const EXPRESSIONS: &str =
+    "a = (a * 3 + v) * (v - 2) - (a - v) * (a + v) + 7 * (v * v - a) - (a + 1); \
+     put (v + a) * (v - a) + 5 * (a - 3) - (v * 2 + a) * (a * 2 + v) + (v - 9) to o;";
+
+// Choices within choices, three deep.
+const CHOICES: &str =
+    "if v < 4 { if v < 2 { if v < 1 { a = a + 1; } else { a = a + 2; } } else { a = a + 3; } } \
+     else { if v < 6 { a = a + 4; } else { a = a + 5; } } put a to o;";
+
+// A process with an input and an output, two variables, and a loop of a get and these statements, behind a prelude of so many
+// assignments.
+fn network(alloc: Global, prelude: usize, body: &str) -> anyhow::Result<Arc<Net>> {
     let mut text = String::from_str(
         alloc,
-        "kahn 1;\ninput i;\noutput o;\nprocess sum on 0 {\n  var a;\n  var v;\n",
+        "kahn 1;\ninput i;\noutput o;\nprocess p on 0 {\n  var a;\n  var v;\n",
     )?;
-    for _ in 0..statements {
+    for _ in 0..prelude {
         text.push_str("  v = 0;\n")?;
     }
-    text.push_str("  loop { v = get i; a = a + v; put a to o; }\n}\n")?;
+    text.push_str("  loop { v = get i; ")?;
+    text.push_str(body)?;
+    text.push_str(" }\n}\n")?;
     let net = check(alloc, parse(alloc, &text)?)?;
     Ok(Arc::new(alloc, net)?)
+}
+
+// The running sum, behind a prelude of so many assignments.
+fn running_sum(alloc: Global, prelude: usize) -> anyhow::Result<Arc<Net>> {
+    network(alloc, prelude, "a = a + v; put a to o;")
+}
+
+// Forty statements, of which the get alone is an act: the put is never made of items that aren't 0.
+fn forty_statements(alloc: Global) -> anyhow::Result<Arc<Net>> {
+    let mut body = String::new(alloc);
+    for _ in 0..38 {
+        body.push_str("a = a + v; ")?;
+    }
+    body.push_str("if v == 0 { put a to o; }")?;
+    network(alloc, 0, &body)
 }
 
 // A job at the loop's get, with so many items and so much room.
@@ -63,7 +95,7 @@ fn print_ratio(rt: &impl Print, micros: u64, before: u64, what: &str) -> anyhow:
 
 // One turn over all items.
 fn long_turns(rt: &(impl Print + CpuClock), alloc: Global) -> anyhow::Result<()> {
-    let net = network(alloc, 0)?;
+    let net = running_sum(alloc, 0)?;
     let mut before = 0;
     for items in [ITEMS, 2 * ITEMS, 4 * ITEMS] {
         let job = job(alloc, &net, items)?;
@@ -85,7 +117,7 @@ fn long_turns(rt: &(impl Print + CpuClock), alloc: Global) -> anyhow::Result<()>
 fn short_turns(rt: &(impl Print + CpuClock), alloc: Global) -> anyhow::Result<()> {
     let mut before = 0;
     for statements in [10, 100, 1_000] {
-        let net = network(alloc, statements)?;
+        let net = running_sum(alloc, statements)?;
         let start = processor_micros(rt)?;
         for _ in 0..TURNS {
             job(alloc, &net, 1)?.run(alloc)?;
@@ -98,7 +130,33 @@ fn short_turns(rt: &(impl Print + CpuClock), alloc: Global) -> anyhow::Result<()
     Ok(())
 }
 
+// The microseconds of one turn over `ITEMS` items: the least of so many readings.
+fn least_micros(rt: &impl CpuClock, alloc: Global, net: &Arc<Net>) -> anyhow::Result<u64> {
+    let mut least = u64::MAX;
+    for _ in 0..READINGS {
+        let job = job(alloc, net, ITEMS)?;
+        let start = processor_micros(rt)?;
+        let _done = job.run(alloc)?;
+        least = least.min(processor_micros(rt)?.saturating_sub(start));
+    }
+    Ok(least)
+}
+
+// What an item costs in processes of several forms.
+fn forms(rt: &(impl Print + CpuClock), alloc: Global) -> anyhow::Result<()> {
+    let sum = least_micros(rt, alloc, &running_sum(alloc, 0)?)?;
+    println!(rt; "form sum {ITEMS} {sum}")?;
+    let expressions = least_micros(rt, alloc, &network(alloc, 0, EXPRESSIONS)?)?;
+    println!(rt; "form expressions {ITEMS} {expressions}")?;
+    let choices = least_micros(rt, alloc, &network(alloc, 0, CHOICES)?)?;
+    println!(rt; "form choices {ITEMS} {choices}")?;
+    let forty = least_micros(rt, alloc, &forty_statements(alloc)?)?;
+    println!(rt; "form forty {ITEMS} {forty}")?;
+    Ok(())
+}
+
 pub fn measure(rt: &(impl Print + CpuClock), alloc: Global) -> anyhow::Result<()> {
     long_turns(rt, alloc)?;
-    short_turns(rt, alloc)
+    short_turns(rt, alloc)?;
+    forms(rt, alloc)
 }
