@@ -7,9 +7,10 @@ use Rattle.std.proofs.lemmas.Bool.Decides.{nat_tests}
 use Rattle.std.specs.Prelude.{slice_get, nat_lt}
 use Rattle.std.specs.Ordering.{int_eq}
 use Rattle.kahn_net.specs.Streams.{history_of, total}
-use Rattle.kahn_net.specs.Syntax.{Tree, Block, Nothing, GetThen, AssignThen, PutThen, StopThen, IfThen, Code}
+use Rattle.kahn_net.specs.Syntax.{Tree, Block, Nothing, GetThen, AssignThen, PutThen, StopThen, IfThen, RepeatThen}
+use Rattle.kahn_net.specs.Syntax.{Code}
 use Rattle.kahn_net.specs.Statements.{Act, Got, Sent, Point, Step, Trace, End, Ended, Waits, Stopped, trace_of}
-use Rattle.kahn_net.specs.Statements.{point_at, choose, on_get, from_end, then_do, value_of, sites_of}
+use Rattle.kahn_net.specs.Statements.{point_at, choose, on_get, from_end, then_do, rounds, value_of, sites_of}
 use Rattle.kahn_net.specs.Processes.{Standing, NotBegun, At, Done, standing_at, StandsAt, HasPassingLoop, passes}
 use Rattle.kahn_net.specs.Processes.{loop_trace, process_trace}
 use Rattle.kahn_net.specs.Laws.Traces.{one_of}
@@ -79,6 +80,14 @@ foretells_then P t go f next = at_end t.end refl
           (next v u).acts;
       waits = (next v u).waits;
     }
+
+-- so many passes
+foretells_rounds : (P : ℕ → Next → Type 0) (n : ℕ) (pass : ℕ → List ℤ → List (List ℤ) → Trace)
+    → ((k : ℕ) (v : List ℤ) (u : List (List ℤ)) → Foretells P (pass k v u)) → (v : List ℤ) (u : List (List ℤ))
+    → Foretells P (rounds n pass v u)
+foretells_rounds P zero pass h v u = foretells_none P v u
+foretells_rounds P (suc n) pass h v u =
+    foretells_then P (pass (suc n) v u) (rounds n pass) (h (suc n) v u) (λ v' u'. foretells_rounds P n pass h v' u')
 
 -- a site of this block, whose first get or put has this number, and what comes next there
 pub record IsPlaced (number : ℕ) (b : Block) (site : ℕ) (next : Next) : Type 0 where
@@ -153,6 +162,22 @@ module _ (number : ℕ) (test : Tree) (first second b : Block) (site : ℕ) (nex
             ∙ (ap (λ (t : Bool). cond t (next_on m second site) (next_on n b site)) (le-ltb site n p.above) ∙ p.is);
       }
 
+-- in the block of a repetition, and behind it
+module _ (number times : ℕ) (body b : Block) (site : ℕ) (next : Next) where
+  in_pass : IsPlaced number body site next → IsPlaced number (RepeatThen times body b) site next
+  in_pass p = let n = number + sites_of body in record {
+    above = p.above;
+    below = (let more : site < number + (sites_of body + sites_of b) = omega (arith, p.below) in more);
+    is = ap (λ (t : Bool). cond t (next_on number body site) (next_on n b site)) (lt-ltb site n p.below) ∙ p.is;
+  }
+
+  past_passes : IsPlaced (number + sites_of body) b site next → IsPlaced number (RepeatThen times body b) site next
+  past_passes p = let n = number + sites_of body in record {
+    above = omega (arith, p.above);
+    below = (let more : site < number + (sites_of body + sites_of b) = omega (arith, p.below) in more);
+    is = ap (λ (t : Bool). cond t (next_on number body site) (next_on n b site)) (le-ltb site n p.above) ∙ p.is;
+  }
+
 -- what statements do
 foretells_block : (number : ℕ) (left : List ℕ) (b : Block) (v : List ℤ) (u : List (List ℤ))
     → Foretells (IsPlaced number b) (trace_of number left b v u)
@@ -176,6 +201,16 @@ foretells_block number left (IfThen test first second b) v u =
     (foretells_for (IsPlaced number first) whole one (in_first number test first second b)
     (foretells_block number left first v u)))
     (λ v' u'. foretells_for (IsPlaced n b) whole (trace_of n left b v' u') (past_both number test first second b)
+    (foretells_block n left b v' u'))
+foretells_block number left (RepeatThen times body b) v u =
+    let whole = IsPlaced number (RepeatThen times body b) in
+    let n = number + sites_of body in
+    let pass = λ (k : ℕ). trace_of number (left ++ k ∷ []) body in
+    foretells_then whole (rounds times pass v u) (trace_of n left b)
+    (foretells_rounds whole times pass
+    (λ k v' u'. foretells_for (IsPlaced number body) whole (pass k v' u') (in_pass number times body b)
+    (foretells_block number (left ++ k ∷ []) body v' u')) v u)
+    (λ v' u'. foretells_for (IsPlaced n b) whole (trace_of n left b v' u') (past_passes number times body b)
     (foretells_block n left b v' u'))
 foretells_block number left (PutThen e c b) v u =
     let r = foretells_for (IsPlaced (number + 1) b) (IsPlaced number (PutThen e c b))
