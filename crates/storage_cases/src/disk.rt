@@ -81,28 +81,44 @@ fn write(
     Ok(answer_of(disk.write(first, &bytes)))
 }
 
-/// What a write of these bytes answers. What is missing of a sector is zero.
-fn write_bytes(
-    alloc: Global,
-    disk: &mut MemDisk,
-    first: usize,
-    spelling: &str,
-) -> anyhow::Result<Answer> {
+/// A sector of these bytes. What is missing is zero.
+fn sector_of(alloc: Global, spelling: &str) -> anyhow::Result<[u8; SECTOR_BYTES]> {
     let spelled = case_table::spelled(alloc, &[], spelling)?;
     let mut sector = [0; SECTOR_BYTES];
     anyhow::ensure!(spelled.len() <= SECTOR_BYTES, "more than a sector");
     sector[..spelled.len()].copy_from_slice(&spelled);
-    Ok(answer_of(disk.write(first, &sector)))
+    Ok(sector)
+}
+
+/// Whether a sector is of these bytes.
+fn holds(disk: &mut MemDisk, number: usize, wanted: &[u8; SECTOR_BYTES]) -> Answer {
+    let mut bytes = [0; SECTOR_BYTES];
+    match disk.read(number, &mut bytes) {
+        Ok(()) => Answer::Yes(bytes == *wanted),
+        Err(fault) => Answer::Refused(fault.number()),
+    }
+}
+
+/// The number and the bytes behind such a word.
+fn sector_behind<'a>(text: &'a str, word: &str) -> Option<(&'a str, &'a str)> {
+    text.strip_prefix(word)?.split_once(" ")
+}
+
+/// What is asked of one sector, whose bytes stand there.
+fn ask_sector(alloc: Global, disk: &mut MemDisk, text: &str) -> anyhow::Result<Option<Answer>> {
+    if let Some((number, spelling)) = sector_behind(text, "sector ") {
+        let sector = sector_of(alloc, spelling)?;
+        return Ok(Some(answer_of(disk.write(size(number)?, &sector))));
+    }
+    if let Some((number, spelling)) = sector_behind(text, "holds ") {
+        let sector = sector_of(alloc, spelling)?;
+        return Ok(Some(holds(disk, size(number)?, &sector)));
+    }
+    Ok(None)
 }
 
 /// What a disk answers, where it is asked for something that it knows.
 pub fn ask(alloc: Global, disk: &mut MemDisk, text: &str) -> anyhow::Result<Option<Answer>> {
-    if let Some(rest) = text.strip_prefix("sector ") {
-        let Some((first, spelling)) = rest.split_once(" ") else {
-            anyhow::bail!("no bytes");
-        };
-        return Ok(Some(write_bytes(alloc, disk, size(first)?, spelling)?));
-    }
     let words: Vec<&str> = text.split_whitespace().collect(alloc)?;
     let answer = match words.as_slice() {
         ["read", first, count] => read(alloc, disk, size(first)?, size(count)?)?,
@@ -125,7 +141,7 @@ pub fn ask(alloc: Global, disk: &mut MemDisk, text: &str) -> anyhow::Result<Opti
         ["calls"] => Answer::Number(disk.calls()),
         ["failures"] => Answer::Number(disk.failures()),
         ["sectors"] => Answer::Number(disk.sectors() as u64),
-        _ => return Ok(None),
+        _ => return ask_sector(alloc, disk, text),
     };
     Ok(Some(answer))
 }

@@ -14,13 +14,17 @@
 //! | `disk 5` | a disk of so many sectors, all zero, in place of what there was |
 //! | `read 1 2 -> 0 7` | of a disk, from sector 1 on, the byte of each sector, or `mixed`. A refused read leaves the bytes, or it is an error |
 //! | `write 1 8 512`, `sector 1 00*6 01f9`, `sync` | a write of so many bytes 8; of one sector, whose other bytes are zero; a sync |
+//! | `holds 1 00*7 01 41 -> yes` | whether a sector is these bytes, and zeros behind them |
 //! | `calls -> 3`, `failures -> 1`, `sectors -> 4` | what a disk says of itself |
 //! | `format 41`, `open` | a disk becomes a cell that holds these bytes, or the cell that it has; where that is refused it stays a disk |
-//! | `put 42`, `get -> 42`, `room -> 1016` | a cell's value; more than 64 bytes of it are shown as `504 bytes` |
+//! | `put 42`, `get -> 42`, `room -> 1016` | a cell's value, also of one with slots; more than 64 bytes are shown as `504 bytes`, and none as `nothing` |
+//! | `split format 41`, `split open` | a disk becomes a cell with slots, whose header is these bytes, or the one that it has; where that is refused it stays a disk |
+//! | `fill 0 42`, `slot 0 -> 42`, `slot room -> 504` | the bytes of slot 0 or 1, shown as a value is; how many fit it |
 //! | `store` | a cell becomes the store of its record; where that is refused it stays a cell |
 //! | `take 1 5`, `make permanent 1 5`, `drop 1 5`, `decide 5`, `confirm 5 1`, `raise epoch` | of a store: a tentative image of nothing is taken, by its initiator and number, and so on |
 //! | `record -> epoch 0 entries 0 5 decisions none held 5` | of a store's record what changes: decisions are `3 of 1 2, 5 of 2`, of these nodes |
 //! | `arm call 2 fill 0`, `recount`, `crash`, `crash fill 255` | a failure of a call, counted from here where it is recounted; a crash. Of a disk, a cell or a store |
+//! | `failed call -> 2` | of a cell, the last call that failed since the last recount, or 0 |
 //! | `reopen` | of a cell or a store, behind a crash or a failure |
 //! | `close` | a store becomes its cell, a cell its disk |
 //! | `log at 7` | a log that begins at this position, in place of the one there was |
@@ -37,6 +41,7 @@ mod case_outlet;
 mod cell;
 mod disk;
 mod medium;
+mod slots;
 mod store;
 mod stream;
 mod words;

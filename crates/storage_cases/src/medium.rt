@@ -1,4 +1,4 @@
-//! What a case stores on: a disk, a cell on it, and a store in the cell.
+//! What a case stores on: a disk, a cell on it, with slots or without, and a store in one without.
 
 ghost use Rattle.std.specs.Prelude.{◌*◌, ◌^◌, ◌<◌};
 ghost use Rattle.sector_disk.specs.declared.TheConstants.{SECTOR_BYTES};
@@ -6,10 +6,10 @@ ghost use Rattle.sector_disk.specs.declared.TheConstants.{SECTOR_BYTES};
 use crate::answer::Answer;
 use crate::store::CaseStore;
 use crate::words::sends;
-use crate::{cell, disk, store};
+use crate::{cell, disk, slots, store};
 use case_table::size;
 use ckpt_store::Store;
-use gate_cell::GateCell;
+use gate_cell::{GateCell, SplitCell};
 use sector_disk::MemDisk;
 use std::alloc::{AllocError, Global};
 
@@ -22,6 +22,7 @@ pub enum Medium {
     Nothing,
     Disk(MemDisk),
     Cell(GateCell<MemDisk>),
+    Split(SplitCell<MemDisk>),
     Store(CaseStore),
 }
 
@@ -57,6 +58,24 @@ fn open_cell(alloc: Global, disk: MemDisk) -> (Medium, Answer) {
     }
 }
 
+/// A disk that is refused is handed back.
+fn format_split(alloc: Global, disk: MemDisk, header: &[u8]) -> (Medium, Answer) {
+    match SplitCell::format(alloc, disk, header) {
+        Ok(cell) => {
+            sends(&cell);
+            (Medium::Split(cell), Answer::Done)
+        }
+        Err((fault, disk)) => (Medium::Disk(disk), Answer::Refused(fault.number())),
+    }
+}
+
+fn open_split(alloc: Global, disk: MemDisk) -> (Medium, Answer) {
+    match SplitCell::open(alloc, disk) {
+        Ok(cell) => (Medium::Split(cell), Answer::Done),
+        Err((fault, disk)) => (Medium::Disk(disk), Answer::Refused(fault.number())),
+    }
+}
+
 /// A cell that is refused is handed back.
 fn open_store(alloc: Global, cell: GateCell<MemDisk>) -> (Medium, Answer) {
     match Store::open(alloc, cell) {
@@ -78,6 +97,8 @@ fn disk_becomes(
     let (medium, answer) = match word {
         "format" => format(alloc, disk, value),
         "open" => open_cell(alloc, disk),
+        "split format" => format_split(alloc, disk, value),
+        "split open" => open_split(alloc, disk),
         _ => return (Medium::Disk(disk), None),
     };
     (medium, Some(answer))
@@ -91,6 +112,13 @@ fn cell_becomes(alloc: Global, cell: GateCell<MemDisk>, word: &str) -> (Medium, 
             (medium, Some(answer))
         }
         _ => (Medium::Cell(cell), None),
+    }
+}
+
+fn split_becomes(cell: SplitCell<MemDisk>, word: &str) -> (Medium, Option<Answer>) {
+    match word {
+        "close" => (Medium::Disk(cell.close()), Some(Answer::Done)),
+        _ => (Medium::Split(cell), None),
     }
 }
 
@@ -108,6 +136,7 @@ impl Medium {
             Medium::Nothing => (Medium::Nothing, None),
             Medium::Disk(disk) => disk_becomes(alloc, disk, word, value),
             Medium::Cell(cell) => cell_becomes(alloc, cell, word),
+            Medium::Split(cell) => split_becomes(cell, word),
             Medium::Store(store) => store_becomes(store, word),
         }
     }
@@ -118,9 +147,21 @@ impl Medium {
             Medium::Nothing => Ok(None),
             Medium::Disk(it) => disk::ask(alloc, it, text),
             Medium::Cell(it) => cell::ask(alloc, it, text),
+            Medium::Split(it) => slots::ask(alloc, it, text),
             Medium::Store(it) => store::ask(alloc, it, text),
         }
     }
+}
+
+/// What may make a medium another one, and the bytes of it.
+fn turn_of(text: &str) -> (&str, &str) {
+    if let Some(spelling) = text.strip_prefix("format ") {
+        return ("format", spelling);
+    }
+    if let Some(spelling) = text.strip_prefix("split format ") {
+        return ("split format", spelling);
+    }
+    (text, "")
 }
 
 /// What a line asks of a medium, and what that answers, where it is asked for something that it knows.
@@ -128,11 +169,8 @@ pub fn step(alloc: Global, medium: Medium, text: &str) -> anyhow::Result<(Medium
     if let Some(sectors) = text.strip_prefix("disk ") {
         return Ok((new_disk(alloc, size(sectors)?)?, Some(Answer::Done)));
     }
-    let (word, rest) = text.split_once(" ").unwrap_or((text, ""));
-    let value = match word {
-        "format" => case_table::spelled(alloc, &[], rest)?,
-        _ => Vec::new(alloc),
-    };
+    let (word, spelling) = turn_of(text);
+    let value = case_table::spelled(alloc, &[], spelling)?;
     let (medium, turned) = medium.turned(alloc, word, &value);
     if turned.is_some() {
         return Ok((medium, turned));
