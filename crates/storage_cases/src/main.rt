@@ -60,25 +60,49 @@ use std::alloc::Global;
 #[derive(Clone, Copy, Debug)]
 struct Storage;
 
-/// What a line is answered, and the medium then.
-fn answered(
-    alloc: Global,
+/// What a case stores on, and its log and outlet. They stand together, and are lent to all that works on them: each way out of a
+/// function that owns them would be one more place at which they are let go, and that is proved for each.
+#[derive(Drop)]
+struct Stage {
     medium: Medium,
-    streams: &mut Streams,
-    text: &str,
-) -> anyhow::Result<(Medium, String)> {
+    streams: Streams,
+}
+
+/// What a line answers.
+fn answered(alloc: Global, stage: &mut Stage, text: &str) -> anyhow::Result<String> {
     if text == "numbers of no memory" {
-        let numbers = listed(alloc, numbers_of_no_memory().as_slice())?;
-        return Ok((medium, numbers));
+        return Ok(listed(alloc, numbers_of_no_memory().as_slice())?);
     }
-    let (medium, answer) = step(alloc, medium, text)?;
-    if let Some(answer) = answer {
-        return Ok((medium, answer.into_text(alloc)?));
+    if let Some(answer) = step(alloc, &mut stage.medium, text)? {
+        return Ok(answer.into_text(alloc)?);
     }
-    match streams.ask(alloc, text)? {
-        Some(answer) => Ok((medium, answer.into_text(alloc)?)),
+    match stage.streams.ask(alloc, text)? {
+        Some(answer) => Ok(answer.into_text(alloc)?),
         None => anyhow::bail!("{text} asks for nothing that is known"),
     }
+}
+
+/// The first line whose answer isn't the one that is wanted.
+fn difference(
+    alloc: Global,
+    stage: &mut Stage,
+    case: &Case,
+    choice: &[u64],
+) -> anyhow::Result<Option<Difference>> {
+    for Line { number, text } in &case.lines {
+        let line = filled(alloc, text, &case.names, choice)?;
+        let (asked, wanted) = parts_of(&line);
+        let came = answered(alloc, stage, asked).context(format_args!("line {number}"))?;
+        if !is_wanted(wanted, &came) {
+            return Ok(Some(Difference {
+                line: *number,
+                asked: String::from_str(alloc, asked)?,
+                wanted: String::from_str(alloc, wanted)?,
+                came,
+            }));
+        }
+    }
+    Ok(None)
 }
 
 impl Trial for Storage {
@@ -88,26 +112,11 @@ impl Trial for Storage {
         case: &Case,
         choice: &[u64],
     ) -> anyhow::Result<Option<Difference>> {
-        let alloc = rt.alloc();
-        let mut medium = Medium::Nothing;
-        let mut streams = Streams::new(alloc);
-        for Line { number, text } in &case.lines {
-            let line = filled(alloc, text, &case.names, choice)?;
-            let (asked, wanted) = parts_of(&line);
-            let (next, came) = answered(alloc, medium, &mut streams, asked).context(format_args!(
-                "line {number}"
-            ))?;
-            medium = next;
-            if !is_wanted(wanted, &came) {
-                return Ok(Some(Difference {
-                    line: *number,
-                    asked: String::from_str(alloc, asked)?,
-                    wanted: String::from_str(alloc, wanted)?,
-                    came,
-                }));
-            }
-        }
-        Ok(None)
+        let mut stage = Stage {
+            medium: Medium::Nothing,
+            streams: Streams::new(rt.alloc()),
+        };
+        difference(rt.alloc(), &mut stage, case, choice)
     }
 }
 

@@ -12,6 +12,7 @@ use ckpt_store::Store;
 use gate_cell::{GateCell, SplitCell};
 use sector_disk::MemDisk;
 use std::alloc::{AllocError, Global};
+use std::mem;
 
 /// The most sectors of a disk.
 const MAX_SECTORS: usize = 5_000;
@@ -141,6 +142,13 @@ impl Medium {
         }
     }
 
+    /// Makes it that, and answers so.
+    fn turn(&mut self, alloc: Global, word: &str, value: &[u8]) -> Option<Answer> {
+        let (medium, answer) = mem::replace(self, Medium::Nothing).turned(alloc, word, value);
+        *self = medium;
+        answer
+    }
+
     /// What is answered to something that leaves it what it is.
     fn ask(&mut self, alloc: Global, text: &str) -> anyhow::Result<Option<Answer>> {
         match self {
@@ -165,17 +173,16 @@ fn turn_of(text: &str) -> (&str, &str) {
 }
 
 /// What a line asks of a medium, and what that answers, where it is asked for something that it knows.
-pub fn step(alloc: Global, medium: Medium, text: &str) -> anyhow::Result<(Medium, Option<Answer>)> {
+pub fn step(alloc: Global, medium: &mut Medium, text: &str) -> anyhow::Result<Option<Answer>> {
     if let Some(sectors) = text.strip_prefix("disk ") {
-        return Ok((new_disk(alloc, size(sectors)?)?, Some(Answer::Done)));
+        *medium = new_disk(alloc, size(sectors)?)?;
+        return Ok(Some(Answer::Done));
     }
     let (word, spelling) = turn_of(text);
     let value = case_table::spelled(alloc, &[], spelling)?;
-    let (medium, turned) = medium.turned(alloc, word, &value);
+    let turned = medium.turn(alloc, word, &value);
     if turned.is_some() {
-        return Ok((medium, turned));
+        return Ok(turned);
     }
-    let mut medium = medium;
-    let answer = medium.ask(alloc, text)?;
-    Ok((medium, answer))
+    medium.ask(alloc, text)
 }
