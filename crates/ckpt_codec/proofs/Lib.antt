@@ -7,6 +7,9 @@ mod Parts
 mod Text
 mod Records
 mod Items
+mod Wholes
+mod Versioned
+pub mod Headers
 pub mod Exactness
 mod Spelled
 mod Walking

@@ -2,12 +2,17 @@
 //!
 //! `write_record` gives a record's spelling, and `read_record` the record of a spelling; any other bytes it refuses by the
 //! first offence from the left.
+//!
+//! A record may also stand apart, as a header (`write_header`, `read_header`) and an image or two in slots of their own
+//! (`write_image`, `read_image`).
 #![tactic(auto)]
 
 mod allowed;
+mod apart;
 mod ends;
 mod fault;
 mod fields;
+mod header;
 mod images;
 mod laws;
 mod lengths;
@@ -19,7 +24,9 @@ mod version;
 mod writing;
 
 pub use allowed::{are_participants, is_image, is_record};
+pub use apart::{read_header, read_image};
 pub use fault::CodecFault;
+pub use header::{Header, Instance};
 pub use laws::{
     bounded_records_fit, moves_keep_bounds, moves_make_no_longer, no_spelling_begins_another,
 };
