@@ -17,3 +17,4 @@ pub mod Sizes
 mod Fitting
 mod Testing
 pub mod Versions
+mod HeaderSizes

@@ -1,19 +1,29 @@
 // A record apart: a header, and images by themselves.
-ghost use Rattle.std.specs.Prelude.{◌≡◌, ◌≤◌, ◌++◌, length, IfOk, IfErr, OnOk, option_copied};
+ghost use Rattle.std.specs.Prelude.{◌≡◌, ◌≤◌, ◌++◌, length, Option, IfOk, IfErr, OnOk, option_copied};
 ghost use Rattle.record.specs.ImageView.{ImageView};
 ghost use Rattle.ckpt_codec.specs.Faults.{IsHeaderFault, IsImageFault, IsReadUnlessMemory, IsRefusedUnlessMemory};
-ghost use Rattle.ckpt_codec.specs.HeaderText.{IsHeaderText, IsImageText};
+ghost use Rattle.ckpt_codec.specs.Fields.{AreAllowed};
+ghost use Rattle.ckpt_codec.specs.HeaderText.{header_of, IsHeaderTextIn, IsHeaderText, IsImageText, IsImageSpelled};
 ghost use Rattle.ckpt_codec.specs.HeaderView.{HeaderView};
 ghost use Rattle.ckpt_codec.specs.Reading.{Reads, held_at, slots_at, header_body_at, header_at, whole_image_at};
+ghost use Rattle.ckpt_codec.specs.Lengths.{image_length};
+ghost use Rattle.ckpt_codec.specs.RecordText.{image_fields, IsRecord};
+ghost use Rattle.ckpt_codec.specs.Spelling.{header_spelling, IsShortFront};
+ghost use Rattle.ckpt_codec.specs.declared.lengths.TheConstants.{MAX_HEADER_BYTES};
+ghost use Rattle.ckpt_codec.specs.declared.version.TheConstants.{VERSION};
 ghost use Rattle.ckpt_codec.specs.declared.fault.CodecFault.{CodecFault as FaultValue};
 
 use crate::fault::CodecFault;
 use crate::fields::{flag_of, slot_of};
 use crate::header::{Header, Instance};
 use crate::images::image_of;
+use crate::lengths::{MAX_HEADER_BYTES, spelled_image_length};
+use crate::numbers::put_u8;
+use crate::putting::{put_held, put_image};
 use crate::reading::{front_of, instance_of, most_decisions, version_of};
-use record::Image;
-use std::alloc::Global;
+use crate::writing::put_front;
+use record::{Image, Record};
+use std::alloc::{AllocError, Global};
 
 // Whose tentative image is in the other slot, if there is one there.
 #[tactic(auto, unfolding(crate::specs::Reading::held_at))]
@@ -126,4 +136,41 @@ pub fn read_image(alloc: Global, like: Option<&Image>, bytes: &[u8]) -> Result<I
         → IsRefusedUnlessMemory fault result }
 {
     whole_image_of(alloc, like, bytes)
+}
+
+// The parts of a header, with the permanent image in this slot.
+fn put_header(out: &mut Vec<u8>, kept: &Record, slot: u8) -> Result<(), AllocError>
+    requires { IsShortFront kept.now }
+    ensures { OnOk result (out.new.items ≡ out.old.items
+        ++ header_spelling VERSION slot kept.now) }
+{
+    put_front(out, kept)?;
+    put_u8(out, slot)?;
+    put_held(out, &kept.tentative)
+}
+
+/// The spelling of a record's header, in the version in which records are written, with the permanent image in this slot.
+/// Refuses for want of memory alone.
+pub fn write_header(alloc: Global, kept: &Record, slot: u8) -> Result<Vec<u8>, AllocError>
+    requires kept { IsRecord kept.now }
+    requires slot { slot ≤ 1 }
+    ensures text { IfOk result
+        (λ bytes. IsHeaderTextIn VERSION (header_of slot kept.now) bytes.items) }
+    ensures short { IfOk result (λ bytes. length bytes.items ≤ MAX_HEADER_BYTES) }
+{
+    let mut out = Vec::with_capacity(alloc, MAX_HEADER_BYTES)?;
+    put_header(&mut out, kept, slot)?;
+    Ok(out)
+}
+
+/// The spelling of an image, by itself or beside another: it is the same. Refuses for want of memory alone.
+pub fn write_image(alloc: Global, image: &Image) -> Result<Vec<u8>, AllocError>
+    requires { IsImageSpelled image.now }
+    ensures text { IfOk result (λ bytes. (like : Option ImageView)
+        → AreAllowed (image_fields like image.now) → IsImageText like image.now bytes.items) }
+    ensures long { IfOk result (λ bytes. length bytes.items ≡ image_length image.now) }
+{
+    let mut out = Vec::with_capacity(alloc, spelled_image_length(image))?;
+    put_image(&mut out, image)?;
+    Ok(out)
 }

@@ -24,15 +24,15 @@ mod version;
 mod writing;
 
 pub use allowed::{are_participants, is_image, is_record};
-pub use apart::{read_header, read_image};
+pub use apart::{read_header, read_image, write_header, write_image};
 pub use fault::CodecFault;
 pub use header::{Header, Instance};
 pub use laws::{
     bounded_records_fit, moves_keep_bounds, moves_make_no_longer, no_spelling_begins_another,
 };
 pub use lengths::{
-    MAX_RECORD_BYTES, MAX_RETAINED_ITEMS, spelled_length, spelled_length_once_permanent,
-    spelled_length_with,
+    MAX_HEADER_BYTES, MAX_RECORD_BYTES, MAX_RETAINED_ITEMS, spelled_image_length, spelled_length,
+    spelled_length_once_permanent, spelled_length_with,
 };
 pub use reading::read_record;
 pub use version::{FIRST_VERSION, VERSION};
