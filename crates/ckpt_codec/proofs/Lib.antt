@@ -18,3 +18,4 @@ mod Fitting
 mod Testing
 pub mod Versions
 mod HeaderSizes
+pub mod Joined

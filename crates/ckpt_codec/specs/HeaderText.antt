@@ -88,3 +88,27 @@ pub record IsApart (slot : ℕ) (kept : RecordView) (header permanent other : Li
   pub says : IsHeaderText (header_of slot kept) header
   pub shows : IsImageText None kept.permanent permanent
   pub holds : IsTentativeText kept.permanent kept.tentative other
+
+-- the tentative image of this instance, where there are both
+abbrev pub tentative_with : Option Instance → Option ImageView → Option Tentative
+tentative_with None held = None
+tentative_with (Some i) None = None
+tentative_with (Some i) (Some image) = Some (record { initiator = i.initiator; number = i.number; image = image })
+
+-- the record of a header and its images
+abbrev pub record_with : HeaderView → ImageView → Option ImageView → RecordView
+record_with h permanent held =
+    record {
+      node = h.node;
+      epoch = h.epoch;
+      highest = h.highest;
+      decisions = h.decisions;
+      permanent = permanent;
+      tentative = tentative_with h.tentative held;
+    }
+
+-- where a header names a tentative image, there is one, and the bytes spell it beside the permanent one
+abbrev pub IsHeldText : ImageView → Option Instance → Option ImageView → List ℕ → Type 0
+IsHeldText permanent None held bytes = Unit {0}
+IsHeldText permanent (Some i) None bytes = ⊥
+IsHeldText permanent (Some i) (Some image) bytes = IsImageText (Some permanent) image bytes

@@ -1,5 +1,7 @@
 // What a header says.
-use record::Decision;
+ghost use Rattle.std.specs.Prelude.{◌≡◌};
+
+use record::{Decision, Image, Record, Tentative};
 use std::marker::Model;
 
 /// Whose checkpoint a tentative image is: its initiator, and the number that the checkpoint has there.
@@ -38,4 +40,36 @@ impl Model for Header {
       slot = h.slot;
       tentative = h.tentative;
     } };
+}
+
+impl Header {
+    ghost use Rattle.ckpt_codec.specs.HeaderText.{tentative_with, record_with};
+
+    // The tentative image of this instance, where there are both.
+    fn tentative_with(instance: Option<Instance>, image: Option<Image>) -> Option<Tentative>
+        ensures { result ≡ tentative_with instance image }
+    {
+        let instance = instance?;
+        let image = image?;
+        Some(Tentative {
+            initiator: instance.initiator,
+            number: instance.number,
+            image,
+        })
+    }
+
+    /// The record whose header this is, with its permanent image and, where the header names a tentative one, with that.
+    pub fn with_images(self, permanent: Image, tentative: Option<Image>) -> Record
+        ensures { result ≡ record_with self permanent tentative }
+    {
+        let tentative = Header::tentative_with(self.tentative, tentative);
+        Record {
+            node: self.node,
+            epoch: self.epoch,
+            highest: self.highest,
+            decisions: self.decisions,
+            permanent,
+            tentative,
+        }
+    }
 }

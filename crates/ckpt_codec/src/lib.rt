@@ -28,7 +28,8 @@ pub use apart::{read_header, read_image, write_header, write_image};
 pub use fault::CodecFault;
 pub use header::{Header, Instance};
 pub use laws::{
-    bounded_records_fit, moves_keep_bounds, moves_make_no_longer, no_spelling_begins_another,
+    bounded_records_fit, headers_are_spelled, images_are_spelled, moves_keep_bounds,
+    moves_make_no_longer, no_spelling_begins_another, records_stand_apart,
 };
 pub use lengths::{
     MAX_HEADER_BYTES, MAX_RECORD_BYTES, MAX_RETAINED_ITEMS, spelled_image_length, spelled_length,
