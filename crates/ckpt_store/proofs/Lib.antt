@@ -1,3 +1,4 @@
+pub mod Spelled
 pub mod Puts
 pub mod Parts
 pub mod Images
@@ -7,5 +8,4 @@ pub mod Loads
 pub mod Undone
 pub mod Changes
 pub mod Seen
-pub mod Room
 mod Decisions
