@@ -1,6 +1,6 @@
 -- A change that the record itself gives cause to refuse.
-use Rattle.std.proofs.Common.{◌≡◌, ◌⊎◌, inl, ℕ, Bool, Option, Some, None, Result, Err, refl, sym, subst}
-use Rattle.std.specs.Prelude.{IsErrOf, option_map}
+use Rattle.std.proofs.Common.{◌≡◌, ◌⊎◌, inl, ℕ, Bool, true, false, List, length, Option, Some, None, Result, Err, refl, sym, subst}
+use Rattle.std.specs.Prelude.{if◌then◌else◌, nat_le, IsErrOf, option_map}
 use Rattle.gate_cell.specs.declared.cell.StableCell.{Ghosts as CellWords}
 use Rattle.gate_cell.specs.declared.slot_cell.SlotCell.{Ghosts as SlotWords}
 use Rattle.gate_cell.specs.Setup.{setup_stays}
@@ -10,10 +10,14 @@ use Rattle.ckpt_store.specs.declared.fault.StoreFault.{StoreFault}
 use Rattle.ckpt_store.specs.declared.fault.StoreFault.TheVariants.{NoMemory, Device, TooLarge, Reopen, Truncated}
 use Rattle.ckpt_store.specs.declared.fault.StoreFault.TheVariants.{Version, Malformed, HoldsOther, PastNumber, NotHeld}
 use Rattle.ckpt_store.specs.declared.fault.StoreFault.TheVariants.{Unsettled, Spent}
-use Rattle.ckpt_store.specs.Refusals.{first_refusal, no_refusal, ComesFirst}
-use Rattle.ckpt_store.specs.Spelling.{Spells, SpellsAny, fits_in, fits_next, IsLengthTold}
+use Rattle.ckpt_store.specs.Refusals.{first_refusal, is_held, no_refusal, refusal_to_decide, ComesFirst}
+use Rattle.ckpt_store.specs.Spelling.{Spells, SpellsAny, fits_in, fits_next, IsLengthTold, IsKept, kept_in, known_as}
 use Rattle.ckpt_store.specs.Putting.{IsChange}
 use Rattle.ckpt_store.specs.StoreFault.{IsOfPut}
+use Rattle.ckpt_store.specs.declared.known.Known.{Known}
+use Rattle.record.specs.Moves.{decided_by}
+use Rattle.record.specs.declared.record.TheConstants.{MAX_DECISIONS}
+use Rattle.std.proofs.lemmas.Option.{none-some, same_Some}
 use Rattle.ckpt_store.proofs.Puts.{no_call}
 
 -- a refusal for which the record itself gives cause
@@ -129,3 +133,44 @@ module _ {C : Type 0} (words : CellWords C) (slots : SlotWords C) (cause : Recor
         same_setup = change.same_setup;
         same_slot_room = change.same_slot_room;
       }
+
+  -- the same of what is known
+  pub change_of : (old new : C) (known : Option Known) (held : Known) (before after : RecordView)
+      (known_now : Option RecordView) (result : Result (Unit {0}) StoreFault) → known ≡ Some held
+      → cause held.kept ≡ None → after ≡ next held.kept → before ≡ held.kept
+      → IsChange words slots no_refusal (λ k. after) old new (Some before) known_now result
+      → IsChange words slots cause next old new (kept_in known) known_now result
+  change_of old new known held before after known_now result at none is was change =
+      subst (λ (o : Option Known). IsChange words slots cause next old new (kept_in o) known_now result) (sym at)
+      (change_is old new held.kept before after known_now result none is was change)
+
+  pub refused_of : (one : C) (known : Option Known) (held : Known) (fault : StoreFault) → known ≡ Some held
+      → ((left : Whole) → slots.left_since_whole one (words.moment one) left → slots.may_leave_whole one left)
+      → IsOfRecord fault → cause held.kept ≡ Some fault
+      → IsChange words slots cause next one one (kept_in known) (Some held.kept) {T = Unit {0}} (Err fault)
+  refused_of one known held fault at only_now is due =
+      subst (λ (o : Option Known). IsChange words slots cause next one one (kept_in o) (Some held.kept)
+      {T = Unit {0}} (Err fault)) (sym at) (change_refused one (Some held.kept) fault only_now is due)
+
+-- what a store keeps, where this is known
+pub kept_at : {C : Type 0} (words : CellWords C) (slots : SlotWords C) (one : C) (known : Option Known) (held : Known)
+    (kept : RecordView) → known ≡ Some held → kept ≡ held.kept
+    → IsKept words.is_ready slots.whole slots.may_leave_whole one known
+    → IsKept words.is_ready slots.whole slots.may_leave_whole one (Some (known_as kept held.slot))
+kept_at words slots one known held kept at is was =
+    subst (λ (r : RecordView). IsKept words.is_ready slots.whole slots.may_leave_whole one
+    (Some (known_as r held.slot))) (sym is)
+    (subst (λ (o : Option Known). IsKept words.is_ready slots.whole slots.may_leave_whole one o) at was)
+
+-- a refusal to decide is of the record
+decided_if : (held : Bool) (place : Bool) (fault : StoreFault)
+    → (if held then (if place then None else Some Unsettled) else Some NotHeld) ≡ Some fault → IsOfRecord fault
+decided_if true true fault is = absurd (none-some fault is)
+decided_if true false fault is = subst IsOfRecord (same_Some Unsettled fault is) tt
+decided_if false place fault is = subst IsOfRecord (same_Some NotHeld fault is) tt
+
+pub decide_of_record : (number : ℕ) (participants : List ℕ) (kept : RecordView) (fault : StoreFault)
+    → refusal_to_decide number participants kept ≡ Some fault → IsOfRecord fault
+decide_of_record number participants kept fault is =
+    decided_if (is_held kept.node number kept.tentative)
+    (nat_le (length (decided_by number participants kept.decisions)) MAX_DECISIONS) fault is

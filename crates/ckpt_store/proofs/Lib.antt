@@ -1,4 +1,5 @@
 pub mod Spelled
+pub mod Stands
 pub mod Puts
 pub mod Parts
 pub mod Images

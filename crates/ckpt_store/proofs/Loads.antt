@@ -32,8 +32,8 @@ use Rattle.ckpt_store.specs.declared.fault.StoreFault.TheVariants.{NoMemory, Dev
 use Rattle.ckpt_store.specs.declared.fault.StoreFault.TheVariants.{Version, Malformed, HoldsOther, PastNumber, NotHeld}
 use Rattle.ckpt_store.specs.declared.fault.StoreFault.TheVariants.{Unsettled, Spent}
 use Rattle.ckpt_store.specs.StoreFault.{of_cell, of_codec}
-use Rattle.ckpt_store.specs.Spelling.{SpellsAt, Spells, SpellsSome, IsKept, is_short}
-use Rattle.ckpt_store.specs.Loading.{IsOfCell, IsOfReopening, IsTextFault, IsHeaderOf, IsImageOf, IsImageWrong, IsHeldOf, IsShort, IsLong}
+use Rattle.ckpt_store.specs.Spelling.{SpellsAt, Spells, SpellsSome, IsKept, is_short, known_as}
+use Rattle.ckpt_store.specs.Loading.{IsOfCell, IsOfReopening, IsTextFault, IsHeaderOf, IsHeaderWrong, IsImageOf, IsImageWrong, IsHeldOf, IsHeldWrong, IsShort, IsLong, IsImageThen, IsImageWrongThen, IsHeldThen, IsHeldWrongThen}
 use Rattle.ckpt_store.specs.Loading.{OneThen, WrongThen, IsRecordOf, IsWrong, IsFound, IsRefused, IsRead, IsLook, IsLoad, IsReload}
 use Rattle.ckpt_store.proofs.Spelled.{HoldsFor, parts_in, spelled_of, slot_is_one}
 
@@ -94,7 +94,7 @@ module _ {X : Type 0} (Is : X → List ℕ → Type 0) (Wrong : List ℕ → Cod
 
   -- the reader refused
   pub text_refused : (told : CodecFault) → ((y : X) → Is y bytes → IsReadUnlessMemory y (Err told))
-      → Wrong bytes told → ((fault : CodecFault) → Wrong bytes fault → IsRefusedUnlessMemory fault (Err told))
+      → Wrong bytes told → ((fault : CodecFault) → Wrong bytes fault → IsRefusedUnlessMemory {X = X} fault (Err told))
       → IsRead (λ y. (b : List ℕ) × (found ≡ Some b) × Is y b)
       (λ fault. (b : List ℕ) × (found ≡ Some b) × IsTextFault (Wrong b) fault) (Err (of_codec told))
   text_refused told only wrong each = record {
@@ -102,7 +102,7 @@ module _ {X : Type 0} (Is : X → List ℕ → Type 0) (Wrong : List ℕ → Cod
     only = λ y at. subst (λ f. IsOfCell (of_codec f))
         (sym (only y (subst (Is y) (same_bytes at.0 at.1) at.2))) tt;
     cause = ⊎_elim (λ cell. inl cell) (λ text. inr (bytes, there, text)) (told_cause told wrong);
-    each = λ fault at. wrong_told (Err (of_codec told))
+    each = λ fault at. wrong_told {Y = X} (Err (of_codec told))
         (λ one at same not_memory wrong. ⊎_elim (λ e. absurd (not_memory e))
         (λ other. ⊎_elim (λ memory. inr (subst (λ f. IsOfCell (of_codec f)) (sym memory) tt))
         (λ is. inl (ap of_codec is ∙ same)) other) (each one wrong)) fault
@@ -142,7 +142,7 @@ module _ {X Z : Type 0} (Is : X → Type 0) (Wrong : StoreFault → Type 0) (Beh
   }
 
   pub then_refused : (fault : StoreFault) → IsRead Is Wrong (Err fault)
-      → IsRead (OneThen Is Behind) (WrongThen Is Wrong WrongBehind) {X = Z} (Err fault)
+      → IsRead {X = Z} (OneThen Is Behind) (WrongThen Is Wrong WrongBehind) (Err fault)
   then_refused fault first = record {
     found = tt;
     only = λ y at. first.only at.0 at.1;
@@ -617,3 +617,171 @@ image_read like found bytes there result read = record {
         → IfErr result (λ fault. IsOfCell fault ⊎ IsImageWrong like found fault)
     or_text (Ok image) cause = tt
     or_text (Err fault) cause = ⊎_elim (λ cell. inl cell) (λ text. inr (inr text)) cause
+
+-- ---- a whole record, part by part
+
+image_at : {X : Type 0} (Is : Option (List ℕ) → X → Type 0) (Wrong : Option (List ℕ) → StoreFault → Type 0)
+    (result : Result X StoreFault) (found there : Option (List ℕ)) → found ≡ there
+    → IsRead (Is found) (Wrong found) result → IsRead (Is there) (Wrong there) result
+image_at Is Wrong result found there same read = subst (λ o. IsRead (Is o) (Wrong o) result) same read
+
+module _ {C : Type 0} (words : CellWords C) (slots : SlotWords C)
+    (includes : (one : C) (t : ℕ) (left : Whole) → t ≤ words.moment one → slots.may_leave_whole one left
+    → slots.left_since_whole one t left) where
+  pub header_refused : (old new : C) (fault : StoreFault) → IsLook words slots old new {X = HeaderView} (Err fault)
+      → IsRead {X = HeaderView} (IsHeaderOf (slots.whole old)) (IsHeaderWrong (slots.whole old)) (Err fault)
+      → IsLoad words slots old new (Err fault)
+  header_refused old new fault look read =
+      is_load words slots old new (Err fault) (look_err words slots old new fault look)
+      (then_refused (IsHeaderOf (slots.whole old)) (IsHeaderWrong (slots.whole old)) (IsImageThen (slots.whole old))
+      (IsImageWrongThen (slots.whole old)) fault read)
+
+  module _ (old mid : C) (h : HeaderView) (look : IsLook words slots old mid (Ok h))
+      (read : IsRead (IsHeaderOf (slots.whole old)) (IsHeaderWrong (slots.whole old)) (Ok h)) where
+    behind_header : (new : C) (result : Result RecordView StoreFault) → IsLook words slots mid new result
+        → IsRead (IsImageThen (slots.whole old) h) (IsImageWrongThen (slots.whole old) h) result
+        → IsLoad words slots old new result
+    behind_header new result second found =
+        is_load words slots old new result
+        (look_then words slots old mid new h result (λ left le might. includes mid (words.moment old) left le might) look
+        second)
+        (then_found (IsHeaderOf (slots.whole old)) (IsHeaderWrong (slots.whole old)) (IsImageThen (slots.whole old))
+        (IsImageWrongThen (slots.whole old)) h result read found)
+
+    slot_there : (slot : ℕ) → slot ≡ h.slot → slot_in slot (slots.whole mid) ≡ slot_in h.slot (slots.whole old)
+    slot_there slot at =
+        ap (λ k. slot_in k (slots.whole mid)) at ∙ ap (λ w. slot_in h.slot w) look.same_whole
+
+    pub image_refused : (new : C) (slot : ℕ) (fault : StoreFault) → slot ≡ h.slot
+        → IsLook words slots mid new {X = ImageView} (Err fault)
+        → IsRead {X = ImageView} (IsImageOf None (slot_in slot (slots.whole mid)))
+        (IsImageWrong None (slot_in slot (slots.whole mid))) (Err fault)
+        → IsLoad words slots old new (Err fault)
+    image_refused new slot fault at second found =
+        behind_header new (Err fault) (look_err words slots mid new fault second)
+        (then_refused (IsImageOf None (slot_in h.slot (slots.whole old)))
+        (IsImageWrong None (slot_in h.slot (slots.whole old))) (IsHeldThen (slots.whole old) h)
+        (IsHeldWrongThen (slots.whole old) h) fault
+        (image_at (IsImageOf None) (IsImageWrong None) (Err fault) (slot_in slot (slots.whole mid))
+        (slot_in h.slot (slots.whole old)) (slot_there slot at) found))
+
+    module _ (last : C) (permanent : ImageView) (slot : ℕ) (at : slot ≡ h.slot)
+        (second : IsLook words slots mid last (Ok permanent))
+        (image : IsRead (IsImageOf None (slot_in slot (slots.whole mid)))
+        (IsImageWrong None (slot_in slot (slots.whole mid))) (Ok permanent)) where
+      behind_image : (new : C) (result : Result RecordView StoreFault) → IsLook words slots last new result
+          → IsRead (IsHeldThen (slots.whole old) h permanent) (IsHeldWrongThen (slots.whole old) h permanent) result
+          → IsLoad words slots old new result
+      behind_image new result third found =
+          behind_header new result
+          (look_then words slots mid last new permanent result
+          (λ left le might. includes last (words.moment mid) left le might) second third)
+          (then_found (IsImageOf None (slot_in h.slot (slots.whole old)))
+          (IsImageWrong None (slot_in h.slot (slots.whole old))) (IsHeldThen (slots.whole old) h)
+          (IsHeldWrongThen (slots.whole old) h) permanent result (permanent_read image) found)
+        where
+          permanent_read : IsRead (IsImageOf None (slot_in slot (slots.whole mid)))
+              (IsImageWrong None (slot_in slot (slots.whole mid))) (Ok permanent)
+              → IsRead (IsImageOf None (slot_in h.slot (slots.whole old)))
+              (IsImageWrong None (slot_in h.slot (slots.whole old))) (Ok permanent)
+          permanent_read image =
+              image_at (IsImageOf None) (IsImageWrong None) (Ok permanent) (slot_in slot (slots.whole mid))
+              (slot_in h.slot (slots.whole old)) (slot_there slot at) image
+
+      other_there : slot_in (1 - h.slot) (slots.whole last) ≡ slot_in (1 - h.slot) (slots.whole old)
+      other_there = ap (λ w. slot_in (1 - h.slot) w) (second.same_whole ∙ look.same_whole)
+
+      held_at : (result : Result (Option ImageView) StoreFault)
+          → IsRead (IsHeldOf permanent h.tentative (slot_in (1 - h.slot) (slots.whole last)))
+          (IsHeldWrong permanent h.tentative (slot_in (1 - h.slot) (slots.whole last))) result
+          → IsRead (IsHeldOf permanent h.tentative (slot_in (1 - h.slot) (slots.whole old)))
+          (IsHeldWrong permanent h.tentative (slot_in (1 - h.slot) (slots.whole old))) result
+      held_at result found =
+          image_at (IsHeldOf permanent h.tentative) (IsHeldWrong permanent h.tentative) result
+          (slot_in (1 - h.slot) (slots.whole last)) (slot_in (1 - h.slot) (slots.whole old)) other_there found
+
+      pub held_refused : (new : C) (fault : StoreFault) → IsLook words slots last new {X = Option ImageView} (Err fault)
+          → IsRead {X = Option ImageView} (IsHeldOf permanent h.tentative (slot_in (1 - h.slot) (slots.whole last)))
+          (IsHeldWrong permanent h.tentative (slot_in (1 - h.slot) (slots.whole last))) (Err fault)
+          → IsLoad words slots old new (Err fault)
+      held_refused new fault third found =
+          behind_image new (Err fault) (look_err words slots last new fault third)
+          (then_refused (IsHeldOf permanent h.tentative (slot_in (1 - h.slot) (slots.whole old)))
+          (IsHeldWrong permanent h.tentative (slot_in (1 - h.slot) (slots.whole old)))
+          (λ held. IsShort (record_with h permanent held)) (λ held. IsLong (record_with h permanent held)) fault
+          (held_at (Err fault) found))
+
+      module _ (new : C) (held : Option ImageView) (third : IsLook words slots last new (Ok held))
+          (beside : IsRead (IsHeldOf permanent h.tentative (slot_in (1 - h.slot) (slots.whole last)))
+          (IsHeldWrong permanent h.tentative (slot_in (1 - h.slot) (slots.whole last))) (Ok held)) where
+        abbrev whole_record : RecordView
+        whole_record = record_with h permanent held
+
+        behind_held : (result : Result RecordView StoreFault) → ¬ (IsErrOf result Device) → ¬ (IsErrOf result Reopen)
+            → IsRead (IsShort (record_with h permanent held)) (IsLong (record_with h permanent held)) result
+            → IsLoad words slots old new result
+        behind_held result no_device no_reopen found =
+            behind_image new result (look_as words slots last new held result no_device no_reopen third)
+            (then_found (IsHeldOf permanent h.tentative (slot_in (1 - h.slot) (slots.whole old)))
+            (IsHeldWrong permanent h.tentative (slot_in (1 - h.slot) (slots.whole old)))
+            (λ held. IsShort (record_with h permanent held)) (λ held. IsLong (record_with h permanent held)) held result
+            (held_at (Ok held) beside) found)
+
+        pub too_long : is_short (spelled_length (record_with h permanent held)) ≡ false
+            → IsLoad words slots old new (Err TooLarge)
+        too_long long =
+            behind_held (Err TooLarge) (λ e. absurd cc) (λ e. absurd cc)
+            (long_refused (record_with h permanent held) long)
+
+        pub loaded : is_short (spelled_length (record_with h permanent held)) ≡ true
+            → IsLoad words slots old new (Ok (record_with h permanent held))
+        loaded short =
+            behind_held (Ok (record_with h permanent held)) (λ e. absurd cc) (λ e. absurd cc)
+            (short_found (record_with h permanent held) short)
+
+        look_all : (known : Known) → IsLook words slots old new (Ok known)
+        look_all known =
+            look_then words slots old mid new h (Ok known)
+            (λ left le might. includes mid (words.moment old) left le might) look
+            (look_then words slots mid last new permanent (Ok known)
+            (λ left le might. includes last (words.moment mid) left le might) second
+            (look_as words slots last new held (Ok known) (λ e. absurd cc) (λ e. absurd cc) third))
+
+        pub loaded_kept : is_short (spelled_length (record_with h permanent held)) ≡ true
+            → (IsTrue (words.is_ready old) → Only (slots.whole old) (slots.may_leave_whole old))
+            → IsKept words.is_ready slots.whole slots.may_leave_whole new
+            (Some (known_as (record_with h permanent held) slot))
+        loaded_kept short settled =
+            load_kept words slots old new (known_as (record_with h permanent held) slot)
+            (look_all (known_as (record_with h permanent held) slot))
+            (subst (λ k. SpellsAt k (record_with h permanent held) (slots.whole old)) (sym at)
+            (record_is_spelled (slots.whole old) h permanent held read.found
+            (subst (λ o. IsImageOf None o permanent) (slot_there slot at) image.found)
+            (subst (λ o. IsHeldOf permanent h.tentative o held) other_there beside.found)
+            (leb-true (spelled_length (record_with h permanent held)) MAX_RECORD_BYTES short))) settled
+            (λ left le might. includes new (words.moment old) left le might)
+
+-- a tentative image that the header names
+pub held_found : (permanent : ImageView) (i : Option Instance) (found : Option (List ℕ)) (image : ImageView)
+    → ¬ (i ≡ None)
+    → IsRead (IsImageOf (Some permanent) found) (IsImageWrong (Some permanent) found) (Ok image)
+    → IsRead (IsHeldOf permanent i found) (IsHeldWrong permanent i found) (Ok (Some image))
+held_found permanent None found image some read = absurd (some refl)
+held_found permanent (Some i) found image some read = record {
+  found = (image, refl, read.found);
+  only = λ held at. ap Some (read.only at.0 at.2) ∙ sym at.1;
+  cause = tt;
+  each = λ fault wrong. read.each fault wrong;
+}
+
+pub held_not_found : (permanent : ImageView) (i : Option Instance) (found : Option (List ℕ)) (fault : StoreFault)
+    → ¬ (i ≡ None)
+    → IsRead {X = ImageView} (IsImageOf (Some permanent) found) (IsImageWrong (Some permanent) found) (Err fault)
+    → IsRead {X = Option ImageView} (IsHeldOf permanent i found) (IsHeldWrong permanent i found) (Err fault)
+held_not_found permanent None found fault some read = absurd (some refl)
+held_not_found permanent (Some i) found fault some read = record {
+  found = tt;
+  only = λ held at. read.only at.0 at.2;
+  cause = read.cause;
+  each = λ other wrong. read.each other wrong;
+}

@@ -281,7 +281,7 @@ known_failed before next = refl
 
 known_refused : (fault : StoreFault) (before next : Known) → is_failure fault ≡ false
     → known_after {T = Unit {0}} (Err fault) before next ≡ Some before
-known_refused fault before next no = rw no refl
+known_refused fault before next other = rw other refl
 
 module _ {C : Type 0} (words : CellWords C) (slots : SlotWords C) (kept next : RecordView) (was slot : ℕ)
     (old new : C) (stays : slots.may_leave_whole new (slots.whole new))
@@ -340,7 +340,7 @@ module _ {C : Type 0} (words : CellWords C) (slots : SlotWords C) (kept next : R
       → kept_in (known_after {T = Unit {0}} (Err fault) (known_as kept was) (known_as next slot)) ≡ Some kept
   known_record fault which other =
       ⊎_elim (λ is. absurd (other (ap (λ f. Err f) is)))
-      (λ no. ap kept_in (known_refused fault (known_as kept was) (known_as next slot) no.0)) which
+      (λ is. ap kept_in (known_refused fault (known_as kept was) (known_as next slot) is.0)) which
 
   pub changed_after : (result : Result (Unit {0}) StoreFault) → IsPut words slots kept next slot old new result
       → IsChange words slots no_refusal (λ before. next) old new (Some kept)

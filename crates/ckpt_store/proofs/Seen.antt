@@ -1,6 +1,6 @@
 -- The record that a store shows in every state is the one that its cell holds.
 use Rattle.std.proofs.Common.{◌≡◌, ℕ, ◌-◌, ◌≤◌, List, length, Option, Some, None, refl, sym, ◌∙◌, ap, subst}
-use Rattle.std.specs.Prelude.{is_some, IsTrue, option_and_then}
+use Rattle.std.specs.Prelude.{is_some, IsTrue}
 use Rattle.std.proofs.lemmas.Option.{same_Some, none-some}
 use Rattle.gate_cell.specs.Whole.{Whole, slot_in}
 use Rattle.gate_cell.specs.declared.cell.StableCell.{Ghosts as CellWords}
@@ -15,14 +15,15 @@ use Rattle.ckpt_codec.proofs.Headers.{header_again, image_again}
 use Rattle.ckpt_store.proofs.Allowed.{decisions_few}
 use Rattle.ckpt_store.proofs.Spelled.{HoldsFor, parts_in, spelled_is_record}
 use Rattle.ckpt_store.specs.Spelling.{SpellsAt, Spells, kept_in}
-use Rattle.ckpt_store.specs.StoreView.{read_or_none, image_spelled, record_behind, record_or_blank, record_spelled}
-use Rattle.ckpt_store.specs.StoreView.{record_in, known_in}
+use Rattle.ckpt_store.specs.StoreView.{read_or_none, image_spelled, header_spelled, record_beside}
+use Rattle.ckpt_store.specs.StoreView.{record_behind, record_spelled, record_in, known_in}
 use Rattle.ckpt_store.specs.declared.known.Known.{Known}
 use Rattle.ckpt_store.specs.declared.store.Store.{Store}
 
 held_is : (permanent : ImageView) (t : Option Tentative) (found : Option (List ℕ)) (bytes : List ℕ)
     → HoldsFor t found bytes → IsTentativeText permanent t bytes
     → tentative_with (instance_of t) (image_spelled (Some permanent) found) ≡ t
+unfolding whole_image_at
 held_is permanent None found bytes is text = refl
 held_is permanent (Some t) found bytes is text =
     ap (λ o. tentative_with (instance_of (Some t)) (image_spelled (Some permanent) o)) is
@@ -30,19 +31,15 @@ held_is permanent (Some t) found bytes is text =
 
 -- what is held is one record
 pub spelled_is : (kept : RecordView) (w : Whole) → Spells kept w → record_spelled w ≡ kept
+unfolding whole_image_at
 spelled_is kept w is =
     let slot = is.0 in
     let s = parts_in kept slot w is.1 in
     let h = header_of slot kept in
-    let behind : ImageView → Option RecordView =
-    λ permanent. Some (record_with h permanent (image_spelled (Some permanent) (slot_in (1 - slot) w))) in
-    ap (λ o. record_or_blank
-    (option_and_then (λ bytes. option_and_then (record_behind w) (read_or_none (header_at bytes))) o)) s.says
-    ∙ (ap (λ r. record_or_blank (option_and_then (record_behind w) (read_or_none r)))
-    (header_again h s.header s.apart.says)
-    ∙ (ap (λ o. record_or_blank (option_and_then behind (image_spelled None o))) s.shows
-    ∙ (ap (λ r. record_or_blank (option_and_then behind (read_or_none r)))
-    (image_again None kept.permanent s.first s.apart.shows)
+    ap (λ o. record_behind w (header_spelled o)) s.says
+    ∙ (ap (λ r. record_behind w (read_or_none r)) (header_again h s.header s.apart.says)
+    ∙ (ap (λ o. record_beside w h (image_spelled None o)) s.shows
+    ∙ (ap (λ r. record_beside w h (read_or_none r)) (image_again None kept.permanent s.first s.apart.shows)
     ∙ ap (λ (t : Option Tentative). record kept { tentative = t })
     (held_is kept.permanent kept.tentative (slot_in (1 - slot) w) s.second s.holds s.apart.holds))))
 

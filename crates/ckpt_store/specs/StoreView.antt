@@ -1,5 +1,5 @@
 -- What a store shows, and how its calls change that.
-use Rattle.std.specs.Prelude.{◌≡◌, ℕ, ◌-◌, List, [], Option, Some, None, option_and_then, Result, Ok, Err}
+use Rattle.std.specs.Prelude.{◌≡◌, ℕ, ◌-◌, List, [], Option, Some, None, Result, Ok, Err}
 use Rattle.sector_disk.specs.Clock.{LeavesOnly}
 use Rattle.gate_cell.specs.declared.cell.StableCell.{Ghosts as CellWords}
 use Rattle.gate_cell.specs.declared.slot_cell.SlotCell.{Ghosts as SlotWords}
@@ -48,24 +48,26 @@ read_or_none (Err fault) = None
 
 -- the image in a slot, like this one where there is one
 abbrev pub image_spelled : Option ImageView → Option (List ℕ) → Option ImageView
-image_spelled like found = option_and_then (λ bytes. read_or_none (whole_image_at like bytes)) found
+image_spelled like None = None
+image_spelled like (Some bytes) = read_or_none (whole_image_at like bytes)
 
--- the record of a header and what the slots hold
-abbrev pub record_behind : Whole → HeaderView → Option RecordView
-record_behind whole h =
-    option_and_then
-    (λ permanent. Some (record_with h permanent (image_spelled (Some permanent) (slot_in (1 - h.slot) whole))))
-    (image_spelled None (slot_in h.slot whole))
+abbrev pub header_spelled : Option (List ℕ) → Option HeaderView
+header_spelled None = None
+header_spelled (Some bytes) = read_or_none (header_at bytes)
 
-abbrev pub record_or_blank : Option RecordView → RecordView
-record_or_blank None = blank
-record_or_blank (Some kept) = kept
+-- the record of a header, its permanent image and the other slot; a blank one where there is none
+abbrev pub record_beside : Whole → HeaderView → Option ImageView → RecordView
+record_beside whole h None = blank
+record_beside whole h (Some permanent) =
+    record_with h permanent (image_spelled (Some permanent) (slot_in (1 - h.slot) whole))
+
+abbrev pub record_behind : Whole → Option HeaderView → RecordView
+record_behind whole None = blank
+record_behind whole (Some h) = record_beside whole h (image_spelled None (slot_in h.slot whole))
 
 -- the record that header and slots are; a blank one where they are none
 abbrev pub record_spelled : Whole → RecordView
-record_spelled whole =
-    record_or_blank
-    (option_and_then (λ bytes. option_and_then (record_behind whole) (read_or_none (header_at bytes))) whole.header)
+record_spelled whole = record_behind whole (header_spelled whole.header)
 
 -- the record that the cell holds: of a ready store, the one that is known
 abbrev pub record_in : {C : Type 0} {cell : CellWords C} {slots : SlotWords C} → Store C slots cell → RecordView

@@ -1,4 +1,4 @@
-use Rattle.std.proofs.Common.{◌≡◌, Err, Ok, sym, subst, ap, Some, ◌∙◌}
+use Rattle.std.proofs.Common.{◌≡◌, Err, Ok, sym, subst, ap, Some, ◌∙◌, rules}
 use Rattle.std.specs.Prelude.{option_copied}
 use Rattle.gate_cell.specs.Whole.{slot_in}
 use Rattle.record.specs.ImageView.{ImageView}
@@ -14,7 +14,10 @@ returns-in-Ok-read_image-clause-read g c =
     let found = slot_in c.args.slot (g.C.SlotCell.whole c.args.cell.now) in
     let read = c.in-Ok-read_image.ensures in
     let bytes = c.as_slice.result.now in
-    let there : found ≡ Some bytes = c.in-Ok.ensures.bytes ∙ ap Some (sym c.as_slice.ensures.value) in
+    let same : c.args.slot ≡ c.from.result = search rules in
+    let there : found ≡ Some bytes =
+    ap (λ k. slot_in k (g.C.SlotCell.whole c.args.cell.now)) same
+    ∙ (c.in-Ok.ensures.bytes ∙ ap Some (sym c.as_slice.ensures.value)) in
     image_read like found bytes there (Ok c.in-Ok-read_image.image)
     (text_found (λ (i : ImageView) b. IsImageText like i b) (λ b fault. IsImageFault like b fault) found bytes there
     c.in-Ok-read_image.image read.found read.only read.each)
@@ -25,7 +28,10 @@ returns-clause-read g c =
     let found = slot_in c.args.slot (g.C.SlotCell.whole c.args.cell.now) in
     let read = c.in-Err-read_image.ensures in
     let bytes = c.as_slice.result.now in
-    let there : found ≡ Some bytes = c.in-Ok.ensures.bytes ∙ ap Some (sym c.as_slice.ensures.value) in
+    let same : c.args.slot ≡ c.from.result = search rules in
+    let there : found ≡ Some bytes =
+    ap (λ k. slot_in k (g.C.SlotCell.whole c.args.cell.now)) same
+    ∙ (c.in-Ok.ensures.bytes ∙ ap Some (sym c.as_slice.ensures.value)) in
     subst (λ f. IsRead (IsImageOf like found) (IsImageWrong like found) (Err f)) (sym c.from-in-Err-read_image.ensures)
     (image_read like found bytes there _
     (text_refused (λ (i : ImageView) b. IsImageText like i b) (λ b fault. IsImageFault like b fault) found bytes there
