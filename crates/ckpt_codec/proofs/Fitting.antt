@@ -21,7 +21,7 @@ use Rattle.ckpt_codec.specs.RecordText.{any, at_most, count, item, flag, between
 use Rattle.ckpt_codec.specs.RecordText.{first_of, rest_of, wanted, variables_of, mode_fields, process_fields}
 use Rattle.ckpt_codec.specs.RecordText.{processes_fields, role_of, retained_count, end_fields, saved_end_fields}
 use Rattle.ckpt_codec.specs.RecordText.{ends_fields, processes_in, ends_in, image_fields, tentative_fields}
-use Rattle.ckpt_codec.specs.RecordText.{most_decisions, record_fields, version_field, items_of_end}
+use Rattle.ckpt_codec.specs.RecordText.{exactly, most_decisions, items_of_end}
 use Rattle.ckpt_codec.specs.declared.fault.CodecFault.{CodecFault}
 use Rattle.ckpt_codec.specs.declared.fault.CodecFault.TheVariants.{Malformed}
 use Rattle.ckpt_codec.specs.Reading.{Found, number_at}
@@ -29,7 +29,7 @@ use Rattle.ckpt_codec.proofs.Scan.{Outcome, behind_it, judged, scan_field, scan,
 use Rattle.ckpt_codec.proofs.Scan.Outcome.{Passed, Stuck, Differs}
 use Rattle.ckpt_codec.proofs.Text.{field_passed, Walk, walk_of}
 use Rattle.ckpt_codec.proofs.Parts.{IsImage}
-use Rattle.ckpt_codec.proofs.Records.{IsTentative, IsKept}
+use Rattle.ckpt_codec.proofs.Records.{IsTentative, IsKept, body_fields}
 
 -- ---- fields that bytes can't tell apart: the same but for a value that is too large for them
 pub record Alike (field other : Field) : Type 0 where
@@ -46,7 +46,7 @@ AllAlike (field ∷ fields) (other ∷ others) = Alike field other × AllAlike f
 same : (field : Field) → Alike field field
 same field = record { width = refl; allows = λ v. refl; value = λ lt. refl }
 
-all_same : (fields : List Field) → AllAlike fields fields
+pub all_same : (fields : List Field) → AllAlike fields fields
 all_same [] = tt
 all_same (field ∷ fields) = (same field, all_same fields)
 
@@ -204,28 +204,31 @@ variables-fit : (p : SavedProcessView)
 variables-fit p = length-fitting (variables_of p.standing) ∙ ap (λ (zs : List ℤ). length zs) (sym (vars-fit p.standing))
 
 processes_alike : (like : Option (List SavedProcessView)) (least : ℕ) (ps : List SavedProcessView)
-    → AllAlike (processes_fields like least ps)
-    (processes_fields (fit_list fit_process like) least (map fit_process ps))
+    → AllAlike (processes_fields like least ps) (processes_fields like least (map fit_process ps))
 processes_alike like least [] = tt
 processes_alike like least (p ∷ ps) =
+    alike_append (process_fields (first_of like) least p) (process_fields (first_of like) least (fit_process p)) _ _
+    (process_alike (wanted (λ (p : SavedProcessView). p.number) (first_of like))
+    (wanted (λ (p : SavedProcessView). length (variables_of p.standing)) (first_of like)) least p)
+    (processes_alike (rest_of like) (suc p.number) ps)
+
+-- processes are compared with numbers and lengths, and not with items
+processes_like : (like : Option (List SavedProcessView)) (least : ℕ) (ps : List SavedProcessView)
+    → processes_fields like least ps ≡ processes_fields (fit_list fit_process like) least ps
+processes_like like least [] = refl
+processes_like like least (p ∷ ps) =
     let fitted = fit_list fit_process like in
     let n = wanted (λ (p : SavedProcessView). p.number) (first_of like) in
-    let v = wanted (λ (p : SavedProcessView). length (variables_of p.standing)) (first_of like) in
-    let n-is = first-fit fit_process (λ (p : SavedProcessView). p.number) (λ p. refl) like in
-    let v-is = first-fit fit_process (λ (p : SavedProcessView). length (variables_of p.standing)) variables-fit like in
-    let one : AllAlike (process_fields (first_of like) least p) (process_fields (first_of fitted) least (fit_process p))
-    = subst (λ (m : Option ℕ). AllAlike (process_wanting n v least p)
-    (process_wanting m (wanted (λ (p : SavedProcessView). length (variables_of p.standing)) (first_of fitted))
-    least (fit_process p))) n-is
-    (subst (λ (m : Option ℕ). AllAlike (process_wanting n v least p) (process_wanting n m least (fit_process p))) v-is
-    (process_alike n v least p)) in
-    let others : AllAlike (processes_fields (rest_of like) (suc p.number) ps)
-    (processes_fields (rest_of fitted) (suc p.number) (map fit_process ps))
-    = subst (λ (l : Option (List SavedProcessView)). AllAlike (processes_fields (rest_of like) (suc p.number) ps)
-    (processes_fields l (suc p.number) (map fit_process ps))) (rest-fit fit_process like)
-    (processes_alike (rest_of like) (suc p.number) ps) in
-    alike_append (process_fields (first_of like) least p) (process_fields (first_of fitted) least (fit_process p))
-    _ _ one others
+    let rest = processes_fields (rest_of like) (suc p.number) ps in
+    ap (λ (m : Option ℕ). process_wanting m
+    (wanted (λ (p : SavedProcessView). length (variables_of p.standing)) (first_of like)) least p ++ rest)
+    (first-fit fit_process (λ (p : SavedProcessView). p.number) (λ p. refl) like)
+    ∙ (ap (λ (m : Option ℕ). process_wanting (wanted (λ (p : SavedProcessView). p.number) (first_of fitted)) m least p
+    ++ rest)
+    (first-fit fit_process (λ (p : SavedProcessView). length (variables_of p.standing)) variables-fit like)
+    ∙ ap (λ (fs : List Field). process_fields (first_of fitted) least p ++ fs)
+    (processes_like (rest_of like) (suc p.number) ps
+    ∙ ap (λ (l : Option (List SavedProcessView)). processes_fields l (suc p.number) ps) (rest-fit fit_process like)))
 
 processes_fit : (ps : List SavedProcessView)
     → AllByRecursion (λ (p : SavedProcessView). AllByRecursion (FitsSigned w64) (variables_of p.standing))
@@ -294,27 +297,28 @@ saved_alike channel role least e = (
 )
 
 ends_alike : (like : Option (List SavedEnd)) (least : ℕ) (es : List SavedEnd)
-    → AllAlike (ends_fields like least es) (ends_fields (fit_list fit_saved like) least (map fit_saved es))
+    → AllAlike (ends_fields like least es) (ends_fields like least (map fit_saved es))
 ends_alike like least [] = tt
 ends_alike like least (e ∷ es) =
+    alike_append (saved_end_fields (first_of like) least e) (saved_end_fields (first_of like) least (fit_saved e)) _ _
+    (saved_alike (wanted (λ (e : SavedEnd). e.channel) (first_of like))
+    (wanted (λ (e : SavedEnd). role_of e.end) (first_of like)) least e)
+    (ends_alike (rest_of like) (suc e.channel) es)
+
+-- ends are compared with channels and roles
+ends_like : (like : Option (List SavedEnd)) (least : ℕ) (es : List SavedEnd)
+    → ends_fields like least es ≡ ends_fields (fit_list fit_saved like) least es
+ends_like like least [] = refl
+ends_like like least (e ∷ es) =
     let fitted = fit_list fit_saved like in
-    let n = wanted (λ (e : SavedEnd). e.channel) (first_of like) in
-    let r = wanted (λ (e : SavedEnd). role_of e.end) (first_of like) in
-    let n-is = first-fit fit_saved (λ (e : SavedEnd). e.channel) (λ e. refl) like in
-    let r-is = first-fit fit_saved (λ (e : SavedEnd). role_of e.end) (λ e. role-fit e.end) like in
-    let one : AllAlike (saved_end_fields (first_of like) least e)
-    (saved_end_fields (first_of fitted) least (fit_saved e))
-    = subst (λ (m : Option ℕ). AllAlike (end_wanting n r least e)
-    (end_wanting m (wanted (λ (e : SavedEnd). role_of e.end) (first_of fitted)) least (fit_saved e))) n-is
-    (subst (λ (m : Option ℕ). AllAlike (end_wanting n r least e) (end_wanting n m least (fit_saved e))) r-is
-    (saved_alike n r least e)) in
-    let others : AllAlike (ends_fields (rest_of like) (suc e.channel) es)
-    (ends_fields (rest_of fitted) (suc e.channel) (map fit_saved es))
-    = subst (λ (l : Option (List SavedEnd)). AllAlike (ends_fields (rest_of like) (suc e.channel) es)
-    (ends_fields l (suc e.channel) (map fit_saved es))) (rest-fit fit_saved like)
-    (ends_alike (rest_of like) (suc e.channel) es) in
-    alike_append (saved_end_fields (first_of like) least e) (saved_end_fields (first_of fitted) least (fit_saved e))
-    _ _ one others
+    let rest = ends_fields (rest_of like) (suc e.channel) es in
+    ap (λ (m : Option ℕ). end_wanting m (wanted (λ (e : SavedEnd). role_of e.end) (first_of like)) least e ++ rest)
+    (first-fit fit_saved (λ (e : SavedEnd). e.channel) (λ e. refl) like)
+    ∙ (ap (λ (m : Option ℕ). end_wanting (wanted (λ (e : SavedEnd). e.channel) (first_of fitted)) m least e ++ rest)
+    (first-fit fit_saved (λ (e : SavedEnd). role_of e.end) (λ e. role-fit e.end) like)
+    ∙ ap (λ (fs : List Field). saved_end_fields (first_of fitted) least e ++ fs)
+    (ends_like (rest_of like) (suc e.channel) es
+    ∙ ap (λ (l : Option (List SavedEnd)). ends_fields l (suc e.channel) es) (rest-fit fit_saved like)))
 
 end_fit : (e : End) → AllByRecursion (FitsSigned w64) (items_of_end (fit_end e))
 end_fit (Receives received) = tt
@@ -328,60 +332,50 @@ ends_fit (e ∷ es) = (end_fit e.end, ends_fit es)
 
 -- ---- images and records
 
-abbrev fit_image : ImageView → ImageView
+abbrev pub fit_image : ImageView → ImageView
 fit_image i = record { processes = map fit_process i.processes; ends = map fit_saved i.ends }
 
-abbrev fit_like : Option ImageView → Option ImageView
-fit_like None = None
-fit_like (Some i) = Some (fit_image i)
+count_alike : (one : Option ℕ) (width limit m n : ℕ) → m ≡ n
+    → Alike (wanted_or one (at_most width limit m)) (wanted_or one (at_most width limit n))
+count_alike one width limit m n d =
+    subst (λ (k : ℕ). Alike (wanted_or one (at_most width limit m)) (wanted_or one (at_most width limit k))) d (same _)
 
-processes-in : (like : Option ImageView) → fit_list fit_process (processes_in like) ≡ processes_in (fit_like like)
-processes-in None = refl
-processes-in (Some i) = refl
-
-ends-in : (like : Option ImageView) → fit_list fit_saved (ends_in like) ≡ ends_in (fit_like like)
-ends-in None = refl
-ends-in (Some i) = refl
-
-count-in : (like : Option ImageView)
-    → wanted (λ (i : ImageView). length i.processes) like
-    ≡ wanted (λ (i : ImageView). length i.processes) (fit_like like)
-count-in None = refl
-count-in (Some i) = ap (λ (n : ℕ). Some n) (length-map fit_process i.processes)
-
-end_count-in : (like : Option ImageView)
-    → wanted (λ (i : ImageView). length i.ends) like ≡ wanted (λ (i : ImageView). length i.ends) (fit_like like)
-end_count-in None = refl
-end_count-in (Some i) = ap (λ (n : ℕ). Some n) (length-map fit_saved i.ends)
-
-count_alike : (one two : Option ℕ) (width limit m n : ℕ) → one ≡ two → m ≡ n
-    → Alike (wanted_or one (at_most width limit m)) (wanted_or two (at_most width limit n))
-count_alike one two width limit m n e d =
-    subst (λ (o : Option ℕ). Alike (wanted_or one (at_most width limit m)) (wanted_or o (at_most width limit n))) e
-    (subst (λ (k : ℕ). Alike (wanted_or one (at_most width limit m)) (wanted_or one (at_most width limit k))) d
-    (same _))
-
-image_alike : (like : Option ImageView) (i : ImageView)
-    → AllAlike (image_fields like i) (image_fields (fit_like like) (fit_image i))
+pub image_alike : (like : Option ImageView) (i : ImageView)
+    → AllAlike (image_fields like i) (image_fields like (fit_image i))
 image_alike like i =
     alike_append
     (wanted_or (wanted (λ (i : ImageView). length i.processes) like) (at_most 1 MAX_PROCESSES (length i.processes))
     ∷ processes_fields (processes_in like) 0 i.processes)
-    (wanted_or (wanted (λ (i : ImageView). length i.processes) (fit_like like))
+    (wanted_or (wanted (λ (i : ImageView). length i.processes) like)
     (at_most 1 MAX_PROCESSES (length (map fit_process i.processes)))
-    ∷ processes_fields (processes_in (fit_like like)) 0 (map fit_process i.processes))
+    ∷ processes_fields (processes_in like) 0 (map fit_process i.processes))
     _ _ (
-      count_alike _ _ 1 MAX_PROCESSES _ _ (count-in like) (length-map fit_process i.processes),
-      subst (λ (l : Option (List SavedProcessView)). AllAlike (processes_fields (processes_in like) 0 i.processes)
-          (processes_fields l 0 (map fit_process i.processes))) (processes-in like)
-          (processes_alike (processes_in like) 0 i.processes),
-    ) (
-      count_alike _ _ 2 MAX_CHANNELS _ _ (end_count-in like) (length-map fit_saved i.ends),
-      subst (λ (l : Option (List SavedEnd)). AllAlike (ends_fields (ends_in like) 0 i.ends)
-          (ends_fields l 0 (map fit_saved i.ends))) (ends-in like) (ends_alike (ends_in like) 0 i.ends),
+      count_alike _ 1 MAX_PROCESSES _ _ (length-map fit_process i.processes),
+      processes_alike (processes_in like) 0 i.processes,
     )
+    (count_alike _ 2 MAX_CHANNELS _ _ (length-map fit_saved i.ends), ends_alike (ends_in like) 0 i.ends)
 
-image_is : (i : ImageView) → IsImage (fit_image i)
+-- an image is compared with no item
+image_like : (permanent i : ImageView)
+    → image_fields (Some permanent) i ≡ image_fields (Some (fit_image permanent)) i
+image_like permanent i =
+    ap (λ (n : ℕ). (exactly 1 n (length i.processes) ∷ processes_fields (Some permanent.processes) 0 i.processes)
+    ++ (exactly 2 (length permanent.ends) (length i.ends) ∷ ends_fields (Some permanent.ends) 0 i.ends))
+    (length-map fit_process permanent.processes)
+    ∙ (ap (λ (n : ℕ). (exactly 1 (length (map fit_process permanent.processes)) (length i.processes)
+    ∷ processes_fields (Some permanent.processes) 0 i.processes)
+    ++ (exactly 2 n (length i.ends) ∷ ends_fields (Some permanent.ends) 0 i.ends))
+    (length-map fit_saved permanent.ends)
+    ∙ (ap (λ (fs : List Field). (exactly 1 (length (map fit_process permanent.processes)) (length i.processes) ∷ fs)
+    ++ (exactly 2 (length (map fit_saved permanent.ends)) (length i.ends)
+    ∷ ends_fields (Some permanent.ends) 0 i.ends))
+    (processes_like (Some permanent.processes) 0 i.processes)
+    ∙ ap (λ (fs : List Field). (exactly 1 (length (map fit_process permanent.processes)) (length i.processes)
+    ∷ processes_fields (Some (map fit_process permanent.processes)) 0 i.processes)
+    ++ (exactly 2 (length (map fit_saved permanent.ends)) (length i.ends) ∷ fs))
+    (ends_like (Some permanent.ends) 0 i.ends)))
+
+pub image_is : (i : ImageView) → IsImage (fit_image i)
 image_is i = record { processes = processes_fit i.processes; ends = ends_fit i.ends }
 
 abbrev fit_tentative : Option Tentative → Option Tentative
@@ -391,7 +385,17 @@ fit_tentative (Some t) = Some (record { initiator = t.initiator; number = t.numb
 tentative_alike : (highest : List ℕ) (permanent : ImageView) (t : Option Tentative)
     → AllAlike (tentative_fields highest permanent t) (tentative_fields highest (fit_image permanent) (fit_tentative t))
 tentative_alike highest permanent None = (same (flag 0), tt)
-tentative_alike highest permanent (Some t) = (same (flag 1), (same _, (same _, image_alike (Some permanent) t.image)))
+tentative_alike highest permanent (Some t) = (
+  same (flag 1),
+  (
+    same _,
+    (
+      same _,
+      subst (λ (fs : List Field). AllAlike (image_fields (Some permanent) t.image) fs)
+          (image_like permanent (fit_image t.image)) (image_alike (Some permanent) t.image),
+    ),
+  ),
+)
 
 tentative_is : (t : Option Tentative) → IsTentative (fit_tentative t)
 tentative_is None = tt
@@ -404,25 +408,23 @@ fit_record kept = record kept { permanent = fit_image kept.permanent; tentative 
 pub record_is : (kept : RecordView) → IsKept (fit_record kept)
 record_is kept = record { permanent = image_is kept.permanent; tentative = tentative_is kept.tentative }
 
-pub record_alike : (version : ℕ) (kept : RecordView)
-    → AllAlike (record_fields version kept) (record_fields version (fit_record kept))
-record_alike version kept =
+-- behind the version
+pub body_alike : (version : ℕ) (kept : RecordView)
+    → AllAlike (body_fields version kept) (body_fields version (fit_record kept))
+body_alike version kept =
     let decisions =
     decisions_fields (most_decisions version) kept.node (length kept.highest) (slice_index kept.highest kept.node)
     kept.decisions in (
-      same (version_field version),
+      same (any 1 kept.node),
       (
-        same (any 1 kept.node),
+        same (count kept.epoch),
         (
-          same (count kept.epoch),
-          (
-            same _,
-            alike_append (map count kept.highest) (map count kept.highest) _ _ (all_same (map count kept.highest))
-                (alike_append decisions decisions _ _ (all_same decisions)
-                (alike_append (image_fields None kept.permanent) (image_fields None (fit_image kept.permanent))
-                _ _ (image_alike None kept.permanent)
-                (tentative_alike kept.highest kept.permanent kept.tentative))),
-          ),
+          same _,
+          alike_append (map count kept.highest) (map count kept.highest) _ _ (all_same (map count kept.highest))
+              (alike_append decisions decisions _ _ (all_same decisions)
+              (alike_append (image_fields None kept.permanent) (image_fields None (fit_image kept.permanent))
+              _ _ (image_alike None kept.permanent)
+              (tentative_alike kept.highest kept.permanent kept.tentative))),
         ),
       ),
     )

@@ -39,15 +39,15 @@ all_unflat f (x ∷ xs) all =
     let h = all_before (f x) (flat_map f xs) (subst (λ (zs : List ℤ). AreItems zs) (flat_map-cons f x xs) all) in
     (h.0, all_unflat f xs h.1)
 
-image_items : (image : ImageView) → IsImage image → AreItems (items_of_image image)
-image_items image is =
+image_are : (image : ImageView) → IsImage image → AreItems (items_of_image image)
+image_are image is =
     all_behind (flat_map (λ (p : SavedProcessView). variables_of p.standing) image.processes)
     (flat_map (λ (e : SavedEnd). items_of_end e.end) image.ends)
     (all_flat (λ (p : SavedProcessView). variables_of p.standing) image.processes is.processes)
     (all_flat (λ (e : SavedEnd). items_of_end e.end) image.ends is.ends)
 
-items_image : (image : ImageView) → AreItems (items_of_image image) → IsImage image
-items_image image all =
+are_image : (image : ImageView) → AreItems (items_of_image image) → IsImage image
+are_image image all =
     let h = all_before (flat_map (λ (p : SavedProcessView). variables_of p.standing) image.processes)
     (flat_map (λ (e : SavedEnd). items_of_end e.end) image.ends) all in
     record {
@@ -55,22 +55,28 @@ items_image image all =
       ends = all_unflat (λ (e : SavedEnd). items_of_end e.end) image.ends h.1;
     }
 
+pub image_items : (image : ImageView) → IsImage image → All (FitsSigned w64) (items_of_image image)
+image_items image is = All-from_recursion (FitsSigned w64) (items_of_image image) (image_are image is)
+
+pub items_image : (image : ImageView) → All (FitsSigned w64) (items_of_image image) → IsImage image
+items_image image all = are_image image (recursion_from_All (FitsSigned w64) (items_of_image image) all)
+
 tentative_items : (t : Option Tentative) → IsTentative t → AreItems (items_of_tentative t)
 tentative_items None is = tt
-tentative_items (Some t) is = image_items t.image is
+tentative_items (Some t) is = image_are t.image is
 
 items_tentative : (t : Option Tentative) → AreItems (items_of_tentative t) → IsTentative t
 items_tentative None all = tt
-items_tentative (Some t) all = items_image t.image all
+items_tentative (Some t) all = are_image t.image all
 
 pub kept_items : (kept : RecordView) → IsKept kept → All (FitsSigned w64) (items_of_record kept)
 kept_items kept is =
     All-from_recursion (FitsSigned w64) (items_of_record kept)
     (all_behind (items_of_image kept.permanent) (items_of_tentative kept.tentative)
-    (image_items kept.permanent is.permanent) (tentative_items kept.tentative is.tentative))
+    (image_are kept.permanent is.permanent) (tentative_items kept.tentative is.tentative))
 
 pub is_kept : (kept : RecordView) → All (FitsSigned w64) (items_of_record kept) → IsKept kept
 is_kept kept all =
     let h = all_before (items_of_image kept.permanent) (items_of_tentative kept.tentative)
     (recursion_from_All (FitsSigned w64) (items_of_record kept) all) in
-    record { permanent = items_image kept.permanent h.0; tentative = items_tentative kept.tentative h.1 }
+    record { permanent = are_image kept.permanent h.0; tentative = items_tentative kept.tentative h.1 }

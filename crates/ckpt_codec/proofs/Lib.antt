@@ -7,6 +7,9 @@ mod Parts
 mod Text
 mod Records
 mod Items
+mod Wholes
+mod Versioned
+pub mod Headers
 pub mod Exactness
 mod Spelled
 mod Walking
@@ -14,3 +17,5 @@ pub mod Sizes
 mod Fitting
 mod Testing
 pub mod Versions
+mod HeaderSizes
+pub mod Joined

@@ -1,13 +1,15 @@
 -- The reader of a whole record is lawful.
 use Rattle.std.proofs.Common.{◌≡◌, ℕ, ◌&&◌, nat_eq, nat_lt, nat_le, List, [], ◌∷◌, ◌++◌, length, map, slice_index}
-use Rattle.std.proofs.Common.{Option, Some, None, refl}
+use Rattle.std.proofs.Common.{Option, Some, None, refl, sym, ap, append_assoc}
 use Rattle.record.specs.ImageView.{ImageView}
 use Rattle.record.specs.RecordView.{RecordView}
 use Rattle.record.specs.declared.record.Tentative.{Tentative}
 use Rattle.ckpt_codec.specs.Fields.{Field}
 use Rattle.ckpt_codec.specs.RecordText.{any, count, decisions_fields, image_fields, most_decisions, tentative_fields}
-use Rattle.ckpt_codec.specs.Reading.{instance_at, pending_at, tentative_at, Head, numbers_at, head_at, images_at, Tail}
-use Rattle.ckpt_codec.specs.Reading.{tail_at, record_of, body_at}
+use Rattle.ckpt_codec.specs.HeaderText.{instance_fields}
+use Rattle.ckpt_codec.specs.declared.header.Instance.{Instance}
+use Rattle.ckpt_codec.specs.Reading.{instance_at, pending_at, tentative_at, Head, numbers_at, head_at, Front, front_at}
+use Rattle.ckpt_codec.specs.Reading.{images_at, record_of, body_at}
 use Rattle.ckpt_codec.proofs.Scan.{Lawful, Each}
 use Rattle.ckpt_codec.proofs.Combining.{same_fields, same_values, built}
 use Rattle.ckpt_codec.proofs.Parts.{plain, count_lawful, any_lawful, nodes_field, highest_lawful, decisions_lawful}
@@ -21,14 +23,13 @@ initiator_field highest n = record { width = 1; allows = λ v. nat_lt v (length 
 abbrev pub tentative_number : ℕ → ℕ → Field
 tentative_number entry n = record { width = 8; allows = λ v. nat_le 1 v && nat_eq v entry; value = n }
 
-instance_lawful : (highest : List ℕ)
-    → Lawful Each (λ (x : ℕ × ℕ). initiator_field highest x.0 ∷ tentative_number (slice_index highest x.0) x.1 ∷ [])
-    (instance_at highest)
+pub instance_lawful : (highest : List ℕ)
+    → Lawful Each (instance_fields highest) (instance_at highest)
 unfolding instance_at
 instance_lawful highest =
     same_values Each
-    (built (λ i n. (i, n)) (λ x. x.0) (λ x. x.1)
-    (λ (x : ℕ × ℕ). initiator_field highest x.0 ∷ tentative_number (slice_index highest x.0) x.1 ∷ [])
+    (built (λ i n. record { initiator = i; number = n }) (λ (x : Instance). x.initiator) (λ (x : Instance). x.number)
+    (instance_fields highest)
     (plain (initiator_field highest) 1 (λ v. nat_lt v (length highest)) (λ n. refl))
     (λ i is. plain (tentative_number (slice_index highest i)) 8 (λ v. nat_le 1 v && nat_eq v (slice_index highest i))
     (λ n. refl)) (λ i is. (0, tt))
@@ -51,8 +52,9 @@ pending_lawful : (highest : List ℕ) (permanent : ImageView)
 unfolding pending_at
 pending_lawful highest permanent =
     same_values IsPending
-    (built (λ x image. record { initiator = x.0; number = x.1; image = image })
-    (λ (t : Tentative). (t.initiator, t.number)) (λ (t : Tentative). t.image) (pending_fields highest permanent)
+    (built (λ x image. record { initiator = x.initiator; number = x.number; image = image })
+    (λ (t : Tentative). record { initiator = t.initiator; number = t.number }) (λ (t : Tentative). t.image)
+    (pending_fields highest permanent)
     (instance_lawful highest) (λ x is. image_lawful (Some permanent))
     (λ x is. (record { processes = []; ends = [] }, no_image))
     (λ t. (refl, refl)) (λ x image. (refl, refl)))
@@ -101,6 +103,44 @@ head_lawful =
     (λ node x. (refl, refl)))
     (λ h is. (tt, tt)) (λ h is. tt)
 
+-- ---- the front: what a record and its header have both
+
+-- with at most so many decisions
+abbrev pub front_fields : ℕ → Front → List Field
+front_fields most front =
+    any 1 front.node ∷ count front.epoch ∷ nodes_field front.node (length front.highest)
+    ∷ (map count front.highest
+    ++ decisions_fields most front.node (length front.highest) (slice_index front.highest front.node) front.decisions)
+
+pub front_lawful : (most : ℕ) → Lawful Each (front_fields most) (front_at most)
+unfolding front_at
+front_lawful most =
+    same_values Each
+    (built
+    (λ head ds. record { node = head.node; epoch = head.epoch; highest = head.highest; decisions = ds })
+    (λ (f : Front). record { node = f.node; epoch = f.epoch; highest = f.highest }) (λ (f : Front). f.decisions)
+    (front_fields most)
+    head_lawful
+    (λ head is. decisions_lawful most head.node (length head.highest) (slice_index head.highest head.node))
+    (λ head is. ([], tt)) (λ f. (refl, refl)) (λ head ds. (refl, refl)))
+    (λ f is. (tt, tt)) (λ f is. tt)
+
+-- the front's fields, and others behind them
+abbrev pub behind_front : ℕ → Front → List Field → List Field
+behind_front most front others =
+    any 1 front.node ∷ count front.epoch ∷ nodes_field front.node (length front.highest)
+    ∷ (map count front.highest
+    ++ (decisions_fields most front.node (length front.highest) (slice_index front.highest front.node) front.decisions
+    ++ others))
+
+pub front_then : (most : ℕ) (front : Front) (others : List Field)
+    → behind_front most front others ≡ front_fields most front ++ others
+front_then most front others =
+    ap (λ (fs : List Field). any 1 front.node ∷ count front.epoch ∷ nodes_field front.node (length front.highest) ∷ fs)
+    (sym (append_assoc (map count front.highest)
+    (decisions_fields most front.node (length front.highest) (slice_index front.highest front.node) front.decisions)
+    others))
+
 -- ---- what follows it
 
 abbrev IsImages : ImageView × Option Tentative → Type 0
@@ -115,27 +155,6 @@ images_lawful highest =
     (image_lawful None) (λ permanent is. tentative_lawful highest permanent) (λ permanent is. (None, tt))
     (λ x. (refl, refl)) (λ permanent tentative. (refl, refl))
 
-abbrev IsTail : Tail → Type 0
-IsTail tail = IsImage tail.permanent × IsTentative tail.tentative
-
--- with at most so many decisions
-abbrev pub tail_fields : ℕ → ℕ → List ℕ → Tail → List Field
-tail_fields most node highest tail =
-    decisions_fields most node (length highest) (slice_index highest node) tail.decisions
-    ++ (image_fields None tail.permanent ++ tentative_fields highest tail.permanent tail.tentative)
-
-tail_lawful : (most node : ℕ) (highest : List ℕ)
-    → Lawful IsTail (tail_fields most node highest) (tail_at most node highest)
-unfolding tail_at
-tail_lawful most node highest =
-    same_values IsTail
-    (built (λ decisions x. record { decisions = decisions; permanent = x.0; tentative = x.1 })
-    (λ (t : Tail). t.decisions) (λ (t : Tail). (t.permanent, t.tentative)) (tail_fields most node highest)
-    (decisions_lawful most node (length highest) (slice_index highest node)) (λ decisions is. images_lawful highest)
-    (λ decisions is. ((record { processes = []; ends = [] }, None), (no_image, tt)))
-    (λ t. (refl, refl)) (λ decisions x. (refl, refl)))
-    (λ t is. (tt, is)) (λ t is. is.1)
-
 -- ---- the whole
 
 -- the items of the images are of 64 bits
@@ -143,24 +162,25 @@ pub record IsKept (kept : RecordView) : Type 0 where
   pub permanent : IsImage kept.permanent
   pub tentative : IsTentative kept.tentative
 
+abbrev front_in : RecordView → Front
+front_in r = record { node = r.node; epoch = r.epoch; highest = r.highest; decisions = r.decisions }
+
 abbrev pub body_fields : ℕ → RecordView → List Field
 body_fields version kept =
-    any 1 kept.node ∷ count kept.epoch ∷ nodes_field kept.node (length kept.highest)
-    ∷ (map count kept.highest
-    ++ tail_fields (most_decisions version) kept.node kept.highest
-    (record { decisions = kept.decisions; permanent = kept.permanent; tentative = kept.tentative }))
+    behind_front (most_decisions version) (front_in kept)
+    (image_fields None kept.permanent ++ tentative_fields kept.highest kept.permanent kept.tentative)
 
 pub body_lawful : (version : ℕ) → Lawful IsKept (body_fields version) (body_at version)
 unfolding body_at
 body_lawful version =
     same_values IsKept
-    (built record_of (λ (r : RecordView). record { node = r.node; epoch = r.epoch; highest = r.highest })
-    (λ (r : RecordView). record { decisions = r.decisions; permanent = r.permanent; tentative = r.tentative })
-    (body_fields version)
-    head_lawful (λ head is. tail_lawful (most_decisions version) head.node head.highest)
-    (λ head is. (
-      record { decisions = []; permanent = record { processes = []; ends = [] }; tentative = None },
-      (no_image, tt),
+    (built record_of front_in (λ (r : RecordView). (r.permanent, r.tentative)) (body_fields version)
+    (front_lawful (most_decisions version)) (λ front is. images_lawful front.highest)
+    (λ front is. ((record { processes = []; ends = [] }, None), (no_image, tt)))
+    (λ r. (
+      refl,
+      front_then (most_decisions version) (front_in r)
+          (image_fields None r.permanent ++ tentative_fields r.highest r.permanent r.tentative),
     ))
-    (λ r. (refl, refl)) (λ head tail. (refl, refl)))
+    (λ front images. (refl, refl)))
     (λ r is. (tt, (is.permanent, is.tentative))) (λ r is. record { permanent = is.1.0; tentative = is.1.1 })

@@ -30,11 +30,11 @@ use Rattle.ckpt_codec.specs.Lengths.{with_decided, spelled_length}
 use Rattle.ckpt_codec.specs.SizeLaws.{permanent_is_shorter, decision_is_shorter, epoch_is_shorter}
 use Rattle.ckpt_codec.proofs.Spelled.{record-spelled}
 
-length-number : (width n : ℕ) → length (number_text width n) ≡ width
+pub length-number : (width n : ℕ) → length (number_text width n) ≡ width
 unfolding number_text
 length-number width n = length-bytes_high_first width n
 
-length-two : (xs ys : List ℕ) (m n : ℕ) → length xs ≡ m → length ys ≡ n → length (xs ++ ys) ≡ m + n
+pub length-two : (xs ys : List ℕ) (m n : ℕ) → length xs ≡ m → length ys ≡ n → length (xs ++ ys) ≡ m + n
 length-two xs ys m n e d = omega (arith, length-append xs ys)
 
 -- each as long as it is said to be
@@ -121,7 +121,7 @@ length-saved e =
     regroup : (v : ℕ) → 2 + (1 + v) ≡ 3 + v
     regroup v = omega arith
 
-length-image : (i : ImageView) → length (image_text i) ≡ image_length i
+pub length-image : (i : ImageView) → length (image_text i) ≡ image_length i
 length-image i =
     let p = sum_by process_length i.processes in
     let e = sum_by saved_end_length i.ends in
@@ -148,7 +148,7 @@ length-decision d =
     regroup : (v : ℕ) → 8 + (1 + 1 * v) ≡ 9 + v
     regroup v = omega arith
 
-length-decisions : (ds : List DecisionView) → length (decisions_text ds) ≡ decisions_length ds
+pub length-decisions : (ds : List DecisionView) → length (decisions_text ds) ≡ decisions_length ds
 length-decisions ds =
     length-two (number_text 1 (length ds)) (flat_map decision_text ds) 1 (sum_by decision_length ds)
     (length-number 1 (length ds)) (length-flat decision_text decision_length length-decision ds)
@@ -167,7 +167,7 @@ length-tentative (Some t) =
     regroup : (v : ℕ) → 1 + (1 + (8 + v)) ≡ 10 + v
     regroup v = omega arith
 
-length-head : (version : ℕ) (kept : RecordView) → length (head_text version kept) ≡ 11 + 8 * length kept.highest
+pub length-head : (version : ℕ) (kept : RecordView) → length (head_text version kept) ≡ 11 + 8 * length kept.highest
 length-head version kept =
     let n = length kept.highest in
     let entries : length (highest_text kept.highest) ≡ 8 * n =

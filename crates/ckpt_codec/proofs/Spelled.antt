@@ -1,6 +1,7 @@
 -- The fields of a record spell it, and where they may stand its numbers can be written.
 use Rattle.std.proofs.Common.{◌≡◌, ℕ, suc, ◌^◌, ◌<◌, ℤ, List, [], ◌∷◌, ◌++◌, length, map, slice_index, Option, Some}
-use Rattle.std.proofs.Common.{None, refl, sym, ap, ◌∙◌, append_assoc}
+use Rattle.std.proofs.Common.{None, refl, sym, ap, ◌∙◌, append_assoc, arith, ◌≤◌}
+use Rattle.std.proofs.lemmas.Bool.{le-leb}
 use Rattle.std.specs.Prelude.{FitsSigned}
 use Rattle.std.specs.List.{flat_map, AllByRecursion}
 use Rattle.std.specs.Int.{w64}
@@ -19,25 +20,27 @@ use Rattle.record.specs.declared.image.SavedEnd.{SavedEnd}
 use Rattle.record.specs.declared.image.End.{End}
 use Rattle.record.specs.declared.image.End.TheVariants.{Receives, Sends, Both}
 use Rattle.record.specs.declared.record.Tentative.{Tentative}
-use Rattle.ckpt_codec.specs.Fields.{Field, IsAllowed, number_text, field_text, text_of}
+use Rattle.ckpt_codec.specs.Fields.{Field, IsAllowed, AreAllowed, number_text, field_text, text_of}
 use Rattle.ckpt_codec.specs.RecordText.{any, at_most, exactly, count, item, flag, between, wanted_or, participants}
 use Rattle.ckpt_codec.specs.RecordText.{decision_fields, each_decision_fields, decisions_fields, most_decisions, version_field, first_of, rest_of, wanted, variables_of, mode_fields}
 use Rattle.ckpt_codec.specs.RecordText.{process_fields, processes_fields, role_of, retained_count, end_fields}
 use Rattle.ckpt_codec.specs.RecordText.{saved_end_fields, ends_fields, processes_in, ends_in, image_fields}
-use Rattle.ckpt_codec.specs.RecordText.{tentative_fields, head_fields, record_fields, record_text, IsRecord}
+use Rattle.ckpt_codec.specs.RecordText.{tentative_fields, head_fields, record_text, IsRecord}
 use Rattle.ckpt_codec.specs.RecordText.{items_of_end, IsTextIn}
+use Rattle.ckpt_codec.specs.HeaderText.{header_of, instance_of, slot_field, held_fields, header_fields, header_text}
+use Rattle.ckpt_codec.specs.HeaderText.{IsHeaderTextIn, IsImageText, IsImageSpelled}
 use Rattle.ckpt_codec.specs.declared.version.TheConstants.{VERSION}
 use Rattle.ckpt_codec.specs.Spelling.{item_text, items_text, mode_text, state_text, process_text, HasShortMode}
 use Rattle.ckpt_codec.specs.Spelling.{IsShortProcess, HasItems, log_text, end_text, saved_end_text, EndHasItems}
 use Rattle.ckpt_codec.specs.Spelling.{process_list_text, end_list_text, image_text, IsShortImage, ImageHasItems}
 use Rattle.ckpt_codec.specs.Spelling.{participants_text, decision_text, decisions_text, IsShortDecision, tentative_text}
 use Rattle.ckpt_codec.specs.Spelling.{IsShortTentative, TentativeHasItems, highest_text, spelling, IsShortRecord}
-use Rattle.ckpt_codec.specs.Spelling.{RecordHasItems}
+use Rattle.ckpt_codec.specs.Spelling.{RecordHasItems, head_text, held_text, slots_text, header_spelling, IsShortFront}
 use Rattle.ckpt_codec.proofs.Text.{AllAllowed}
 use Rattle.ckpt_codec.proofs.Parts.{nodes_field, participant_field, participant_count, process_count, end_count}
 use Rattle.ckpt_codec.proofs.Parts.{IsImage}
 use Rattle.ckpt_codec.proofs.Records.{initiator_field, tentative_number, IsTentative}
-use Rattle.ckpt_codec.proofs.Items.{kept_items}
+use Rattle.ckpt_codec.proofs.Items.{kept_items, image_items}
 
 -- ---- texts
 
@@ -186,7 +189,7 @@ ends-spelled like least (e ∷ es) =
     (saved_end-spelled (first_of like) least e) (ends-spelled (rest_of like) (suc e.channel) es)
     ∙ sym (flat_map-cons saved_end_text e es)
 
-image-spelled : (like : Option ImageView) (i : ImageView) → text_of (image_fields like i) ≡ image_text i
+pub image-spelled : (like : Option ImageView) (i : ImageView) → text_of (image_fields like i) ≡ image_text i
 image-spelled like i =
     two_texts (process_count like (length i.processes) ∷ processes_fields (processes_in like) 0 i.processes)
     (end_count like (length i.ends) ∷ ends_fields (ends_in like) 0 i.ends)
@@ -217,55 +220,99 @@ decisions_of version kept =
     decisions_fields (most_decisions version) kept.node (length kept.highest) (slice_index kept.highest kept.node)
     kept.decisions
 
-abbrev behind_highest : ℕ → RecordView → List Field
-behind_highest version kept =
-    decisions_of version kept
-    ++ (image_fields None kept.permanent ++ tentative_fields kept.highest kept.permanent kept.tentative)
-
-abbrev behind_text : RecordView → List ℕ
-behind_text kept = decisions_text kept.decisions ++ (image_text kept.permanent ++ tentative_text kept.tentative)
-
-behind-spelled : (version : ℕ) (kept : RecordView) → text_of (behind_highest version kept) ≡ behind_text kept
-behind-spelled version kept =
-    two_texts (decisions_of version kept)
-    (image_fields None kept.permanent ++ tentative_fields kept.highest kept.permanent kept.tentative)
-    (decisions_text kept.decisions) (image_text kept.permanent ++ tentative_text kept.tentative)
-    (decisions-spelled (most_decisions version) kept.node (length kept.highest)
-    (slice_index kept.highest kept.node) kept.decisions)
-    (two_texts (image_fields None kept.permanent) (tentative_fields kept.highest kept.permanent kept.tentative)
-    (image_text kept.permanent) (tentative_text kept.tentative)
-    (image-spelled None kept.permanent) (tentative-spelled kept.highest kept.permanent kept.tentative))
-
--- the highest numbers, and what follows them
-highest_behind : (version : ℕ) (kept : RecordView)
-    → text_of (map count kept.highest ++ behind_highest version kept) ≡ highest_text kept.highest ++ behind_text kept
-highest_behind version kept =
-    two_texts (map count kept.highest) (behind_highest version kept) (highest_text kept.highest) (behind_text kept)
-    (counts-spelled kept.highest) (behind-spelled version kept)
+-- the fields up to the decisions, which a record and its header have both, and others behind them
+abbrev pub front_then : ℕ → RecordView → List Field → List Field
+front_then version kept others =
+    head_fields version kept ++ (map count kept.highest ++ (decisions_of version kept ++ others))
 
 regrouped : (v n e c h r : List ℕ) → v ++ (n ++ (e ++ (c ++ (h ++ r)))) ≡ (v ++ (n ++ (e ++ (c ++ h)))) ++ r
 regrouped v n e c h r = sym (simp append_assoc)
 
+front-spelled : (version : ℕ) (kept : RecordView) (others : List Field) (text : List ℕ) → text_of others ≡ text
+    → text_of (front_then version kept others) ≡ head_text version kept ++ (decisions_text kept.decisions ++ text)
+front-spelled version kept others text e =
+    let rest = map count kept.highest ++ (decisions_of version kept ++ others) in
+    let nodes = nodes_field kept.node (length kept.highest) in
+    let behind = decisions_text kept.decisions ++ text in
+    let all = highest_text kept.highest ++ behind in
+    behind_one (version_field version) (any 1 kept.node ∷ count kept.epoch ∷ nodes ∷ rest)
+    (number_text 1 kept.node ++ (number_text 8 kept.epoch ++ (number_text 1 (length kept.highest) ++ all)))
+    (behind_one (any 1 kept.node) (count kept.epoch ∷ nodes ∷ rest)
+    (number_text 8 kept.epoch ++ (number_text 1 (length kept.highest) ++ all))
+    (behind_one (count kept.epoch) (nodes ∷ rest) (number_text 1 (length kept.highest) ++ all)
+    (behind_one nodes rest all
+    (two_texts (map count kept.highest) (decisions_of version kept ++ others) (highest_text kept.highest) behind
+    (counts-spelled kept.highest)
+    (two_texts (decisions_of version kept) others (decisions_text kept.decisions) text
+    (decisions-spelled (most_decisions version) kept.node (length kept.highest)
+    (slice_index kept.highest kept.node) kept.decisions) e)))))
+    ∙ regrouped (number_text 1 version) (number_text 1 kept.node) (number_text 8 kept.epoch)
+    (number_text 1 (length kept.highest)) (highest_text kept.highest) behind
+
 -- the spelling of a record, part by part
 pub record-spelled : (version : ℕ) (kept : RecordView) → record_text version kept ≡ spelling version kept
 record-spelled version kept =
-    let rest = map count kept.highest ++ behind_highest version kept in
-    let nodes = nodes_field kept.node (length kept.highest) in
-    let text = highest_text kept.highest ++ behind_text kept in
-    behind_one (version_field version) (any 1 kept.node ∷ count kept.epoch ∷ nodes ∷ rest)
-    (number_text 1 kept.node ++ (number_text 8 kept.epoch ++ (number_text 1 (length kept.highest) ++ text)))
-    (behind_one (any 1 kept.node) (count kept.epoch ∷ nodes ∷ rest)
-    (number_text 8 kept.epoch ++ (number_text 1 (length kept.highest) ++ text))
-    (behind_one (count kept.epoch) (nodes ∷ rest) (number_text 1 (length kept.highest) ++ text)
-    (behind_one nodes rest text (highest_behind version kept))))
-    ∙ regrouped (number_text 1 version) (number_text 1 kept.node) (number_text 8 kept.epoch)
-    (number_text 1 (length kept.highest)) (highest_text kept.highest) (behind_text kept)
+    front-spelled version kept
+    (image_fields None kept.permanent ++ tentative_fields kept.highest kept.permanent kept.tentative)
+    (image_text kept.permanent ++ tentative_text kept.tentative)
+    (two_texts (image_fields None kept.permanent) (tentative_fields kept.highest kept.permanent kept.tentative)
+    (image_text kept.permanent) (tentative_text kept.tentative)
+    (image-spelled None kept.permanent) (tentative-spelled kept.highest kept.permanent kept.tentative))
+
+held-spelled : (highest : List ℕ) (t : Option Tentative)
+    → text_of (held_fields highest (instance_of t)) ≡ held_text t
+held-spelled highest None = text-one (flag 0)
+held-spelled highest (Some t) =
+    let entry = slice_index highest t.initiator in
+    behind_one (flag 1) (initiator_field highest t.initiator ∷ tentative_number entry t.number ∷ [])
+    (number_text 1 t.initiator ++ number_text 8 t.number)
+    (behind_one (initiator_field highest t.initiator) (tentative_number entry t.number ∷ []) (number_text 8 t.number)
+    (text-one (tentative_number entry t.number)))
+
+-- that of a header
+pub header-spelled : (version slot : ℕ) (kept : RecordView)
+    → header_text version (header_of slot kept) ≡ header_spelling version slot kept
+header-spelled version slot kept =
+    front-spelled version kept (slot_field slot ∷ held_fields kept.highest (instance_of kept.tentative))
+    (slots_text slot kept)
+    (behind_one (slot_field slot) (held_fields kept.highest (instance_of kept.tentative)) (held_text kept.tentative)
+    (held-spelled kept.highest kept.tentative))
+    ∙ sym (append_assoc (head_text version kept) (decisions_text kept.decisions) (slots_text slot kept))
 
 -- ---- numbers that can be written
 
 pub allowed-split : (xs ys : List Field) → AllAllowed (xs ++ ys) → AllAllowed xs × AllAllowed ys
 allowed-split [] ys all = (tt, all)
 allowed-split (x ∷ xs) ys all = let h = allowed-split xs ys all.1 in ((all.0, h.0), h.1)
+
+pub allowed-append : (xs ys : List Field) → AllAllowed xs → AllAllowed ys → AllAllowed (xs ++ ys)
+allowed-append [] ys one two = two
+allowed-append (x ∷ xs) ys one two = (one.0, allowed-append xs ys one.1 two)
+
+-- what is allowed of a front, and of what is behind it
+pub record FrontParts (version : ℕ) (kept : RecordView) (others : List Field) : Type 0 where
+  pub head : AllAllowed (head_fields version kept)
+  pub entries : AllAllowed (map count kept.highest)
+  pub decisions : AllAllowed (decisions_of version kept)
+  pub behind : AllAllowed others
+
+pub front_parts : (version : ℕ) (kept : RecordView) (others : List Field) → AreAllowed (front_then version kept others)
+    → FrontParts version kept others
+front_parts version kept others all =
+    let one = allowed-split (head_fields version kept) (map count kept.highest ++ (decisions_of version kept ++ others))
+    (recursion_from_All IsAllowed (front_then version kept others) all) in
+    let two = allowed-split (map count kept.highest) (decisions_of version kept ++ others) one.1 in
+    let three = allowed-split (decisions_of version kept) others two.1 in
+    record { head = one.0; entries = two.0; decisions = three.0; behind = three.1 }
+
+pub front_joined : (version : ℕ) (kept : RecordView) (others : List Field) → FrontParts version kept others
+    → AreAllowed (front_then version kept others)
+front_joined version kept others parts =
+    All-from_recursion IsAllowed (front_then version kept others)
+    (allowed-append (head_fields version kept) (map count kept.highest ++ (decisions_of version kept ++ others))
+    parts.head
+    (allowed-append (map count kept.highest) (decisions_of version kept ++ others) parts.entries
+    (allowed-append (decisions_of version kept) others parts.decisions parts.behind)))
 
 wanted-less : (like : Option ℕ) (field : Field) → IsAllowed (wanted_or like field) → field.value < 256 ^ field.width
 wanted-less None field allowed = allowed.0
@@ -323,28 +370,70 @@ tentative_short : (highest : List ℕ) (permanent : ImageView) (t : Option Tenta
 tentative_short highest permanent None all = tt
 tentative_short highest permanent (Some t) all = image_short (Some permanent) t.image all.1.1.1
 
+abbrev images_of : RecordView → List Field
+images_of kept = image_fields None kept.permanent ++ tentative_fields kept.highest kept.permanent kept.tentative
+
+front_short : (kept : RecordView) (others : List Field) → FrontParts VERSION kept others → IsShortFront kept
+front_short kept others parts = record {
+  nodes = parts.head.1.1.1.0.0;
+  decisions = record {
+    few = parts.decisions.0.0;
+    each = All-from_recursion IsShortDecision kept.decisions
+        (decisions_short kept.node (length kept.highest) (slice_index kept.highest kept.node) 1 kept.decisions
+        parts.decisions.1);
+  };
+}
+
+pub short_front : (kept : RecordView) → IsRecord kept → IsShortFront kept
+short_front kept is = front_short kept (images_of kept) (front_parts VERSION kept (images_of kept) is)
+
 pub record_short : (kept : RecordView) → IsRecord kept → IsShortRecord kept
 record_short kept is =
-    let all = recursion_from_All IsAllowed (record_fields VERSION kept) is in
-    let images = image_fields None kept.permanent ++ tentative_fields kept.highest kept.permanent kept.tentative in
-    let one = allowed-split (head_fields VERSION kept) (map count kept.highest ++ behind_highest VERSION kept) all in
-    let two = allowed-split (map count kept.highest) (behind_highest VERSION kept) one.1 in
-    let three =
-    allowed-split (decisions_of VERSION kept) images two.1 in
-    let four =
+    let parts = front_parts VERSION kept (images_of kept) is in
+    let front = front_short kept (images_of kept) parts in
+    let images =
     allowed-split (image_fields None kept.permanent) (tentative_fields kept.highest kept.permanent kept.tentative)
-    three.1 in
+    parts.behind in
     record {
-      nodes = one.0.1.1.1.0.0;
-      decisions = record {
-        few = three.0.0.0;
-        each = All-from_recursion IsShortDecision kept.decisions
-            (decisions_short kept.node (length kept.highest) (slice_index kept.highest kept.node) 1 kept.decisions
-            three.0.1);
-      };
-      permanent = image_short None kept.permanent four.0;
-      tentative = tentative_short kept.highest kept.permanent kept.tentative four.1;
+      nodes = front.nodes;
+      decisions = front.decisions;
+      permanent = image_short None kept.permanent images.0;
+      tentative = tentative_short kept.highest kept.permanent kept.tentative images.1;
     }
+
+-- an image that may be written
+pub image_is_short : (i : ImageView) → IsImageSpelled i → IsShortImage i
+image_is_short i spelled = image_short spelled.0 i (recursion_from_All IsAllowed (image_fields spelled.0 i) spelled.1)
+
+-- ---- a header
+
+held_allowed : (highest : List ℕ) (permanent : ImageView) (t : Option Tentative)
+    → AllAllowed (tentative_fields highest permanent t) → AllAllowed (held_fields highest (instance_of t))
+held_allowed highest permanent None all = all
+held_allowed highest permanent (Some t) all = (all.0, (all.1.0, (all.1.1.0, tt)))
+
+slot_allowed : (slot : ℕ) → slot ≤ 1 → IsAllowed (slot_field slot)
+slot_allowed slot le = (omega (arith, le), le-leb slot 1 le)
+
+-- the header of a record that may be written may be
+pub header_allowed : (slot : ℕ) (kept : RecordView) → slot ≤ 1 → IsRecord kept
+    → AreAllowed (header_fields VERSION (header_of slot kept))
+header_allowed slot kept le is =
+    let parts = front_parts VERSION kept (images_of kept) is in
+    let images =
+    allowed-split (image_fields None kept.permanent) (tentative_fields kept.highest kept.permanent kept.tentative)
+    parts.behind in
+    front_joined VERSION kept (slot_field slot ∷ held_fields kept.highest (instance_of kept.tentative)) (record {
+      head = parts.head;
+      entries = parts.entries;
+      decisions = parts.decisions;
+      behind = (slot_allowed slot le, held_allowed kept.highest kept.permanent kept.tentative images.1);
+    })
+
+pub is_header : (slot : ℕ) (kept : RecordView) (bytes : List ℕ) → slot ≤ 1 → IsRecord kept
+    → bytes ≡ header_spelling VERSION slot kept → IsHeaderTextIn VERSION (header_of slot kept) bytes
+is_header slot kept bytes le is e =
+    record { allowed = header_allowed slot kept le is; spelled = e ∙ sym (header-spelled VERSION slot kept) }
 
 -- ---- items
 
@@ -379,4 +468,13 @@ is_text kept bytes is has e = record {
             tentative_is kept.tentative has.tentative;
       });
   spelled = e ∙ sym (record-spelled VERSION kept);
+}
+
+-- bytes of an image that may be written beside this one spell it
+pub is_image_text : (like : Option ImageView) (image : ImageView) (bytes : List ℕ) → ImageHasItems image
+    → bytes ≡ image_text image → AreAllowed (image_fields like image) → IsImageText like image bytes
+is_image_text like image bytes has e allowed = record {
+  allowed = allowed;
+  items = image_items image (image_is image has);
+  spelled = e ∙ sym (image-spelled like image);
 }

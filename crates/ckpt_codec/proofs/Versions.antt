@@ -1,26 +1,19 @@
 -- What may be spelled in the first version may be in that in which records are written.
-use Rattle.std.proofs.Common.{ℕ, ◌≤◌, Bool, true, false, List, [], ◌∷◌, ◌++◌, length, map, slice_index, None}
+use Rattle.std.proofs.Common.{ℕ, ◌≤◌, Bool, true, false, List, ◌++◌, length, None}
 use Rattle.std.proofs.Common.{Result, Ok, Err, cond, refl, arith}
 use Rattle.std.specs.Prelude.{◌==◌, IfOk}
 use Rattle.std.proofs.lemmas.Bool.{leb-true, le-leb}
-use Rattle.std.proofs.lemmas.List.Elements.{All-from_recursion, recursion_from_All}
 use Rattle.record.specs.RecordView.{RecordView}
 use Rattle.record.specs.declared.record.TheConstants.{MAX_DECISIONS}
-use Rattle.ckpt_codec.specs.Fields.{Field, IsAllowed, AreAllowed}
-use Rattle.ckpt_codec.specs.RecordText.{at_most, count, decisions_fields, head_fields, image_fields}
+use Rattle.ckpt_codec.specs.Fields.{IsAllowed, AreAllowed}
+use Rattle.ckpt_codec.specs.RecordText.{at_most, image_fields}
 use Rattle.ckpt_codec.specs.RecordText.{most_decisions, record_fields, tentative_fields, version_of, IsRecord, IsRecordText}
 use Rattle.ckpt_codec.specs.declared.fault.CodecFault.{CodecFault}
 use Rattle.ckpt_codec.specs.declared.version.TheConstants.{FIRST_VERSION, VERSION}
 use Rattle.ckpt_codec.specs.Spelling.{AreShortDecisions}
-use Rattle.ckpt_codec.proofs.Spelled.{allowed-split, record_short}
-use Rattle.ckpt_codec.proofs.Text.{AllAllowed}
+use Rattle.ckpt_codec.proofs.Spelled.{record_short, front_parts, front_joined}
 
--- one list behind another
-both : (xs ys : List Field) → AllAllowed xs → AllAllowed ys → AllAllowed (xs ++ ys)
-both [] ys one two = two
-both (x ∷ xs) ys one two = (one.0, both xs ys one.1 two)
-
-few_in : (version : ℕ) → most_decisions version ≤ MAX_DECISIONS
+pub few_in : (version : ℕ) → most_decisions version ≤ MAX_DECISIONS
 few_in version = at (version == FIRST_VERSION)
   where
     at : (b : Bool) → cond b 1 MAX_DECISIONS ≤ MAX_DECISIONS
@@ -35,21 +28,14 @@ more_allowed version n is =
 
 pub later_allowed : (version : ℕ) (kept : RecordView) → AreAllowed (record_fields version kept) → IsRecord kept
 later_allowed version kept is =
-    let all = recursion_from_All IsAllowed (record_fields version kept) is in
-    let own = slice_index kept.highest kept.node in
-    let nodes = length kept.highest in
     let images = image_fields None kept.permanent ++ tentative_fields kept.highest kept.permanent kept.tentative in
-    let decisions = decisions_fields (most_decisions version) kept.node nodes own kept.decisions in
-    let one = allowed-split (head_fields version kept) (map count kept.highest ++ (decisions ++ images)) all in
-    let two = allowed-split (map count kept.highest) (decisions ++ images) one.1 in
-    let three = allowed-split decisions images two.1 in
-    All-from_recursion IsAllowed (record_fields VERSION kept)
-    (both (head_fields VERSION kept)
-    (map count kept.highest ++ (decisions_fields MAX_DECISIONS kept.node nodes own kept.decisions ++ images))
-    ((omega arith, refl), one.0.1)
-    (both (map count kept.highest) (decisions_fields MAX_DECISIONS kept.node nodes own kept.decisions ++ images) two.0
-    (both (decisions_fields MAX_DECISIONS kept.node nodes own kept.decisions) images
-    (more_allowed version (length kept.decisions) three.0.0, three.0.1) three.1)))
+    let parts = front_parts version kept images is in
+    front_joined VERSION kept images (record {
+      head = ((omega arith, refl), parts.head.1);
+      entries = parts.entries;
+      decisions = (more_allowed version (length kept.decisions) parts.decisions.0, parts.decisions.1);
+      behind = parts.behind;
+    })
 
 -- so what is spelled may be written
 pub text_is_record : (kept : RecordView) (bytes : List ℕ) → IsRecordText kept bytes → IsRecord kept

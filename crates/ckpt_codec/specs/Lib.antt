@@ -1,5 +1,7 @@
 pub mod Fields
 pub mod RecordText
+pub mod HeaderView
+pub mod HeaderText
 pub mod Faults
 pub mod Reading
 pub mod Spelling

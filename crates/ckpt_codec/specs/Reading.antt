@@ -18,6 +18,8 @@ use Rattle.record.specs.declared.image.SavedEnd.{SavedEnd}
 use Rattle.record.specs.declared.image.End.{End}
 use Rattle.record.specs.declared.image.End.TheVariants.{Receives, Sends, Both}
 use Rattle.record.specs.declared.record.Tentative.{Tentative}
+use Rattle.ckpt_codec.specs.HeaderView.{HeaderView}
+use Rattle.ckpt_codec.specs.declared.header.Instance.{Instance}
 use Rattle.ckpt_codec.specs.RecordText.{wanted, variables_of, role_of, processes_in, ends_in, most_decisions}
 use Rattle.ckpt_codec.specs.RecordText.{version_field}
 use Rattle.ckpt_codec.specs.declared.fault.CodecFault.{CodecFault}
@@ -298,16 +300,16 @@ initiator_at highest = field_at 1 (λ v. nat_lt v (length highest))
 abbrev pub tentative_number_at : ℕ → Reader ℕ
 tentative_number_at entry = field_at 8 (λ v. nat_le 1 v && (v == entry))
 
--- an initiator, and the number of its checkpoint
-unfoldable pub instance_at : List ℕ → Reader (ℕ × ℕ)
+-- whose checkpoint a tentative image is
+unfoldable pub instance_at : List ℕ → Reader Instance
 instance_at highest bytes =
     initiator_at highest bytes >>= λ initiator. tentative_number_at (slice_index highest initiator.0) initiator.1 >>=
-    λ number. Ok ((initiator.0, number.0), number.1)
+    λ number. Ok (record { initiator = initiator.0; number = number.0 }, number.1)
 
 unfoldable pub pending_at : List ℕ → ImageView → Reader Tentative
 pending_at highest permanent bytes =
     instance_at highest bytes >>= λ x. image_at (Some permanent) x.1 >>= λ image. Ok
-    (record { initiator = x.0.0; number = x.0.1; image = image.0 }, image.1)
+    (record { initiator = x.0.initiator; number = x.0.number; image = image.0 }, image.1)
 
 unfoldable pub tentative_at : List ℕ → ImageView → Reader (Option Tentative)
 tentative_at highest permanent bytes = optional (pending_at highest permanent) bytes
@@ -328,54 +330,102 @@ head_at bytes =
     number_at 1 bytes >>= λ node. numbers_at node.0 node.1 >>= λ x. Ok
     (record { node = node.0; epoch = x.0.0; highest = x.0.1 }, x.1)
 
+-- what a record and its header have both: the head and the decisions
+pub record Front : Type 0 where
+  pub node : ℕ
+  pub epoch : ℕ
+  pub highest : List ℕ
+  pub decisions : List DecisionView
+
+-- with at most so many decisions
+unfoldable pub front_at : ℕ → Reader Front
+front_at most bytes =
+    head_at bytes >>= λ head.
+    decisions_at most head.0.node (length head.0.highest) (slice_index head.0.highest head.0.node) head.1 >>= λ ds. Ok
+    (record { node = head.0.node; epoch = head.0.epoch; highest = head.0.highest; decisions = ds.0 }, ds.1)
+
 -- the two images
 unfoldable pub images_at : List ℕ → Reader (ImageView × Option Tentative)
 images_at highest bytes =
     image_at None bytes >>= λ permanent. tentative_at highest permanent.0 permanent.1 >>= λ tentative. Ok
     ((permanent.0, tentative.0), tentative.1)
 
--- what follows the head
-pub record Tail : Type 0 where
-  pub decisions : List DecisionView
-  pub permanent : ImageView
-  pub tentative : Option Tentative
-
--- with at most so many decisions
-unfoldable pub tail_at : ℕ → ℕ → List ℕ → Reader Tail
-tail_at most node highest bytes =
-    decisions_at most node (length highest) (slice_index highest node) bytes >>= λ decisions.
-    images_at highest decisions.1 >>= λ x.
-    Ok (record { decisions = decisions.0; permanent = x.0.0; tentative = x.0.1 }, x.1)
-
--- a record of its head and what follows it
-abbrev pub record_of : Head → Tail → RecordView
-record_of head tail =
+-- a record of its front and its images
+abbrev pub record_of : Front → ImageView × Option Tentative → RecordView
+record_of front images =
     record {
-      node = head.node;
-      epoch = head.epoch;
-      highest = head.highest;
-      decisions = tail.decisions;
-      permanent =
-          tail.permanent;
-      tentative = tail.tentative;
+      node = front.node;
+      epoch = front.epoch;
+      highest = front.highest;
+      decisions = front.decisions;
+      permanent = images.0;
+      tentative = images.1;
     }
 
 -- what follows the version
 unfoldable pub body_at : ℕ → Reader RecordView
 body_at version bytes =
-    head_at bytes >>= λ head. tail_at (most_decisions version) head.0.node head.0.highest head.1 >>= λ tail.
-    Ok (record_of head.0 tail.0, tail.1)
+    front_at (most_decisions version) bytes >>= λ front. images_at front.0.highest front.1 >>= λ images.
+    Ok (record_of front.0 images.0, images.1)
+
+-- ---- a header
+
+abbrev pub slot_at : Reader ℕ
+slot_at = field_at 1 (λ v. nat_le v 1)
+
+unfoldable pub held_at : List ℕ → Reader (Option Instance)
+held_at highest bytes = optional (instance_at highest) bytes
+
+-- the permanent image's slot, and whose tentative image is in the other
+unfoldable pub slots_at : List ℕ → Reader (ℕ × Option Instance)
+slots_at highest bytes =
+    slot_at bytes >>= λ slot. held_at highest slot.1 >>= λ held. Ok ((slot.0, held.0), held.1)
+
+-- a header of its front and the slots
+abbrev pub header_with : Front → ℕ × Option Instance → HeaderView
+header_with front slots =
+    record {
+      node = front.node;
+      epoch = front.epoch;
+      highest = front.highest;
+      decisions = front.decisions;
+      slot = slots.0;
+      tentative = slots.1;
+    }
+
+-- what follows the version
+unfoldable pub header_body_at : ℕ → Reader HeaderView
+header_body_at version bytes =
+    front_at (most_decisions version) bytes >>= λ front. slots_at front.0.highest front.1 >>= λ slots.
+    Ok (header_with front.0 slots.0, slots.1)
+
+-- ---- the whole
 
 -- what takes all the bytes
 abbrev pub if_all : {A : Type 0} → Found A → Result A CodecFault
 if_all (Ok x) = if length x.1 == 0 then Ok x.0 else Err Malformed
 if_all (Err fault) = Err fault
 
+-- the version that comes first
+unfoldable pub version_at : Reader ℕ
+version_at [] = Err Truncated
+version_at (version ∷ rest) = if (version_field version).allows version then Ok (version, rest) else Err Version
+
+-- what takes all the bytes behind a version
+abbrev pub versioned : {A : Type 0} → (ℕ → Reader A) → List ℕ → Result A CodecFault
+versioned read bytes = version_at bytes >>= λ v. if_all (read v.0 v.1)
+
 -- the record that takes all the bytes
 unfoldable pub whole_at : List ℕ → Result RecordView CodecFault
-whole_at [] = Err Truncated
-whole_at (version ∷ rest) =
-    if (version_field version).allows version then if_all (body_at version rest) else Err Version
+whole_at bytes = versioned body_at bytes
+
+-- the header that does
+unfoldable pub header_at : List ℕ → Result HeaderView CodecFault
+header_at bytes = versioned header_body_at bytes
+
+-- and the image, beside that one where there is one
+unfoldable pub whole_image_at : Option ImageView → List ℕ → Result ImageView CodecFault
+whole_image_at like bytes = if_all (image_at like bytes)
 
 -- what a function returned, seen by view, is what is read, unless memory ran out
 abbrev pub Fails : {Y : Type 0} → CodecFault → Result Y CodecFault → Type 0

@@ -193,10 +193,13 @@ tentative_fields highest permanent (Some t) =
     ∷ image_fields (Some permanent) t.image
 
 -- version, node, epoch and how many nodes there are; a node that isn't one of them is found there
+abbrev pub first_fields : ℕ → ℕ → ℕ → ℕ → List Field
+first_fields version node epoch nodes =
+    version_field version ∷ any 1 node ∷ count epoch
+    ∷ record { width = 1; allows = λ v. nat_lt node v && nat_le v MAX_NODES; value = nodes } ∷ []
+
 abbrev pub head_fields : ℕ → RecordView → List Field
-head_fields version kept =
-    version_field version ∷ any 1 kept.node ∷ count kept.epoch
-    ∷ record { width = 1; allows = λ v. nat_lt kept.node v && nat_le v MAX_NODES; value = length kept.highest } ∷ []
+head_fields version kept = first_fields version kept.node kept.epoch (length kept.highest)
 
 abbrev pub record_fields : ℕ → RecordView → List Field
 record_fields version kept =

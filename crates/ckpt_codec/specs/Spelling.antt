@@ -115,6 +115,18 @@ tentative_text None = number_text 1 0
 tentative_text (Some t) =
     number_text 1 1 ++ (number_text 1 t.initiator ++ (number_text 8 t.number ++ image_text t.image))
 
+-- whose a tentative image is
+abbrev pub instance_text : ℕ → ℕ → List ℕ
+instance_text initiator number = number_text 1 initiator ++ number_text 8 number
+
+abbrev pub held_text : Option Tentative → List ℕ
+held_text None = number_text 1 0
+held_text (Some t) = number_text 1 1 ++ instance_text t.initiator t.number
+
+-- the slot of the permanent image, and whose tentative one is in the other
+abbrev pub slots_text : ℕ → RecordView → List ℕ
+slots_text slot kept = number_text 1 slot ++ held_text kept.tentative
+
 abbrev pub IsShortTentative : Option Tentative → Type 0
 IsShortTentative None = Unit {0}
 IsShortTentative (Some t) = IsShortImage t.image
@@ -132,10 +144,23 @@ head_text version kept =
     ++ (number_text 1 kept.node
     ++ (number_text 8 kept.epoch ++ (number_text 1 (length kept.highest) ++ highest_text kept.highest)))
 
+-- what a record and its header have both
+abbrev pub front_text : ℕ → RecordView → List ℕ
+front_text version kept = head_text version kept ++ decisions_text kept.decisions
+
 abbrev pub spelling : ℕ → RecordView → List ℕ
 spelling version kept =
     head_text version kept
     ++ (decisions_text kept.decisions ++ (image_text kept.permanent ++ tentative_text kept.tentative))
+
+-- a header, with the permanent image in this slot
+abbrev pub header_spelling : ℕ → ℕ → RecordView → List ℕ
+header_spelling version slot kept = front_text version kept ++ slots_text slot kept
+
+-- a record's numbers up to its decisions can be written in their bytes
+pub record IsShortFront (kept : RecordView) : Type 0 where
+  pub nodes : length kept.highest < 256
+  pub decisions : AreShortDecisions kept.decisions
 
 -- a record whose numbers can be written in their bytes
 pub record IsShortRecord (kept : RecordView) : Type 0 where

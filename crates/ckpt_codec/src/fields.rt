@@ -1,6 +1,6 @@
 // The fields of a record, read from the front of bytes: what was read, and what is left.
 ghost use Rattle.std.specs.Prelude.{◌≡◌, ◌≤◌, IfOk, IfSome, None};
-ghost use Rattle.ckpt_codec.specs.Reading.{Reads, number_at, item_at, count_at, flag_at, nodes_at, participant_at, decided_number_at, decision_count_at, participant_count_at, mode_number_at, depth_at, process_number_at, variable_count_at, process_count_at, base_at, retained_at, role_at, channel_at, end_count_at, initiator_at, tentative_number_at};
+ghost use Rattle.ckpt_codec.specs.Reading.{Reads, number_at, item_at, count_at, flag_at, nodes_at, participant_at, decided_number_at, decision_count_at, participant_count_at, mode_number_at, depth_at, process_number_at, variable_count_at, process_count_at, base_at, retained_at, role_at, channel_at, end_count_at, initiator_at, tentative_number_at, slot_at};
 
 use crate::fault::CodecFault;
 use byteorder::{BigEndian, ByteOrder};
@@ -322,4 +322,15 @@ pub(crate) fn tentative_number_of(entry: u64, bytes: &[u8]) -> Result<(u64, &[u8
         return Err(CodecFault::Malformed);
     }
     Ok((number, rest))
+}
+
+// The slot of the permanent image: 0 or 1.
+pub(crate) fn slot_of(bytes: &[u8]) -> Result<(u8, &[u8]), CodecFault>
+    ensures { Reads (λ x. (x.0, x.1.now)) result (slot_at bytes.now) }
+{
+    let (slot, rest) = u8_of(bytes)?;
+    if slot > 1 {
+        return Err(CodecFault::Malformed);
+    }
+    Ok((slot, rest))
 }

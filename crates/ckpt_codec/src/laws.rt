@@ -1,14 +1,19 @@
 // Laws of the records' spellings.
-ghost use Rattle.std.specs.Prelude.{◌≡◌, ◌≤◌, ◌++◌, [], List, length, ℕ};
+ghost use Rattle.std.specs.Prelude.{◌≡◌, ◌≤◌, ◌++◌, [], List, length, ℕ, Option, None, All, FitsSigned};
+ghost use Rattle.std.specs.Int.{w64};
 ghost use Rattle.record.specs.ImageView.{ImageView};
 ghost use Rattle.record.specs.RecordView.{RecordView};
 ghost use Rattle.record.specs.Moves.{with_tentative, with_permanent, without_tentative, with_decision, with_confirmed, with_epoch, decided_by};
-ghost use Rattle.ckpt_codec.specs.RecordText.{IsRecordText};
+ghost use Rattle.ckpt_codec.specs.RecordText.{IsRecord, IsRecordText, items_of_record, image_fields};
+ghost use Rattle.ckpt_codec.specs.Fields.{AreAllowed};
+ghost use Rattle.ckpt_codec.specs.HeaderView.{HeaderView};
+ghost use Rattle.ckpt_codec.specs.HeaderText.{record_with, IsHeaderTextIn, IsHeaderText, IsImageText, IsHeldText, IsApart};
 ghost use Rattle.ckpt_codec.specs.Lengths.{record_length};
 ghost use Rattle.ckpt_codec.specs.SizeLaws.{IsImageWithin, IsRecordWithin};
 ghost use Rattle.kahn_net.specs.declared.limits.TheConstants.{MAX_NODES};
 ghost use Rattle.record.specs.declared.record.TheConstants.{MAX_DECISIONS};
-ghost use Rattle.ckpt_codec.specs.declared.lengths.TheConstants.{MAX_RECORD_BYTES, MAX_RETAINED_ITEMS};
+ghost use Rattle.ckpt_codec.specs.declared.lengths.TheConstants.{MAX_HEADER_BYTES, MAX_RECORD_BYTES, MAX_RETAINED_ITEMS};
+ghost use Rattle.ckpt_codec.specs.declared.version.TheConstants.{VERSION};
 
 /// No record's spelling begins another's: where one does, nothing follows it, and the records are one. So each text spells one
 /// record at most.
@@ -54,4 +59,44 @@ pub fn moves_make_no_longer()
     ensures decision { (kept : RecordView) (number : ℕ)
         → record_length (with_decision number [] kept) ≤ record_length kept }
     ensures epoch { (kept : RecordView) → record_length (with_epoch kept) ≤ record_length kept }
+{}
+
+/// Of headers: what is written is read, none begins another, and each is short.
+pub fn headers_are_spelled()
+    ensures told { (h : HeaderView) (spelling : List ℕ) → IsHeaderTextIn VERSION h spelling
+        → IsHeaderText h spelling }
+    ensures alone { (h other : HeaderView) (spelling rest : List ℕ)
+        → IsHeaderText h spelling → IsHeaderText other (spelling ++ rest)
+        → (rest ≡ []) × (other ≡ h) }
+    ensures short { (h : HeaderView) (spelling : List ℕ) → IsHeaderText h spelling
+        → length spelling ≤ MAX_HEADER_BYTES }
+{}
+
+/// Of images by themselves, or beside the same one: none begins another, and bytes that spell one beside another spell it by
+/// itself where it may be.
+pub fn images_are_spelled()
+    ensures alone { (like : Option ImageView) (image other : ImageView) (spelling rest : List ℕ)
+        → IsImageText like image spelling → IsImageText like other (spelling ++ rest)
+        → (rest ≡ []) × (other ≡ image) }
+    ensures same { (like second : Option ImageView) (image : ImageView) (spelling : List ℕ)
+        → IsImageText like image spelling → AreAllowed (image_fields second image)
+        → IsImageText second image spelling }
+{}
+
+/// A record apart: the bytes of a header and of the slots that it names spell one record at most, which may be written; each
+/// record that may be written has such bytes, with its permanent image in either slot; and what is read of them is it.
+pub fn records_stand_apart()
+    ensures one { (kept other : RecordView) (slot place : ℕ) (header first second : List ℕ)
+        → IsApart slot kept header first second → IsApart place other header first second
+        → (place ≡ slot) × (other ≡ kept) }
+    ensures written { (kept : RecordView) (slot : ℕ) (header first second : List ℕ)
+        → IsApart slot kept header first second → IsRecord kept }
+    ensures there { (kept : RecordView) (slot : ℕ) → slot ≤ 1 → IsRecord kept
+        → All (FitsSigned w64) (items_of_record kept)
+        → (header : List ℕ) × (first : List ℕ) × (second : List ℕ)
+        × IsApart slot kept header first second }
+    ensures joined { (h : HeaderView) (permanent : ImageView) (held : Option ImageView)
+        (header first second : List ℕ) → IsHeaderText h header
+        → IsImageText None permanent first → IsHeldText permanent h.tentative held second
+        → IsApart h.slot (record_with h permanent held) header first second }
 {}

@@ -4,6 +4,7 @@ ghost use Rattle.kahn_net.specs.States.{standing_in};
 ghost use Rattle.record.specs.DecisionView.{DecisionView};
 ghost use Rattle.record.specs.Moves.{last_image, with_permanent};
 ghost use Rattle.ckpt_codec.specs.RecordText.{IsRecord};
+ghost use Rattle.ckpt_codec.specs.HeaderText.{IsImageSpelled};
 ghost use Rattle.ckpt_codec.specs.Spelling.{IsShortProcess, IsShortImage, AreShortDecisions, IsShortTentative, IsShortRecord};
 ghost use Rattle.ckpt_codec.specs.Lengths.{mode_length, process_length, end_length, saved_end_length, image_length, decisions_length, tentative_length, undecided_length, record_length, spelled_length, with_decided};
 
@@ -72,7 +73,7 @@ fn length_of_ends(ends: &[SavedEnd]) -> usize
     total
 }
 
-fn length_of_image(image: &Image) -> usize
+pub(crate) fn length_of_image(image: &Image) -> usize
     requires { IsShortImage image.now }
     ensures value { result ≡ image_length image.now }
     ensures bound { result ≤ 34361769987 }
@@ -150,6 +151,17 @@ pub const MAX_RECORD_BYTES: usize = 1 << 20;
 /// The most items that all the logs of an image may have, where a record is to hold two such images in `MAX_RECORD_BYTES`: of half a
 /// record, 524,288 bytes, 65,536 are for its head and an image without items, and the rest has 8 bytes for an item.
 pub const MAX_RETAINED_ITEMS: usize = 57_344;
+
+/// The most bytes of a header: with 16 nodes, and with 8 decisions that each name the other 15.
+pub const MAX_HEADER_BYTES: usize = 343;
+
+/// How many bytes spell an image, by itself or beside another. Takes no memory.
+pub fn spelled_image_length(image: &Image) -> usize
+    requires { IsImageSpelled image.now }
+    ensures { result ≡ image_length image.now }
+{
+    length_of_image(image)
+}
 
 /// How many bytes spell a record. Takes no memory.
 pub fn spelled_length(kept: &Record) -> usize

@@ -2,12 +2,17 @@
 //!
 //! `write_record` gives a record's spelling, and `read_record` the record of a spelling; any other bytes it refuses by the
 //! first offence from the left.
+//!
+//! A record may also stand apart, as a header (`write_header`, `read_header`) and an image or two in slots of their own
+//! (`write_image`, `read_image`).
 #![tactic(auto)]
 
 mod allowed;
+mod apart;
 mod ends;
 mod fault;
 mod fields;
+mod header;
 mod images;
 mod laws;
 mod lengths;
@@ -19,13 +24,16 @@ mod version;
 mod writing;
 
 pub use allowed::{are_participants, is_image, is_record};
+pub use apart::{read_header, read_image, write_header, write_image};
 pub use fault::CodecFault;
+pub use header::{Header, Instance};
 pub use laws::{
-    bounded_records_fit, moves_keep_bounds, moves_make_no_longer, no_spelling_begins_another,
+    bounded_records_fit, headers_are_spelled, images_are_spelled, moves_keep_bounds,
+    moves_make_no_longer, no_spelling_begins_another, records_stand_apart,
 };
 pub use lengths::{
-    MAX_RECORD_BYTES, MAX_RETAINED_ITEMS, spelled_length, spelled_length_once_permanent,
-    spelled_length_with,
+    MAX_HEADER_BYTES, MAX_RECORD_BYTES, MAX_RETAINED_ITEMS, spelled_image_length, spelled_length,
+    spelled_length_once_permanent, spelled_length_with,
 };
 pub use reading::read_record;
 pub use version::{FIRST_VERSION, VERSION};

@@ -4,7 +4,7 @@ ghost use Rattle.std.specs.List.{flat_map};
 ghost use Rattle.kahn_net.specs.States.{standing_in, standing_of};
 ghost use Rattle.ckpt_codec.specs.Fields.{number_text};
 ghost use Rattle.ckpt_codec.specs.RecordText.{variables_of, items_of_end};
-ghost use Rattle.ckpt_codec.specs.Spelling.{mode_text, state_text, process_text, HasShortMode, IsShortState, IsShortProcess, HasItems, AreItems, items_text, log_text, end_text, saved_end_text, EndHasItems, process_list_text, end_list_text, image_text, IsShortImage, ImageHasItems, decision_text, decisions_text, IsShortDecision, AreShortDecisions, tentative_text, IsShortTentative, TentativeHasItems};
+ghost use Rattle.ckpt_codec.specs.Spelling.{mode_text, state_text, process_text, HasShortMode, IsShortState, IsShortProcess, HasItems, AreItems, items_text, log_text, end_text, saved_end_text, EndHasItems, process_list_text, end_list_text, image_text, IsShortImage, ImageHasItems, decision_text, decisions_text, IsShortDecision, AreShortDecisions, tentative_text, instance_text, held_text, IsShortTentative, TentativeHasItems};
 
 use crate::ends::role_number;
 use crate::numbers::{
@@ -172,6 +172,15 @@ pub(crate) fn put_decisions(out: &mut Vec<u8>, decisions: &[Decision]) -> Result
     put_each_decision(out, decisions)
 }
 
+// Whose checkpoint a tentative image is.
+fn put_instance(out: &mut Vec<u8>, tentative: &Tentative) -> Result<(), AllocError>
+    ensures { OnOk result (out.new.items ≡ out.old.items
+        ++ instance_text tentative.now.initiator tentative.now.number) }
+{
+    put_u8(out, tentative.initiator)?;
+    put_u64(out, tentative.number)
+}
+
 pub(crate) fn put_tentative(
     out: &mut Vec<u8>,
     tentative: &Option<Tentative>,
@@ -184,9 +193,21 @@ pub(crate) fn put_tentative(
         None => put_u8(out, 0),
         Some(tentative) => {
             put_u8(out, 1)?;
-            put_u8(out, tentative.initiator)?;
-            put_u64(out, tentative.number)?;
+            put_instance(out, tentative)?;
             put_image(out, &tentative.image)
+        }
+    }
+}
+
+// Whose tentative image is held, without the image.
+pub(crate) fn put_held(out: &mut Vec<u8>, tentative: &Option<Tentative>) -> Result<(), AllocError>
+    ensures { OnOk result (out.new.items ≡ out.old.items ++ held_text tentative.now) }
+{
+    match tentative {
+        None => put_u8(out, 0),
+        Some(tentative) => {
+            put_u8(out, 1)?;
+            put_instance(out, tentative)
         }
     }
 }

@@ -2,7 +2,7 @@
 ghost use Rattle.std.specs.Prelude.{◌≡◌, ◌<◌, IfOk, IfErr, slice_index};
 ghost use Rattle.ckpt_codec.specs.RecordText.{most_decisions, IsRecord, IsRecordText};
 ghost use Rattle.ckpt_codec.specs.Faults.{IsCodecFault, IsReadUnlessMemory, IsRefusedUnlessMemory};
-ghost use Rattle.ckpt_codec.specs.Reading.{Reads, entries_at, highest_at, participants_at, participant_list_at, decided_at, decided_so_many, decisions_at, instance_at, pending_at, tentative_at, numbers_at, head_at, images_at, tail_at, body_at, whole_at};
+ghost use Rattle.ckpt_codec.specs.Reading.{Reads, entries_at, highest_at, participants_at, participant_list_at, decided_at, decided_so_many, decisions_at, instance_at, pending_at, tentative_at, numbers_at, head_at, front_at, images_at, body_at, version_at, whole_at};
 ghost use Rattle.ckpt_codec.specs.declared.fault.CodecFault.{CodecFault as FaultValue};
 ghost use Rattle.record.specs.RecordView.{RecordView};
 
@@ -11,6 +11,7 @@ use crate::fields::{
     count_of, decided_number_of, decision_count_of, flag_of, initiator_of, nodes_of,
     participant_count_of, participant_of, tentative_number_of, u8_of,
 };
+use crate::header::Instance;
 use crate::images::image_of;
 use crate::version::{FIRST_VERSION, VERSION};
 use record::{Decision, Image, MAX_DECISIONS, Record, Tentative};
@@ -137,14 +138,17 @@ fn decisions_of(
     decided_by_count(alloc, node, nodes, own, count, rest)
 }
 
-// An initiator, and the number of its checkpoint.
+// Whose checkpoint a tentative image is.
 #[tactic(auto, unfolding(crate::specs::Reading::instance_at))]
-fn instance_of<'a>(highest: &[u64], bytes: &'a [u8]) -> Result<(u8, u64, &'a [u8]), CodecFault>
-    ensures { Reads (λ x. ((x.0, x.1), x.2.now)) result (instance_at highest.now bytes.now) }
+pub(crate) fn instance_of<'a>(
+    highest: &[u64],
+    bytes: &'a [u8],
+) -> Result<(Instance, &'a [u8]), CodecFault>
+    ensures { Reads (λ x. (x.0, x.1.now)) result (instance_at highest.now bytes.now) }
 {
     let (initiator, rest) = initiator_of(highest, bytes)?;
     let (number, rest) = tentative_number_of(entry_of(highest, initiator), rest)?;
-    Ok((initiator, number, rest))
+    Ok((Instance { initiator, number }, rest))
 }
 
 #[tactic(auto, unfolding(crate::specs::Reading::pending_at))]
@@ -157,11 +161,11 @@ fn pending_of<'a>(
     ensures { Reads (λ x. (x.0, x.1.now)) result
         (pending_at highest.now permanent.now bytes.now) }
 {
-    let (initiator, number, rest) = instance_of(highest, bytes)?;
+    let (instance, rest) = instance_of(highest, bytes)?;
     let (image, rest) = image_of(alloc, Some(permanent), rest)?;
     let tentative = Tentative {
-        initiator,
-        number,
+        initiator: instance.initiator,
+        number: instance.number,
         image,
     };
     Ok((tentative, rest))
@@ -206,6 +210,23 @@ fn head_of(alloc: Global, bytes: &[u8]) -> Result<(u8, u64, Vec<u64>, &[u8]), Co
     Ok((node, epoch, highest, rest))
 }
 
+// What a record and its header have both: the head, and at most so many decisions.
+#[tactic(auto, unfolding(crate::specs::Reading::front_at))]
+pub(crate) fn front_of(
+    alloc: Global,
+    most: usize,
+    bytes: &[u8],
+) -> Result<(u8, u64, Vec<u64>, Vec<Decision>, &[u8]), CodecFault>
+    ensures { Reads
+        (λ x. (record { node = x.0; epoch = x.1; highest = x.2.items; decisions = x.3.items }, x.4.now))
+        result (front_at most bytes.now) }
+{
+    let (node, epoch, highest, rest) = head_of(alloc, bytes)?;
+    let own = entry_of(highest.as_slice(), node);
+    let (decisions, rest) = decisions_of(alloc, most, node, highest.len(), own, rest)?;
+    Ok((node, epoch, highest, decisions, rest))
+}
+
 // The two images.
 #[tactic(auto, unfolding(crate::specs::Reading::images_at))]
 fn images_of<'a>(
@@ -220,25 +241,6 @@ fn images_of<'a>(
     Ok((permanent, tentative, rest))
 }
 
-// What follows the head, with at most so many decisions.
-#[tactic(auto, unfolding(crate::specs::Reading::tail_at))]
-fn tail_of<'a>(
-    alloc: Global,
-    most: usize,
-    node: u8,
-    highest: &[u64],
-    bytes: &'a [u8],
-) -> Result<(Vec<Decision>, Image, Option<Tentative>, &'a [u8]), CodecFault>
-    ensures { Reads
-        (λ x. (record { decisions = x.0.items; permanent = x.1; tentative = x.2 }, x.3.now))
-        result (tail_at most node highest.now bytes.now) }
-{
-    let own = entry_of(highest, node);
-    let (decisions, rest) = decisions_of(alloc, most, node, highest.len(), own, bytes)?;
-    let (permanent, tentative, rest) = images_of(alloc, highest, rest)?;
-    Ok((decisions, permanent, tentative, rest))
-}
-
 // The entry of a node.
 pub(crate) fn entry_of(highest: &[u64], node: u8) -> u64
     ensures { result ≡ slice_index highest.now node }
@@ -250,7 +252,7 @@ pub(crate) fn entry_of(highest: &[u64], node: u8) -> u64
 }
 
 // How many decisions a record may have in a version.
-fn most_decisions(version: u8) -> usize
+pub(crate) fn most_decisions(version: u8) -> usize
     ensures { result ≡ most_decisions version }
 {
     if version == FIRST_VERSION {
@@ -265,15 +267,9 @@ fn most_decisions(version: u8) -> usize
 fn body_of(alloc: Global, version: u8, bytes: &[u8]) -> Result<(Record, &[u8]), CodecFault>
     ensures { Reads (λ x. (x.0, x.1.now)) result (body_at version bytes.now) }
 {
-    let (node, epoch, highest, rest) = head_of(alloc, bytes)?;
     let most = most_decisions(version);
-    let (decisions, permanent, tentative, rest) = tail_of(
-        alloc,
-        most,
-        node,
-        highest.as_slice(),
-        rest,
-    )?;
+    let (node, epoch, highest, decisions, rest) = front_of(alloc, most, bytes)?;
+    let (permanent, tentative, rest) = images_of(alloc, highest.as_slice(), rest)?;
     let kept = Record {
         node,
         epoch,
@@ -285,10 +281,10 @@ fn body_of(alloc: Global, version: u8, bytes: &[u8]) -> Result<(Record, &[u8]), 
     Ok((kept, rest))
 }
 
-// The record that takes all the bytes.
-#[tactic(auto, unfolding(crate::specs::Reading::whole_at))]
-fn whole_of(alloc: Global, bytes: &[u8]) -> Result<Record, CodecFault>
-    ensures { Reads (λ kept. kept) result (whole_at bytes.now) }
+// The version that comes first.
+#[tactic(auto, unfolding(crate::specs::Reading::version_at))]
+pub(crate) fn version_of(bytes: &[u8]) -> Result<(u8, &[u8]), CodecFault>
+    ensures { Reads (λ x. (x.0, x.1.now)) result (version_at bytes.now) }
 {
     let [version, rest @ ..] = bytes else {
         return Err(CodecFault::Truncated);
@@ -296,7 +292,16 @@ fn whole_of(alloc: Global, bytes: &[u8]) -> Result<Record, CodecFault>
     if *version < FIRST_VERSION || *version > VERSION {
         return Err(CodecFault::Version);
     }
-    let (kept, rest) = body_of(alloc, *version, rest)?;
+    Ok((*version, rest))
+}
+
+// The record that takes all the bytes.
+#[tactic(auto, unfolding(crate::specs::Reading::whole_at))]
+fn whole_of(alloc: Global, bytes: &[u8]) -> Result<Record, CodecFault>
+    ensures { Reads (λ kept. kept) result (whole_at bytes.now) }
+{
+    let (version, rest) = version_of(bytes)?;
+    let (kept, rest) = body_of(alloc, version, rest)?;
     if !rest.is_empty() {
         return Err(CodecFault::Malformed);
     }

@@ -2,7 +2,7 @@
 ghost use Rattle.std.specs.Prelude.{◌≡◌, ◌++◌, ◌<◌, OnOk, IfOk, length};
 ghost use Rattle.ckpt_codec.specs.RecordText.{IsRecord, IsTextIn};
 ghost use Rattle.ckpt_codec.specs.declared.version.TheConstants.{VERSION};
-ghost use Rattle.ckpt_codec.specs.Spelling.{head_text, spelling, IsShortRecord, RecordHasItems};
+ghost use Rattle.ckpt_codec.specs.Spelling.{head_text, front_text, spelling, IsShortFront, IsShortRecord, RecordHasItems};
 
 use crate::lengths::spelled_length;
 use crate::numbers::{put_highest, put_u8, put_u64};
@@ -23,13 +23,21 @@ fn put_head(out: &mut Vec<u8>, kept: &Record) -> Result<(), AllocError>
     put_highest(out, kept.highest.as_slice())
 }
 
+// What a record and its header have both: the head and the decisions.
+pub(crate) fn put_front(out: &mut Vec<u8>, kept: &Record) -> Result<(), AllocError>
+    requires { IsShortFront kept.now }
+    ensures { OnOk result (out.new.items ≡ out.old.items ++ front_text VERSION kept.now) }
+{
+    put_head(out, kept)?;
+    put_decisions(out, kept.decisions.as_slice())
+}
+
 fn put_record(out: &mut Vec<u8>, kept: &Record) -> Result<(), AllocError>
     requires { IsShortRecord kept.now }
     ensures put { OnOk result (out.new.items ≡ out.old.items ++ spelling VERSION kept.now) }
     ensures fit { OnOk result (RecordHasItems kept.now) }
 {
-    put_head(out, kept)?;
-    put_decisions(out, kept.decisions.as_slice())?;
+    put_front(out, kept)?;
     put_image(out, &kept.permanent)?;
     put_tentative(out, &kept.tentative)
 }

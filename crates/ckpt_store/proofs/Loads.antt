@@ -101,7 +101,8 @@ module _ {C : Type 0} (words : CellWords C) (old new : C) (got : List ℕ)
 
   -- the reader refused
   pub load_refused : (told : CodecFault) → ((k : RecordView) → IsRecordText k got → IsReadUnlessMemory k (Err told))
-      → IsCodecFault got told → ((fault : CodecFault) → IsCodecFault got fault → IsRefusedUnlessMemory fault (Err told))
+      → IsCodecFault got told
+      → ((fault : CodecFault) → IsCodecFault got fault → IsRefusedUnlessMemory {X = RecordView} fault (Err told))
       → IsLoad words old new (Err (of_codec told))
   load_refused told only is_cause each = record {
     found = tt;

@@ -1,4 +1,4 @@
-use Rattle.std.proofs.Common.{false, Some, sym, subst}
+use Rattle.std.proofs.Common.{false, sym, subst}
 use Rattle.ckpt_codec.specs.RecordText.{tentative_fields}
 use Rattle.ckpt_codec.proofs.Testing.{Tests, tentative_not, tentative_other, tentative_then}
 use Rattle.ckpt_codec.proofs.allowed.is_tentative.Goals as goal

@@ -1,4 +1,4 @@
-use Rattle.std.proofs.Common.{◌+◌, length, ap, rules, arith}
+use Rattle.std.proofs.Common.{◌+◌, ap}
 use Rattle.record.specs.Moves.{with_permanent}
 use Rattle.ckpt_codec.proofs.Spelled.{record_short}
 use Rattle.ckpt_codec.proofs.Sizes.{length-with}
