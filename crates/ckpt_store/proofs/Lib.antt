@@ -1,3 +1,5 @@
+pub mod Spelled
+pub mod Stands
 pub mod Puts
 pub mod Parts
 pub mod Images
@@ -7,5 +9,4 @@ pub mod Loads
 pub mod Undone
 pub mod Changes
 pub mod Seen
-pub mod Room
 mod Decisions

@@ -92,7 +92,7 @@ none_held highest permanent initiator number (Some t) all no_other above =
     let here : get_or highest t.initiator 0 ≡ get_or highest initiator 0 = ap (λ i. get_or highest i 0) mine in
     absurd (omega (arith, its, entry, here, above))
 
-free_to_take : (initiator number : ℕ) (kept : RecordView) → IsRecord kept → MayTake initiator number kept
+pub free_to_take : (initiator number : ℕ) (kept : RecordView) → IsRecord kept → MayTake initiator number kept
     → kept.tentative ≡ None
 free_to_take initiator number kept all may =
     none_held kept.highest kept.permanent initiator number kept.tentative (parts_of kept all).tentative may.no_other

@@ -1,9 +1,10 @@
-//! One record in one stable cell, changed whole or not at all, by at most one put a call.
+//! One record in one cell with slots, changed whole or not at all, by at most one put a call.
 #![tactic(auto)]
 
 mod changing;
 mod deciding;
 mod fault;
+mod known;
 mod loading;
 mod moving;
 mod putting;

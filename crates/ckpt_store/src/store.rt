@@ -1,4 +1,4 @@
-//! One record in one stable cell.
+//! One record in one cell with slots.
 ghost use Rattle.std.specs.Prelude.{◌≡◌, ◌<◌, ◌++◌, [], ◌∷◌, length, false, Some, None, IfOk, OnOk, OnErr, IsSome, IsTrue, MatchResult};
 ghost use Rattle.std.specs.Option.{ForSome};
 ghost use Rattle.sector_disk.specs.Clock.{Only, LeavesOnly};
@@ -9,8 +9,9 @@ ghost use Rattle.ckpt_store.specs.Spelling.{IsKept, IsLike, AreOthers};
 
 use crate::changing;
 use crate::fault::StoreFault;
+use crate::known::Known;
 use crate::loading::{load, reload};
-use gate_cell::StableCell;
+use gate_cell::SlotCell;
 use record::{Image, Record};
 use sector_disk::ArmedFault;
 use std::alloc::{AllocError, Global};
@@ -20,27 +21,28 @@ use std::alloc::{AllocError, Global};
 /// A store serves for as long as its cell does. It is ready once it has been opened, and until it crashes or its device
 /// fails; until it is reopened then, it answers `Reopen` (23). What a crash leaves is always a record.
 #[derive(Drop)]
-pub struct Store<C: StableCell> {
+pub struct Store<C: SlotCell> {
     cell: C,
-    known: Option<Record>,
-    pub ghost kept: { IsKept C.value C.is_ready C.may_leave cell known },
+    known: Option<Known>,
+    pub ghost kept: { IsKept C.is_ready C.whole C.may_leave_whole cell known },
 }
 
 /// A cell on which no store was opened, and why.
 #[derive(Drop)]
-pub struct Refused<C: StableCell> {
+pub struct Refused<C: SlotCell> {
     pub cell: C,
     pub fault: StoreFault,
 }
 
-impl<C: StableCell> Store<C> {
+impl<C: SlotCell> Store<C> {
     ghost use Rattle.ckpt_store.specs.StoreView.{cell_in, known_in, record_in, Holds, Changes, Stays, Opens, Reopens, IsUntouched};
 
-    /// Opens the record that the cell's value spells. It never writes.
+    /// Opens the record that the cell holds. It never writes.
     ///
-    /// Refuses with `Truncated` (30), `Version` (31) and `Malformed` (32) where the value is no record, by its first
-    /// offence from the left; with `Reopen` (23) where the cell isn't ready; with `Device` (20); and with `NoMemory` (1).
-    /// A refusal hands the cell back.
+    /// Refuses with `Truncated` (30), `Version` (31) and `Malformed` (32) where that is no record, by the first offence from
+    /// the left in the header, the permanent image and the tentative one, and with `TooLarge` (22) where a length stands in
+    /// a slot that the header names and doesn't fit it, or where the record is longer than one may be; with `Reopen` (23)
+    /// where the cell isn't ready; with `Device` (20); and with `NoMemory` (1). A refusal hands the cell back.
     pub fn open(alloc: Global, cell: C) -> Result<Store<C>, Refused<C>>
         ensures opens { Opens cell result }
         ensures ready { IfOk result (λ store. IsSome (known_in store)) }
@@ -70,7 +72,7 @@ impl<C: StableCell> Store<C> {
             (λ fault. (fault ≡ StoreFault.Reopen) × (known_in self.now ≡ None)) }
     {
         match &self.known {
-            Some(kept) => Ok(kept),
+            Some(known) => Ok(&known.kept),
             None => Err(StoreFault::Reopen),
         }
     }
@@ -177,14 +179,16 @@ impl<C: StableCell> Store<C> {
         ensures down { known_in self.new ≡ None }
 
         // The record is now one that a crash might have left, and another crash leaves no other. A ready store keeps its own.
-        ensures left { C.may_leave (cell_in self.old) (Some (C.value (cell_in self.new))) }
-        ensures settled { Only (Some (C.value (cell_in self.new))) (C.may_leave (cell_in self.new)) }
+        ensures left { C.may_leave_whole (cell_in self.old) (C.whole (cell_in self.new)) }
+        ensures settled { Only (C.whole (cell_in self.new)) (C.may_leave_whole (cell_in self.new)) }
         ensures same { ForSome (known_in self.old) (Holds self.new) }
 
-        ensures any_moment { LeavesOnly C.moment C.left_since (cell_in self.old) (cell_in self.new)
-            (C.may_leave (cell_in self.old)) }
+        ensures any_moment { LeavesOnly C.moment C.left_since_whole (cell_in self.old) (cell_in self.new)
+            (C.may_leave_whole (cell_in self.old)) }
         ensures same_setup { LeavesSetup C.capacity C.armed C.call_count
             (cell_in self.old) (cell_in self.new) }
+        ensures same_slot_room { C.slot_capacity (cell_in self.new)
+            ≡ C.slot_capacity (cell_in self.old) }
         ensures same_calls { C.call_count (cell_in self.new) ≡ C.call_count (cell_in self.old) }
         ensures failures { C.failure_count (cell_in self.new)
             ≡ C.failure_count (cell_in self.old) }

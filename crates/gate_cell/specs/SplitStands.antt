@@ -6,10 +6,10 @@ use Rattle.std.proofs.lemmas.List.{length-take}
 use Rattle.std.proofs.lemmas.Option.{cond_some}
 use Rattle.sector_disk.specs.Clock.{Only}
 use Rattle.gate_cell.specs.Whole.{Whole, slot_in}
-use Rattle.gate_cell.specs.Layout.{length_in, value_in}
+use Rattle.gate_cell.specs.Layout.{length_in, value_in, room_on}
 use Rattle.gate_cell.specs.Stands.{AlwaysStands}
 use Rattle.gate_cell.specs.SplitLayout.{whole_on, header_on, slot_on, slot_area, slot_room_on}
-use Rattle.gate_cell.specs.declared.TheConstants.{MAX_VALUE_BYTES, HEADER_SECTORS}
+use Rattle.gate_cell.specs.declared.TheConstants.{MAX_VALUE_BYTES, HEADER_SECTORS, MIN_HEADER_BYTES}
 use Rattle.gate_cell.specs.declared.frame.TheConstants.{LENGTH_BYTES}
 
 -- the header of what is left of all three is what is left of the value
@@ -58,3 +58,7 @@ whole_fits size left (suc k) value m is =
 -- no slot has room for more than a value may have
 pub slot_room_bound : (size : ℕ) → slot_room_on size ≤ MAX_VALUE_BYTES
 slot_room_bound size = omega arith
+
+-- the header's room is that of one sector but for a length
+pub header_room : MIN_HEADER_BYTES ≤ room_on HEADER_SECTORS
+header_room = omega arith

@@ -30,5 +30,8 @@ pub const SECTORS: usize = 4_101;
 /// The sectors before the slots of a `SplitCell`: the gate, and the header's two areas of one sector each.
 pub const HEADER_SECTORS: usize = 3;
 
+/// The least room for the header of a cell with slots: that of an area of one sector.
+pub const MIN_HEADER_BYTES: usize = 504;
+
 /// The fewest sectors of a disk for a `SplitCell`. Each slot begins with a length, and so needs a sector.
 pub const LEAST_SPLIT_SECTORS: usize = 5;

@@ -4,7 +4,7 @@ ghost use Rattle.sector_disk.specs.Clock.{Only, LeavesOnly};
 ghost use Rattle.gate_cell.specs.CellFault.{HasCause};
 ghost use Rattle.gate_cell.specs.Setup.{LeavesSetup};
 ghost use Rattle.gate_cell.specs.Whole.{Whole, slot_in, with_slot, LeftByFill, IsCall, ValueCall};
-ghost use Rattle.gate_cell.specs.declared.TheConstants.{MAX_VALUE_BYTES};
+ghost use Rattle.gate_cell.specs.declared.TheConstants.{MAX_VALUE_BYTES, MIN_HEADER_BYTES};
 
 use crate::cell::StableCell;
 use crate::fault::CellFault;
@@ -109,6 +109,9 @@ pub trait SlotCell: StableCell {
     /// Bytes that a crash may leave in a slot fit it.
     ghost fits_slot: { (cell : Self) (left : Whole) (slot : ℕ) (bytes : List ℕ)
         → may_leave_whole cell left → slot_in slot left ≡ Some bytes → length bytes ≤ slot_capacity cell };
+
+    /// There is always room for a header of so many bytes.
+    ghost has_header_room: { (cell : Self) → MIN_HEADER_BYTES ≤ Self.capacity cell };
 
     /// No slot has room for more than a value may have.
     ghost slot_room_is_bounded: { (cell : Self) → slot_capacity cell ≤ MAX_VALUE_BYTES };

@@ -7,7 +7,7 @@ ghost use Rattle.gate_cell.specs.CellFault.{HasCause, HasDeviceCause};
 ghost use Rattle.gate_cell.specs.Layout.{other_area, IsGate, IsSettled};
 ghost use Rattle.gate_cell.specs.SplitLayout.{HoldsNoHeader, HasNoHeaderRoom};
 ghost use Rattle.gate_cell.specs.Stands.{AlwaysStands, Looks, only_value, stands_for_content, stands_for_one, stood_fits, room_bound};
-ghost use Rattle.gate_cell.specs.SplitStands.{whole_shows, header_covers, only_whole, whole_stays, whole_opens, whole_fits, slot_room_bound};
+ghost use Rattle.gate_cell.specs.SplitStands.{whole_shows, header_covers, only_whole, whole_stays, whole_opens, whole_fits, slot_room_bound, header_room};
 ghost use Rattle.gate_cell.specs.Setup.{LeavesSetup};
 ghost use Rattle.gate_cell.specs.Whole.{slot_in, with_slot, LeftByFill, IsCall, ValueCall};
 ghost use Rattle.gate_cell.specs.declared.TheConstants.{HEADER_SECTORS, LEAST_SPLIT_SECTORS};
@@ -404,6 +404,8 @@ impl<D: Disk> SlotCell for SplitCell<D> {
     ghost opens_whole = { λ g left might. whole_opens (D.sector_count g.disk) _ g.stands left might };
 
     ghost fits_slot = { λ g left slot bytes might is. whole_fits (D.sector_count g.disk) left slot bytes might is };
+
+    ghost has_header_room = { λ g. header_room };
 
     ghost slot_room_is_bounded = { λ g. slot_room_bound (D.sector_count g.disk) };
 

@@ -1,24 +1,71 @@
-use Rattle.std.proofs.Common.{◌≡◌, List, rules, sym, subst, ◌∙◌, ap}
+use Rattle.std.proofs.Common.{◌≡◌, List, refl, rules, sym, subst, ◌∙◌, ap}
 use Rattle.record.specs.DecisionView.{DecisionView}
+use Rattle.record.specs.RecordView.{RecordView}
 use Rattle.record.specs.Moves.{confirmed, with_confirmed}
 use Rattle.ckpt_codec.specs.Lengths.{with_decided}
 use Rattle.ckpt_codec.specs.RecordText.{IsRecord}
-use Rattle.ckpt_codec.proofs.Versions.{text_is_record}
+use Rattle.ckpt_store.specs.Spelling.{StandIn}
 use Rattle.ckpt_store.proofs.Allowed.{allowed_confirmed}
+use Rattle.ckpt_store.proofs.Spelled.{spelled_is_record, images_stand}
+use Rattle.ckpt_store.proofs.Changes.{kept_at, change_of}
+use Rattle.ckpt_store.specs.Refusals.{no_refusal}
 use Rattle.ckpt_store.proofs.changing.confirm.Goals as goal
 
 pub confirmed_length-requires : goal.confirmed_length-requires
 confirmed_length-requires g c =
-    text_is_record c.in-Some.kept _ (c.requires.holds c.in-Some.kept (sym c.in-Some.ensures.value))
+    let held = c.in-Some.held in
+    spelled_is_record held.kept held.slot _ (c.requires.holds held (sym c.in-Some.ensures.value))
+
+pub has_room-requires : goal.has_room-requires
+has_room-requires g c =
+    let held = c.in-Some.held in
+    spelled_is_record held.kept held.slot _ (c.requires.holds held (sym c.in-Some.ensures.value))
 
 pub put_changed-requires-clause-record : goal.put_changed-requires-clause-record
 put_changed-requires-clause-record g c =
-    let kept = c.in-Some.kept in
-    let made : c.settle-undo.new.kept ≡ with_confirmed c.args.number c.args.node kept =
-    c.settle-undo.ensures.next ∙ ap (λ (ds : List DecisionView). with_decided ds kept) decisions_are in
+    let held = c.in-Some.held in
+    let made : c.settle-undo.new.kept ≡ with_confirmed c.args.number c.args.node held.kept =
+    c.settle-undo.ensures.next ∙ ap (λ (ds : List DecisionView). with_decided ds held.kept) decisions_are in
     subst IsRecord (sym made)
-    (allowed_confirmed kept c.args.number c.args.node
-    (text_is_record kept _ (c.requires.holds kept (sym c.in-Some.ensures.value))))
+    (allowed_confirmed held.kept c.args.number c.args.node
+    (spelled_is_record held.kept held.slot _ (c.requires.holds held (sym c.in-Some.ensures.value))))
   where
-    decisions_are : c.in-Ok.decisions.items ≡ confirmed c.args.number c.args.node c.in-Some.kept.decisions
+    decisions_are : c.in-Ok.decisions.items ≡ confirmed c.args.number c.args.node c.in-Some.held.kept.decisions
+    decisions_are = search rules
+
+pub put_changed-requires-clause-stand : goal.put_changed-requires-clause-stand
+put_changed-requires-clause-stand g c =
+    let held = c.in-Some.held in
+    let w = g.C.SlotCell.whole c.args.cell.now in
+    subst (λ (r : RecordView). StandIn held.slot r.permanent r.tentative w) (sym c.settle-undo.ensures.next)
+    (images_stand held.kept held.slot w (c.requires.holds held (sym c.in-Some.ensures.value)))
+
+pub returns-then-not-is_named-clause-kept : goal.returns-then-not-is_named-clause-kept
+returns-then-not-is_named-clause-kept g c =
+    let held = c.in-Some.held in
+    kept_at g.C.StableCell g.C.SlotCell c.args.cell.now c.args.known.now held held.kept (sym c.in-Some.ensures.value)
+    refl c.requires
+
+pub returns-then-not-has_room-clause-kept : goal.returns-then-not-has_room-clause-kept
+returns-then-not-has_room-clause-kept g c =
+    let held = c.in-Some.held in
+    kept_at g.C.StableCell g.C.SlotCell c.args.cell.now c.args.known.now held held.kept (sym c.in-Some.ensures.value)
+    refl c.requires
+
+pub returns-in-Err-clause-kept : goal.returns-in-Err-clause-kept
+returns-in-Err-clause-kept g c =
+    let held = c.in-Some.held in
+    kept_at g.C.StableCell g.C.SlotCell c.args.cell.now c.args.known.now held held.kept (sym c.in-Some.ensures.value)
+    refl c.requires
+
+pub returns-in-Ok-clause-change : goal.returns-in-Ok-clause-change
+returns-in-Ok-clause-change g c = λ effect.
+    let held = c.in-Some.held in
+    let made : c.settle-undo.new.kept ≡ with_confirmed c.args.number c.args.node held.kept =
+    c.settle-undo.ensures.next ∙ ap (λ (ds : List DecisionView). with_decided ds held.kept) decisions_are in
+    change_of g.C.StableCell g.C.SlotCell no_refusal (with_confirmed c.args.number c.args.node) c.args.cell.now _
+    c.args.known.now held _ _ _ _ (sym c.in-Some.ensures.value) refl made c.settle-undo.ensures.back.gives
+    c.put_changed.ensures.change
+  where
+    decisions_are : c.in-Ok.decisions.items ≡ confirmed c.args.number c.args.node c.in-Some.held.kept.decisions
     decisions_are = search rules

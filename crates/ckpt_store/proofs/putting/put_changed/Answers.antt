@@ -1,14 +1,45 @@
-use Rattle.std.proofs.Common.{◌≡◌, Some, rules, sym, subst}
+use Rattle.std.proofs.Common.{◌≡◌, Option, Some, Result, refl, sym, subst}
 use Rattle.record.specs.RecordView.{RecordView}
-use Rattle.ckpt_store.specs.Spelling.{IsKept}
+use Rattle.ckpt_store.specs.declared.known.Known.{Known}
+use Rattle.ckpt_store.specs.declared.fault.StoreFault.{StoreFault}
+use Rattle.ckpt_store.specs.Refusals.{no_refusal}
+use Rattle.ckpt_store.specs.Spelling.{IsKept, kept_in, known_as}
+use Rattle.ckpt_store.specs.Putting.{IsChange}
 use Rattle.ckpt_store.specs.Undoing.{undone}
+use Rattle.ckpt_store.proofs.Puts.{kept_after, changed_after}
 use Rattle.ckpt_store.proofs.putting.put_changed.Goals as goal
 
-pub returns-else-is_failure-clause-kept : goal.returns-else-is_failure-clause-kept
-returns-else-is_failure-clause-kept g c =
+pub returns-clause-kept : goal.returns-clause-kept
+returns-clause-kept g c =
     let C = g.C.StableCell in
-    let same : c.put_record.new.cell ≡ c.args.cell.now = search rules in
-    let back : c.undo.new.kept ≡ undone c.args.undo c.args.next = search rules in
-    subst (λ (kept : RecordView). IsKept C.value C.is_ready C.may_leave c.put_record.new.cell (Some kept)) (sym back)
-    (subst (λ cell. IsKept C.value C.is_ready C.may_leave cell (Some (undone c.args.undo c.args.next))) (sym same)
-    c.requires.kept)
+    let S = g.C.SlotCell in
+    let laws = g.met.C.SlotCell in
+    let next = c.args.next in
+    let kept = undone c.args.undo next in
+    let was = c.args.was in
+    let new = c.put_header-put.new.cell in
+    let spelled = c.requires.kept.holds (known_as kept was) refl in
+    subst (λ k. IsKept C.is_ready S.whole S.may_leave_whole new k) (sym c.note.ensures.known)
+    (kept_after C S kept next was c.args.slot c.args.cell.now new (laws.whole_may_stay new)
+    (λ t left le might. laws.includes_now_whole new t left le might) c.requires.kept c.put_header-put.result
+    (c.put_header-put.ensures kept (was, spelled) c.requires.stand))
+
+pub returns-clause-change : goal.returns-clause-change
+returns-clause-change g c =
+    let C = g.C.StableCell in
+    let S = g.C.SlotCell in
+    let laws = g.met.C.SlotCell in
+    let next = c.args.next in
+    let kept = undone c.args.undo next in
+    let was = c.args.was in
+    let old = c.args.cell.now in
+    let new = c.put_header-put.new.cell in
+    let spelled = c.requires.kept.holds (known_as kept was) refl in
+    let put = c.put_header-put.result in
+    subst (λ (r : Result (Unit {0}) StoreFault). IsChange C S no_refusal (λ before. next) old new (Some kept)
+    (kept_in c.note.new.known) r) (sym c.note.ensures.same)
+    (subst (λ (k : Option Known). IsChange C S no_refusal (λ before. next) old new (Some kept) (kept_in k) put)
+    (sym c.note.ensures.known)
+    (changed_after C S kept next was c.args.slot old new (laws.whole_may_stay new)
+    (λ t left le might. laws.includes_now_whole new t left le might) c.requires.kept put
+    (c.put_header-put.ensures kept (was, spelled) c.requires.stand)))

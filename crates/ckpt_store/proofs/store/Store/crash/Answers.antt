@@ -1,15 +1,51 @@
-use Rattle.std.proofs.Common.{◌≡◌, ℕ, List, Some, subst, sym}
+use Rattle.std.proofs.Common.{◌≡◌, Option, Some, sym, subst}
 use Rattle.std.specs.Prelude.{IsTrue}
-use Rattle.ckpt_codec.specs.RecordText.{IsRecordText}
-use Rattle.ckpt_store.proofs.Seen.{ready_known}
+use Rattle.gate_cell.specs.Whole.{Whole, Crashes}
+use Rattle.ckpt_store.specs.Spelling.{Spells}
+use Rattle.ckpt_store.proofs.Loads.{kept_unknown}
+use Rattle.ckpt_store.proofs.Seen.{ready_known, known_held}
 use Rattle.ckpt_store.proofs.store.Store.crash.Goals as goal
 
--- a ready store's cell leaves its value alone
+pub invariant_of-self : goal.invariant_of-self
+invariant_of-self g c =
+    let C = g.C.StableCell in
+    let laws = g.met.C.SlotCell in
+    let old = c.args.self.now.cell in
+    let new = c.crash.new.self in
+    let crash = laws.stands Crashes old new c.crash.ensures.beside in
+    record {
+      kept = kept_unknown C g.C.SlotCell old new c.args.self.now.known
+          (λ left le might. laws.includes_now_whole new (C.moment old) left le might) c.args.self.now.kept
+          crash.any_moment;
+    }
+
+pub returns-clause-left : goal.returns-clause-left
+returns-clause-left g c =
+    let C = g.C.StableCell in
+    let laws = g.met.C.SlotCell in
+    let old = c.args.self.now.cell in
+    let new = c.crash.new.self in
+    let crash = laws.stands Crashes old new c.crash.ensures.beside in
+    crash.any_moment.each (g.C.SlotCell.whole new)
+    (laws.includes_now_whole new (C.moment old) (g.C.SlotCell.whole new) crash.any_moment.later
+    (laws.whole_may_stay new))
+
+-- a ready store's cell leaves what it holds alone
 pub returns-clause-same : goal.returns-clause-same
 returns-clause-same g c = λ kept is.
+    let C = g.C.StableCell in
+    let S = g.C.SlotCell in
+    let laws = g.met.C.SlotCell in
     let store = c.args.self.now in
-    let ready : IsTrue (g.C.StableCell.is_ready store.cell) = ready_known g.C.StableCell store kept is in
-    let left : Some (g.C.StableCell.value c.crash.new.self) ≡ Some (g.C.StableCell.value store.cell) =
-    g.met.C.StableCell.settled store.cell ready (Some (g.C.StableCell.value c.crash.new.self)) c.crash.ensures.left in
-    let same : g.C.StableCell.value c.crash.new.self ≡ g.C.StableCell.value store.cell = cc in
-    subst (λ (bytes : List ℕ). IsRecordText kept bytes) (sym same) (store.kept.holds kept is)
+    let new = c.crash.new.self in
+    let crash = laws.stands Crashes store.cell new c.crash.ensures.beside in
+    let ready : IsTrue (C.is_ready store.cell) = ready_known C S store kept is in
+    let same : S.whole new ≡ S.whole store.cell =
+    laws.settled_whole store.cell ready (S.whole new) (crash.any_moment.each (S.whole new)
+    (laws.includes_now_whole new (C.moment store.cell) (S.whole new) crash.any_moment.later
+    (laws.whole_may_stay new))) in
+    subst (λ (w : Whole). Spells kept w) (sym same) (known_held C S store kept is)
+
+pub returns-clause-any_moment : goal.returns-clause-any_moment
+returns-clause-any_moment g c =
+    (g.met.C.SlotCell.stands Crashes c.args.self.now.cell c.crash.new.self c.crash.ensures.beside).any_moment

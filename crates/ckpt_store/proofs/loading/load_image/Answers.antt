@@ -1,0 +1,38 @@
+use Rattle.std.proofs.Common.{◌≡◌, Err, Ok, sym, subst, ap, Some, ◌∙◌, rules}
+use Rattle.std.specs.Prelude.{option_copied}
+use Rattle.gate_cell.specs.Whole.{slot_in}
+use Rattle.record.specs.ImageView.{ImageView}
+use Rattle.ckpt_codec.specs.HeaderText.{IsImageText}
+use Rattle.ckpt_codec.specs.Faults.{IsImageFault}
+use Rattle.ckpt_store.specs.Loading.{IsRead, IsImageOf, IsImageWrong}
+use Rattle.ckpt_store.proofs.Loads.{text_found, text_refused, image_read}
+use Rattle.ckpt_store.proofs.loading.load_image.Goals as goal
+
+pub returns-in-Ok-read_image-clause-read : goal.returns-in-Ok-read_image-clause-read
+returns-in-Ok-read_image-clause-read g c =
+    let like = option_copied c.args.like in
+    let found = slot_in c.args.slot (g.C.SlotCell.whole c.args.cell.now) in
+    let read = c.in-Ok-read_image.ensures in
+    let bytes = c.as_slice.result.now in
+    let same : c.args.slot ≡ c.from.result = search rules in
+    let there : found ≡ Some bytes =
+    ap (λ k. slot_in k (g.C.SlotCell.whole c.args.cell.now)) same
+    ∙ (c.in-Ok.ensures.bytes ∙ ap Some (sym c.as_slice.ensures.value)) in
+    image_read like found bytes there (Ok c.in-Ok-read_image.image)
+    (text_found (λ (i : ImageView) b. IsImageText like i b) (λ b fault. IsImageFault like b fault) found bytes there
+    c.in-Ok-read_image.image read.found read.only read.each)
+
+pub returns-clause-read : goal.returns-clause-read
+returns-clause-read g c =
+    let like = option_copied c.args.like in
+    let found = slot_in c.args.slot (g.C.SlotCell.whole c.args.cell.now) in
+    let read = c.in-Err-read_image.ensures in
+    let bytes = c.as_slice.result.now in
+    let same : c.args.slot ≡ c.from.result = search rules in
+    let there : found ≡ Some bytes =
+    ap (λ k. slot_in k (g.C.SlotCell.whole c.args.cell.now)) same
+    ∙ (c.in-Ok.ensures.bytes ∙ ap Some (sym c.as_slice.ensures.value)) in
+    subst (λ f. IsRead (IsImageOf like found) (IsImageWrong like found) (Err f)) (sym c.from-in-Err-read_image.ensures)
+    (image_read like found bytes there _
+    (text_refused (λ (i : ImageView) b. IsImageText like i b) (λ b fault. IsImageFault like b fault) found bytes there
+    c.in-Err-read_image.fault read.only read.cause read.each))
