@@ -9,4 +9,5 @@ pub mod Loads
 pub mod Undone
 pub mod Changes
 pub mod Seen
+pub mod Room
 mod Decisions

@@ -1,73 +1,121 @@
--- A record that a store has fits its cell, and so does one that isn't longer.
-use Rattle.std.proofs.Common.{◌≡◌, ⊎_elim, ℕ, ◌≤◌, true, List, [], length, Some, sym, ◌∙◌, ap, arith}
-use Rattle.std.specs.Prelude.{nat_le, ◌&&◌}
-use Rattle.std.proofs.lemmas.Bool.{and_parts, leb-true, le-leb, cases_Bool, true≢false}
+-- A record that a store has fits its cell, and so does what becomes of it by a move that lets an image go, or none.
+use Rattle.std.proofs.Common.{◌≡◌, ⊎_elim, ℕ, ◌-◌, ◌≤◌, Bool, true, false, List, [], length, Option, Some, None, refl, sym, ◌∙◌, ap, subst, arith}
+use Rattle.std.specs.Prelude.{if◌then◌else◌, ◌==◌, ◌&&◌, nat_le, IsTrue}
+use Rattle.std.proofs.lemmas.Bool.{and_parts, and_from, leb-true, le-leb, cases_Bool, true≢false}
 use Rattle.std.proofs.Math.Logic.{∥∥₁_elim}
-use Rattle.gate_cell.specs.declared.TheConstants.{MAX_VALUE_BYTES}
+use Rattle.gate_cell.specs.Whole.{Whole, slot_in}
 use Rattle.gate_cell.specs.declared.cell.StableCell.{Ghosts as CellWords}
+use Rattle.gate_cell.specs.declared.slot_cell.SlotCell.{Ghosts as SlotWords}
+use Rattle.record.specs.ImageView.{ImageView}
 use Rattle.record.specs.RecordView.{RecordView}
-use Rattle.record.specs.Moves.{with_permanent, with_decision, with_epoch}
-use Rattle.ckpt_codec.specs.RecordText.{IsRecordText}
-use Rattle.ckpt_codec.specs.Lengths.{spelled_length}
+use Rattle.record.specs.declared.record.Tentative.{Tentative}
+use Rattle.record.specs.Moves.{last_image, with_permanent, with_decision, with_epoch, without_own}
+use Rattle.ckpt_codec.specs.HeaderText.{IsImageText, IsTentativeText}
+use Rattle.ckpt_codec.specs.Lengths.{image_length, spelled_length}
 use Rattle.ckpt_codec.specs.declared.lengths.TheConstants.{MAX_RECORD_BYTES}
-use Rattle.ckpt_codec.proofs.Sizes.{permanent_is_no_longer, decision_is_no_longer, epoch_is_no_longer}
-use Rattle.ckpt_store.specs.Spelling.{has_room, fits_in}
+use Rattle.ckpt_codec.proofs.Sizes.{length-image, permanent_is_no_longer, decision_is_no_longer, epoch_is_no_longer}
+use Rattle.ckpt_codec.proofs.Spelled.{image-spelled}
+use Rattle.ckpt_store.specs.Spelling.{Spells, SpellsAt, fits_in, held_fits, images_fit, is_short}
 use Rattle.ckpt_store.specs.StoreView.{cell_in, record_in, Holds}
 use Rattle.ckpt_store.specs.declared.store.Store.{Store}
-use Rattle.ckpt_store.proofs.Puts.{length_spelled}
 use Rattle.ckpt_store.proofs.Seen.{spelled_is}
+use Rattle.ckpt_store.proofs.Spelled.{HoldsFor, parts_in}
 
--- so many bytes have room
-has_room_so : (capacity n : ℕ) → n ≤ MAX_RECORD_BYTES → n ≤ capacity → has_room capacity n ≡ true
-has_room_so capacity n few fits =
-    ap (λ b. b && nat_le n capacity) (le-leb n MAX_RECORD_BYTES few) ∙ le-leb n capacity fits
+-- a record that isn't too long, and whose images fit
+pub fits_so : (room : ℕ) (kept : RecordView) → spelled_length kept ≤ MAX_RECORD_BYTES
+    → nat_le (image_length kept.permanent) room ≡ true → held_fits room kept.tentative ≡ true
+    → fits_in room kept ≡ true
+fits_so room kept short permanent held =
+    and_from (is_short (spelled_length kept)) (images_fit room kept)
+    (le-leb (spelled_length kept) MAX_RECORD_BYTES short)
+    (and_from (nat_le (image_length kept.permanent) room) (held_fits room kept.tentative) permanent held)
 
--- a record that is no longer than one that fits
-pub no_longer_fits : (capacity : ℕ) (kept next : RecordView) → spelled_length next ≤ spelled_length kept
-    → fits_in capacity kept ≡ true → fits_in capacity next ≡ true
-no_longer_fits capacity kept next shorter fits =
-    let both = and_parts (nat_le (spelled_length kept) MAX_RECORD_BYTES) (nat_le (spelled_length kept) capacity) fits in
-    let few : spelled_length kept ≤ MAX_RECORD_BYTES = leb-true (spelled_length kept) MAX_RECORD_BYTES both.0 in
-    let room : spelled_length kept ≤ capacity = leb-true (spelled_length kept) capacity both.1 in
-    has_room_so capacity (spelled_length next) (omega (arith, shorter, few)) (omega (arith, shorter, room))
+last_fits : (room : ℕ) (permanent : ImageView) (t : Option Tentative) → nat_le (image_length permanent) room ≡ true
+    → held_fits room t ≡ true → nat_le (image_length (last_image permanent t)) room ≡ true
+last_fits room permanent None fits held = fits
+last_fits room permanent (Some t) fits held = held
 
-module _ (capacity : ℕ) (kept : RecordView) (fits : fits_in capacity kept ≡ true) where
-  pub permanent_fits : fits_in capacity (with_permanent kept) ≡ true
-  permanent_fits = no_longer_fits capacity kept (with_permanent kept) (permanent_is_no_longer kept) fits
+unless_own_fits : (room : ℕ) (own : Bool) (t : Tentative) → held_fits room (Some t) ≡ true
+    → held_fits room (if own then None else Some t) ≡ true
+unless_own_fits room true t fits = refl
+unless_own_fits room false t fits = fits
 
-  pub decision_fits : (number : ℕ) → fits_in capacity (with_decision number [] kept) ≡ true
+own_fits : (room node : ℕ) (t : Option Tentative) → held_fits room t ≡ true → held_fits room (without_own node t) ≡ true
+own_fits room node None fits = refl
+own_fits room node (Some t) fits = unless_own_fits room (t.initiator == node) t fits
+
+module _ (room : ℕ) (kept : RecordView) (fits : fits_in room kept ≡ true) where
+  short : spelled_length kept ≤ MAX_RECORD_BYTES
+  short = leb-true (spelled_length kept) MAX_RECORD_BYTES
+      (and_parts (is_short (spelled_length kept)) (images_fit room kept) fits).0
+
+  both : (nat_le (image_length kept.permanent) room ≡ true) × (held_fits room kept.tentative ≡ true)
+  both = and_parts (nat_le (image_length kept.permanent) room) (held_fits room kept.tentative)
+      (and_parts (is_short (spelled_length kept)) (images_fit room kept) fits).1
+
+  pub permanent_fits : fits_in room (with_permanent kept) ≡ true
+  permanent_fits =
+      let no_more = permanent_is_no_longer kept in
+      let few = short in
+      fits_so room (with_permanent kept) (omega (arith, no_more, few))
+      (last_fits room kept.permanent kept.tentative both.0 both.1) refl
+
+  pub decision_fits : (number : ℕ) → fits_in room (with_decision number [] kept) ≡ true
   decision_fits number =
-      no_longer_fits capacity kept (with_decision number [] kept) (decision_is_no_longer number kept) fits
+      let no_more = decision_is_no_longer number kept in
+      let few = short in
+      fits_so room (with_decision number [] kept) (omega (arith, no_more, few))
+      (last_fits room kept.permanent kept.tentative both.0 both.1) refl
 
-  pub epoch_fits : fits_in capacity (with_epoch kept) ≡ true
-  epoch_fits = no_longer_fits capacity kept (with_epoch kept) (epoch_is_no_longer kept) fits
+  pub epoch_fits : fits_in room (with_epoch kept) ≡ true
+  epoch_fits =
+      let no_more = epoch_is_no_longer kept in
+      let few = short in
+      fits_so room (with_epoch kept) (omega (arith, no_more, few)) both.0
+      (own_fits room kept.node kept.tentative both.1)
 
--- What a cell leaves fits it, and no cell has room for more than a record may have. So a record that a crash may leave
--- fits.
-module _ {C : Type 0} (words : CellWords C)
-    (fits_room : (cell : C) (left : List ℕ) → words.may_leave cell (Some left) → length left ≤ words.capacity cell)
-    (room_is_bounded : (cell : C) → words.capacity cell ≤ MAX_VALUE_BYTES) where
-  pub left_fits : (cell : C) (kept : RecordView) (bytes : List ℕ) → words.may_leave cell (Some bytes)
-      → IsRecordText kept bytes → fits_in (words.capacity cell) kept ≡ true
-  left_fits cell kept bytes might text =
-      let long = length_spelled kept bytes text in
-      let fits = fits_room cell bytes might in
-      let bound = room_is_bounded cell in
-      has_room_so (words.capacity cell) (spelled_length kept) (omega (arith, long, fits, bound))
-      (omega (arith, long, fits))
+-- bytes of an image that aren't more than the room
+image_fits : (room : ℕ) (like : Option ImageView) (image : ImageView) (bytes : List ℕ) → IsImageText like image bytes
+    → length bytes ≤ room → nat_le (image_length image) room ≡ true
+image_fits room like image bytes text fits =
+    let long : length bytes ≡ image_length image =
+    ap (length {A = ℕ}) text.spelled ∙ (ap (length {A = ℕ}) (image-spelled like image) ∙ length-image image) in
+    le-leb (image_length image) room (omega (arith, long, fits))
 
-  module _ (value_may_stay : (cell : C) → words.may_leave cell (Some (words.value cell))) (store : Store C words) where
-    -- the record that its cell's value spells
-    pub holds_fits : (kept : RecordView) → Holds store kept → fits_in (words.capacity (cell_in store)) kept ≡ true
-    holds_fits kept text = left_fits store.cell kept (words.value store.cell) (value_may_stay store.cell) text
+held_fits_so : (room : ℕ) (permanent : ImageView) (t : Option Tentative) (found : Option (List ℕ)) (bytes : List ℕ)
+    → HoldsFor t found bytes → IsTentativeText permanent t bytes
+    → ((bytes : List ℕ) → found ≡ Some bytes → length bytes ≤ room) → held_fits room t ≡ true
+held_fits_so room permanent None found bytes there text fits = refl
+held_fits_so room permanent (Some t) found bytes there text fits =
+    image_fits room (Some permanent) t.image bytes text (fits bytes there)
+
+-- What a cell leaves in a slot fits it. So a record that a crash may leave fits.
+module _ {C : Type 0} (words : CellWords C) (slots : SlotWords C)
+    (fits_slot : (cell : C) (left : Whole) (slot : ℕ) (bytes : List ℕ) → slots.may_leave_whole cell left
+    → slot_in slot left ≡ Some bytes → length bytes ≤ slots.slot_capacity cell) where
+  pub left_fits : (cell : C) (kept : RecordView) (left : Whole) → slots.may_leave_whole cell left → Spells kept left
+      → fits_in (slots.slot_capacity cell) kept ≡ true
+  left_fits cell kept left might is =
+      let slot = is.0 in
+      let s = parts_in kept slot left is.1 in
+      fits_so (slots.slot_capacity cell) kept is.1.short
+      (image_fits (slots.slot_capacity cell) None kept.permanent s.first s.apart.shows
+      (fits_slot cell left slot s.first might s.shows))
+      (held_fits_so (slots.slot_capacity cell) kept.permanent kept.tentative (slot_in (1 - slot) left) s.second s.holds
+      s.apart.holds (λ bytes there. fits_slot cell left (1 - slot) bytes might there))
+
+  module _ (may_stay : (cell : C) → slots.may_leave_whole cell (slots.whole cell)) (store : Store C slots words) where
+    -- the record that its cell holds
+    pub holds_fits : (kept : RecordView) → Holds store kept → fits_in (slots.slot_capacity (cell_in store)) kept ≡ true
+    holds_fits kept is = left_fits store.cell kept (slots.whole store.cell) (may_stay store.cell) is
 
     -- the record that it shows, in every state
-    pub record_fits : fits_in (words.capacity (cell_in store)) (record_in store) ≡ true
+    pub record_fits : fits_in (slots.slot_capacity (cell_in store)) (record_in store) ≡ true
     record_fits = ⊎_elim (λ fits. fits)
         (λ no. absurd
-        (∥∥₁_elim (store.kept.leaves (Some (words.value store.cell)) (value_may_stay store.cell)) (λ x y. absurd x)
+        (∥∥₁_elim (store.kept.leaves (slots.whole store.cell) (may_stay store.cell)) (λ x y. absurd x)
         (λ e. true≢false
         (sym (holds_fits e.0 e.1)
-        ∙ ap (λ r. fits_in (words.capacity store.cell) r) (sym (spelled_is e.0 (words.value store.cell) e.1))
+        ∙ ap (λ r. fits_in (slots.slot_capacity store.cell) r) (sym (spelled_is e.0 (slots.whole store.cell) e.1))
         ∙ no))))
-        (cases_Bool (fits_in (words.capacity store.cell) (record_in store)))
+        (cases_Bool (fits_in (slots.slot_capacity store.cell) (record_in store)))

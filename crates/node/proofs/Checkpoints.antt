@@ -4,6 +4,8 @@ use Rattle.std.proofs.Common.{None, Result, Ok, Err, refl, sym, ◌∙◌, ap, s
 use Rattle.std.specs.Prelude.{IsTrue, IsErrOf, OnOk, OnErr, IfOk, IfErr, IsSome}
 use Rattle.sector_disk.specs.Clock.{Only}
 use Rattle.gate_cell.specs.declared.cell.StableCell.{Ghosts as CellWords}
+use Rattle.gate_cell.specs.declared.slot_cell.SlotCell.{Ghosts as SlotWords}
+use Rattle.gate_cell.specs.Whole.{Whole}
 use Rattle.record.specs.RecordView.{RecordView}
 use Rattle.ckpt_store.specs.Spelling.{fits_in, IsLengthTold}
 use Rattle.ckpt_store.specs.StoreFault.{HasFailures, IsOfPut}
@@ -16,7 +18,6 @@ use Rattle.node.specs.NodeView.{node_view, mode_view}
 use Rattle.protocol.specs.Node.Modes.{is_down, crashed, with_kept}
 use Rattle.protocol.specs.Node.ArmedRestarts.{restart_after}
 use Rattle.protocol.specs.Node.Plans.{Prospect, putting, IsMade, IsPut}
-use Rattle.gate_cell.specs.Setup.{setup_then}
 use Rattle.node.specs.StoredView.{HasRecord, LeavesDevice, LeavesNext, IsCrashed, has_failed, put_outcome, IsAnswer}
 use Rattle.node.specs.declared.state.NodeState.{NodeState}
 use Rattle.protocol.specs.declared.outcome.Outcome.{Outcome}
@@ -25,18 +26,18 @@ use Rattle.node.proofs.Records.{settled_ready, one_of_both, then_crashed, change
 use Rattle.node.proofs.Records.{change_done, change_refused}
 
 -- What an event that puts this record comes to.
-pub record Ends {C : Type 0} {words : CellWords C} (next : RecordView) (restart : ℕ) (old new : Store C words)
+pub record Ends {C : Type 0} {words : CellWords C} {slots : SlotWords C} (next : RecordView) (restart : ℕ) (old new : Store C slots words)
     (before after : NodeState) (put : Result (Unit {0}) StoreFault) : Type 0 where
   pub moments : LeavesNext next old new
   pub refusals : IfErr put IsOfPut
-  pub settled : Only (Some (words.value (cell_in new))) (words.may_leave (cell_in new))
+  pub settled : Only (slots.whole (cell_in new)) (slots.may_leave_whole (cell_in new))
   pub stored : OnOk put ((record_in new ≡ next) × IsSome (known_in new) × (after ≡ before))
   pub refused : OnErr put
       (has_failed put ≡ false → (record_in new ≡ record_in old) × IsSome (known_in new) × (after ≡ before))
   pub failed : IsTrue (has_failed put)
       → ((record_in new ≡ record_in old) ⊎ (record_in new ≡ next))
       × ((kept : RecordView) → node_view kept after ≡ crashed restart (node_view kept before))
-  pub fits : IsLengthTold (fits_in (words.capacity (cell_in old)) next) put
+  pub fits : IsLengthTold (fits_in (slots.slot_capacity (cell_in old)) next) put
   pub failures : HasFailures (words.failure_count (cell_in old)) (words.failure_count (cell_in new)) put
   pub same_setup : LeavesDevice old new
 
@@ -47,15 +48,15 @@ by_test false f t = f refl
 not_device : (put : Result (Unit {0}) StoreFault) → has_failed put ≡ false → ¬ (IsErrOf put fault.Device)
 not_device put test e = let both : has_failed (Err fault.Device) ≡ false = ap has_failed (sym e) ∙ test in cc
 
-module _ {C : Type 0} (words : CellWords C)
-    (includes_now : (cell : C) (t : ℕ) (left : Option (List ℕ)) → t ≤ words.moment cell → words.may_leave cell left
-    → words.left_since cell t left)
-    (may_stay : (cell : C) → words.may_leave cell (Some (words.value cell)))
-    (ready_settled : (cell : C) → IsTrue (words.is_ready cell) → Only (Some (words.value cell)) (words.may_leave cell))
-    (cause : RecordView → Option StoreFault) (change : RecordView → RecordView) (old mid new : Store C words)
+module _ {C : Type 0} (words : CellWords C) (slots : SlotWords C)
+    (includes_now : (cell : C) (t : ℕ) (left : Whole) → t ≤ words.moment cell → slots.may_leave_whole cell left
+    → slots.left_since_whole cell t left)
+    (may_stay : (cell : C) → slots.may_leave_whole cell (slots.whole cell))
+    (ready_settled : (cell : C) → IsTrue (words.is_ready cell) → Only (slots.whole cell) (slots.may_leave_whole cell))
+    (cause : RecordView → Option StoreFault) (change : RecordView → RecordView) (old mid new : Store C slots words)
     (put : Result (Unit {0}) StoreFault) (some : IsSome (known_in old)) (fine : cause (record_in old) ≡ None)
     (changes : Changes cause change old mid put)
-    (only : Only (Some (words.value (cell_in old))) (words.may_leave (cell_in old))) (restart : ℕ)
+    (only : Only (slots.whole (cell_in old)) (slots.may_leave_whole (cell_in old))) (restart : ℕ)
     (before after : NodeState) where
   pub ended : (has_failed put ≡ false → (new ≡ mid) × (after ≡ before))
       → (IsTrue (has_failed put)
@@ -63,40 +64,42 @@ module _ {C : Type 0} (words : CellWords C)
       → Ends (change (record_in old)) restart old new before after put
   ended stays crash = record {
     moments = moments;
-    refusals = change_refusals words includes_now may_stay ready_settled cause change old mid put some fine changes;
+    refusals = change_refusals words slots includes_now may_stay ready_settled cause change old mid put some fine changes;
     settled = settled;
     stored = stored put refl;
     refused = refused put refl;
     failed =
         λ test. (
-          one_of_both words includes_now may_stay ready_settled (change (record_in old)) old new only moments,
+          one_of_both words slots includes_now may_stay ready_settled (change (record_in old)) old new only moments,
           (crash test).1,
         );
-    fits = change_fits words includes_now may_stay ready_settled cause change old mid put some fine changes;
+    fits = change_fits words slots includes_now may_stay ready_settled cause change old mid put some fine changes;
     failures =
         subst (λ (n : ℕ). HasFailures (words.failure_count (cell_in old)) n put)
-        (sym (after_crash (λ (s : Store C words). words.failure_count (cell_in s)) (λ test. (crash test).0.failures)))
+        (sym (after_crash (λ (s : Store C slots words). words.failure_count (cell_in s)) (λ test. (crash test).0.failures)))
         changes.failures;
     same_setup =
         by_test (has_failed put)
-        (λ test. subst (λ (s : Store C words). LeavesDevice old s) (sym (stays test).0) changes.same_setup)
-        (λ test. setup_then words.capacity words.armed words.call_count (cell_in old) (cell_in mid) (cell_in new)
-        changes.same_setup (crash test).0.same_setup);
+        (λ test. subst (λ (s : Store C slots words). LeavesDevice old s) (sym (stays test).0) put_device)
+        (λ test. device_then words slots old mid new put_device (crash test).0.same_setup);
   }
     where
+      put_device : LeavesDevice old mid
+      put_device = record { setup = changes.same_setup; same_slot_room = changes.same_slot_room }
+
       -- what a crash leaves alone is as after the put
-      after_crash : {A : Type 0} (of : Store C words → A) → (IsTrue (has_failed put) → of new ≡ of mid)
+      after_crash : {A : Type 0} (of : Store C slots words → A) → (IsTrue (has_failed put) → of new ≡ of mid)
           → of new ≡ of mid
       after_crash of down = by_test (has_failed put) (λ test. ap of (stays test).0) down
 
       run : LeavesNext (change (record_in old)) old mid
-      run = change_moments words includes_now may_stay ready_settled cause change old mid put some fine changes
+      run = change_moments words slots includes_now may_stay ready_settled cause change old mid put some fine changes
 
       moments : LeavesNext (change (record_in old)) old new
       moments =
           by_test (has_failed put)
-          (λ test. subst (λ (s : Store C words). LeavesNext (change (record_in old)) old s) (sym (stays test).0) run)
-          (λ test. then_crashed words includes_now may_stay ready_settled (change (record_in old)) old mid new run
+          (λ test. subst (λ (s : Store C slots words). LeavesNext (change (record_in old)) old s) (sym (stays test).0) run)
+          (λ test. then_crashed words slots includes_now may_stay ready_settled (change (record_in old)) old mid new run
           (crash test).0.any_moment)
 
       stored : (p : Result (Unit {0}) StoreFault) → put ≡ p
@@ -105,11 +108,11 @@ module _ {C : Type 0} (words : CellWords C)
           let done =
           subst (λ (p : Result (Unit {0}) StoreFault). OnOk p
           ((record_in mid ≡ change (record_in old)) × IsSome (known_in mid))) is
-          (change_done words includes_now may_stay ready_settled cause change old mid put some fine changes) in
+          (change_done words slots includes_now may_stay ready_settled cause change old mid put some fine changes) in
           let same = stays (ap has_failed is) in (
-            subst (λ (s : Store C words). record_in s ≡ change (record_in old)) (sym same.0) done.0,
+            subst (λ (s : Store C slots words). record_in s ≡ change (record_in old)) (sym same.0) done.0,
             subst
-                (λ (s : Store C words). IsSome (known_in s)) (sym same.0) done.1,
+                (λ (s : Store C slots words). IsSome (known_in s)) (sym same.0) done.1,
             same.1,
           )
       stored (Err e) is = tt
@@ -123,11 +126,11 @@ module _ {C : Type 0} (words : CellWords C)
           subst (λ (p : Result (Unit {0}) StoreFault). OnErr p
           (¬ (IsErrOf p fault.Device)
           → (record_in mid ≡ record_in old) × IsSome (known_in mid) × (cell_in mid ≡ cell_in old))) is
-          (change_refused words includes_now may_stay ready_settled cause change old mid put some fine changes)
+          (change_refused words slots includes_now may_stay ready_settled cause change old mid put some fine changes)
           (not_device (Err e) test) in (
-            subst (λ (s : Store C words). record_in s ≡ record_in old) (sym same.0) kept.0,
+            subst (λ (s : Store C slots words). record_in s ≡ record_in old) (sym same.0) kept.0,
             subst
-                (λ (s : Store C words). IsSome (known_in s)) (sym same.0) kept.1,
+                (λ (s : Store C slots words). IsSome (known_in s)) (sym same.0) kept.1,
             same.1,
           ))
 
@@ -138,9 +141,9 @@ module _ {C : Type 0} (words : CellWords C)
           at (Ok x) is = (stored (Ok x) is).1
           at (Err e) is = (refused (Err e) is (ap has_failed (sym is) ∙ test)).1
 
-      settled : Only (Some (words.value (cell_in new))) (words.may_leave (cell_in new))
+      settled : Only (slots.whole (cell_in new)) (slots.may_leave_whole (cell_in new))
       settled =
-          by_test (has_failed put) (λ test. settled_ready words includes_now may_stay ready_settled new (ready test))
+          by_test (has_failed put) (λ test. settled_ready words slots includes_now may_stay ready_settled new (ready test))
           (λ test. (crash test).0.settled)
 
 -- ---- what came of an event
@@ -176,7 +179,7 @@ by_kind P done memory large device (Err fault.NotHeld) is = absurd is
 by_kind P done memory large device (Err fault.Unsettled) is = absurd is
 by_kind P done memory large device (Err fault.Spent) is = absurd is
 
-module _ {C : Type 0} {words : CellWords C} (next : RecordView) (restart : ℕ) (old new : Store C words)
+module _ {C : Type 0} {words : CellWords C} {slots : SlotWords C} (next : RecordView) (restart : ℕ) (old new : Store C slots words)
     (before after : NodeState) (put : Result (Unit {0}) StoreFault) (ends : Ends next restart old new before after put)
   where
     abbrev was : NodeView
@@ -192,10 +195,10 @@ module _ {C : Type 0} {words : CellWords C} (next : RecordView) (restart : ℕ) 
     some_is is = cc
 
     -- how it comes out, where the record may grow, or fits as the one before did
-    ends_step : (grows : Bool) → (grows ≡ false → fits_in (words.capacity (cell_in old)) next ≡ true) → (x : Outcome)
+    ends_step : (grows : Bool) → (grows ≡ false → fits_in (slots.slot_capacity (cell_in old)) next ≡ true) → (x : Outcome)
         → put_outcome put ≡ Some x → IsMade restart (putting grows (with_kept next was)) was x now
     ends_step grows short =
-        by_kind (λ p. IsLengthTold (fits_in (words.capacity (cell_in old)) next) p
+        by_kind (λ p. IsLengthTold (fits_in (slots.slot_capacity (cell_in old)) next) p
         → OnOk p ((record_in new ≡ next) × IsSome (known_in new) × (after ≡ before))
         → OnErr p (has_failed p ≡ false → (record_in new ≡ record_in old) × IsSome (known_in new) × (after ≡ before))
         → (IsTrue (has_failed p)
@@ -219,30 +222,30 @@ module _ {C : Type 0} {words : CellWords C} (next : RecordView) (restart : ℕ) 
         ))
         put ends.refusals ends.fits ends.stored ends.refused ends.failed
       where
-        it_grows : fits_in (words.capacity (cell_in old)) next ≡ false → grows ≡ true
+        it_grows : fits_in (slots.slot_capacity (cell_in old)) next ≡ false → grows ≡ true
         it_grows large =
             by_test grows
-            (λ no. (let some : fits_in (words.capacity (cell_in old)) next ≡ true = short no in absurd (cc))) (λ is. is)
+            (λ no. (let some : fits_in (slots.slot_capacity (cell_in old)) next ≡ true = short no in absurd (cc))) (λ is. is)
 
     -- what the cell has to do with it
     ends_put : (x : Outcome) → put_outcome put ≡ Some x
-        → IsPut (fits_in (words.capacity (cell_in old)) next) (words.failure_count (cell_in old))
+        → IsPut (fits_in (slots.slot_capacity (cell_in old)) next) (words.failure_count (cell_in old))
         (words.failure_count (cell_in new)) x
     ends_put =
-        by_kind (λ p. IsLengthTold (fits_in (words.capacity (cell_in old)) next) p
+        by_kind (λ p. IsLengthTold (fits_in (slots.slot_capacity (cell_in old)) next) p
         → HasFailures (words.failure_count (cell_in old)) (words.failure_count (cell_in new)) p
         → (x : Outcome) → put_outcome p ≡ Some x
-        → IsPut (fits_in (words.capacity (cell_in old)) next) (words.failure_count (cell_in old))
+        → IsPut (fits_in (slots.slot_capacity (cell_in old)) next) (words.failure_count (cell_in old))
         (words.failure_count (cell_in new)) x)
         (λ fits failures x is.
-        subst (IsPut (fits_in (words.capacity (cell_in old)) next) (words.failure_count (cell_in old))
+        subst (IsPut (fits_in (slots.slot_capacity (cell_in old)) next) (words.failure_count (cell_in old))
         (words.failure_count (cell_in new))) (some_is is) (fits, failures.otherwise (λ e. cc)))
         (λ fits failures x is. absurd (cc))
         (λ fits failures x is.
-        subst (IsPut (fits_in (words.capacity (cell_in old)) next) (words.failure_count (cell_in old))
+        subst (IsPut (fits_in (slots.slot_capacity (cell_in old)) next) (words.failure_count (cell_in old))
         (words.failure_count (cell_in new))) (some_is is) (fits, failures.otherwise (λ e. cc)))
         (λ fits failures x is.
-        subst (IsPut (fits_in (words.capacity (cell_in old)) next) (words.failure_count (cell_in old))
+        subst (IsPut (fits_in (slots.slot_capacity (cell_in old)) next) (words.failure_count (cell_in old))
         (words.failure_count (cell_in new))) (some_is is) (fits, failures.device refl))
         put ends.refusals ends.fits ends.failures
 
@@ -261,7 +264,7 @@ module _ {C : Type 0} {words : CellWords C} (next : RecordView) (restart : ℕ) 
         put ends.refusals ends.refused ends.failures
 
     -- so all of it
-    pub ends_event : (grows : Bool) → (grows ≡ false → fits_in (words.capacity (cell_in old)) next ≡ true)
+    pub ends_event : (grows : Bool) → (grows ≡ false → fits_in (slots.slot_capacity (cell_in old)) next ≡ true)
         → (prospect : Prospect) (round : ℕ) {E : Type 0} (answer : Result Outcome E)
         → prospect ≡ putting grows (with_kept next was)
         → restart ≡ restart_after before.armed.items (words.failed_call (cell_in new)) round
@@ -278,7 +281,7 @@ module _ {C : Type 0} {words : CellWords C} (next : RecordView) (restart : ℕ) 
               is_refused (put_outcome put) answer is
               (words.failure_count (cell_in new) ≡ words.failure_count (cell_in old)) (λ none. (ends_refused none).1);
           put = is_answered (put_outcome put) answer is
-              (IsPut (fits_in (words.capacity (cell_in old)) next) (words.failure_count (cell_in old))
+              (IsPut (fits_in (slots.slot_capacity (cell_in old)) next) (words.failure_count (cell_in old))
               (words.failure_count (cell_in new))) ends_put;
           any_moment = ends.moments;
           same_setup = ends.same_setup;

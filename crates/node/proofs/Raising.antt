@@ -5,7 +5,8 @@ use Rattle.std.specs.Prelude.{IsTrue, IsErrOf, OnOk, OnErr, IfOk, IfErr, IsSome,
 use Rattle.std.proofs.lemmas.Bool.{ltb-true}
 use Rattle.sector_disk.specs.Clock.{LeavesOnly, Only}
 use Rattle.gate_cell.specs.declared.cell.StableCell.{Ghosts as CellWords}
-use Rattle.gate_cell.specs.Setup.{setup_then}
+use Rattle.gate_cell.specs.declared.slot_cell.SlotCell.{Ghosts as SlotWords}
+use Rattle.gate_cell.specs.Whole.{Whole}
 use Rattle.record.specs.ImageView.{ImageView}
 use Rattle.record.specs.RecordView.{RecordView}
 use Rattle.record.specs.Moves.{with_epoch}
@@ -19,7 +20,7 @@ use Rattle.ckpt_store.specs.declared.store.Store.{Store}
 use Rattle.ckpt_store.specs.declared.fault.StoreFault.{StoreFault}
 use Rattle.ckpt_store.specs.declared.fault.StoreFault.TheVariants as fault
 use Rattle.node.specs.StoredView.{LeavesAsBefore, LeavesNext, IsRaised, IsRaiseRefusal}
-use Rattle.node.proofs.Records.{some_known, still_settled, looked, looked_on, looked_then, settled_ready}
+use Rattle.node.proofs.Records.{device_then, some_known, still_settled, looked, looked_on, looked_then, settled_ready}
 use Rattle.node.proofs.Records.{change_refusals, change_moments, change_fits, change_done}
 
 of_reopening : (fits : Bool) (kept : RecordView) (e : StoreFault) → IsOfReopening e → IsRaiseRefusal fits kept e
@@ -36,26 +37,26 @@ of_reopening fits kept fault.NotHeld is = absurd is
 of_reopening fits kept fault.Unsettled is = absurd is
 of_reopening fits kept fault.Spent is = absurd is
 
-module _ {C : Type 0} (words : CellWords C)
-    (includes_now : (cell : C) (t : ℕ) (left : Option (List ℕ)) → t ≤ words.moment cell → words.may_leave cell left
-    → words.left_since cell t left)
-    (may_stay : (cell : C) → words.may_leave cell (Some (words.value cell)))
-    (ready_settled : (cell : C) → IsTrue (words.is_ready cell) → Only (Some (words.value cell)) (words.may_leave cell))
-    (old : Store C words) (settled : Only (Some (words.value (cell_in old))) (words.may_leave (cell_in old))) where
+module _ {C : Type 0} (words : CellWords C) (slots : SlotWords C)
+    (includes_now : (cell : C) (t : ℕ) (left : Whole) → t ≤ words.moment cell → slots.may_leave_whole cell left
+    → slots.left_since_whole cell t left)
+    (may_stay : (cell : C) → slots.may_leave_whole cell (slots.whole cell))
+    (ready_settled : (cell : C) → IsTrue (words.is_ready cell) → Only (slots.whole cell) (slots.may_leave_whole cell))
+    (old : Store C slots words) (settled : Only (slots.whole (cell_in old)) (slots.may_leave_whole (cell_in old))) where
   on_err : {P Q : Type 0} (result : Result ImageView StoreFault) → OnErr result P → (P → Q) → OnErr result Q
   on_err (Ok x) is so = tt
   on_err (Err e) is so = so is
 
   -- it couldn't be reopened
-  pub not_reopened : (mid : Store C words) (e : StoreFault) → Reopens old mid {T = Unit {0}} (Err e)
+  pub not_reopened : (mid : Store C slots words) (e : StoreFault) → Reopens old mid {T = Unit {0}} (Err e)
       → IsRaised old mid (Err e)
   not_reopened mid e load = record {
     image = tt;
     raised = tt;
     refused =
-        of_reopening (fits_in (words.capacity (cell_in old)) (with_epoch (record_in old))) (record_in old) e
+        of_reopening (fits_in (slots.slot_capacity (cell_in old)) (with_epoch (record_in old))) (record_in old) e
         load.refusals;
-    same_record = λ other. ap record_spelled load.same_value;
+    same_record = λ other. ap record_spelled load.same_whole;
     failures =
         record {
           device = λ is. load.failures.device (device_too e is);
@@ -63,12 +64,12 @@ module _ {C : Type 0} (words : CellWords C)
               λ other. load.failures.otherwise (λ is. other (device_so e is));
         };
     settled =
-        λ other. still_settled words includes_now may_stay ready_settled old mid settled load.any_moment
-        load.same_value;
-    any_moment = looked words includes_now may_stay ready_settled (with_epoch (record_in old)) old mid load.any_moment;
+        λ other. still_settled words slots includes_now may_stay ready_settled old mid settled load.any_moment
+        load.same_whole;
+    any_moment = looked words slots includes_now may_stay ready_settled (with_epoch (record_in old)) old mid load.any_moment;
     nothing_put = λ other. load.any_moment;
     held_up = λ more. load.any_moment;
-    same_setup = load.same_setup;
+    same_setup = record { setup = load.same_setup; same_slot_room = load.same_slot_room };
   }
     where
       device_too : (e : StoreFault) → IsErrOf {T = ImageView} (Err e) fault.Device
@@ -80,10 +81,10 @@ module _ {C : Type 0} (words : CellWords C)
       device_so e is = let same : e ≡ fault.Device = cc in ap Err same
 
   -- or was, and is the same as before
-  pub reopened_then : (mid new : Store C words) (result : Result ImageView StoreFault)
+  pub reopened_then : (mid new : Store C slots words) (result : Result ImageView StoreFault)
       → Reopens old mid {T = Unit {0}} (Ok tt) → IsRaised mid new result → IsRaised old new result
   reopened_then mid new result load raised =
-      let same : record_in mid ≡ record_in old = ap record_spelled load.same_value in
+      let same : record_in mid ≡ record_in old = ap record_spelled load.same_whole in
       let before : words.failure_count (cell_in mid) ≡ words.failure_count (cell_in old) =
       load.failures.otherwise (λ is. cc) in
       record {
@@ -91,16 +92,16 @@ module _ {C : Type 0} (words : CellWords C)
         raised =
             subst (λ (r : RecordView). OnOk result
             ((record_in new ≡ with_epoch r) × IsSome (known_in new) × (r.epoch < MAX_COUNT)
-            × IsTrue (fits_in (words.capacity (cell_in old)) (with_epoch r)))) same
+            × IsTrue (fits_in (slots.slot_capacity (cell_in old)) (with_epoch r)))) same
             (subst (λ (n : ℕ). OnOk result
             ((record_in new ≡ with_epoch (record_in mid)) × IsSome (known_in new)
             × ((record_in mid).epoch < MAX_COUNT) × IsTrue (fits_in n (with_epoch (record_in mid)))))
-            load.same_setup.same_room raised.raised);
+            load.same_slot_room raised.raised);
         refused =
             subst (λ (r : RecordView). IfErr result
-            (IsRaiseRefusal (fits_in (words.capacity (cell_in old)) (with_epoch r)) r)) same
+            (IsRaiseRefusal (fits_in (slots.slot_capacity (cell_in old)) (with_epoch r)) r)) same
             (subst (λ (n : ℕ). IfErr result (IsRaiseRefusal (fits_in n (with_epoch (record_in mid))) (record_in mid)))
-            load.same_setup.same_room raised.refused);
+            load.same_slot_room raised.refused);
         same_record =
             subst (λ (r : RecordView). OnErr result (¬ (IsErrOf result fault.Device) → record_in new ≡ r)) same
             raised.same_record;
@@ -108,35 +109,35 @@ module _ {C : Type 0} (words : CellWords C)
         settled = raised.settled;
         any_moment =
             subst (λ (r : RecordView). LeavesNext (with_epoch r) old new) same
-            (looked_then words includes_now may_stay ready_settled (with_epoch (record_in mid)) old mid new
+            (looked_then words slots includes_now may_stay ready_settled (with_epoch (record_in mid)) old mid new
             load.any_moment raised.any_moment);
         nothing_put =
             on_err result raised.nothing_put
-            (λ quiet other. looked_on words includes_now may_stay ready_settled old mid new load.any_moment
+            (λ quiet other. looked_on words slots includes_now may_stay ready_settled old mid new load.any_moment
             (quiet other));
         held_up =
             on_err result raised.held_up
-            (λ quiet more. looked_on words includes_now may_stay ready_settled old mid new load.any_moment
+            (λ quiet more. looked_on words slots includes_now may_stay ready_settled old mid new load.any_moment
             (quiet (subst (λ (r : RecordView). MAX_COUNT ≤ r.epoch) (sym same) more)));
         same_setup =
-            setup_then words.capacity words.armed words.call_count (cell_in old) (cell_in mid) (cell_in new)
-            load.same_setup raised.same_setup;
+            device_then words slots old mid new
+            (record { setup = load.same_setup; same_slot_room = load.same_slot_room }) raised.same_setup;
       }
 
-module _ {C : Type 0} (words : CellWords C)
-    (includes_now : (cell : C) (t : ℕ) (left : Option (List ℕ)) → t ≤ words.moment cell → words.may_leave cell left
-    → words.left_since cell t left)
-    (may_stay : (cell : C) → words.may_leave cell (Some (words.value cell)))
-    (ready_settled : (cell : C) → IsTrue (words.is_ready cell) → Only (Some (words.value cell)) (words.may_leave cell))
-    (old : Store C words) (settled : Only (Some (words.value (cell_in old))) (words.may_leave (cell_in old)))
+module _ {C : Type 0} (words : CellWords C) (slots : SlotWords C)
+    (includes_now : (cell : C) (t : ℕ) (left : Whole) → t ≤ words.moment cell → slots.may_leave_whole cell left
+    → slots.left_since_whole cell t left)
+    (may_stay : (cell : C) → slots.may_leave_whole cell (slots.whole cell))
+    (ready_settled : (cell : C) → IsTrue (words.is_ready cell) → Only (slots.whole cell) (slots.may_leave_whole cell))
+    (old : Store C slots words) (settled : Only (slots.whole (cell_in old)) (slots.may_leave_whole (cell_in old)))
     (some : IsSome (known_in old)) where
-  raised_so : (new : Store C words) (image : ImageView) → image ≡ (record_in old).permanent
+  raised_so : (new : Store C slots words) (image : ImageView) → image ≡ (record_in old).permanent
       → (changes : Changes refusal_to_raise with_epoch old new {T = Unit {0}} (Ok tt))
       → (record_in old).epoch < MAX_COUNT → refusal_to_raise (record_in old) ≡ None
       → IsRaised old new (Ok image)
   raised_so new image is changes less fine =
       let done =
-      change_done words includes_now may_stay ready_settled refusal_to_raise with_epoch old new (Ok tt) some fine
+      change_done words slots includes_now may_stay ready_settled refusal_to_raise with_epoch old new (Ok tt) some fine
       changes in
       record {
         image = is;
@@ -144,30 +145,30 @@ module _ {C : Type 0} (words : CellWords C)
           done.0,
           done.1,
           less,
-          change_fits words includes_now may_stay ready_settled refusal_to_raise with_epoch
+          change_fits words slots includes_now may_stay ready_settled refusal_to_raise with_epoch
               old new (Ok tt) some fine changes,
         );
         refused = tt;
         same_record = tt;
         failures = record { device = λ e. cc; otherwise = λ other. changes.failures.otherwise (λ e. cc) };
-        settled = λ other. settled_ready words includes_now may_stay ready_settled new done.1;
+        settled = λ other. settled_ready words slots includes_now may_stay ready_settled new done.1;
         any_moment =
-            change_moments words includes_now may_stay ready_settled refusal_to_raise with_epoch old new (Ok tt) some
+            change_moments words slots includes_now may_stay ready_settled refusal_to_raise with_epoch old new (Ok tt) some
             fine changes;
         nothing_put = tt;
         held_up = tt;
-        same_setup = changes.same_setup;
+        same_setup = record { setup = changes.same_setup; same_slot_room = changes.same_slot_room };
       }
 
   -- the epoch was raised
-  pub raised : (new : Store C words) (image : ImageView) → image ≡ (record_in old).permanent
+  pub raised : (new : Store C slots words) (image : ImageView) → image ≡ (record_in old).permanent
       → Changes refusal_to_raise with_epoch old new {T = Unit {0}} (Ok tt) → IsRaised old new (Ok image)
   raised new image is changes = at (nat_lt (record_in old).epoch MAX_COUNT) refl
     where
       spent : nat_lt (record_in old).epoch MAX_COUNT ≡ false → ComesFirst {T = Unit {0}} (Some fault.Spent) (Ok tt)
       spent test =
           subst (λ (o : Option StoreFault). ComesFirst {T = Unit {0}} o (Ok tt))
-          (ap (first_refusal refusal_to_raise) (some_known words old some)
+          (ap (first_refusal refusal_to_raise) (some_known words slots old some)
           ∙ ap (λ (b : Bool). cond b None (Some fault.Spent)) test) changes.refusals
 
       at : (b : Bool) → nat_lt (record_in old).epoch MAX_COUNT ≡ b → IsRaised old new (Ok image)
@@ -177,12 +178,12 @@ module _ {C : Type 0} (words : CellWords C)
       at false test = let no : ComesFirst {T = Unit {0}} (Some fault.Spent) (Ok tt) = spent test in absurd (cc)
 
   -- or it wasn't: nothing was put but where the device failed
-  module _ (only_now : (cell : C) (left : Option (List ℕ)) → words.left_since cell (words.moment cell) left
-      → words.may_leave cell left) (new : Store C words) (e : StoreFault)
+  module _ (only_now : (cell : C) (left : Whole) → slots.left_since_whole cell (words.moment cell) left
+      → slots.may_leave_whole cell left) (new : Store C slots words) (e : StoreFault)
       (changes : Changes refusal_to_raise with_epoch old new {T = Unit {0}} (Err e)) where
     still : cell_in new ≡ cell_in old → LeavesAsBefore old new
     still same =
-        subst (λ (c : C). LeavesOnly words.moment words.left_since (cell_in old) c (words.may_leave (cell_in old)))
+        subst (λ (c : C). LeavesOnly words.moment slots.left_since_whole (cell_in old) c (slots.may_leave_whole (cell_in old)))
         (sym same)
         (record {
           later = omega arith;
@@ -218,7 +219,7 @@ module _ {C : Type 0} (words : CellWords C)
     spent_is test =
         let first : ComesFirst {T = Unit {0}} (Some fault.Spent) (Err e) =
         subst (λ (o : Option StoreFault). ComesFirst {T = Unit {0}} o (Err e))
-        (ap (first_refusal refusal_to_raise) (some_known words old some)
+        (ap (first_refusal refusal_to_raise) (some_known words slots old some)
         ∙ ap (λ (b : Bool). cond b None (Some fault.Spent)) test) changes.refusals in
         cc
 
@@ -246,17 +247,17 @@ module _ {C : Type 0} (words : CellWords C)
       image = tt;
       raised = tt;
       refused =
-          by_test (λ test. of_put (fits_in (words.capacity (cell_in old)) (with_epoch (record_in old))) e
+          by_test (λ test. of_put (fits_in (slots.slot_capacity (cell_in old)) (with_epoch (record_in old))) e
           (ltb-true (record_in old).epoch MAX_COUNT test)
-          (change_refusals words includes_now may_stay ready_settled refusal_to_raise with_epoch old new (Err e) some
+          (change_refusals words slots includes_now may_stay ready_settled refusal_to_raise with_epoch old new (Err e) some
           (fine test) changes)
-          (change_fits words includes_now may_stay ready_settled refusal_to_raise with_epoch old new (Err e) some
+          (change_fits words slots includes_now may_stay ready_settled refusal_to_raise with_epoch old new (Err e) some
           (fine test) changes))
           (λ test. subst
-          (IsRaiseRefusal (fits_in (words.capacity (cell_in old)) (with_epoch (record_in old))) (record_in old))
+          (IsRaiseRefusal (fits_in (slots.slot_capacity (cell_in old)) (with_epoch (record_in old))) (record_in old))
           (sym (spent_is test)) (not_less (record_in old).epoch MAX_COUNT test));
       same_record =
-          λ other. ap (λ (c : C). record_spelled (words.value c)) (changes.same_cell (λ is. other (device_so is)));
+          λ other. ap (λ (c : C). record_spelled (slots.whole c)) (changes.same_cell (λ is. other (device_so is)));
       failures =
           record {
             device = λ is. changes.failures.device (device_too is);
@@ -264,15 +265,15 @@ module _ {C : Type 0} (words : CellWords C)
                 λ other. changes.failures.otherwise (λ is. other (device_so is));
           };
       settled =
-          λ other. subst (λ (c : C). Only (Some (words.value c)) (words.may_leave c))
+          λ other. subst (λ (c : C). Only (slots.whole c) (slots.may_leave_whole c))
           (sym (changes.same_cell (λ is. other (device_so is)))) settled;
       any_moment =
-          by_test (λ test. change_moments words includes_now may_stay ready_settled refusal_to_raise with_epoch old new
+          by_test (λ test. change_moments words slots includes_now may_stay ready_settled refusal_to_raise with_epoch old new
           (Err e) some (fine test) changes)
-          (λ test. looked words includes_now may_stay ready_settled (with_epoch (record_in old)) old new (held test));
+          (λ test. looked words slots includes_now may_stay ready_settled (with_epoch (record_in old)) old new (held test));
       nothing_put = λ other. still (changes.same_cell (λ is. other (device_so is)));
       held_up = λ more. by_test (λ test. absurd (not_spent more test)) held;
-      same_setup = changes.same_setup;
+      same_setup = record { setup = changes.same_setup; same_slot_room = changes.same_slot_room };
     }
       where
         not_less : (n m : ℕ) → nat_lt n m ≡ false → m ≤ n

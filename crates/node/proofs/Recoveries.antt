@@ -6,6 +6,8 @@ use Rattle.std.proofs.lemmas.Bool.{lt-ltb, ltb-true}
 use Rattle.std.specs.Option.{ForSome}
 use Rattle.sector_disk.specs.Clock.{Only}
 use Rattle.gate_cell.specs.declared.cell.StableCell.{Ghosts as CellWords}
+use Rattle.gate_cell.specs.declared.slot_cell.SlotCell.{Ghosts as SlotWords}
+use Rattle.gate_cell.specs.Whole.{Whole}
 use Rattle.record.specs.RecordView.{RecordView}
 use Rattle.record.specs.Moves.{with_epoch}
 use Rattle.kahn_net.specs.declared.limits.TheConstants.{MAX_COUNT}
@@ -25,20 +27,19 @@ use Rattle.protocol.specs.Node.Recovering.{recover_prospect, restored}
 use Rattle.node.specs.StoredView.{HasRecord, IsAnswer, IsCrashed, IsRaised, IsRaiseRefusal, LeavesAsBefore}
 use Rattle.node.specs.StoredView.{LeavesDevice, LeavesNext, has_failed, put_outcome}
 use Rattle.node.specs.declared.state.NodeState.{NodeState}
-use Rattle.gate_cell.specs.Setup.{setup_then}
 use Rattle.ckpt_store.specs.declared.fault.StoreFault.{StoreFault}
 use Rattle.ckpt_store.specs.declared.fault.StoreFault.TheVariants as fault
 use Rattle.record.specs.ImageView.{ImageView}
 use Rattle.std.specs.declared.alloc.AllocError.{AllocError}
 use Rattle.node.proofs.Records.{crash_keeps, looked, looked_on, one_of_both, then_crashed}
 
-module _ {C : Type 0} (words : CellWords C) (number restart : ℕ) (old new : Store C words) (before after : NodeState)
+module _ {C : Type 0} (words : CellWords C) (slots : SlotWords C) (number restart : ℕ) (old new : Store C slots words) (before after : NodeState)
     (has : HasRecord number (mode_view before.mode) old) (up : is_down (mode_view before.mode) ≡ false)
     (same : ForSome (known_in old) (λ kept. Holds new kept))
-    (settled : Only (Some (words.value (cell_in new))) (words.may_leave (cell_in new)))
+    (settled : Only (slots.whole (cell_in new)) (slots.may_leave_whole (cell_in new)))
     (stop : (kept : RecordView) → node_view kept after ≡ crashed restart (node_view kept before)) where
   kept : record_in new ≡ record_in old
-  kept = crash_keeps words old new (has.ready up) same
+  kept = crash_keeps words slots old new (has.ready up) same
 
   pub crash_has : HasRecord number (mode_view after.mode) new
   crash_has = record {
@@ -70,23 +71,23 @@ back_spent node down more =
     not_less : (n m : ℕ) → m ≤ n → nat_lt n m ≡ false
     not_less n m more = grind (arith, more)
 
-module _ {C : Type 0} (words : CellWords C)
-    (includes_now : (cell : C) (t : ℕ) (left : Option (List ℕ)) → t ≤ words.moment cell → words.may_leave cell left
-    → words.left_since cell t left)
-    (may_stay : (cell : C) → words.may_leave cell (Some (words.value cell)))
-    (ready_settled : (cell : C) → IsTrue (words.is_ready cell) → Only (Some (words.value cell)) (words.may_leave cell))
-    (number : ℕ) (old mid new : Store C words) (before after : NodeState)
+module _ {C : Type 0} (words : CellWords C) (slots : SlotWords C)
+    (includes_now : (cell : C) (t : ℕ) (left : Whole) → t ≤ words.moment cell → slots.may_leave_whole cell left
+    → slots.left_since_whole cell t left)
+    (may_stay : (cell : C) → slots.may_leave_whole cell (slots.whole cell))
+    (ready_settled : (cell : C) → IsTrue (words.is_ready cell) → Only (slots.whole cell) (slots.may_leave_whole cell))
+    (number : ℕ) (old mid new : Store C slots words) (before after : NodeState)
     (has : HasRecord number (mode_view before.mode) old) (run : LeavesNext (with_epoch (record_in old)) old mid)
     (crash : IsCrashed mid new)
     (restart : ℕ) (stop : (kept : RecordView) → node_view kept after ≡ crashed restart (node_view kept before)) where
   pub failed_moments : LeavesNext (with_epoch (record_in old)) old new
   failed_moments =
-      then_crashed words includes_now may_stay ready_settled (with_epoch (record_in old)) old mid new run
+      then_crashed words slots includes_now may_stay ready_settled (with_epoch (record_in old)) old mid new run
       crash.any_moment
 
   either : (record_in new ≡ record_in old) ⊎ (record_in new ≡ with_epoch (record_in old))
   either =
-      one_of_both words includes_now may_stay ready_settled (with_epoch (record_in old)) old new has.settled
+      one_of_both words slots includes_now may_stay ready_settled (with_epoch (record_in old)) old new has.settled
       failed_moments
 
   -- the device failed, and the node stays down
@@ -110,12 +111,12 @@ module _ {C : Type 0} (words : CellWords C)
 
 -- ---- what came of a recovery, with its store
 
-module _ {C : Type 0} {words : CellWords C} (round : ℕ) (was now : NodeView) (old new : Store C words)
+module _ {C : Type 0} {words : CellWords C} {slots : SlotWords C} (round : ℕ) (was now : NodeView) (old new : Store C slots words)
     (same : was.kept ≡ record_in old) {E : Type 0} where
   -- its device failed
   pub lost_event : recover_prospect was ≡ putting false (restored was)
       → HasFailedAt (restart_after was.armed (words.failed_call (cell_in new)) round) (with_epoch was.kept) was now
-      → IsTrue (fits_in (words.capacity (cell_in old)) (with_epoch (record_in old)))
+      → IsTrue (fits_in (slots.slot_capacity (cell_in old)) (with_epoch (record_in old)))
       → words.failure_count (cell_in old) < words.failure_count (cell_in new)
       → LeavesNext (with_epoch (record_in old)) old new → LeavesDevice old new
       → IsPutEvent (recover_prospect was) round was now old new {E = E} (Ok outcome.Failed)
@@ -125,7 +126,7 @@ module _ {C : Type 0} {words : CellWords C} (round : ℕ) (was now : NodeView) (
         refused = tt;
         refused_failures = tt;
         put = (
-          subst (λ (r : RecordView). IsTrue (fits_in (words.capacity (cell_in old)) (with_epoch r))) (sym same) fits,
+          subst (λ (r : RecordView). IsTrue (fits_in (slots.slot_capacity (cell_in old)) (with_epoch r))) (sym same) fits,
           failures,
         );
         any_moment = subst (λ (r : RecordView). LeavesNext (with_epoch r) old new) (sym same) moments;
@@ -196,14 +197,14 @@ by_fault P fits kept has memory device spent fault.PastNumber is = absurd is
 by_fault P fits kept has memory device spent fault.NotHeld is = absurd is
 by_fault P fits kept has memory device spent fault.Unsettled is = absurd is
 
-module _ {C : Type 0} (words : CellWords C)
-    (includes_now : (cell : C) (t : ℕ) (left : Option (List ℕ)) → t ≤ words.moment cell → words.may_leave cell left
-    → words.left_since cell t left)
-    (may_stay : (cell : C) → words.may_leave cell (Some (words.value cell)))
-    (ready_settled : (cell : C) → IsTrue (words.is_ready cell) → Only (Some (words.value cell)) (words.may_leave cell))
-    (number round : ℕ) (old mid new : Store C words) (before after : NodeState)
+module _ {C : Type 0} (words : CellWords C) (slots : SlotWords C)
+    (includes_now : (cell : C) (t : ℕ) (left : Whole) → t ≤ words.moment cell → slots.may_leave_whole cell left
+    → slots.left_since_whole cell t left)
+    (may_stay : (cell : C) → slots.may_leave_whole cell (slots.whole cell))
+    (ready_settled : (cell : C) → IsTrue (words.is_ready cell) → Only (slots.whole cell) (slots.may_leave_whole cell))
+    (number round : ℕ) (old mid new : Store C slots words) (before after : NodeState)
     (has : HasRecord number (mode_view before.mode) old) (down : is_down (mode_view before.mode) ≡ true)
-    (fits : fits_in (words.capacity (cell_in old)) (with_epoch (record_in old)) ≡ true) where
+    (fits : fits_in (slots.slot_capacity (cell_in old)) (with_epoch (record_in old)) ≡ true) where
   abbrev was : NodeView
   was = node_view (record_in old) before
 
@@ -231,7 +232,7 @@ module _ {C : Type 0} (words : CellWords C)
   same_now : (e : StoreFault) → has_failed (Err e) ≡ false → IsRaised old mid (Err e) → (new ≡ mid) × (after ≡ before)
       → now ≡ was
   same_now e other raised stays =
-      ap (λ (s : Store C words). node_view (record_in s) after) stays.0
+      ap (λ (s : Store C slots words). node_view (record_in s) after) stays.0
       ∙ (ap (λ (r : RecordView). node_view r after) (raised.same_record (not_device e other))
       ∙ ap (node_view (record_in old)) stays.1)
 
@@ -239,7 +240,7 @@ module _ {C : Type 0} (words : CellWords C)
       → HasRecord number (mode_view after.mode) new
   same_has e other raised stays =
       let kept = raised.same_record (not_device e other) in
-      subst (λ (s : Store C words). HasRecord number (mode_view after.mode) s) (sym stays.0)
+      subst (λ (s : Store C slots words). HasRecord number (mode_view after.mode) s) (sym stays.0)
       (subst (λ (s : NodeState). HasRecord number (mode_view s.mode) mid) (sym stays.1) (record {
         listed = subst (λ (r : RecordView). number < length r.highest) (sym kept) has.listed;
         named = ap (λ (r : RecordView). r.node) kept ∙ has.named;
@@ -250,17 +251,17 @@ module _ {C : Type 0} (words : CellWords C)
   same_count : (e : StoreFault) → has_failed (Err e) ≡ false → IsRaised old mid (Err e)
       → (new ≡ mid) × (after ≡ before) → words.failure_count (cell_in new) ≡ words.failure_count (cell_in old)
   same_count e other raised stays =
-      ap (λ (s : Store C words). words.failure_count (cell_in s)) stays.0
+      ap (λ (s : Store C slots words). words.failure_count (cell_in s)) stays.0
       ∙ raised.failures.otherwise (not_device e other)
 
   same_device : (e : StoreFault) → IsRaised old mid (Err e) → new ≡ mid → LeavesDevice old new
-  same_device e raised same = subst (λ (s : Store C words). LeavesDevice old s) (sym same) raised.same_setup
+  same_device e raised same = subst (λ (s : Store C slots words). LeavesDevice old s) (sym same) raised.same_setup
 
   nothing_then : (e : StoreFault) → has_failed (Err e) ≡ false → IsRaised old mid (Err e) → new ≡ mid
       → (next : RecordView) → LeavesNext next old new
   nothing_then e other raised same next =
-      looked words includes_now may_stay ready_settled next old new
-      (subst (λ (s : Store C words). LeavesAsBefore old s) (sym same) (raised.nothing_put (not_device e other)))
+      looked words slots includes_now may_stay ready_settled next old new
+      (subst (λ (s : Store C slots words). LeavesAsBefore old s) (sym same) (raised.nothing_put (not_device e other)))
 
   no_memory : (answer : Result Outcome AllocError) → Known fault.NoMemory answer
   no_memory (Ok outcome) raised is stays failed = absurd is
@@ -288,7 +289,7 @@ module _ {C : Type 0} (words : CellWords C)
   no_device : (answer : Result Outcome AllocError) → Known fault.Device answer
   no_device (Err e) raised is stays failed = absurd is
   no_device (Ok came) raised is stays failed = (
-    failed_has words includes_now may_stay ready_settled number old mid new before after has raised.any_moment lost.0
+    failed_has words slots includes_now may_stay ready_settled number old mid new before after has raised.any_moment lost.0
         restart lost.1,
     subst (λ (o : Outcome). IsPutEvent (recover_prospect was) round was now old new {E = AllocError} (Ok o)) (sym is)
         (at (nat_lt (record_in old).epoch MAX_COUNT) refl),
@@ -308,12 +309,11 @@ module _ {C : Type 0} (words : CellWords C)
           (raised.failures.device refl)
 
       setup : LeavesDevice old new
-      setup = setup_then words.capacity words.armed words.call_count (cell_in old) (cell_in mid) (cell_in new)
-          raised.same_setup lost.0.same_setup
+      setup = device_then words slots old mid new raised.same_setup lost.0.same_setup
 
       quiet : MAX_COUNT ≤ (record_in old).epoch → LeavesAsBefore old new
       quiet more =
-          looked_on words includes_now may_stay ready_settled old mid new (raised.held_up more) lost.0.any_moment
+          looked_on words slots includes_now may_stay ready_settled old mid new (raised.held_up more) lost.0.any_moment
 
       not_less : (n m : ℕ) → nat_lt n m ≡ false → m ≤ n
       not_less n m test = grind (arith, test)
@@ -323,24 +323,24 @@ module _ {C : Type 0} (words : CellWords C)
           → IsPutEvent (recover_prospect was) round was now old new {E = AllocError} (Ok outcome.Failed)
       at true test =
           lost_event round was now old new refl (back_planned was down (ltb-true (record_in old).epoch MAX_COUNT test))
-          (failed_now words includes_now may_stay ready_settled number old mid new before after has raised.any_moment
+          (failed_now words slots includes_now may_stay ready_settled number old mid new before after has raised.any_moment
           lost.0 restart lost.1) fits count
-          (failed_moments words includes_now may_stay ready_settled number old mid new before after has
+          (failed_moments words slots includes_now may_stay ready_settled number old mid new before after has
           raised.any_moment lost.0 restart lost.1) setup
       at false test =
           let more = not_less (record_in old).epoch MAX_COUNT test in
           looked_event round was now old new refl (back_spent was down more)
           (ap (λ (r : RecordView). node_view r after) (kept_so more) ∙ lost.1 (record_in old)) count
-          (looked words includes_now may_stay ready_settled was.kept old new (quiet more)) setup
+          (looked words slots includes_now may_stay ready_settled was.kept old new (quiet more)) setup
         where
           kept_so : MAX_COUNT ≤ (record_in old).epoch → record_in new ≡ record_in old
           kept_so more =
               ⊎_elim (λ same. same) (λ same. same)
-              (one_of_both words includes_now may_stay ready_settled (record_in old) old new has.settled
-              (looked words includes_now may_stay ready_settled (record_in old) old new (quiet more)))
+              (one_of_both words slots includes_now may_stay ready_settled (record_in old) old new has.settled
+              (looked words slots includes_now may_stay ready_settled (record_in old) old new (quiet more)))
 
   pub not_raised : (e : StoreFault) (answer : Result Outcome AllocError) → Known e answer
   not_raised e answer raised =
-      by_fault (λ f. Known f answer) (fits_in (words.capacity (cell_in old)) (with_epoch (record_in old)))
+      by_fault (λ f. Known f answer) (fits_in (slots.slot_capacity (cell_in old)) (with_epoch (record_in old)))
       (record_in old) fits (no_memory answer) (no_device answer) (λ more. no_epoch more answer) e raised.refused
       raised

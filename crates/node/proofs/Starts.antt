@@ -6,6 +6,8 @@ use Rattle.std.proofs.lemmas.Bool.{le-leb, le-ltb, lt-leb, lt-ltb, eq-eqb, eqb-t
 use Rattle.std.proofs.lemmas.List.{length-set}
 use Rattle.sector_disk.specs.Clock.{Only}
 use Rattle.gate_cell.specs.declared.cell.StableCell.{Ghosts as CellWords}
+use Rattle.gate_cell.specs.declared.slot_cell.SlotCell.{Ghosts as SlotWords}
+use Rattle.gate_cell.specs.Whole.{Whole, slot_in}
 use Rattle.record.specs.DecisionView.{DecisionView}
 use Rattle.record.specs.ImageView.{ImageView}
 use Rattle.record.specs.declared.record.TheConstants.{MAX_DECISIONS}
@@ -14,7 +16,6 @@ use Rattle.record.specs.Moves.{highest_seen, with_tentative, with_decision}
 use Rattle.record.specs.declared.record.Tentative.{Tentative}
 use Rattle.kahn_net.specs.declared.limits.TheConstants.{MAX_COUNT}
 use Rattle.ckpt_store.proofs.Room.{decision_fits, record_fits}
-use Rattle.gate_cell.specs.declared.TheConstants.{MAX_VALUE_BYTES}
 use Rattle.ckpt_store.specs.Refusals.{is_full, is_held, is_other_held, refusal_to_take, refusal_to_decide}
 use Rattle.ckpt_store.proofs.Seen.{known_few}
 use Rattle.ckpt_store.specs.StoreView.{cell_in, record_in, Changes}
@@ -109,12 +110,12 @@ module _ (number highest : ℕ) (image : ImageView) (kept : RecordView) (version
       (not_above (highest + 1) (highest_seen number kept) (omega (arith, seen)))
       (not_full (eqb number kept.node) kept.decisions (eqb-true (length kept.decisions) 0 free.1)) (not_past highest less)
 
-module _ {C : Type 0} (words : CellWords C)
-    (includes_now : (cell : C) (t : ℕ) (left : Option (List ℕ)) → t ≤ words.moment cell → words.may_leave cell left
-    → words.left_since cell t left)
-    (may_stay : (cell : C) → words.may_leave cell (Some (words.value cell)))
-    (ready_settled : (cell : C) → IsTrue (words.is_ready cell) → Only (Some (words.value cell)) (words.may_leave cell))
-    (number round call : ℕ) (old mid new : Store C words) (before after : NodeState)
+module _ {C : Type 0} (words : CellWords C) (slots : SlotWords C)
+    (includes_now : (cell : C) (t : ℕ) (left : Whole) → t ≤ words.moment cell → slots.may_leave_whole cell left
+    → slots.left_since_whole cell t left)
+    (may_stay : (cell : C) → slots.may_leave_whole cell (slots.whole cell))
+    (ready_settled : (cell : C) → IsTrue (words.is_ready cell) → Only (slots.whole cell) (slots.may_leave_whole cell))
+    (number round call : ℕ) (old mid new : Store C slots words) (before after : NodeState)
     (put : Result (Unit {0}) StoreFault) (has : HasRecord number (mode_view before.mode) old)
     (stays : has_failed put ≡ false → (new ≡ mid) × (after ≡ before))
     (crash : IsTrue (has_failed put)
@@ -147,7 +148,7 @@ module _ {C : Type 0} (words : CellWords C)
         subst (λ (next : RecordView). Ends next restart old new before after put)
         (next_own number highest image (record_in old) before.version before.restart before.armed.items
         (mode_view before.mode) running runs same seen)
-        (ended words includes_now may_stay ready_settled (refusal_to_take number (highest + 1))
+        (ended words slots includes_now may_stay ready_settled (refusal_to_take number (highest + 1))
         (with_tentative number (highest + 1) image) old mid new put
         (has.ready (ap is_down runs))
         (own_fine number highest image (record_in old) before.version before.restart before.armed.items
@@ -197,7 +198,7 @@ module _ {C : Type 0} (words : CellWords C)
     pub decide_ends : Ends (decided (record_in old)) restart old new before after put
     decide_ends =
         subst (λ (next : RecordView). Ends next restart old new before after put) next
-        (ended words includes_now may_stay ready_settled (refusal_to_decide held participants) (with_decision held participants)
+        (ended words slots includes_now may_stay ready_settled (refusal_to_decide held participants) (with_decision held participants)
         old mid new put (has.ready (up runs)) fine changes has.settled restart before after stays crash)
       where
         next : with_decision held participants (record_in old) ≡ decided (record_in old)
@@ -208,7 +209,7 @@ module _ {C : Type 0} (words : CellWords C)
 
         few : nat_le (length ((record_in old).decisions)) MAX_DECISIONS ≡ true
         few = le-leb (length ((record_in old).decisions)) MAX_DECISIONS
-            (known_few words old (record_in old) (some_known words old (has.ready (up runs))))
+            (known_few words slots old (record_in old) (some_known words slots old (has.ready (up runs))))
 
         -- nobody has to confirm it, so it takes no place
         fine : refusal_to_decide held participants (record_in old) ≡ None
@@ -224,15 +225,16 @@ module _ {C : Type 0} (words : CellWords C)
     pub decide_kept : HasRecord number (mode_view after.mode) new
     decide_kept = ends_kept (decided (record_in old)) restart old new before after put decide_ends number has refl refl
 
-    pub decide_event : (fits_room : (cell : C) (left : List ℕ) → words.may_leave cell (Some left)
-        → length left ≤ words.capacity cell) (room_is_bounded : (cell : C) → words.capacity cell ≤ MAX_VALUE_BYTES)
+    pub decide_event : (fits_slot : (cell : C) (left : Whole) (slot : ℕ) (bytes : List ℕ)
+        → slots.may_leave_whole cell left → slot_in slot left ≡ Some bytes
+        → length bytes ≤ slots.slot_capacity cell)
         {E : Type 0} (answer : Result Outcome E) → IsAnswer (put_outcome put) answer
         → call ≡ words.failed_call (cell_in new)
         → IsPutEvent (decide_prospect number was) round was (node_view (record_in new) after) old new answer
-    decide_event fits_room room_is_bounded answer is_answer failed =
+    decide_event fits_slot answer is_answer failed =
         ends_event (decided (record_in old)) restart old new before after put decide_ends false
-        (λ no. decision_fits (words.capacity (cell_in old)) (record_in old)
-        (record_fits words fits_room room_is_bounded may_stay old) (held_number (record_in old).tentative))
+        (λ no. decision_fits (slots.slot_capacity (cell_in old)) (record_in old)
+        (record_fits words slots fits_slot may_stay old) (held_number (record_in old).tentative))
         (decide_prospect number was) round answer
         (ap (λ (b : Bool). if_due b (putting false (with_kept (decided (record_in old)) was))) due)
         (ap (λ (n : ℕ). restart_after before.armed.items n round) failed) is_answer

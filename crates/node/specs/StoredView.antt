@@ -3,6 +3,7 @@ use Rattle.std.specs.Prelude.{◌≡◌, ◌⊎◌, ℕ, ◌<◌, ◌≤◌, Boo
 use Rattle.std.specs.Prelude.{Result, Ok, Err, IfOk, IfErr, OnOk, OnErr, IsErrOf}
 use Rattle.sector_disk.specs.Clock.{Only, LeavesOnly}
 use Rattle.gate_cell.specs.declared.cell.StableCell.{Ghosts as CellWords}
+use Rattle.gate_cell.specs.declared.slot_cell.SlotCell.{Ghosts as SlotWords}
 use Rattle.gate_cell.specs.Setup.{LeavesSetup}
 use Rattle.record.specs.RecordView.{RecordView}
 use Rattle.record.specs.ImageView.{ImageView}
@@ -22,35 +23,36 @@ use Rattle.protocol.specs.declared.outcome.Refusal.TheVariants.{TooLarge, Spent}
 
 -- What a node's type keeps of its store: the record is the node's and has an entry for it; while the node is up the
 -- store is ready; and a crash now leaves that record and no other.
-pub record HasRecord {C : Type 0} {words : CellWords C} (number : ℕ) (mode : ModeView) (store : Store C words) : Type 0
+pub record HasRecord {C : Type 0} {words : CellWords C} {slots : SlotWords C} (number : ℕ) (mode : ModeView) (store : Store C slots words) : Type 0
   where
     pub listed : number < length ((record_in store).highest)
     pub named : (record_in store).node ≡ number
     pub ready : is_down mode ≡ false → IsSome (known_in store)
-    pub settled : Only (Some (words.value (cell_in store))) (words.may_leave (cell_in store))
+    pub settled : Only (slots.whole (cell_in store)) (slots.may_leave_whole (cell_in store))
 
 -- a crash at any moment between leaves what it might have left before, or this record
-abbrev pub LeavesNext : {C : Type 0} {words : CellWords C} → RecordView → Store C words → Store C words → Type 0
-LeavesNext {words = words} next old new =
-    LeavesOnly words.moment words.left_since (cell_in old) (cell_in new)
-    (λ left. words.may_leave (cell_in old) left ⊎ Spells next left)
+abbrev pub LeavesNext : {C : Type 0} {words : CellWords C} {slots : SlotWords C} → RecordView → Store C slots words → Store C slots words → Type 0
+LeavesNext {words = words} {slots = slots} next old new =
+    LeavesOnly words.moment slots.left_since_whole (cell_in old) (cell_in new)
+    (λ left. slots.may_leave_whole (cell_in old) left ⊎ Spells next left)
 
 -- or nothing but that
-abbrev pub LeavesAsBefore : {C : Type 0} {words : CellWords C} → Store C words → Store C words → Type 0
-LeavesAsBefore {words = words} old new =
-    LeavesOnly words.moment words.left_since (cell_in old) (cell_in new) (words.may_leave (cell_in old))
+abbrev pub LeavesAsBefore : {C : Type 0} {words : CellWords C} {slots : SlotWords C} → Store C slots words → Store C slots words → Type 0
+LeavesAsBefore {words = words} {slots = slots} old new =
+    LeavesOnly words.moment slots.left_since_whole (cell_in old) (cell_in new) (slots.may_leave_whole (cell_in old))
 
--- as many bytes fit, the same faults are armed, and no device call that was counted is forgotten
-abbrev pub LeavesDevice : {C : Type 0} {words : CellWords C} → Store C words → Store C words → Type 0
-LeavesDevice {words = words} old new =
-    LeavesSetup words.capacity words.armed words.call_count (cell_in old) (cell_in new)
+-- as many bytes fit header and slots, the same faults are armed, and no device call that was counted is forgotten
+pub record LeavesDevice {C : Type 0} {words : CellWords C} {slots : SlotWords C} (old new : Store C slots words) : Type 0
+  where
+    pub setup : LeavesSetup words.capacity words.armed words.call_count (cell_in old) (cell_in new)
+    pub same_slot_room : slots.slot_capacity (cell_in new) ≡ slots.slot_capacity (cell_in old)
 
 -- What a crash makes of a store that has a record: none is known until it is reopened, and what its cell holds is
 -- settled.
-pub record IsCrashed {C : Type 0} {words : CellWords C} (old new : Store C words) : Type 0 where
+pub record IsCrashed {C : Type 0} {words : CellWords C} {slots : SlotWords C} (old new : Store C slots words) : Type 0 where
   pub down : known_in new ≡ None
-  pub left : words.may_leave (cell_in old) (Some (words.value (cell_in new)))
-  pub settled : Only (Some (words.value (cell_in new))) (words.may_leave (cell_in new))
+  pub left : slots.may_leave_whole (cell_in old) (slots.whole (cell_in new))
+  pub settled : Only (slots.whole (cell_in new)) (slots.may_leave_whole (cell_in new))
   pub any_moment : LeavesAsBefore old new
   pub same_setup : LeavesDevice old new
   pub failures : words.failure_count (cell_in new) ≡ words.failure_count (cell_in old)
@@ -68,18 +70,18 @@ IsRaiseRefusal fits kept other = ⊥
 -- The store of a node that is down was reopened, and its record is in the next epoch: `result` is the permanent image,
 -- or why it isn't. After a failure of the device the record is the old one or the next one; after any other refusal the
 -- old one.
-pub record IsRaised {C : Type 0} {words : CellWords C} (old new : Store C words)
+pub record IsRaised {C : Type 0} {words : CellWords C} {slots : SlotWords C} (old new : Store C slots words)
     (result : Result ImageView StoreFault) : Type 0 where
   pub image : IfOk result (λ image. image ≡ (record_in old).permanent)
   pub raised : OnOk result
       ((record_in new ≡ with_epoch (record_in old)) × IsSome (known_in new) × ((record_in old).epoch < MAX_COUNT)
-      × IsTrue (fits_in (words.capacity (cell_in old)) (with_epoch (record_in old))))
+      × IsTrue (fits_in (slots.slot_capacity (cell_in old)) (with_epoch (record_in old))))
   pub refused : IfErr result
-      (IsRaiseRefusal (fits_in (words.capacity (cell_in old)) (with_epoch (record_in old))) (record_in old))
+      (IsRaiseRefusal (fits_in (slots.slot_capacity (cell_in old)) (with_epoch (record_in old))) (record_in old))
   pub same_record : OnErr result (¬ (IsErrOf result fault.Device) → record_in new ≡ record_in old)
   pub failures : HasFailures (words.failure_count (cell_in old)) (words.failure_count (cell_in new)) result
   pub settled : ¬ (IsErrOf result fault.Device)
-      → Only (Some (words.value (cell_in new))) (words.may_leave (cell_in new))
+      → Only (slots.whole (cell_in new)) (slots.may_leave_whole (cell_in new))
   pub any_moment : LeavesNext (with_epoch (record_in old)) old new
   -- where it was refused, or there is no next epoch, nothing was put
   pub nothing_put : OnErr result (¬ (IsErrOf result fault.Device) → LeavesAsBefore old new)

@@ -14,7 +14,7 @@ ghost use Rattle.record.specs.RecordView.{RecordView};
 use crate::mode::Mode;
 use crate::state::NodeState;
 use ckpt_store::{Store, StoreFault};
-use gate_cell::StableCell;
+use gate_cell::SlotCell;
 use kahn_net::MAX_COUNT;
 use protocol::{Outcome, Refusal};
 use record::Record;
@@ -42,7 +42,7 @@ fn has_failed(put: &Result<(), StoreFault>) -> bool
 }
 
 // The device failed: the node goes down in the same event, or stays so, and what its cell holds is settled.
-fn go_down<C: StableCell>(state: &mut NodeState, store: &mut Store<C>, round: u64)
+fn go_down<C: SlotCell>(state: &mut NodeState, store: &mut Store<C>, round: u64)
     ensures store { IsCrashed store.old store.new }
     ensures state { (kept : RecordView) → node_view kept state.new
         ≡ crashed (restart_after state.old.armed.items (C.failed_call (cell_in store.new)) round)
@@ -54,7 +54,7 @@ fn go_down<C: StableCell>(state: &mut NodeState, store: &mut Store<C>, round: u6
 }
 
 // Ends an event by what came of its put.
-pub(crate) fn end_put<C: StableCell>(
+pub(crate) fn end_put<C: SlotCell>(
     put: Result<(), StoreFault>,
     state: &mut NodeState,
     store: &mut Store<C>,
@@ -83,7 +83,7 @@ fn highest_seen(kept: &Record, number: u8) -> u64
 }
 
 // Takes a tentative image of where a node stands now, under its next number.
-pub(crate) fn start<C: StableCell>(
+pub(crate) fn start<C: SlotCell>(
     alloc: Global,
     number: u8,
     state: &mut NodeState,
@@ -129,7 +129,7 @@ fn own_number(kept: &Record, node: u8) -> Option<u64>
 }
 
 // Makes a node's own tentative image permanent.
-pub(crate) fn decide<C: StableCell>(
+pub(crate) fn decide<C: SlotCell>(
     alloc: Global,
     number: u8,
     state: &mut NodeState,

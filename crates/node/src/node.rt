@@ -31,7 +31,7 @@ use crate::recover::{crash, recover};
 use crate::state::NodeState;
 use ckpt_store::Store;
 use datagram::Packet;
-use gate_cell::StableCell;
+use gate_cell::SlotCell;
 use kahn_net::Channel;
 use net_check::{Inputs, Net};
 use outlet::{Outlet, OutletFault};
@@ -46,14 +46,14 @@ use std::sync::Arc;
 ///
 /// While it is up its store is ready. In every state a crash leaves the record that it has, and no other.
 #[derive(Drop)]
-pub struct Node<C: StableCell> {
+pub struct Node<C: SlotCell> {
     pub number: u8,
     pub state: NodeState,
     pub store: Store<C>,
     pub ghost kept: { HasRecord number (mode_view state.mode) store },
 }
 
-impl<C: StableCell> Node<C> {
+impl<C: SlotCell> Node<C> {
     ghost use Rattle.node.specs.NodeOf.{view_of};
 
     /// A node of a network that runs from the permanent image of its store's record, and never went down. Nothing has come to
@@ -235,8 +235,8 @@ impl<C: StableCell> Node<C> {
             (view_of self.new ≡ with_armed fault.call rounds (view_of self.old)) }
         ensures refused { OnErr result (view_of self.new ≡ view_of self.old) }
         ensures any_moment { LeavesAsBefore self.old.store self.new.store }
-        ensures same_room { C.capacity (cell_in self.new.store)
-            ≡ C.capacity (cell_in self.old.store) }
+        ensures same_slot_room { C.slot_capacity (cell_in self.new.store)
+            ≡ C.slot_capacity (cell_in self.old.store) }
         ensures on_device { OnOk result (C.armed (cell_in self.new.store)
             ≡ C.armed (cell_in self.old.store) ++ fault ∷ []) }
         ensures not_armed { OnErr result
@@ -254,8 +254,8 @@ impl<C: StableCell> Node<C> {
     pub fn recount(&mut self)
         ensures view { view_of self.new ≡ view_of self.old }
         ensures any_moment { LeavesAsBefore self.old.store self.new.store }
-        ensures same_room { C.capacity (cell_in self.new.store)
-            ≡ C.capacity (cell_in self.old.store) }
+        ensures same_slot_room { C.slot_capacity (cell_in self.new.store)
+            ≡ C.slot_capacity (cell_in self.old.store) }
         ensures same_faults { C.armed (cell_in self.new.store) ≡ C.armed (cell_in self.old.store) }
         ensures none_counted { C.call_count (cell_in self.new.store) ≡ 0 }
         ensures none_failed { C.failed_call (cell_in self.new.store) ≡ 0 }

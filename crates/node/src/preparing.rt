@@ -7,14 +7,14 @@ ghost use Rattle.node.specs.StoredView.{HasRecord, LeavesAsBefore};
 
 use crate::state::NodeState;
 use ckpt_store::Store;
-use gate_cell::StableCell;
+use gate_cell::SlotCell;
 use protocol::ArmedRestart;
 use sector_disk::ArmedFault;
 use std::alloc::AllocError;
 
 // Arms a fault, and notes for how many rounds it is to keep the node down. The room for the note is taken first, so that the
 // disk isn't armed where the node couldn't note it.
-pub(crate) fn arm<C: StableCell>(
+pub(crate) fn arm<C: SlotCell>(
     number: u8,
     state: &mut NodeState,
     store: &mut Store<C>,
@@ -28,7 +28,8 @@ pub(crate) fn arm<C: StableCell>(
     ensures refused { OnErr result (node_view (record_in store.new) state.new
         ≡ node_view (record_in store.old) state.old) }
     ensures any_moment { LeavesAsBefore store.old store.new }
-    ensures same_room { C.capacity (cell_in store.new) ≡ C.capacity (cell_in store.old) }
+    ensures same_slot_room { C.slot_capacity (cell_in store.new)
+        ≡ C.slot_capacity (cell_in store.old) }
     ensures on_device { OnOk result
         (C.armed (cell_in store.new) ≡ C.armed (cell_in store.old) ++ fault ∷ []) }
     ensures not_armed { OnErr result (C.armed (cell_in store.new) ≡ C.armed (cell_in store.old)) }
@@ -45,12 +46,13 @@ pub(crate) fn arm<C: StableCell>(
 }
 
 // Begins the count of the device's calls anew.
-pub(crate) fn recount<C: StableCell>(number: u8, state: &NodeState, store: &mut Store<C>)
+pub(crate) fn recount<C: SlotCell>(number: u8, state: &NodeState, store: &mut Store<C>)
     requires { HasRecord number (mode_view state.now.mode) store.old }
     ensures kept { HasRecord number (mode_view state.now.mode) store.new }
     ensures record { record_in store.new ≡ record_in store.old }
     ensures any_moment { LeavesAsBefore store.old store.new }
-    ensures same_room { C.capacity (cell_in store.new) ≡ C.capacity (cell_in store.old) }
+    ensures same_slot_room { C.slot_capacity (cell_in store.new)
+        ≡ C.slot_capacity (cell_in store.old) }
     ensures same_faults { C.armed (cell_in store.new) ≡ C.armed (cell_in store.old) }
     ensures none_counted { C.call_count (cell_in store.new) ≡ 0 }
     ensures none_failed { C.failed_call (cell_in store.new) ≡ 0 }

@@ -13,13 +13,13 @@ use crate::mode::Mode;
 use crate::running::Running;
 use crate::state::NodeState;
 use ckpt_store::{Store, StoreFault};
-use gate_cell::StableCell;
+use gate_cell::SlotCell;
 use protocol::Outcome;
 use record::Image;
 use std::alloc::{AllocError, Global};
 
 // A node that is up crashes; says whether it was. What its cell holds is settled by this byte, where one is given.
-pub(crate) fn crash<C: StableCell>(
+pub(crate) fn crash<C: SlotCell>(
     number: u8,
     state: &mut NodeState,
     store: &mut Store<C>,
@@ -63,9 +63,9 @@ fn mode_from(alloc: Global, image: Image, holds: bool) -> Mode
 }
 
 // Takes the memory for the permanent image of a store that is open, and raises its epoch.
-fn raise_open<C: StableCell>(alloc: Global, store: &mut Store<C>) -> Result<Image, StoreFault>
+fn raise_open<C: SlotCell>(alloc: Global, store: &mut Store<C>) -> Result<Image, StoreFault>
     requires known { IsSome (known_in store.old) }
-    requires settled { Only (Some (C.value (cell_in store.old))) (C.may_leave (cell_in store.old)) }
+    requires settled { Only (C.whole (cell_in store.old)) (C.may_leave_whole (cell_in store.old)) }
     ensures { IsRaised store.old store.new result }
 {
     let Ok(kept) = store.record() else {
@@ -81,8 +81,8 @@ fn raise_open<C: StableCell>(alloc: Global, store: &mut Store<C>) -> Result<Imag
 }
 
 // Reopens the store of a node that is down, and raises its epoch.
-fn raise<C: StableCell>(alloc: Global, store: &mut Store<C>) -> Result<Image, StoreFault>
-    requires { Only (Some (C.value (cell_in store.old))) (C.may_leave (cell_in store.old)) }
+fn raise<C: SlotCell>(alloc: Global, store: &mut Store<C>) -> Result<Image, StoreFault>
+    requires { Only (C.whole (cell_in store.old)) (C.may_leave_whole (cell_in store.old)) }
     ensures { IsRaised store.old store.new result }
 {
     match store.reopen(alloc) {
@@ -92,7 +92,7 @@ fn raise<C: StableCell>(alloc: Global, store: &mut Store<C>) -> Result<Image, St
 }
 
 // Whether a store's record holds a tentative image.
-fn holds<C: StableCell>(store: &Store<C>) -> bool
+fn holds<C: SlotCell>(store: &Store<C>) -> bool
     ensures { IsSome (known_in store.now) → result ≡ is_some (record_in store.now).tentative }
 {
     match store.record() {
@@ -103,7 +103,7 @@ fn holds<C: StableCell>(store: &Store<C>) -> bool
 
 // A node that is down comes back in its next epoch, without a tentative image of its own, and runs from its permanent image unless it holds
 // another's.
-pub(crate) fn recover<C: StableCell>(
+pub(crate) fn recover<C: SlotCell>(
     alloc: Global,
     number: u8,
     state: &mut NodeState,

@@ -10,7 +10,10 @@ returns-clause-store g c = record {
   left = c.crash.ensures.left;
   settled = c.crash.ensures.settled;
   any_moment = c.crash.ensures.any_moment;
-  same_setup = c.crash.ensures.same_setup;
+  same_setup = record {
+    setup = c.crash.ensures.same_setup;
+    same_slot_room = c.crash.ensures.same_slot_room;
+  };
   failures = c.crash.ensures.failures;
   same_failed = c.crash.ensures.same_failed;
 }

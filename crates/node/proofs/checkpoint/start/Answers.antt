@@ -9,8 +9,9 @@ use Rattle.node.proofs.checkpoint.start.Goals as goal
 pub returns-clause-kept : goal.returns-clause-kept
 returns-clause-kept g c =
     let C = g.C.StableCell in
-    let met = g.met.C.StableCell in
-    start_kept C met.includes_now met.value_may_stay met.settled c.args.number c.args.round
+    let S = g.C.SlotCell in
+    let met = g.met.C.SlotCell in
+    start_kept C S met.includes_now_whole met.whole_may_stay met.settled_whole c.args.number c.args.round
     (C.failed_call c.end_put.new.store.cell) c.args.store.now c.take_tentative-put.new.self c.end_put.new.store
     c.args.state.now c.end_put.new.state c.take_tentative-put.result c.requires.kept c.end_put.ensures.stays
     c.end_put.ensures.failed
@@ -23,8 +24,9 @@ returns-clause-kept g c =
 pub returns-clause-event : goal.returns-clause-event
 returns-clause-event g c =
     let C = g.C.StableCell in
-    let met = g.met.C.StableCell in
-    start_event C met.includes_now met.value_may_stay met.settled c.args.number c.args.round
+    let S = g.C.SlotCell in
+    let met = g.met.C.SlotCell in
+    start_event C S met.includes_now_whole met.whole_may_stay met.settled_whole c.args.number c.args.round
     (C.failed_call c.end_put.new.store.cell) c.args.store.now c.take_tentative-put.new.self c.end_put.new.store
     c.args.state.now c.end_put.new.state c.take_tentative-put.result c.requires.kept c.end_put.ensures.stays
     c.end_put.ensures.failed

@@ -7,8 +7,9 @@ use Rattle.node.proofs.recover.raise.Goals as goal
 pub returns-in-Ok : goal.returns-in-Ok
 returns-in-Ok g c =
     let C = g.C.StableCell in
-    let met = g.met.C.StableCell in
-    reopened_then C met.includes_now met.value_may_stay met.settled c.args.store.now c.requires c.reopen.new.self
+    let S = g.C.SlotCell in
+    let met = g.met.C.SlotCell in
+    reopened_then C S met.includes_now_whole met.whole_may_stay met.settled_whole c.args.store.now c.requires c.reopen.new.self
     c.raise_open.new.store c.raise_open.result
     (subst (λ (r : Result (Unit {0}) StoreFault). Reopens c.args.store.now c.reopen.new.self r) c.in-Ok.is
     c.reopen.ensures) c.raise_open.ensures
@@ -16,8 +17,9 @@ returns-in-Ok g c =
 pub returns-in-Err : goal.returns-in-Err
 returns-in-Err g c =
     let C = g.C.StableCell in
-    let met = g.met.C.StableCell in
-    not_reopened C met.includes_now met.value_may_stay met.settled c.args.store.now c.requires c.reopen.new.self
+    let S = g.C.SlotCell in
+    let met = g.met.C.SlotCell in
+    not_reopened C S met.includes_now_whole met.whole_may_stay met.settled_whole c.args.store.now c.requires c.reopen.new.self
     c.in-Err.fault
     (subst (λ (r : Result (Unit {0}) StoreFault). Reopens c.args.store.now c.reopen.new.self r) c.in-Err.is
     c.reopen.ensures)

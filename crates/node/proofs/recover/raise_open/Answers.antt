@@ -10,8 +10,9 @@ use Rattle.node.proofs.recover.raise_open.Goals as goal
 pub returns-in-Ok-raise_epoch : goal.returns-in-Ok-raise_epoch
 returns-in-Ok-raise_epoch g c =
     let C = g.C.StableCell in
-    let met = g.met.C.StableCell in
-    raised C met.includes_now met.value_may_stay met.settled c.args.store.now c.requires.settled c.requires.known
+    let S = g.C.SlotCell in
+    let met = g.met.C.SlotCell in
+    raised C S met.includes_now_whole met.whole_may_stay met.settled_whole c.args.store.now c.requires.settled c.requires.known
     c.raise_epoch.new.self c.in-Ok-copy.image
     (c.in-Ok-copy.ensures
     ∙ (ap (λ (r : RecordView). r.permanent) c.kept.view_is
@@ -22,8 +23,9 @@ returns-in-Ok-raise_epoch g c =
 pub returns-in-Err : goal.returns-in-Err
 returns-in-Err g c =
     let C = g.C.StableCell in
-    let met = g.met.C.StableCell in
-    refused_so C met.includes_now met.value_may_stay met.settled c.args.store.now c.requires.settled c.requires.known
-    met.only_now c.raise_epoch.new.self c.in-Err.fault
+    let S = g.C.SlotCell in
+    let met = g.met.C.SlotCell in
+    refused_so C S met.includes_now_whole met.whole_may_stay met.settled_whole c.args.store.now c.requires.settled c.requires.known
+    met.only_now_whole c.raise_epoch.new.self c.in-Err.fault
     (subst (λ (r : Result (Unit {0}) StoreFault). Changes refusal_to_raise with_epoch c.args.store.now
     c.raise_epoch.new.self r) c.in-Err.is c.raise_epoch.ensures)

@@ -7,23 +7,25 @@ use Rattle.node.proofs.recover.recover.Goals as goal
 pub returns-in-Err-clause-kept : goal.returns-in-Err-clause-kept
 returns-in-Err-clause-kept g c =
     let C = g.C.StableCell in
-    let met = g.met.C.StableCell in
+    let S = g.C.SlotCell in
+    let met = g.met.C.SlotCell in
     let old = c.args.store.now in
-    (not_raised C met.includes_now met.value_may_stay met.settled c.args.number c.args.round old c.raise.new.store
+    (not_raised C S met.includes_now_whole met.whole_may_stay met.settled_whole c.args.number c.args.round old c.raise.new.store
     c.end_put.new.store c.args.state.now c.end_put.new.state c.requires
     (sym c.is_down.ensures ∙ c.if-not-is_down.false)
-    (epoch_fits (C.capacity (cell_in old)) (record_in old)
-    (record_fits C met.fits_room met.room_is_bounded met.value_may_stay old)) c.in-Err.fault c.end_put.result
+    (epoch_fits (S.slot_capacity (cell_in old)) (record_in old)
+    (record_fits C S met.fits_slot met.whole_may_stay old)) c.in-Err.fault c.end_put.result
     c.in-Err.ensures c.end_put.ensures.answer c.end_put.ensures.stays c.end_put.ensures.failed).0
 
 pub returns-in-Err-clause-event : goal.returns-in-Err-clause-event
 returns-in-Err-clause-event g c =
     let C = g.C.StableCell in
-    let met = g.met.C.StableCell in
+    let S = g.C.SlotCell in
+    let met = g.met.C.SlotCell in
     let old = c.args.store.now in
-    (not_raised C met.includes_now met.value_may_stay met.settled c.args.number c.args.round old c.raise.new.store
+    (not_raised C S met.includes_now_whole met.whole_may_stay met.settled_whole c.args.number c.args.round old c.raise.new.store
     c.end_put.new.store c.args.state.now c.end_put.new.state c.requires
     (sym c.is_down.ensures ∙ c.if-not-is_down.false)
-    (epoch_fits (C.capacity (cell_in old)) (record_in old)
-    (record_fits C met.fits_room met.room_is_bounded met.value_may_stay old)) c.in-Err.fault c.end_put.result
+    (epoch_fits (S.slot_capacity (cell_in old)) (record_in old)
+    (record_fits C S met.fits_slot met.whole_may_stay old)) c.in-Err.fault c.end_put.result
     c.in-Err.ensures c.end_put.ensures.answer c.end_put.ensures.stays c.end_put.ensures.failed).1
