@@ -1,5 +1,5 @@
 -- A record apart: its header and its images tell it, and each record that may be written has them.
-use Rattle.std.proofs.Common.{◌≡◌, ℕ, ◌≤◌, ◌++◌, List, [], ◌∷◌, Option, Some, None, Ok, refl, sym, ap, subst, ◌∙◌}
+use Rattle.std.proofs.Common.{◌≡◌, ℕ, ◌≤◌, ◌++◌, List, length, [], ◌∷◌, Option, Some, None, Ok, refl, sym, ap, subst, ◌∙◌}
 use Rattle.std.specs.Prelude.{All, FitsSigned}
 use Rattle.std.specs.Int.{w64}
 use Rattle.std.proofs.lemmas.List.Elements.{All-from_recursion, recursion_from_All}
@@ -22,6 +22,8 @@ use Rattle.ckpt_codec.proofs.Records.{IsTentative}
 use Rattle.ckpt_codec.proofs.Headers.{header_again, written_is_header, image_again}
 use Rattle.ckpt_codec.proofs.Spelled.{allowed-split, allowed-append, FrontParts, front_parts, front_joined, header_allowed}
 use Rattle.ckpt_codec.proofs.Spelled.{image-spelled}
+use Rattle.ckpt_codec.proofs.Sizes.{length-image}
+use Rattle.ckpt_codec.specs.Lengths.{image_length}
 use Rattle.ckpt_codec.proofs.Versions.{later_allowed}
 
 -- bytes of an image are the same beside any other
@@ -32,6 +34,12 @@ image_text_beside like second image bytes text allowed = record {
   items = text.items;
   spelled = text.spelled ∙ (image-spelled like image ∙ sym (image-spelled second image));
 }
+
+-- and as many as are told
+pub image_text_long : (like : Option ImageView) (image : ImageView) (bytes : List ℕ) → IsImageText like image bytes
+    → length bytes ≡ image_length image
+image_text_long like image bytes text =
+    ap (length {A = ℕ}) text.spelled ∙ (ap (length {A = ℕ}) (image-spelled like image) ∙ length-image image)
 
 -- ---- one record
 

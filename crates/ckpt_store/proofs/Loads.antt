@@ -1,7 +1,7 @@
 -- From what the cell gives and the readers say to what is loaded.
 use Rattle.std.proofs.Common.{◌≡◌, ◌⊎◌, ℕ, ◌-◌, ◌<◌, ◌≤◌, inl, inr, ⊎_elim, true, false, List, [], Option, Some, None, Result, Ok, Err, refl}
 use Rattle.std.proofs.Common.{sym, ◌∙◌, ap, subst, arith}
-use Rattle.std.specs.Prelude.{◌↔◌, nat_le, IsTrue, IsErrOf, IfOk, IfErr, option_map}
+use Rattle.std.specs.Prelude.{IsTrue, IsErrOf, IfOk, IfErr}
 use Rattle.std.proofs.lemmas.Bool.{cases_Bool, false≢true, leb-true, leb-false}
 use Rattle.std.proofs.lemmas.Option.{same_Some, none-some}
 use Rattle.std.proofs.Math.Logic.{∥∥₁_elim}
@@ -18,14 +18,15 @@ use Rattle.record.specs.ImageView.{ImageView}
 use Rattle.record.specs.RecordView.{RecordView}
 use Rattle.record.specs.declared.record.Tentative.{Tentative}
 use Rattle.ckpt_codec.specs.HeaderView.{HeaderView}
-use Rattle.ckpt_codec.specs.HeaderText.{instance_of, header_of, tentative_with, record_with, IsHeaderText, IsImageText, IsTentativeText, IsHeldText}
+use Rattle.ckpt_codec.specs.HeaderText.{instance_of, header_of, tentative_with, record_with, IsTentativeText, IsHeldText}
 use Rattle.ckpt_codec.specs.Faults.{IsImageFault, IsReadUnlessMemory, IsRefusedUnlessMemory}
 use Rattle.ckpt_codec.specs.Lengths.{spelled_length}
 use Rattle.ckpt_codec.specs.declared.header.Instance.{Instance}
 use Rattle.ckpt_codec.specs.declared.fault.CodecFault.{CodecFault}
 use Rattle.ckpt_codec.specs.declared.fault.CodecFault.TheVariants as codec
 use Rattle.ckpt_codec.specs.declared.lengths.TheConstants.{MAX_RECORD_BYTES}
-use Rattle.ckpt_codec.proofs.Joined.{joined_is_apart}
+use Rattle.ckpt_codec.proofs.Joined.{apart_is_record, joined_is_apart}
+use Rattle.ckpt_codec.specs.RecordText.{IsRecord}
 use Rattle.ckpt_store.specs.declared.known.Known.{Known}
 use Rattle.ckpt_store.specs.declared.fault.StoreFault.{StoreFault}
 use Rattle.ckpt_store.specs.declared.fault.StoreFault.TheVariants.{NoMemory, Device, TooLarge, Reopen, Truncated}
@@ -34,7 +35,7 @@ use Rattle.ckpt_store.specs.declared.fault.StoreFault.TheVariants.{Unsettled, Sp
 use Rattle.ckpt_store.specs.StoreFault.{of_cell, of_codec}
 use Rattle.ckpt_store.specs.Spelling.{SpellsAt, Spells, SpellsSome, IsKept, is_short, known_as}
 use Rattle.ckpt_store.specs.Loading.{IsOfCell, IsOfReopening, IsTextFault, IsHeaderOf, IsHeaderWrong, IsImageOf, IsImageWrong, IsHeldOf, IsHeldWrong, IsShort, IsLong, IsImageThen, IsImageWrongThen, IsHeldThen, IsHeldWrongThen}
-use Rattle.ckpt_store.specs.Loading.{OneThen, WrongThen, IsRecordOf, IsWrong, IsFound, IsRefused, IsRead, IsLook, IsLoad, IsReload}
+use Rattle.ckpt_store.specs.Loading.{OneThen, WrongThen, IsRecordOf, IsWrong, IsRefused, IsRead, IsLook, IsLoad, IsReload}
 use Rattle.ckpt_store.proofs.Spelled.{HoldsFor, parts_in, spelled_of, slot_is_one}
 
 -- ---- what a reader says of bytes
@@ -382,6 +383,15 @@ record_is_spelled w h permanent held header image other short =
       holds = second.2;
       apart = joined_is_apart h permanent held header.0 image.0 second.0 header.2 image.2 second.1;
     })
+
+-- and may be written
+pub read_is_record : (w : Whole) (h : HeaderView) (permanent : ImageView) (held : Option ImageView)
+    (first second : Option (List ℕ)) → IsHeaderOf w h → IsImageOf None first permanent
+    → IsHeldOf permanent h.tentative second held → IsRecord (record_with h permanent held)
+read_is_record w h permanent held first second header image other =
+    let s = held_lies permanent h.tentative second held other in
+    apart_is_record (record_with h permanent held) h.slot header.0 image.0 s.0
+    (joined_is_apart h permanent held header.0 image.0 s.0 header.2 image.2 s.1)
 
 -- and what is held is read so
 image_in : Option Tentative → Option ImageView

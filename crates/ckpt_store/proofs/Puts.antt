@@ -1,7 +1,7 @@
 -- How a put of the cell is a put of a record.
-use Rattle.std.proofs.Common.{◌≡◌, ◌⊎◌, inl, inr, ⊎_elim, ℕ, ◌-◌, ◌<◌, ◌≤◌, Bool, true, false, List, ◌∷◌, length, Option, Some, None, Result, Ok}
+use Rattle.std.proofs.Common.{◌≡◌, ◌⊎◌, inl, inr, ⊎_elim, ℕ, ◌-◌, ◌<◌, ◌≤◌, true, false, List, ◌∷◌, length, Option, Some, None, Result, Ok}
 use Rattle.std.proofs.Common.{Err, refl, sym, ◌∙◌, ap, subst, arith}
-use Rattle.std.specs.Prelude.{◌↔◌, ◌&&◌, nat_le, is_some, IsTrue, IsErrOf, OnOk, IfErr, option_map}
+use Rattle.std.specs.Prelude.{◌↔◌, nat_le, IsTrue, IsErrOf, OnOk}
 use Rattle.std.specs.Option.{ForSome}
 use Rattle.std.proofs.lemmas.Bool.{and_parts, leb-true, true≢false}
 use Rattle.std.proofs.lemmas.Option.{same_Some}
@@ -12,7 +12,7 @@ use Rattle.gate_cell.specs.declared.TheConstants.{MIN_HEADER_BYTES}
 use Rattle.gate_cell.specs.declared.cell.StableCell.{Ghosts as CellWords}
 use Rattle.gate_cell.specs.declared.slot_cell.SlotCell.{Ghosts as SlotWords}
 use Rattle.gate_cell.specs.Setup.{LeavesSetup, setup_then, setup_stays}
-use Rattle.gate_cell.specs.Whole.{Whole, with_slot, with_header, LeftByFill, OnlyPuts}
+use Rattle.gate_cell.specs.Whole.{Whole, with_header, LeftByFill, OnlyPuts}
 use Rattle.gate_cell.specs.declared.fault.CellFault.{CellFault}
 use Rattle.gate_cell.specs.declared.fault.CellFault.TheVariants as cell
 use Rattle.gate_cell.specs.CellFault.{HasCause}
@@ -34,7 +34,7 @@ use Rattle.ckpt_store.specs.declared.fault.StoreFault.TheVariants.{Version, Malf
 use Rattle.ckpt_store.specs.declared.fault.StoreFault.TheVariants.{Unsettled, Spent}
 use Rattle.ckpt_store.specs.StoreFault.{of_cell, is_failure, IsOfPut}
 use Rattle.ckpt_store.specs.Refusals.{no_refusal}
-use Rattle.ckpt_store.specs.Spelling.{SpellsAt, Spells, SpellsAny, SpellsSome, fits_in, held_fits, images_fit, is_short}
+use Rattle.ckpt_store.specs.Spelling.{SpellsAt, Spells, SpellsSome, fits_in, held_fits, images_fit, is_short}
 use Rattle.ckpt_store.specs.Spelling.{IsLengthTold, IsKept, kept_in, known_as}
 use Rattle.ckpt_store.specs.Putting.{IsPut, IsHeldWritten, known_after, IsChange}
 use Rattle.ckpt_store.proofs.Parts.{parts_of}

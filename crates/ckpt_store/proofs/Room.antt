@@ -1,6 +1,6 @@
 -- A record that a store has fits its cell, and so does what becomes of it by a move that lets an image go, or none.
-use Rattle.std.proofs.Common.{◌≡◌, ⊎_elim, ℕ, ◌-◌, ◌≤◌, Bool, true, false, List, [], length, Option, Some, None, refl, sym, ◌∙◌, ap, subst, arith}
-use Rattle.std.specs.Prelude.{if◌then◌else◌, ◌==◌, ◌&&◌, nat_le, IsTrue}
+use Rattle.std.proofs.Common.{◌≡◌, ⊎_elim, ℕ, ◌-◌, ◌≤◌, Bool, true, false, List, [], length, Option, Some, None, refl, sym, ◌∙◌, ap, arith}
+use Rattle.std.specs.Prelude.{if◌then◌else◌, ◌==◌, nat_le}
 use Rattle.std.proofs.lemmas.Bool.{and_parts, and_from, leb-true, le-leb, cases_Bool, true≢false}
 use Rattle.std.proofs.Math.Logic.{∥∥₁_elim}
 use Rattle.gate_cell.specs.Whole.{Whole, slot_in}
@@ -13,9 +13,9 @@ use Rattle.record.specs.Moves.{last_image, with_permanent, with_decision, with_e
 use Rattle.ckpt_codec.specs.HeaderText.{IsImageText, IsTentativeText}
 use Rattle.ckpt_codec.specs.Lengths.{image_length, spelled_length}
 use Rattle.ckpt_codec.specs.declared.lengths.TheConstants.{MAX_RECORD_BYTES}
-use Rattle.ckpt_codec.proofs.Sizes.{length-image, permanent_is_no_longer, decision_is_no_longer, epoch_is_no_longer}
-use Rattle.ckpt_codec.proofs.Spelled.{image-spelled}
-use Rattle.ckpt_store.specs.Spelling.{Spells, SpellsAt, fits_in, held_fits, images_fit, is_short}
+use Rattle.ckpt_codec.proofs.Sizes.{permanent_is_no_longer, decision_is_no_longer, epoch_is_no_longer}
+use Rattle.ckpt_codec.proofs.Joined.{image_text_long}
+use Rattle.ckpt_store.specs.Spelling.{Spells, fits_in, held_fits, images_fit, is_short}
 use Rattle.ckpt_store.specs.StoreView.{cell_in, record_in, Holds}
 use Rattle.ckpt_store.specs.declared.store.Store.{Store}
 use Rattle.ckpt_store.proofs.Seen.{spelled_is}
@@ -78,8 +78,7 @@ module _ (room : ℕ) (kept : RecordView) (fits : fits_in room kept ≡ true) wh
 image_fits : (room : ℕ) (like : Option ImageView) (image : ImageView) (bytes : List ℕ) → IsImageText like image bytes
     → length bytes ≤ room → nat_le (image_length image) room ≡ true
 image_fits room like image bytes text fits =
-    let long : length bytes ≡ image_length image =
-    ap (length {A = ℕ}) text.spelled ∙ (ap (length {A = ℕ}) (image-spelled like image) ∙ length-image image) in
+    let long : length bytes ≡ image_length image = image_text_long like image bytes text in
     le-leb (image_length image) room (omega (arith, long, fits))
 
 held_fits_so : (room : ℕ) (permanent : ImageView) (t : Option Tentative) (found : Option (List ℕ)) (bytes : List ℕ)

@@ -1,5 +1,5 @@
 -- The record that a store shows in every state is the one that its cell holds.
-use Rattle.std.proofs.Common.{◌≡◌, ℕ, ◌-◌, ◌≤◌, List, length, Option, Some, None, refl, sym, ◌∙◌, ap, subst}
+use Rattle.std.proofs.Common.{◌≡◌, ℕ, ◌-◌, ◌≤◌, List, length, Option, Some, None, refl, ◌∙◌, ap, subst}
 use Rattle.std.specs.Prelude.{is_some, IsTrue}
 use Rattle.std.proofs.lemmas.Option.{same_Some, none-some}
 use Rattle.gate_cell.specs.Whole.{Whole, slot_in}
@@ -9,8 +9,8 @@ use Rattle.record.specs.ImageView.{ImageView}
 use Rattle.record.specs.RecordView.{RecordView}
 use Rattle.record.specs.declared.record.Tentative.{Tentative}
 use Rattle.record.specs.declared.record.TheConstants.{MAX_DECISIONS}
-use Rattle.ckpt_codec.specs.HeaderText.{instance_of, header_of, tentative_with, record_with, IsTentativeText}
-use Rattle.ckpt_codec.specs.Reading.{header_at, whole_image_at}
+use Rattle.ckpt_codec.specs.HeaderText.{instance_of, header_of, tentative_with, IsTentativeText}
+use Rattle.ckpt_codec.specs.Reading.{whole_image_at}
 use Rattle.ckpt_codec.proofs.Headers.{header_again, image_again}
 use Rattle.ckpt_store.proofs.Allowed.{decisions_few}
 use Rattle.ckpt_store.proofs.Spelled.{HoldsFor, parts_in, spelled_is_record}

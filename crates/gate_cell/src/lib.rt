@@ -17,6 +17,7 @@ mod split;
 
 pub use cell::StableCell;
 pub use fault::CellFault;
+pub use frame::slot_room_of;
 pub use gate::GateCell;
 pub use slot_cell::SlotCell;
 pub use split::SplitCell;

@@ -3,6 +3,8 @@ use Rattle.std.proofs.Common.{◌≡◌, inl, inr, ⊎_elim, ℕ, List, Option, 
 use Rattle.std.proofs.Math.Logic.{∥∥₁_map}
 use Rattle.sector_disk.specs.Clock.{Only}
 use Rattle.gate_cell.specs.declared.cell.StableCell.{Ghosts as CellWords}
+use Rattle.gate_cell.specs.declared.slot_cell.SlotCell.{Ghosts as SlotWords}
+use Rattle.gate_cell.specs.Whole.{Whole}
 use Rattle.record.specs.Ends.{sent_of}
 use Rattle.record.specs.RecordView.{RecordView}
 use Rattle.ckpt_store.specs.Spelling.{Spells}
@@ -14,31 +16,31 @@ use Rattle.protocol.specs.World.Covered.{LeavesAsMuch, LeavesEither}
 use Rattle.protocol.specs.World.Pairs.{LeaveEitherSince}
 
 -- what was left spells one record alone
-one_record : (kept other : RecordView) (left : Option (List ℕ)) → Spells kept left → Spells other left → kept ≡ other
+one_record : (kept other : RecordView) (left : Whole) → Spells kept left → Spells other left → kept ≡ other
 one_record kept other None is too = absurd is
 one_record kept other (Some bytes) is too = sym (spelled_is kept bytes is) ∙ spelled_is other bytes too
 
-module _ {C : Type 0} (words : CellWords C) where
+module _ {C : Type 0} (words : CellWords C) (slots : SlotWords C) where
   -- what a crash leaves spells the record of its store, and no other
-  pub own_alone : (store : Store C words) → Only (Some (words.value (cell_in store))) (words.may_leave (cell_in store))
-      → (left : Option (List ℕ)) → words.may_leave (cell_in store) left
+  pub own_alone : (store : Store C slots words) → Only (slots.whole (cell_in store)) (slots.may_leave_whole (cell_in store))
+      → (left : Whole) → slots.may_leave_whole (cell_in store) left
       → (spelled : RecordView) → Spells spelled left → spelled ≡ record_in store
   own_alone store settled left might spelled is =
-      sym (spelled_is spelled (words.value (cell_in store))
-      (subst (λ (l : Option (List ℕ)). Spells spelled l) (settled left might) is))
+      sym (spelled_is spelled (slots.whole (cell_in store))
+      (subst (λ (l : Whole). Spells spelled l) (settled left might) is))
 
-  pub own_spelled : (store : Store C words)
-      → Only (Some (words.value (cell_in store))) (words.may_leave (cell_in store)) → (left : Option (List ℕ))
-      → words.may_leave (cell_in store) left
+  pub own_spelled : (store : Store C slots words)
+      → Only (slots.whole (cell_in store)) (slots.may_leave_whole (cell_in store)) → (left : Whole)
+      → slots.may_leave_whole (cell_in store) left
       → ∥ Spells (record_in store) left ∥₁
   own_spelled store settled left might =
       ∥∥₁_map (store.kept.leaves left might)
       (λ some. subst (λ (kept : RecordView). Spells kept left) (own_alone store settled left might some.0 some.1)
       some.1)
 
-  pub own_left : (store : Store C words) (next : RecordView)
-      → Only (Some (words.value (cell_in store))) (words.may_leave (cell_in store)) → (left : Option (List ℕ))
-      → words.may_leave (cell_in store) left
+  pub own_left : (store : Store C slots words) (next : RecordView)
+      → Only (slots.whole (cell_in store)) (slots.may_leave_whole (cell_in store)) → (left : Whole)
+      → slots.may_leave_whole (cell_in store) left
       → LeavesEither (record_in store) next left
   own_left store next settled left might =
       record {
@@ -47,9 +49,9 @@ module _ {C : Type 0} (words : CellWords C) where
             λ spelled is. inl (own_alone store settled left might spelled is);
       }
 
-  pub leaves_own : (store : Store C words)
-      → Only (Some (words.value (cell_in store))) (words.may_leave (cell_in store)) → (left : Option (List ℕ))
-      → words.may_leave (cell_in store) left
+  pub leaves_own : (store : Store C slots words)
+      → Only (slots.whole (cell_in store)) (slots.may_leave_whole (cell_in store)) → (left : Whole)
+      → slots.may_leave_whole (cell_in store) left
       → LeavesAsMuch (record_in store).permanent left
   leaves_own store settled left might = record {
     something = store.kept.leaves left might;
@@ -59,11 +61,11 @@ module _ {C : Type 0} (words : CellWords C) where
         omega (arith, ap (λ (r : RecordView). sent_of r.permanent channel) same));
   }
 
-  module _ (old new : Store C words)
-      (settled : Only (Some (words.value (cell_in old))) (words.may_leave (cell_in old))) where
+  module _ (old new : Store C slots words)
+      (settled : Only (slots.whole (cell_in old)) (slots.may_leave_whole (cell_in old))) where
     -- through a put of this record
     pub through : (next : RecordView) → LeavesNext next old new
-        → LeaveEitherSince words.moment words.left_since (cell_in old) (cell_in new) (record_in old) next
+        → LeaveEitherSince words.moment slots.left_since_whole (cell_in old) (cell_in new) (record_in old) next
     through next run left since =
         ⊎_elim (own_left old next settled left)
         (λ is. record
@@ -72,5 +74,5 @@ module _ {C : Type 0} (words : CellWords C) where
 
     -- and where nothing was put
     pub through_crash : LeavesAsBefore old new
-        → LeaveEitherSince words.moment words.left_since (cell_in old) (cell_in new) (record_in old) (record_in old)
+        → LeaveEitherSince words.moment slots.left_since_whole (cell_in old) (cell_in new) (record_in old) (record_in old)
     through_crash run left since = own_left old (record_in old) settled left (run.each left since)

@@ -5,6 +5,7 @@ use Rattle.std.specs.List.Sorted.{IsNonDecreasingBy}
 use Rattle.std.proofs.lemmas.List.{map-append}
 use Rattle.kahn_net.specs.Syntax.{Network}
 use Rattle.gate_cell.specs.declared.cell.StableCell.{Ghosts as CellWords}
+use Rattle.gate_cell.specs.declared.slot_cell.SlotCell.{Ghosts as SlotWords}
 use Rattle.protocol.specs.World.Invariant.{outputs_of, WorldInvariant}
 use Rattle.protocol.specs.World.OutputView.{OutputView}
 use Rattle.protocol.specs.World.Sound.{output_channels, outputs_on}
@@ -24,12 +25,12 @@ shown_channels taken failures [] = refl
 shown_channels taken failures (x ∷ outputs) =
     ap (λ (rest : List ℕ). x.channel ∷ rest) (shown_channels taken failures outputs)
 
-module _ {C O : Type 0} {cell : CellWords C} (taken : O → List ℤ) (failures : O → ℕ) where
-  channels_by_station : List (Station C O cell) → List (List ℕ)
+module _ {C O : Type 0} {cell : CellWords C} {slots : SlotWords C} (taken : O → List ℤ) (failures : O → ℕ) where
+  channels_by_station : List (Station C O slots cell) → List (List ℕ)
   channels_by_station stations =
-      map (λ (s : Station C O cell). map (λ (output : Output O). output.channel) s.outputs.items) stations
+      map (λ (s : Station C O slots cell). map (λ (output : Output O). output.channel) s.outputs.items) stations
 
-  outputs_from : (net : Network) (first : ℕ) (stations : List (Station C O cell))
+  outputs_from : (net : Network) (first : ℕ) (stations : List (Station C O slots cell))
       → ((k : ℕ) (s : StationView) → slice_get (map (station_view taken failures) stations) k ≡ Some s
       → map (λ (output : OutputView). output.channel) (outputs_of s.outlets) ≡ outputs_on net (first + k))
       → AreOutputsFrom net first (channels_by_station stations)
@@ -44,7 +45,7 @@ module _ {C O : Type 0} {cell : CellWords C} (taken : O → List ℤ) (failures 
             each (suc k) t is ∙ ap (outputs_on net) sum)),
       )
 
-  all_joined : (stations : List (Station C O cell))
+  all_joined : (stations : List (Station C O slots cell))
       → map (λ (output : Output O). output.channel) (all_outputs stations) ≡ joined (channels_by_station stations)
   unfolding channels_by_station
   all_joined [] = refl
@@ -53,13 +54,13 @@ module _ {C O : Type 0} {cell : CellWords C} (taken : O → List ℤ) (failures 
       ∙ ap (λ (rest : List ℕ). map (λ (output : Output O). output.channel) s.outputs.items ++ rest)
       (all_joined stations)
 
-  as_many : (stations : List (Station C O cell))
+  as_many : (stations : List (Station C O slots cell))
       → length (channels_by_station stations) ≡ length (map (station_view taken failures) stations)
   unfolding channels_by_station
   as_many [] = refl
   as_many (s ∷ stations) = ap suc (as_many stations)
 
-  pub closed_listed : (world : WorldView) (stations : List (Station C O cell)) (sorted : List (Output O))
+  pub closed_listed : (world : WorldView) (stations : List (Station C O slots cell)) (sorted : List (Output O))
       → WorldInvariant world
       → world.stations ≡ map (station_view taken failures) stations → IsPermutation (all_outputs stations) sorted
       → IsNonDecreasingBy (λ (output : Output O). output.channel) sorted

@@ -4,6 +4,8 @@ use Rattle.std.specs.List.{AllZip}
 use Rattle.std.proofs.Math.Logic.{∥∥₁_map₂}
 use Rattle.kahn_net.specs.Syntax.{Network}
 use Rattle.gate_cell.specs.declared.cell.StableCell.{Ghosts as CellWords}
+use Rattle.gate_cell.specs.declared.slot_cell.SlotCell.{Ghosts as SlotWords}
+use Rattle.gate_cell.specs.Whole.{Whole}
 use Rattle.record.specs.RecordView.{RecordView}
 use Rattle.ckpt_store.specs.Spelling.{Spells}
 use Rattle.ckpt_store.specs.StoreView.{record_in}
@@ -18,9 +20,9 @@ use Rattle.world.specs.WorldView.{station_view}
 use Rattle.world.specs.declared.station.Station.{Station}
 use Rattle.world.proofs.Cells.{own_alone, own_spelled}
 
-module _ {C O : Type 0} {cell : CellWords C} (taken : O → List ℤ) (failures : O → ℕ) (net : Network) where
+module _ {C O : Type 0} {cell : CellWords C} {slots : SlotWords C} (taken : O → List ℤ) (failures : O → ℕ) (net : Network) where
   -- each choice spells a record of each node
-  all_spelled : (olds news : List (Station C O cell)) (lefts : List (Option (List ℕ)))
+  all_spelled : (olds news : List (Station C O slots cell)) (lefts : List Whole)
       → AllZip (StaysInLine taken failures net) olds news → AreLeftSince olds news lefts
       → ∥ ((records : List RecordView) × AllZip Spells records lefts) ∥₁
   all_spelled [] [] [] stays since = ∣ ([], tt) ∣₁
@@ -33,7 +35,7 @@ module _ {C O : Type 0} {cell : CellWords C} (taken : O → List ℤ) (failures 
       (λ one others. (one.0 ∷ others.0, (one.1, others.1)))
 
   -- these records fit what had left before and what has left by now, and aren't behind
-  abbrev Follow : List (Station C O cell) → List (Station C O cell) → List RecordView → Type 0
+  abbrev Follow : List (Station C O slots cell) → List (Station C O slots cell) → List RecordView → Type 0
   Follow olds news records =
       AllZip (λ (station : StationView) (kept : RecordView). FitsOutputs net station.node.kept.node
       (outputs_of station.outlets) kept) (map (station_view taken failures) olds) records
@@ -43,7 +45,7 @@ module _ {C O : Type 0} {cell : CellWords C} (taken : O → List ℤ) (failures 
       × AllZip (λ (old kept : RecordView). IsBehind old.permanent kept.permanent)
       (records_of (map (station_view taken failures) olds)) records
 
-  all_follow : (olds news : List (Station C O cell)) (lefts : List (Option (List ℕ))) (records : List RecordView)
+  all_follow : (olds news : List (Station C O slots cell)) (lefts : List Whole) (records : List RecordView)
       → AllZip (StaysInLine taken failures net) olds news → AreLeftSince olds news lefts → AllZip Spells records lefts
       → Follow olds news records
   all_follow [] [] [] [] stays since spelled = (tt, tt, tt)
@@ -62,7 +64,7 @@ module _ {C O : Type 0} {cell : CellWords C} (taken : O → List ℤ) (failures 
       )
 
   -- what the nodes keep in the end isn't behind
-  all_go_on : (olds news : List (Station C O cell)) → AllZip (StaysInLine taken failures net) olds news
+  all_go_on : (olds news : List (Station C O slots cell)) → AllZip (StaysInLine taken failures net) olds news
       → AllZip (λ (old kept : RecordView). IsBehind old.permanent kept.permanent)
       (records_of (map (station_view taken failures) olds)) (records_of (map (station_view taken failures) news))
   all_go_on [] [] stays = tt
@@ -71,7 +73,7 @@ module _ {C O : Type 0} {cell : CellWords C} (taken : O → List ℤ) (failures 
   all_go_on (old ∷ olds) (new ∷ news) stays = (stays.0.goes_on, all_go_on olds news stays.1)
 
   -- so an event keeps the line
-  pub keeps_line : (inputs : List (List ℤ)) (olds news : List (Station C O cell)) (before after : ℕ)
+  pub keeps_line : (inputs : List (List ℤ)) (olds news : List (Station C O slots cell)) (before after : ℕ)
       (flying flown : Traffic)
       → WorldInvariant
       (record {
@@ -113,19 +115,19 @@ module _ {C O : Type 0} {cell : CellWords C} (taken : O → List ℤ) (failures 
         (all_go_on olds news stays);
   }
 
-module _ {C O : Type 0} {cell : CellWords C} (taken : O → List ℤ) (failures : O → ℕ) where
+module _ {C O : Type 0} {cell : CellWords C} {slots : SlotWords C} (taken : O → List ℤ) (failures : O → ℕ) where
   -- what a crash leaves now is what the nodes keep
-  kept_spelled : (stations : List (Station C O cell)) (lefts : List (Option (List ℕ)))
+  kept_spelled : (stations : List (Station C O slots cell)) (lefts : List Whole)
       → AllZip MayBeLeft stations lefts
       → ∥ AllZip Spells (records_of (map (station_view taken failures) stations)) lefts ∥₁
   kept_spelled [] [] may = ∣ tt ∣₁
   kept_spelled [] (left ∷ lefts) may = absurd may
   kept_spelled (station ∷ stations) [] may = absurd may
   kept_spelled (station ∷ stations) (left ∷ lefts) may =
-      ∥∥₁_map₂ (own_spelled cell station.node.store station.node.kept.settled left may.0)
+      ∥∥₁_map₂ (own_spelled cell slots station.node.store station.node.kept.settled left may.0)
       (kept_spelled stations lefts may.1) (λ one others. (one, others))
 
-  kept_alone : (stations : List (Station C O cell)) (lefts : List (Option (List ℕ))) (records : List RecordView)
+  kept_alone : (stations : List (Station C O slots cell)) (lefts : List Whole) (records : List RecordView)
       → AllZip MayBeLeft stations lefts → AllZip Spells records lefts
       → records ≡ records_of (map (station_view taken failures) stations)
   kept_alone [] [] [] may spelled = refl
@@ -135,9 +137,9 @@ module _ {C O : Type 0} {cell : CellWords C} (taken : O → List ℤ) (failures 
   kept_alone (station ∷ stations) (left ∷ lefts) [] may spelled = absurd spelled
   kept_alone (station ∷ stations) (left ∷ lefts) (kept ∷ records) may spelled =
       ap (λ (one : RecordView). one ∷ records)
-      (own_alone cell station.node.store station.node.kept.settled left may.0 kept spelled.0)
+      (own_alone cell slots station.node.store station.node.kept.settled left may.0 kept spelled.0)
       ∙ ap (λ (others : List RecordView). record_in station.node.store ∷ others)
       (kept_alone stations lefts records may.1 spelled.1)
 
-  pub one_line : (stations : List (Station C O cell)) → HasOneLine taken failures stations
+  pub one_line : (stations : List (Station C O slots cell)) → HasOneLine taken failures stations
   one_line stations = record { spelled = kept_spelled stations; alone = kept_alone stations }

@@ -11,9 +11,10 @@ use Rattle.kahn_net.specs.Syntax.{Network, network_of}
 use Rattle.net_check.specs.declared.net.Net.{Net}
 use Rattle.sector_disk.specs.declared.disk.Disk.{Ghosts as DiskWords}
 use Rattle.gate_cell.specs.declared.cell.StableCell.{Ghosts as CellWords}
-use Rattle.gate_cell.specs.declared.gate.GateCell.{GateCell}
-use Rattle.gate_cell.specs.Layout.{room_on}
-use Rattle.ckpt_codec.specs.Lengths.{spelled_length}
+use Rattle.gate_cell.specs.declared.slot_cell.SlotCell.{Ghosts as SlotWords}
+use Rattle.gate_cell.specs.declared.split.SplitCell.{SplitCell}
+use Rattle.gate_cell.specs.SplitLayout.{slot_room_on}
+use Rattle.ckpt_codec.specs.Lengths.{image_length}
 use Rattle.ckpt_store.specs.Spelling.{Spells}
 use Rattle.ckpt_store.specs.StoreView.{cell_in}
 use Rattle.node.specs.NodeOf.{view_of}
@@ -116,10 +117,10 @@ own_others {O} net home other (x ∷ outputs) apart =
 
 -- All stations
 
-module _ {D O : Type 0} {disk : DiskWords D} {cell : CellWords (GateCell D disk)} (taken : O → List ℤ)
+module _ {D O : Type 0} {disk : DiskWords D} {cell : CellWords (SplitCell D disk)} {slots : SlotWords (SplitCell D disk)} (taken : O → List ℤ)
     (failures : O → ℕ) (net : Network) where
   pub opened_views : (outputs : List (Output O)) (number : ℕ) (disks : List D)
-      (stations : List (Station (GateCell D disk) O cell))
+      (stations : List (Station (SplitCell D disk) O slots cell))
       → AllNumbered (IsOpened taken failures net outputs) number disks stations
       → map (station_view taken failures) stations
       ≡ stations_from net (node_count net) number (map (λ (d : D). disk.failure_count d) disks)
@@ -134,7 +135,7 @@ module _ {D O : Type 0} {disk : DiskWords D} {cell : CellWords (GateCell D disk)
       (opened_views outputs (suc number) disks stations all.1)
 
   pub opened_outlets : (outputs : List (Output O)) (number : ℕ) (disks : List D)
-      (stations : List (Station (GateCell D disk) O cell))
+      (stations : List (Station (SplitCell D disk) O slots cell))
       → AllNumbered (IsOpened taken failures net (map fresh outputs)) number disks stations
       → HaveOutlets net number outputs stations
   opened_outlets outputs number [] [] all = tt
@@ -144,7 +145,7 @@ module _ {D O : Type 0} {disk : DiskWords D} {cell : CellWords (GateCell D disk)
       (all.0.outlets ∙ own_fresh net number outputs, opened_outlets outputs (suc number) disks stations all.1)
 
   pub opened_left : (outputs : List (Output O)) (number : ℕ) (disks : List D)
-      (stations : List (Station (GateCell D disk) O cell))
+      (stations : List (Station (SplitCell D disk) O slots cell))
       → AllNumbered (IsOpened taken failures net outputs) number disks stations → LeaveOnlyRecords net number stations
   opened_left outputs number [] [] all = tt
   opened_left outputs number [] (s ∷ stations) all = absurd all
@@ -153,22 +154,22 @@ module _ {D O : Type 0} {disk : DiskWords D} {cell : CellWords (GateCell D disk)
       (all.0.left, opened_left outputs (suc number) disks stations all.1)
 
   pub opened_rooms : (outputs : List (Output O)) (number : ℕ) (disks : List D)
-      (stations : List (Station (GateCell D disk) O cell))
+      (stations : List (Station (SplitCell D disk) O slots cell))
       → AllNumbered (IsOpened taken failures net outputs) number disks stations
-      → map (λ (station : Station (GateCell D disk) O cell). cell.capacity (cell_in station.node.store)) stations
-      ≡ map (λ (d : D). room_on (disk.sector_count d)) disks
+      → map (λ (station : Station (SplitCell D disk) O slots cell). slots.slot_capacity (cell_in station.node.store)) stations
+      ≡ map (λ (d : D). slot_room_on (disk.sector_count d)) disks
   opened_rooms outputs number [] [] all = refl
   opened_rooms outputs number [] (s ∷ stations) all = absurd all
   opened_rooms outputs number (d ∷ disks) [] all = absurd all
   opened_rooms outputs number (d ∷ disks) (s ∷ stations) all =
       ap (λ (room : ℕ). room
-      ∷ map (λ (station : Station (GateCell D disk) O cell). cell.capacity (cell_in station.node.store)) stations)
+      ∷ map (λ (station : Station (SplitCell D disk) O slots cell). slots.slot_capacity (cell_in station.node.store)) stations)
       all.0.room
-      ∙ ap (λ (rest : List ℕ). room_on (disk.sector_count d) ∷ rest)
+      ∙ ap (λ (rest : List ℕ). slot_room_on (disk.sector_count d) ∷ rest)
       (opened_rooms outputs (suc number) disks stations all.1)
 
   pub opened_fits : (outputs : List (Output O)) (number : ℕ) (disks : List D)
-      (stations : List (Station (GateCell D disk) O cell))
+      (stations : List (Station (SplitCell D disk) O slots cell))
       → AllNumbered (IsOpened taken failures net outputs) number disks stations
       → HaveRoom net number (map (λ (d : D). disk.sector_count d) disks)
   opened_fits outputs number [] [] all = tt
@@ -191,12 +192,12 @@ fresh_own {O} net home (x ∷ outputs) = at (is_output net home x.channel) (fres
     at true rest = ap (λ (list : List (Output O)). fresh x ∷ list) rest
     at false rest = rest
 
-module _ {D O : Type 0} {disk : DiskWords D} {cell : CellWords (GateCell D disk)} (taken : O → List ℤ)
+module _ {D O : Type 0} {disk : DiskWords D} {cell : CellWords (SplitCell D disk)} {slots : SlotWords (SplitCell D disk)} (taken : O → List ℤ)
     (failures : O → ℕ)
     (net : Network) (outputs : List (Output O)) where
   -- the station of a node that was opened, with the outputs that are its node's, of those that are left
-  pub station_opened : (nodes number : ℕ) (given : D) (rest own : List (Output O)) (node : Node (GateCell D disk) cell)
-      (station : Station (GateCell D disk) O cell) → nodes ≡ node_count net → IsOpenedNode net nodes number given node
+  pub station_opened : (nodes number : ℕ) (given : D) (rest own : List (Output O)) (node : Node (SplitCell D disk) slots cell)
+      (station : Station (SplitCell D disk) O slots cell) → nodes ≡ node_count net → IsOpenedNode net nodes number given node
       → own_outputs net number rest ≡ own_outputs net number outputs → own ≡ map fresh (own_outputs net number rest)
       → station.node ≡ node → station.outputs.items ≡ own → station.turns ≡ no_turns 0
       → IsOpened taken failures net (map fresh outputs) number given station
@@ -208,22 +209,22 @@ module _ {D O : Type 0} {disk : DiskWords D} {cell : CellWords (GateCell D disk)
             (cell.failure_count (cell_in station.node.store)) (disk.failure_count given)
             (opening_record net (node_count net) number) (view_of station.node)
             (outlet_views taken failures station.outputs.items) station.turns
-            (ap (λ (n : Node (GateCell D disk) cell). n.number) same ∙ opened.number_is)
+            (ap (λ (n : Node (SplitCell D disk) slots cell). n.number) same ∙ opened.number_is)
             (ap view_of same ∙ (opened.view ∙ ap (λ (n : ℕ). opening_node net n number) count)) refl
-            (ap (λ (n : Node (GateCell D disk) cell). cell.failure_count (cell_in n.store)) same ∙ opened.failures) none
+            (ap (λ (n : Node (SplitCell D disk) slots cell). cell.failure_count (cell_in n.store)) same ∙ opened.failures) none
             ∙ ap (opening_station net (node_count net) number (disk.failure_count given))
             (ap (outlet_views taken failures) are ∙ own_views taken failures net number (map fresh outputs));
         outlets = ap (map (λ (output : Output O). output.outlet)) are;
         left = λ left might. subst (λ (n : ℕ). Spells (opening_record net n number) left) count
             (opened.left left
-            (subst (λ (n : Node (GateCell D disk) cell). cell.may_leave (cell_in n.store) left) same might));
-        room = ap (λ (n : Node (GateCell D disk) cell). cell.capacity (cell_in n.store)) same ∙ opened.room;
-        fits = subst (λ (n : ℕ). HasRoom (disk.sector_count given) (spelled_length (opening_record net n number))) count
+            (subst (λ (n : Node (SplitCell D disk) slots cell). slots.may_leave_whole (cell_in n.store) left) same might));
+        room = ap (λ (n : Node (SplitCell D disk) slots cell). slots.slot_capacity (cell_in n.store)) same ∙ opened.room;
+        fits = subst (λ (n : ℕ). HasRoom (disk.sector_count given) (image_length (opening_record net n number).permanent)) count
             opened.fits;
       }
 
-  pub stations_more : (disks all : List D) (given : D) (before after : List (Station (GateCell D disk) O cell))
-      (station : Station (GateCell D disk) O cell) (number : ℕ) → all ≡ disks ++ given ∷ [] → number ≡ length disks
+  pub stations_more : (disks all : List D) (given : D) (before after : List (Station (SplitCell D disk) O slots cell))
+      (station : Station (SplitCell D disk) O slots cell) (number : ℕ) → all ≡ disks ++ given ∷ [] → number ≡ length disks
       → after ≡ before ++ station ∷ []
       → AllNumbered (IsOpened taken failures net (map fresh outputs)) 0 disks before
       → IsOpened taken failures net (map fresh outputs) number given station
@@ -259,9 +260,9 @@ fewer_left {O} own rest others are =
 
 -- The world of these stations
 
-module _ {D O : Type 0} {disk : DiskWords D} {cell : CellWords (GateCell D disk)} (taken : O → List ℤ)
+module _ {D O : Type 0} {disk : DiskWords D} {cell : CellWords (SplitCell D disk)} {slots : SlotWords (SplitCell D disk)} (taken : O → List ℤ)
     (failures : O → ℕ) (given net : Net) (disks : List D) (outputs items : List (Output O))
-    (stations : List (Station (GateCell D disk) O cell))
+    (stations : List (Station (SplitCell D disk) O slots cell))
     (same : given ≡ net) (renewed : items ≡ map fresh outputs)
     (all : AllNumbered (IsOpened taken failures (network_of given.program) items) 0 disks stations) where
   -- as they are of the network and the outputs that were given
@@ -350,14 +351,14 @@ earlier_refused net count number (d ∷ done) given fault (inr refused) =
 module _ {D : Type 0} (net : Network) (count : D → ℕ) (nodes number : ℕ) (done all : List D) (given : D)
     (fault : StoreFault)
     (same : nodes ≡ node_count net) (place : number ≡ length done) (split : all ≡ done ++ given ∷ []) where
-  pub last_refused : IsOpeningRefusal (count given) (spelled_length (opening_record net nodes number)) fault
+  pub last_refused : IsOpeningRefusal (count given) (image_length (opening_record net nodes number).permanent) fault
       → IsWorldRefusal net 0 (map count all) fault
   last_refused refused =
       let sum : number ≡ 0 + length done = omega (arith, place) in
       subst (λ (list : List D). IsWorldRefusal net 0 (map count list) fault) (sym split)
       (disk_refused net count 0 done given fault
       (subst (λ (n : ℕ). IsOpeningRefusal (count given) (opening_length net n) fault) sum
-      (subst (λ (n : ℕ). IsOpeningRefusal (count given) (spelled_length (opening_record net n number)) fault) same
+      (subst (λ (n : ℕ). IsOpeningRefusal (count given) (image_length (opening_record net n number).permanent) fault) same
       refused)))
 
 pub before_refused : {D : Type 0} (net : Network) (count : D → ℕ) (done all : List D) (given : D) (fault : StoreFault)
@@ -442,7 +443,7 @@ module _ {D : Type 0} (sectors failures : D → ℕ) where
   pub before_back : (disks again givens backs : List D) (given back : D) (fault : StoreFault)
       → givens ≡ disks ++ given ∷ []
       → backs ≡ again ++ back ∷ [] → AreHandedBack sectors failures disks again fault
-      → room_on (sectors back) ≡ room_on (sectors given)
+      → slot_room_on (sectors back) ≡ slot_room_on (sectors given)
       → failures back ≡ failures given → AreHandedBack sectors failures givens backs fault
   before_back disks again givens backs given back fault split pushed before room same =
       subst (λ (list : List D). AreHandedBack sectors failures list backs fault) (sym split)

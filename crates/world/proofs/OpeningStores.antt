@@ -1,22 +1,24 @@
--- A store that was opened on a cell with a record's bytes, and why none is.
-use Rattle.std.proofs.Common.{◌≡◌, inl, inr, ℕ, ◌+◌, ◌*◌, ◌<◌, ◌≤◌, List, length, get_or, take, drop, Option, Some}
-use Rattle.std.proofs.Common.{None, refl, sym, ap, subst, ◌∙◌, length-take, arith}
-use Rattle.std.specs.Prelude.{◌%◌, false, Err, IsSome, IsTrue, IsErrOf}
-use Rattle.sector_disk.specs.declared.TheConstants.{SECTOR_BYTES}
-use Rattle.gate_cell.specs.GateCell.{HoldsFrame}
-use Rattle.gate_cell.specs.Layout.{area_sectors, frame_size, named, room_on, HasNoRoom}
-use Rattle.gate_cell.specs.declared.TheConstants.{MAX_VALUE_BYTES}
-use Rattle.gate_cell.specs.declared.frame.TheConstants.{LENGTH_BYTES}
+-- A store that was opened on a cell with a header and an image, and why none is.
+use Rattle.std.proofs.Common.{◌≡◌, ◌⊎◌, inl, inr, ℕ, ◌-◌, ◌<◌, ◌≤◌, Bool, true, false, List, length, Option, Some, None, refl, sym, ap, subst}
+use Rattle.std.proofs.Common.{◌∙◌, arith}
+use Rattle.std.specs.Prelude.{◌↔◌, Result, Ok, Err, IsSome, IsTrue, IsErrOf, nat_le}
+use Rattle.std.proofs.lemmas.Bool.{cases_Bool, leb-true, leb-false, true≢false}
+use Rattle.std.proofs.lemmas.Option.{none-some}
+use Rattle.gate_cell.specs.CellFault.{HasCause}
+use Rattle.gate_cell.specs.SplitLayout.{slot_room_on, HasNoHeaderRoom}
+use Rattle.gate_cell.specs.SplitStands.{header_room}
+use Rattle.gate_cell.specs.Whole.{Whole, with_header, with_slot}
+use Rattle.gate_cell.specs.declared.TheConstants.{LEAST_SPLIT_SECTORS}
 use Rattle.gate_cell.specs.declared.cell.StableCell.{Ghosts as CellWords}
+use Rattle.gate_cell.specs.declared.slot_cell.SlotCell.{Ghosts as SlotWords}
 use Rattle.gate_cell.specs.declared.fault.CellFault.{CellFault}
 use Rattle.gate_cell.specs.declared.fault.CellFault.TheVariants as cell
 use Rattle.record.specs.RecordView.{RecordView}
+use Rattle.ckpt_codec.specs.HeaderText.{header_of, IsHeaderText, IsImageText}
 use Rattle.ckpt_codec.specs.Lengths.{spelled_length}
-use Rattle.ckpt_codec.specs.RecordText.{IsRecordText, IsTextIn}
-use Rattle.ckpt_codec.specs.declared.version.TheConstants.{VERSION}
-use Rattle.ckpt_codec.specs.SizeLaws.{IsRecordWithin}
-use Rattle.ckpt_codec.specs.declared.lengths.TheConstants.{MAX_RECORD_BYTES, MAX_RETAINED_ITEMS}
+use Rattle.ckpt_codec.specs.declared.lengths.TheConstants.{MAX_HEADER_BYTES, MAX_RECORD_BYTES}
 use Rattle.ckpt_store.specs.Loading.{IsLoad, IsOfCell}
+use Rattle.ckpt_store.specs.Spelling.{Spells}
 use Rattle.ckpt_store.specs.StoreFault.{of_cell}
 use Rattle.ckpt_store.specs.StoreView.{cell_in, known_in, record_in, record_or, record_spelled, Holds, IsUntouched}
 use Rattle.ckpt_store.specs.declared.fault.StoreFault.{StoreFault}
@@ -24,107 +26,121 @@ use Rattle.ckpt_store.specs.declared.fault.StoreFault.TheVariants.{Reopen, Devic
 use Rattle.ckpt_store.specs.declared.fault.StoreFault.TheVariants as store
 use Rattle.ckpt_store.specs.declared.store.Store.{Store}
 use Rattle.ckpt_store.proofs.Seen.{spelled_is}
-use Rattle.world.specs.OpeningWorld.{HasRoom, IsNotOpened, IsOpeningRefusal}
-use Rattle.protocol.specs.WorldLaws.RoomLaws.{bounded_is_short}
+use Rattle.ckpt_store.proofs.Spelled.{lies_of}
+use Rattle.world.specs.OpeningWorld.{HasRoom, HasNoRoom, IsNotOpened, IsOpeningRefusal}
+
+-- ---- a store that was opened
+
+-- a header that names slot 0, and an image there, are a record without a tentative image
+pub stands_first : (kept : RecordView) (whole base : Whole) (header image : List ℕ)
+    → whole ≡ with_slot 0 (Some image) (with_header (Some header) base) → IsHeaderText (header_of 0 kept) header
+    → IsImageText None kept.permanent image → kept.tentative ≡ None → spelled_length kept ≤ MAX_RECORD_BYTES
+    → Spells kept whole
+stands_first kept whole base header image is says shows alone short = (
+  0,
+  record {
+    one = omega arith;
+    says = lies_of (IsHeaderText (header_of 0 kept)) whole.header header (ap (λ (w : Whole). w.header) is) says;
+    shows = lies_of (IsImageText None kept.permanent) whole.first image (ap (λ (w : Whole). w.first) is) shows;
+    holds = λ t held. absurd (none-some t (sym alone ∙ held));
+    short = short;
+  },
+)
 
 answered : (o : Option RecordView) → IsSome o → ¬ (IsErrOf (record_or Reopen o) Device)
 answered None known failed = absurd (cc)
 answered (Some kept) known failed = absurd (cc)
 
-module _ {C : Type 0} (words : CellWords C) (kept : RecordView) (bytes : List ℕ) (cell : C)
-    (opened recounted : Store C words) (load : IsLoad words cell (cell_in opened) (record_or Reopen (known_in opened)))
+module _ {C : Type 0} (words : CellWords C) (slots : SlotWords C) (kept : RecordView) (cell : C)
+    (opened recounted : Store C slots words)
+    (load : IsLoad words slots cell (cell_in opened) (record_or Reopen (known_in opened)))
     (same : IsUntouched opened recounted) where
   -- shows that record
-  pub opened_record : IsRecordText kept bytes → words.value cell ≡ bytes → record_in recounted ≡ kept
-  opened_record text holds =
-      ap record_spelled (same.same_value ∙ (load.same_value ∙ holds)) ∙ spelled_is kept bytes text
+  pub opened_record : Spells kept (slots.whole cell) → record_in recounted ≡ kept
+  opened_record spelled =
+      ap record_spelled (same.same_whole ∙ load.same_whole) ∙ spelled_is kept (slots.whole cell) spelled
 
   -- and holds it
-  pub opened_holds : IsRecordText kept bytes → words.value cell ≡ bytes → Holds recounted kept
-  opened_holds text holds = subst (IsRecordText kept) (sym (same.same_value ∙ (load.same_value ∙ holds))) text
+  pub opened_holds : Spells kept (slots.whole cell) → Holds recounted kept
+  opened_holds spelled = subst (Spells kept) (sym (same.same_whole ∙ load.same_whole)) spelled
 
-  -- its cell has the room that it had
-  pub opened_room : words.capacity (cell_in recounted) ≡ words.capacity cell
-  opened_room = same.same_room ∙ load.same_setup.same_room
+  -- the slots of its cell have the room that they had
+  pub opened_room : slots.slot_capacity (cell_in recounted) ≡ slots.slot_capacity cell
+  opened_room = same.same_slot_room ∙ load.same_slot_room
 
   -- its device hasn't failed again
   pub opened_failures : IsSome (known_in opened) → words.failure_count (cell_in recounted) ≡ words.failure_count cell
   opened_failures known = same.failures ∙ load.failures.otherwise (answered (known_in opened) known)
 
--- Room
+-- ---- room
 
--- what isn't without room has room
-room_there : (sectors value_len : ℕ) → ¬ (HasNoRoom sectors value_len) → HasRoom sectors value_len
-room_there sectors value_len some =
-    let least : sectors < 3 → ⊥ = λ few. some (inl few) in
-    let most : room_on sectors < value_len → ⊥ = λ little. some (inr little) in
-    (omega (arith, least), omega (arith, most))
-
--- a value that stands on a disk had room there
-pub formatted_room : (sectors : ℕ) (value content : List ℕ) → length value ≤ MAX_VALUE_BYTES
-    → HoldsFrame value sectors content → HasRoom sectors (length value)
-formatted_room sectors value content few frame =
-    let whole : length (take (frame_size (length value)) (named sectors content)) ≡ frame_size (length value) =
-    frame.whole in
-    let cut : length (take (frame_size (length value)) (named sectors content)) ≤ length (named sectors content) =
-    omega (arith, length-take (frame_size (length value)) (named sectors content)) in
-    let inside : length (named sectors content) ≤ SECTOR_BYTES * area_sectors sectors =
-    omega (
-      arith,
-      length-take (SECTOR_BYTES * area_sectors sectors)
-          (drop (SECTOR_BYTES * (1 + (get_or content 0 0 % 2) * area_sectors sectors)) content),
-    ) in
-    let long : length value + LENGTH_BYTES ≤ frame_size (length value) = omega arith in
-    let room : length value + LENGTH_BYTES ≤ SECTOR_BYTES * area_sectors sectors =
-    omega (arith, whole, cut, inside, long) in
-    (omega (arith, room), omega (arith, room, few))
-
--- the bytes of a record are as many as are told
-pub bytes_long : (kept : RecordView) (bytes : List ℕ) → IsTextIn VERSION kept bytes → length bytes ≡ spelled_length kept
-unfolding spelled_length
-bytes_long kept bytes text = ap (length {A = ℕ}) text.spelled
-
--- a disk that is formatted with a record's bytes has room for them
-pub kept_room : (kept : RecordView) (bytes value content : List ℕ) (before now : ℕ)
-    → IsRecordWithin MAX_RETAINED_ITEMS kept → IsTextIn VERSION kept bytes → value ≡ bytes → now ≡ before
-    → HoldsFrame value now content
-    → HasRoom before (spelled_length kept)
-kept_room kept bytes value content before now within text same sectors frame =
-    let long : length value ≡ spelled_length kept = ap (length {A = ℕ}) same ∙ bytes_long kept bytes text in
-    let short : spelled_length kept ≤ MAX_RECORD_BYTES = bounded_is_short kept within in
-    let few : length value ≤ MAX_VALUE_BYTES = omega (arith, long, short) in
-    subst (λ (n : ℕ). HasRoom n (spelled_length kept)) sectors
-    (subst (HasRoom now) long (formatted_room now value content few frame))
-
--- Refusals
-
--- one of `format`, as the store tells it
-pub format_refusal : (sectors given value_len : ℕ) (fault : CellFault) (told : StoreFault) → given ≡ value_len
-    → told ≡ of_cell fault → ¬ (fault ≡ cell.Reopen)
-    → (fault ≡ cell.TooLarge → HasNoRoom sectors given) → (HasNoRoom sectors given → fault ≡ cell.TooLarge)
-    → IsOpeningRefusal sectors value_len told
-format_refusal sectors given value_len fault told same is ready large none =
-    subst (IsOpeningRefusal sectors value_len) (sym is)
-    (subst (λ (n : ℕ). IsOpeningRefusal sectors n (of_cell fault)) same (at fault ready large none))
+-- what hasn't room is without
+pub room_missing : (sectors image_len : ℕ) → ¬ (HasRoom sectors image_len)
+    → IsOpeningRefusal sectors image_len store.TooLarge
+room_missing sectors image_len none = at (cases_Bool (nat_le LEAST_SPLIT_SECTORS sectors))
   where
-    at : (f : CellFault) → ¬ (f ≡ cell.Reopen) → (f ≡ cell.TooLarge → HasNoRoom sectors given)
-        → (HasNoRoom sectors given → f ≡ cell.TooLarge) → IsOpeningRefusal sectors given (of_cell f)
-    at cell.NoMemory ready large none = tt
-    at cell.Device ready large none =
-        room_there sectors given (λ little. (let same : cell.Device ≡ cell.TooLarge = none little in cc))
-    at cell.TooLarge ready large none = large refl
-    at cell.Reopen ready large none = absurd (ready refl)
+    long : LEAST_SPLIT_SECTORS ≤ sectors
+        → (nat_le image_len (slot_room_on sectors) ≡ true) ⊎ (nat_le image_len (slot_room_on sectors) ≡ false)
+        → HasNoRoom sectors image_len
+    long wide (inl fits) = absurd (none (wide, leb-true image_len (slot_room_on sectors) fits))
+    long wide (inr more) = inr (leb-false image_len (slot_room_on sectors) more)
+
+    at : (nat_le LEAST_SPLIT_SECTORS sectors ≡ true) ⊎ (nat_le LEAST_SPLIT_SECTORS sectors ≡ false)
+        → HasNoRoom sectors image_len
+    at (inl wide) =
+        long (leb-true LEAST_SPLIT_SECTORS sectors wide) (cases_Bool (nat_le image_len (slot_room_on sectors)))
+    at (inr few) = inl (leb-false LEAST_SPLIT_SECTORS sectors few)
+
+-- ---- refusals
+
+-- one of `format`, as the store tells it: there is room
+pub format_refusal : (sectors image_len header_len : ℕ) (fault : CellFault) (told : StoreFault)
+    → HasRoom sectors image_len → header_len ≤ MAX_HEADER_BYTES → told ≡ of_cell fault → ¬ (fault ≡ cell.Reopen)
+    → (fault ≡ cell.TooLarge → HasNoHeaderRoom sectors header_len) → IsOpeningRefusal sectors image_len told
+format_refusal sectors image_len header_len fault told room short is ready large =
+    subst (IsOpeningRefusal sectors image_len) (sym is) (at fault ready large)
+  where
+    never : HasNoHeaderRoom sectors header_len → HasNoRoom sectors image_len
+    never (inl few) = inl few
+    never (inr more) = (let wide = header_room in absurd (omega (arith, more, short, wide)))
+
+    at : (f : CellFault) → ¬ (f ≡ cell.Reopen) → (f ≡ cell.TooLarge → HasNoHeaderRoom sectors header_len)
+        → IsOpeningRefusal sectors image_len (of_cell f)
+    at cell.NoMemory ready large = tt
+    at cell.Device ready large = room
+    at cell.TooLarge ready large = never (large refl)
+    at cell.Reopen ready large = absurd (ready refl)
+
+-- one of `fill`, at a cell that is ready and has room
+pub fill_refusal : (sectors image_len capacity given_len before now : ℕ) (ready ready_now : Bool) (fault : CellFault)
+    (told : StoreFault) → HasRoom sectors image_len → capacity ≡ slot_room_on sectors → given_len ≡ image_len
+    → IsTrue ready → told ≡ of_cell fault
+    → (IsErrOf {T = Unit {0}} (Err fault) cell.TooLarge ↔ (IsTrue ready × (capacity < given_len)))
+    → HasCause {T = Unit {0}} before now ready ready_now (Err fault) → IsOpeningRefusal sectors image_len told
+fill_refusal sectors image_len capacity given_len before now ready ready_now fault told room wide long up is large
+    cause =
+    subst (IsOpeningRefusal sectors image_len) (sym is) (at fault large cause)
+  where
+    at : (f : CellFault) → (IsErrOf {T = Unit {0}} (Err f) cell.TooLarge ↔ (IsTrue ready × (capacity < given_len)))
+        → HasCause {T = Unit {0}} before now ready ready_now (Err f) → IsOpeningRefusal sectors image_len (of_cell f)
+    at cell.NoMemory large cause = tt
+    at cell.Device large cause = room
+    at cell.TooLarge large cause =
+        (let more = (large.0 refl).1 in
+        let fits = room.1 in
+        absurd (omega (arith, more, fits, wide, long)))
+    at cell.Reopen large cause = absurd (true≢false (sym up ∙ cause.reopen.0 refl))
 
 -- one of a store on a cell that is ready and holds a record
-pub open_refusal : {C : Type 0} (words : CellWords C) (kept : RecordView) (old new : C) (fault : StoreFault)
-    (sectors value_len : ℕ) → IsLoad words old new (Err fault) → IsRecordText kept (words.value old)
-    → IsTrue (words.is_ready old)
-    → HasRoom sectors value_len → IsOpeningRefusal sectors value_len fault
-open_refusal words kept old new fault sectors value_len load text ready room =
-    at fault (load.only kept text) (λ same. load.reopen.0 (ap (λ (f : StoreFault). Err f) same))
+pub open_refusal : {C : Type 0} (words : CellWords C) (slots : SlotWords C) (kept : RecordView) (old new : C)
+    (fault : StoreFault) (sectors image_len : ℕ) → IsLoad words slots old new (Err fault)
+    → Spells kept (slots.whole old) → IsTrue (words.is_ready old) → HasRoom sectors image_len
+    → IsOpeningRefusal sectors image_len fault
+open_refusal words slots kept old new fault sectors image_len load spelled ready room =
+    at fault (load.only kept spelled) (λ same. load.reopen.0 (ap (λ (f : StoreFault). Err f) same))
   where
     at : (f : StoreFault) → IsOfCell f → (f ≡ store.Reopen → words.is_ready old ≡ false)
-        → IsOpeningRefusal sectors value_len f
+        → IsOpeningRefusal sectors image_len f
     at store.NoMemory told reopens = tt
     at store.Device told reopens = room
     at store.Reopen told reopens = (let down : words.is_ready old ≡ false = reopens refl in cc)
@@ -138,7 +154,14 @@ open_refusal words kept old new fault sectors value_len load text ready room =
     at store.Unsettled told reopens = absurd told
     at store.Spent told reopens = absurd told
 
--- What comes back
+-- ---- what comes back
+
+-- the device failed, as the store tells it
+of_device : (f : CellFault) → of_cell f ≡ Device → f ≡ cell.Device
+of_device cell.Device e = refl
+of_device cell.NoMemory e = absurd (cc)
+of_device cell.TooLarge e = absurd (cc)
+of_device cell.Reopen e = absurd (cc)
 
 -- of a disk that wasn't formatted
 pub format_back : {D : Type 0} (sectors failures : D → ℕ) (given back : D) (fault : CellFault) (told : StoreFault)
@@ -147,26 +170,35 @@ pub format_back : {D : Type 0} (sectors failures : D → ℕ) (given back : D) (
     → (¬ (fault ≡ cell.Device) → back ≡ given)
     → IsNotOpened sectors failures given back told
 format_back sectors failures given back fault told is same failed unchanged = record {
-  room = ap room_on same;
+  room = ap slot_room_on same;
   failed = λ device. failed (of_device fault (sym is ∙ device));
   otherwise = λ other. ap failures (unchanged (λ device. other (is ∙ ap of_cell device)));
 }
+
+-- of one whose slot wasn't filled
+pub fill_back : {D : Type 0} (sectors failures : D → ℕ) (given back : D) (before now : ℕ) (ready ready_now : Bool)
+    (fault : CellFault) (told : StoreFault) → told ≡ of_cell fault
+    → slot_room_on (sectors back) ≡ slot_room_on (sectors given) → before ≡ failures given → now ≡ failures back
+    → HasCause {T = Unit {0}} before now ready ready_now (Err fault) → IsNotOpened sectors failures given back told
+fill_back sectors failures given back before now ready ready_now fault told is room was later cause = record {
+  room = room;
+  failed =
+      λ device. (let more = cause.device (ap (λ (f : CellFault). Err f) (of_device fault (sym is ∙ device))) in
+      omega (arith, more, was, later));
+  otherwise = λ other. sym later ∙ (cause.otherwise (λ e. other (is ∙ ap of_cell (same_fault e))) ∙ was);
+}
   where
-    of_device : (f : CellFault) → of_cell f ≡ Device → f ≡ cell.Device
-    of_device cell.Device e = refl
-    of_device cell.NoMemory e = absurd (cc)
-    of_device cell.TooLarge e = absurd (cc)
-    of_device cell.Reopen e = absurd (cc)
+    same_fault : {f g : CellFault} → ◌≡◌ {A = Result (Unit {0}) CellFault} (Err f) (Err g) → f ≡ g
+    same_fault e = cc
 
 -- of one on whose cell no store was opened
-pub load_back : {C D : Type 0} (words : CellWords C) (sectors failures : D → ℕ) (given back : D) (old new : C)
-    (fault : StoreFault)
-    → IsLoad words old new (Err fault) → words.capacity old ≡ room_on (sectors given)
-    → words.capacity new ≡ room_on (sectors back)
+pub load_back : {C D : Type 0} (words : CellWords C) (slots : SlotWords C) (sectors failures : D → ℕ) (given back : D)
+    (old new : C) (fault : StoreFault) → IsLoad words slots old new (Err fault)
+    → slots.slot_capacity old ≡ slot_room_on (sectors given) → slots.slot_capacity new ≡ slot_room_on (sectors back)
     → words.failure_count old ≡ failures given → words.failure_count new ≡ failures back
     → IsNotOpened sectors failures given back fault
-load_back words sectors failures given back old new fault load room_before room_now before now = record {
-  room = sym room_now ∙ (load.same_setup.same_room ∙ room_before);
+load_back words slots sectors failures given back old new fault load room_before room_now before now = record {
+  room = sym room_now ∙ (load.same_slot_room ∙ room_before);
   failed =
       λ device. (let more = load.failures.device (ap (λ (f : StoreFault). Err f) device) in
       omega (arith, more, before, now));

@@ -5,6 +5,7 @@ use Rattle.std.specs.Prelude.{Result, Ok, Err, IfOk, slice_get, slice_set}
 use Rattle.std.proofs.lemmas.Option.{slice_get_read, slice_get_within}
 use Rattle.std.specs.declared.alloc.AllocError.{AllocError}
 use Rattle.gate_cell.specs.declared.cell.StableCell.{Ghosts as CellWords}
+use Rattle.gate_cell.specs.declared.slot_cell.SlotCell.{Ghosts as SlotWords}
 use Rattle.protocol.specs.World.EventView.{EventView}
 use Rattle.protocol.specs.World.ReplyView.{ReplyView, Down}
 use Rattle.protocol.specs.WorldLaws.OutputLaws.{set_cases}
@@ -13,9 +14,9 @@ use Rattle.world.specs.WorldView.{LeavesDeviceAt, LeavesDeviceBy, RestartsAsArme
 use Rattle.world.specs.declared.event.Reply.{Reply}
 use Rattle.world.specs.declared.station.Station.{Station}
 
-module _ {C O : Type 0} {cell : CellWords C} where
+module _ {C O : Type 0} {cell : CellWords C} {slots : SlotWords C} where
   -- what is set at a place of a list stands there
-  stands : (xs : List (Station C O cell)) (place : ℕ) (y new : Station C O cell)
+  stands : (xs : List (Station C O slots cell)) (place : ℕ) (y new : Station C O slots cell)
       → slice_get (slice_set xs place y) place ≡ Some new → y ≡ new
   stands xs place y new is = at (set_cases xs place place y new is)
     where
@@ -24,16 +25,16 @@ module _ {C O : Type 0} {cell : CellWords C} where
       at (inr other) = absurd (other.0 refl)
 
   -- what holds of the station of a place before and after holds of what stands there in the two lists
-  pub holds_there : (P : Station C O cell → Station C O cell → Type 0) (xs : List (Station C O cell)) (place : ℕ)
-      (x y : Station C O cell) → slice_get xs place ≡ Some x → P x y
-      → (old new : Station C O cell) → slice_get xs place ≡ Some old
+  pub holds_there : (P : Station C O slots cell → Station C O slots cell → Type 0) (xs : List (Station C O slots cell)) (place : ℕ)
+      (x y : Station C O slots cell) → slice_get xs place ≡ Some x → P x y
+      → (old new : Station C O slots cell) → slice_get xs place ≡ Some old
       → slice_get (slice_set xs place y) place ≡ Some new → P old new
   holds_there P xs place x y there holds old new was now =
       let before : x ≡ old = (let same : Some x ≡ Some old = sym there ∙ was in cc) in
-      subst (λ (o : Station C O cell). P o new) before
-      (subst (λ (n : Station C O cell). P x n) (stands xs place y new now) holds)
+      subst (λ (o : Station C O slots cell). P o new) before
+      (subst (λ (n : Station C O slots cell). P x n) (stands xs place y new now) holds)
 
-  pub restarts_at : (round : ℕ) (xs : List (Station C O cell)) (place number : ℕ) (x y : Station C O cell)
+  pub restarts_at : (round : ℕ) (xs : List (Station C O slots cell)) (place number : ℕ) (x y : Station C O slots cell)
       (result : Result Reply AllocError) → number ≡ place → place < length xs → x ≡ get_or xs place x
       → IfOk result (λ reply. reply_view reply ≡ Down → RestartsAsArmed round x y)
       → IfOk result (λ reply. reply_view reply ≡ Down → RestartsAsArmedAt round number xs (slice_set xs place y))
@@ -43,8 +44,8 @@ module _ {C O : Type 0} {cell : CellWords C} where
       subst (λ (n : ℕ). RestartsAsArmedAt round n xs (slice_set xs place y)) (sym same)
       (holds_there (RestartsAsArmed round) xs place x y there (holds down))
 
-  pub devices_at : (event : EventView) (answer : Option ReplyView) (xs : List (Station C O cell)) (place number : ℕ)
-      (x y : Station C O cell) → number ≡ place → place < length xs → x ≡ get_or xs place x
+  pub devices_at : (event : EventView) (answer : Option ReplyView) (xs : List (Station C O slots cell)) (place number : ℕ)
+      (x y : Station C O slots cell) → number ≡ place → place < length xs → x ≡ get_or xs place x
       → LeavesDeviceBy event answer x y → LeavesDeviceAt event answer number xs (slice_set xs place y)
   devices_at event answer xs place number x y same within is holds =
       let there : slice_get xs place ≡ Some x = slice_get_read xs (length xs) place x refl within is in
@@ -52,11 +53,11 @@ module _ {C O : Type 0} {cell : CellWords C} where
       (holds_there (LeavesDeviceBy event answer) xs place x y there holds)
 
   -- where there is no station nothing is said
-  pub devices_nowhere : (event : EventView) (answer : Option ReplyView) (xs : List (Station C O cell))
+  pub devices_nowhere : (event : EventView) (answer : Option ReplyView) (xs : List (Station C O slots cell))
       (place number : ℕ) → number ≡ place → length xs ≤ place → LeavesDeviceAt event answer number xs xs
   devices_nowhere event answer xs place number same out old new was now =
       absurd (nowhere xs number (let e = same in let o = out in omega (arith, e, o)) old was)
     where
-      nowhere : (list : List (Station C O cell)) (k : ℕ) → length list ≤ k → (one : Station C O cell)
+      nowhere : (list : List (Station C O slots cell)) (k : ℕ) → length list ≤ k → (one : Station C O slots cell)
           → slice_get list k ≡ Some one → ⊥
       nowhere list k out one is = (let within = slice_get_within list k one is in omega (arith, out, within))

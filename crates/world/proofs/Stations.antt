@@ -10,6 +10,8 @@ use Rattle.ckpt_store.specs.StoreView.{cell_in, record_in, record_spelled}
 use Rattle.protocol.specs.Node.Starting.{IsBehind}
 use Rattle.world.proofs.Cells.{leaves_own, own_left}
 use Rattle.gate_cell.specs.declared.cell.StableCell.{Ghosts as CellWords}
+use Rattle.gate_cell.specs.declared.slot_cell.SlotCell.{Ghosts as SlotWords}
+use Rattle.gate_cell.specs.Whole.{Whole}
 use Rattle.protocol.specs.World.EventView.{EventView}
 use Rattle.protocol.specs.World.Growing.{EachBegins}
 use Rattle.protocol.specs.WorldLaws.GrowLaws.{begins_same, step_begins, has_grown, still_grown}
@@ -70,33 +72,33 @@ module _ (setting : Setting) (sure : IsSoundSetting setting) (room : RecordView 
   node_then old new (Ok reply) sound step same = step_node setting sure room event old (reply_view reply) new sound step
   node_then old new (Err e) sound step same = ap (λ (s : StationView). s.node.kept.node) same
 
-module _ {C O : Type 0} {cell : CellWords C} (taken : O → List ℤ) (failures : O → ℕ)
-    (only_now : (c : C) (left : Option (List ℕ)) → cell.left_since c (cell.moment c) left → cell.may_leave c left)
+module _ {C O : Type 0} {cell : CellWords C} {slots : SlotWords C} (taken : O → List ℤ) (failures : O → ℕ)
+    (only_now : (c : C) (left : Whole) → slots.left_since_whole c (cell.moment c) left → slots.may_leave_whole c left)
     (net : Network) (inputs : List (List ℤ)) where
   -- as it is seen, so it is
-  seen_grown : (old new : Station C O cell)
-      → HasGrown cell.moment cell.left_since (cell_in old.node.store) (cell_in new.node.store)
+  seen_grown : (old new : Station C O slots cell)
+      → HasGrown cell.moment slots.left_since_whole (cell_in old.node.store) (cell_in new.node.store)
       (outputs_of (station_view taken failures old).outlets) (outputs_of (station_view taken failures new).outlets)
       → IsGrown taken old new
   seen_grown old new grown =
-      subst (λ (after : List OutputView). HasGrown cell.moment cell.left_since (cell_in old.node.store)
+      subst (λ (after : List OutputView). HasGrown cell.moment slots.left_since_whole (cell_in old.node.store)
       (cell_in new.node.store) (outputs_view taken old.outputs.items) after)
       (same_outputs taken failures new.outputs.items)
-      (subst (λ (before : List OutputView). HasGrown cell.moment cell.left_since (cell_in old.node.store)
+      (subst (λ (before : List OutputView). HasGrown cell.moment slots.left_since_whole (cell_in old.node.store)
       (cell_in new.node.store) before (outputs_of (station_view taken failures new).outlets))
       (same_outputs taken failures old.outputs.items) grown)
 
   -- a station that nobody touched
-  still : (station : Station C O cell) → StationInvariant net inputs (station_view taken failures station)
+  still : (station : Station C O slots cell) → StationInvariant net inputs (station_view taken failures station)
       → IsGrown taken station station
   still station inv =
       seen_grown station station
-      (still_grown cell.moment cell.left_since cell.may_leave only_now (record_in station.node.store)
+      (still_grown cell.moment slots.left_since_whole slots.may_leave_whole only_now (record_in station.node.store)
       (outlet_views taken failures station.outputs.items) (cell_in station.node.store) inv.kept.covered
-      (leaves_own cell station.node.store station.node.kept.settled))
+      (leaves_own cell slots station.node.store station.node.kept.settled))
 
   -- the stations of a list that nobody touched
-  pub all_still : (stations : List (Station C O cell))
+  pub all_still : (stations : List (Station C O slots cell))
       → AreSound net inputs (map (station_view taken failures) stations) → AllZip (IsGrown taken) stations stations
   all_still stations sound =
       pairs_refl (IsGrown taken) stations
@@ -104,18 +106,18 @@ module _ {C O : Type 0} {cell : CellWords C} (taken : O → List ℤ) (failures 
       (sound i (station_view taken failures station) (map_at (station_view taken failures) stations i station is)))
 
   -- what a crash leaves of a station whose cell nobody called is the record of before
-  untouched_in_line : (old new : Station C O cell) → StationInvariant net inputs (station_view taken failures old)
+  untouched_in_line : (old new : Station C O slots cell) → StationInvariant net inputs (station_view taken failures old)
       → StationInvariant net inputs (station_view taken failures new) → cell_in old.node.store ≡ cell_in new.node.store
-      → (left : Option (List ℕ)) → cell.left_since (cell_in new.node.store) (cell.moment (cell_in old.node.store)) left
+      → (left : Whole) → slots.left_since_whole (cell_in new.node.store) (cell.moment (cell_in old.node.store)) left
       → LeavesInLine net (station_view taken failures old) (station_view taken failures new) left
   untouched_in_line old new inv later same left since =
       same_in_line net inputs (station_view taken failures old) (station_view taken failures new) left inv later
-      (ap (λ (c : C). record_spelled (cell.value c)) (sym same))
-      (own_left cell old.node.store (record_in old.node.store) old.node.kept.settled left
+      (ap (λ (c : C). record_spelled (slots.whole c)) (sym same))
+      (own_left cell slots old.node.store (record_in old.node.store) old.node.kept.settled left
       (only_now (cell_in old.node.store) left
-      (subst (λ (c : C). cell.left_since c (cell.moment (cell_in old.node.store)) left) (sym same) since)))
+      (subst (λ (c : C). slots.left_since_whole c (cell.moment (cell_in old.node.store)) left) (sym same) since)))
 
-  still_in_line : (station : Station C O cell) → StationInvariant net inputs (station_view taken failures station)
+  still_in_line : (station : Station C O slots cell) → StationInvariant net inputs (station_view taken failures station)
       → StaysInLine taken failures net station station
   still_in_line station inv =
       record {
@@ -124,7 +126,7 @@ module _ {C O : Type 0} {cell : CellWords C} (taken : O → List ℤ) (failures 
             behind_itself (record_in station.node.store).permanent;
       }
 
-  pub all_still_in_line : (stations : List (Station C O cell))
+  pub all_still_in_line : (stations : List (Station C O slots cell))
       → AreSound net inputs (map (station_view taken failures) stations)
       → AllZip (StaysInLine taken failures net) stations stations
   all_still_in_line stations sound =
@@ -132,24 +134,24 @@ module _ {C O : Type 0} {cell : CellWords C} (taken : O → List ℤ) (failures 
       (λ i station is. still_in_line station
       (sound i (station_view taken failures station) (map_at (station_view taken failures) stations i station is)))
 
-module _ {C O : Type 0} {cell : CellWords C} (taken : O → List ℤ) (failures : O → ℕ)
-    (only_now : (c : C) (left : Option (List ℕ)) → cell.left_since c (cell.moment c) left → cell.may_leave c left)
+module _ {C O : Type 0} {cell : CellWords C} {slots : SlotWords C} (taken : O → List ℤ) (failures : O → ℕ)
+    (only_now : (c : C) (left : Whole) → slots.left_since_whole c (cell.moment c) left → slots.may_leave_whole c left)
     (setting : Setting) (sure : IsSoundSetting setting) (room : RecordView → Bool) (event : EventView) where
   -- what a crash leaves of a station with an event
-  event_in_line : (old new : Station C O cell) → IsSoundStation setting (station_view taken failures old)
+  event_in_line : (old new : Station C O slots cell) → IsSoundStation setting (station_view taken failures old)
       → StationInvariant setting.net setting.inputs (station_view taken failures new)
       → (station_view taken failures new).node.kept.node ≡ (station_view taken failures old).node.kept.node
-      → HasMoved cell.moment cell.left_since (cell_in old.node.store) (cell_in new.node.store)
+      → HasMoved cell.moment slots.left_since_whole (cell_in old.node.store) (cell_in new.node.store)
       (record_in old.node.store) (next_kept setting event (station_view taken failures old))
       (outlet_views taken failures old.outputs.items) (outlet_views taken failures new.outputs.items)
-      → (left : Option (List ℕ)) → cell.left_since (cell_in new.node.store) (cell.moment (cell_in old.node.store)) left
+      → (left : Whole) → slots.left_since_whole (cell_in new.node.store) (cell.moment (cell_in old.node.store)) left
       → LeavesInLine setting.net (station_view taken failures old) (station_view taken failures new) left
   event_in_line old new sound later node moved left since = at moved.apart
     where
       at : (cell_in old.node.store ≡ cell_in new.node.store)
           ⊎ ((outlet_views taken failures old.outputs.items ≡ outlet_views taken failures new.outputs.items)
-          × ((other : Option (List ℕ))
-          → cell.left_since (cell_in new.node.store) (cell.moment (cell_in old.node.store)) other
+          × ((other : Whole)
+          → slots.left_since_whole (cell_in new.node.store) (cell.moment (cell_in old.node.store)) other
           → LeavesEither (record_in old.node.store) (next_kept setting event (station_view taken failures old))
           other))
           → LeavesInLine setting.net (station_view taken failures old) (station_view taken failures new) left
@@ -160,11 +162,11 @@ module _ {C O : Type 0} {cell : CellWords C} (taken : O → List ℤ) (failures 
           sound (ap outputs_of through.0) node (through.1 left since)
 
   -- the stations of a list of which one had an event
-  module _ (stations : List (Station C O cell)) (place : ℕ) (x y : Station C O cell) (result : Result Reply AllocError)
+  module _ (stations : List (Station C O slots cell)) (place : ℕ) (x y : Station C O slots cell) (result : Result Reply AllocError)
       (here : IsSoundStation setting (station_view taken failures x))
       (sound : AreSound setting.net setting.inputs (map (station_view taken failures) stations))
       (within : place < length stations) (is : x ≡ get_or stations place x)
-      (moved : HasMoved cell.moment cell.left_since (cell_in x.node.store) (cell_in y.node.store)
+      (moved : HasMoved cell.moment slots.left_since_whole (cell_in x.node.store) (cell_in y.node.store)
       (record_in x.node.store) (next_kept setting event (station_view taken failures x))
       (outlet_views taken failures x.outputs.items) (outlet_views taken failures y.outputs.items))
       (step : IfOk result
@@ -182,11 +184,11 @@ module _ {C O : Type 0} {cell : CellWords C} (taken : O → List ℤ) (failures 
         (sound i (station_view taken failures station)
         (map_at (station_view taken failures) stations i station at))) within is
         (seen_grown taken failures only_now setting.net setting.inputs x y
-        (has_grown cell.moment cell.left_since cell.may_leave only_now (record_in x.node.store)
+        (has_grown cell.moment slots.left_since_whole slots.may_leave_whole only_now (record_in x.node.store)
         (next_kept setting event (station_view taken failures x)) (record_in y.node.store).permanent
         (outlet_views taken failures x.outputs.items) (outlet_views taken failures y.outputs.items)
         (cell_in x.node.store) (cell_in y.node.store) here.inv.kept.covered later.kept.covered
-        (leaves_own cell y.node.store y.node.kept.settled)
+        (leaves_own cell slots y.node.store y.node.kept.settled)
         (next_ahead setting sure event (station_view taken failures x) here) moved
         (begins_then setting sure room event (station_view taken failures x) (station_view taken failures y) result
         step same)))

@@ -25,6 +25,7 @@ use Rattle.protocol.specs.World.EventView.{EventView}
 use Rattle.world.specs.ReplyView.{reply_view}
 use Rattle.world.specs.declared.station.Station.{Station}
 use Rattle.gate_cell.specs.declared.cell.StableCell.{Ghosts as CellWords}
+use Rattle.gate_cell.specs.declared.slot_cell.SlotCell.{Ghosts as SlotWords}
 use Rattle.record.specs.RecordView.{RecordView}
 use Rattle.world.specs.declared.output.Output.{Output}
 use Rattle.world.specs.declared.event.Reply.{Reply}
@@ -147,7 +148,7 @@ pub seen_at : {S : Type 0} (view : S → StationView) (xs : List S) (place : ℕ
 seen_at view xs place x within is = map_at view xs place x (slice_get_read xs (length xs) place x refl within is)
 
 -- a cell that nobody called
-pub cell_stays : {C O : Type 0} {cell : CellWords C} (station : Station C O cell) → IsCellUnchanged station station
+pub cell_stays : {C O : Type 0} {cell : CellWords C} {slots : SlotWords C} (station : Station C O slots cell) → IsCellUnchanged station station
 cell_stays station = refl
 
 -- a refused event leaves the list of stations as it is seen

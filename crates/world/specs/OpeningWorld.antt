@@ -1,14 +1,17 @@
--- What a world is opened with: outputs, and a disk with room for the opening record; and why it isn't opened.
+-- What a world is opened with: outputs, and a disk with room for the opening image; and why it isn't opened.
 use Rattle.std.specs.Prelude.{◌≡◌, ◌⊎◌, ◌<◌, ◌≤◌, ℕ, suc, ℤ, List, [], ◌∷◌, filter, map, Option, None}
 use Rattle.std.specs.List.{AllZip}
 use Rattle.kahn_net.specs.Nodes.{node_count}
 use Rattle.kahn_net.specs.Syntax.{Network}
 use Rattle.sector_disk.specs.declared.disk.Disk.{Ghosts as DiskWords}
-use Rattle.gate_cell.specs.declared.gate.GateCell.{GateCell}
-use Rattle.gate_cell.specs.Layout.{room_on, HasNoRoom}
+use Rattle.gate_cell.specs.declared.split.SplitCell.{SplitCell}
+use Rattle.gate_cell.specs.SplitLayout.{slot_room_on}
+use Rattle.gate_cell.specs.declared.TheConstants.{LEAST_SPLIT_SECTORS}
 use Rattle.gate_cell.specs.declared.cell.StableCell.{Ghosts as CellWords}
+use Rattle.gate_cell.specs.declared.slot_cell.SlotCell.{Ghosts as SlotWords}
+use Rattle.gate_cell.specs.Whole.{Whole}
 use Rattle.record.specs.RecordView.{RecordView}
-use Rattle.ckpt_codec.specs.Lengths.{spelled_length}
+use Rattle.ckpt_codec.specs.Lengths.{image_length}
 use Rattle.ckpt_store.specs.Spelling.{Spells}
 use Rattle.ckpt_store.specs.StoreView.{cell_in}
 use Rattle.ckpt_store.specs.declared.fault.StoreFault.{StoreFault}
@@ -37,9 +40,9 @@ IsUnused taken output = taken output.outlet ≡ []
 abbrev pub IsMade : {O : Type 0} → (ℕ → O → Type 0) → Output O → Type 0
 IsMade makes output = makes output.channel output.outlet
 
--- how many bytes spell the record with which the disk of the node of this number is formatted
+-- how many bytes spell the image that stands first on the disk of the node of this number
 abbrev pub opening_length : Network → ℕ → ℕ
-opening_length net number = spelled_length (opening_record net (node_count net) number)
+opening_length net number = image_length (opening_record net (node_count net) number).permanent
 
 -- of these outputs, those of the node
 abbrev pub own_outputs : {O : Type 0} → Network → ℕ → List (Output O) → List (Output O)
@@ -52,27 +55,30 @@ AllNumbered P number [] (y ∷ ys) = ⊥
 AllNumbered P number (x ∷ xs) [] = ⊥
 AllNumbered P number (x ∷ xs) (y ∷ ys) = P number x y × AllNumbered P (suc number) xs ys
 
--- a disk of so many sectors has room for a value of so many bytes
+-- a disk of so many sectors has room for header and slots, and a slot for an image of so many bytes; each header fits
 abbrev pub HasRoom : ℕ → ℕ → Type 0
-HasRoom sectors value_len = (3 ≤ sectors) × (value_len ≤ room_on sectors)
+HasRoom sectors image_len = (LEAST_SPLIT_SECTORS ≤ sectors) × (image_len ≤ slot_room_on sectors)
 
--- Why a disk of so many sectors isn't opened with a record of so many bytes: memory is missing; the disk has no room;
+abbrev pub HasNoRoom : ℕ → ℕ → Type 0
+HasNoRoom sectors image_len = (sectors < LEAST_SPLIT_SECTORS) ⊎ (slot_room_on sectors < image_len)
+
+-- Why a disk of so many sectors isn't opened with an image of so many bytes: memory is missing; the disk has no room;
 -- or it has, and the device failed. No other refusal comes.
 abbrev pub IsOpeningRefusal : ℕ → ℕ → StoreFault → Type 0
-IsOpeningRefusal sectors value_len NoMemory = Unit {0}
-IsOpeningRefusal sectors value_len Device = HasRoom sectors value_len
-IsOpeningRefusal sectors value_len TooLarge = HasNoRoom sectors value_len
-IsOpeningRefusal sectors value_len Reopen = ⊥
-IsOpeningRefusal sectors value_len Truncated = ⊥
-IsOpeningRefusal sectors value_len Version = ⊥
-IsOpeningRefusal sectors value_len Malformed = ⊥
-IsOpeningRefusal sectors value_len HoldsOther = ⊥
-IsOpeningRefusal sectors value_len PastNumber = ⊥
-IsOpeningRefusal sectors value_len NotHeld = ⊥
-IsOpeningRefusal sectors value_len Unsettled = ⊥
-IsOpeningRefusal sectors value_len Spent = ⊥
+IsOpeningRefusal sectors image_len NoMemory = Unit {0}
+IsOpeningRefusal sectors image_len Device = HasRoom sectors image_len
+IsOpeningRefusal sectors image_len TooLarge = HasNoRoom sectors image_len
+IsOpeningRefusal sectors image_len Reopen = ⊥
+IsOpeningRefusal sectors image_len Truncated = ⊥
+IsOpeningRefusal sectors image_len Version = ⊥
+IsOpeningRefusal sectors image_len Malformed = ⊥
+IsOpeningRefusal sectors image_len HoldsOther = ⊥
+IsOpeningRefusal sectors image_len PastNumber = ⊥
+IsOpeningRefusal sectors image_len NotHeld = ⊥
+IsOpeningRefusal sectors image_len Unsettled = ⊥
+IsOpeningRefusal sectors image_len Spent = ⊥
 
--- disks of so many sectors have room for the opening records of the nodes from this number on
+-- disks of so many sectors have room for the opening images of the nodes from this number on
 abbrev pub HaveRoom : Network → ℕ → List ℕ → Type 0
 HaveRoom net number [] = Unit {0}
 HaveRoom net number (sectors ∷ rest) = HasRoom sectors (opening_length net number) × HaveRoom net (suc number) rest
@@ -85,63 +91,63 @@ IsWorldRefusal net number (sectors ∷ rest) fault =
     IsOpeningRefusal sectors (opening_length net number) fault ⊎ IsWorldRefusal net (suc number) rest fault
 
 -- a crash now leaves this record of a station, and no other
-abbrev pub LeavesOnlyRecord : {C O : Type 0} {cell : CellWords C} → RecordView → Station C O cell → Type 0
-LeavesOnlyRecord {C} {O} {cell} kept station =
-    (left : Option (List ℕ)) → cell.may_leave (cell_in station.node.store) left → Spells kept left
+abbrev pub LeavesOnlyRecord : {C O : Type 0} {cell : CellWords C} {slots : SlotWords C} → RecordView → Station C O slots cell → Type 0
+LeavesOnlyRecord {C} {O} {cell} {slots} kept station =
+    (left : Whole) → slots.may_leave_whole (cell_in station.node.store) left → Spells kept left
 
 -- the same of each of these stations: of that of the node of this number the opening record, and so on
-abbrev pub LeaveOnlyRecords : {C O : Type 0} {cell : CellWords C} → Network → ℕ → List (Station C O cell) → Type 0
+abbrev pub LeaveOnlyRecords : {C O : Type 0} {cell : CellWords C} {slots : SlotWords C} → Network → ℕ → List (Station C O slots cell) → Type 0
 LeaveOnlyRecords net number [] = Unit {0}
 LeaveOnlyRecords net number (station ∷ stations) =
     LeavesOnlyRecord (opening_record net (node_count net) number) station × LeaveOnlyRecords net (suc number) stations
 
 -- each of these stations, the first one being of the node of this number, has the outlets of those outputs that are its
 -- node's
-abbrev pub HaveOutlets : {C O : Type 0} {cell : CellWords C} → Network → ℕ → List (Output O) → List (Station C O cell)
+abbrev pub HaveOutlets : {C O : Type 0} {cell : CellWords C} {slots : SlotWords C} → Network → ℕ → List (Output O) → List (Station C O slots cell)
     → Type 0
 HaveOutlets net number outputs [] = Unit {0}
 HaveOutlets net number outputs (station ∷ stations) =
     HasOutlets (own_outputs net number outputs) station × HaveOutlets net (suc number) outputs stations
 
 -- The node of this number, of so many, was opened on a disk: it runs from the opening record, which is all that a crash
--- leaves, and its cell has the room of the disk, which that record fits.
-pub record IsOpenedNode {D : Type 0} {disk : DiskWords D} {cell : CellWords (GateCell D disk)} (net : Network)
+-- leaves, and its slots have the room of the disk, which its image fits.
+pub record IsOpenedNode {D : Type 0} {disk : DiskWords D} {cell : CellWords (SplitCell D disk)} {slots : SlotWords (SplitCell D disk)} (net : Network)
     (nodes number : ℕ) (given : D)
-    (node : Node (GateCell D disk) cell) : Type 0 where
+    (node : Node (SplitCell D disk) slots cell) : Type 0 where
   pub number_is : node.number ≡ number
   pub view : view_of node ≡ opening_node net nodes number
   pub failures : cell.failure_count (cell_in node.store) ≡ disk.failure_count given
-  pub left : (left : Option (List ℕ)) → cell.may_leave (cell_in node.store) left
+  pub left : (left : Whole) → slots.may_leave_whole (cell_in node.store) left
       → Spells (opening_record net nodes number) left
-  pub room : cell.capacity (cell_in node.store) ≡ room_on (disk.sector_count given)
-  pub fits : HasRoom (disk.sector_count given) (spelled_length (opening_record net nodes number))
+  pub room : slots.slot_capacity (cell_in node.store) ≡ slot_room_on (disk.sector_count given)
+  pub fits : HasRoom (disk.sector_count given) (image_length (opening_record net nodes number).permanent)
 
 -- The station of the node of this number was opened on a disk, with those of the outputs that are its node's: it is as
--- it is said of an opening one, a crash leaves the opening record, and its cell has the room of the disk, which that
--- record fits.
-pub record IsOpened {D O : Type 0} {disk : DiskWords D} {cell : CellWords (GateCell D disk)} (taken : O → List ℤ)
+-- it is said of an opening one, a crash leaves the opening record, and its slots have the room of the disk, which its
+-- image fits.
+pub record IsOpened {D O : Type 0} {disk : DiskWords D} {cell : CellWords (SplitCell D disk)} {slots : SlotWords (SplitCell D disk)} (taken : O → List ℤ)
     (failures : O → ℕ) (net : Network) (outputs : List (Output O)) (number : ℕ) (given : D)
-    (station : Station (GateCell D disk) O cell) : Type 0 where
+    (station : Station (SplitCell D disk) O slots cell) : Type 0 where
   pub view : station_view taken failures station
       ≡ opening_station net (node_count net) number (disk.failure_count given)
       (outlets_on net number (outlet_views taken failures outputs))
   pub outlets : HasOutlets (own_outputs net number outputs) station
   pub left : LeavesOnlyRecord (opening_record net (node_count net) number) station
-  pub room : cell.capacity (cell_in station.node.store) ≡ room_on (disk.sector_count given)
+  pub room : slots.slot_capacity (cell_in station.node.store) ≡ slot_room_on (disk.sector_count given)
   pub fits : HasRoom (disk.sector_count given) (opening_length net number)
 
 -- ---- what comes back where an opening is refused; `sectors` and `failures` are the disks' words
 
--- a disk came back: a cell on it would have the room that it had, and its device failed in the call exactly where that
+-- a disk came back: slots on it would have the room that they had, and its device failed in the call exactly where that
 -- is the reason
 pub record IsNotOpened {D : Type 0} (sectors failures : D → ℕ) (given back : D) (fault : StoreFault) : Type 0 where
-  pub room : room_on (sectors back) ≡ room_on (sectors given)
+  pub room : slot_room_on (sectors back) ≡ slot_room_on (sectors given)
   pub failed : fault ≡ Device → failures given < failures back
   pub otherwise : ¬ (fault ≡ Device) → failures back ≡ failures given
 
--- a disk came back: a cell on it would have the room that it had, and its device hasn't failed less often
+-- a disk came back: slots on it would have the room that they had, and its device hasn't failed less often
 pub record IsDiskBack {D : Type 0} (sectors failures : D → ℕ) (given back : D) : Type 0 where
-  pub room : room_on (sectors back) ≡ room_on (sectors given)
+  pub room : slot_room_on (sectors back) ≡ slot_room_on (sectors given)
   pub more : failures given ≤ failures back
 
 -- of disks place by place, one has failed more often

@@ -4,6 +4,8 @@ use Rattle.std.specs.Prelude.{◌≡◌, ℕ, ℤ, List, [], ◌∷◌, map, Opt
 use Rattle.std.specs.List.{AllZip}
 use Rattle.kahn_net.specs.Syntax.{Network}
 use Rattle.gate_cell.specs.declared.cell.StableCell.{Ghosts as CellWords}
+use Rattle.gate_cell.specs.declared.slot_cell.SlotCell.{Ghosts as SlotWords}
+use Rattle.gate_cell.specs.Whole.{Whole}
 use Rattle.record.specs.RecordView.{RecordView}
 use Rattle.ckpt_store.specs.Spelling.{Spells}
 use Rattle.ckpt_store.specs.StoreView.{cell_in}
@@ -15,27 +17,27 @@ use Rattle.world.specs.declared.station.Station.{Station}
 
 -- One choice for each station of what a crash leaves of its cell. Each is at a moment of its own since `old`: no clock
 -- orders the moments of two cells.
-abbrev pub AreLeftSince : {C O : Type 0} {cell : CellWords C} → List (Station C O cell) → List (Station C O cell)
-    → List (Option (List ℕ)) → Type 0
+abbrev pub AreLeftSince : {C O : Type 0} {cell : CellWords C} {slots : SlotWords C} → List (Station C O slots cell) → List (Station C O slots cell)
+    → List Whole → Type 0
 AreLeftSince [] [] [] = Unit {0}
 AreLeftSince [] [] (left ∷ lefts) = ⊥
 AreLeftSince [] (new ∷ news) lefts = ⊥
 AreLeftSince (old ∷ olds) [] lefts = ⊥
 AreLeftSince (old ∷ olds) (new ∷ news) [] = ⊥
-AreLeftSince {cell = cell} (old ∷ olds) (new ∷ news) (left ∷ lefts) =
-    cell.left_since (cell_in new.node.store) (cell.moment (cell_in old.node.store)) left × AreLeftSince olds news lefts
+AreLeftSince {cell = cell} {slots = slots} (old ∷ olds) (new ∷ news) (left ∷ lefts) =
+    slots.left_since_whole (cell_in new.node.store) (cell.moment (cell_in old.node.store)) left × AreLeftSince olds news lefts
 
 -- a crash now may leave this of a station's cell
-abbrev pub MayBeLeft : {C O : Type 0} {cell : CellWords C} → Station C O cell → Option (List ℕ) → Type 0
-MayBeLeft {cell = cell} station left = cell.may_leave (cell_in station.node.store) left
+abbrev pub MayBeLeft : {C O : Type 0} {cell : CellWords C} {slots : SlotWords C} → Station C O slots cell → Whole → Type 0
+MayBeLeft {cell = cell} {slots = slots} station left = slots.may_leave_whole (cell_in station.node.store) left
 
 -- Whatever a crash of all nodes leaves at moments of an event spells a record of each node, and these are in line. And
 -- the line at the end of the event isn't behind the one before it.
-pub record KeepsLine {C O : Type 0} {cell : CellWords C} (taken : O → List ℤ) (failures : O → ℕ) (net : Network)
-    (old new : List (Station C O cell)) : Type 0 where
-  pub spelled : (lefts : List (Option (List ℕ))) → AreLeftSince old new lefts
+pub record KeepsLine {C O : Type 0} {cell : CellWords C} {slots : SlotWords C} (taken : O → List ℤ) (failures : O → ℕ) (net : Network)
+    (old new : List (Station C O slots cell)) : Type 0 where
+  pub spelled : (lefts : List Whole) → AreLeftSince old new lefts
       → ∥ ((records : List RecordView) × AllZip Spells records lefts) ∥₁
-  pub in_line : (lefts : List (Option (List ℕ))) (records : List RecordView) → AreLeftSince old new lefts
+  pub in_line : (lefts : List Whole) (records : List RecordView) → AreLeftSince old new lefts
       → AllZip Spells records lefts
       → AreInLine net (map (station_view taken failures) old) (map (station_view taken failures) new) records
   pub goes_on : NotBehind (records_seen (records_of (map (station_view taken failures) old)))
@@ -43,21 +45,21 @@ pub record KeepsLine {C O : Type 0} {cell : CellWords C} (taken : O → List ℤ
 
 -- One line alone is possible now: whatever a crash of all nodes leaves spells the records that the nodes keep, and no
 -- others.
-pub record HasOneLine {C O : Type 0} {cell : CellWords C} (taken : O → List ℤ) (failures : O → ℕ)
-    (stations : List (Station C O cell)) : Type 0 where
-  pub spelled : (lefts : List (Option (List ℕ))) → AllZip MayBeLeft stations lefts
+pub record HasOneLine {C O : Type 0} {cell : CellWords C} {slots : SlotWords C} (taken : O → List ℤ) (failures : O → ℕ)
+    (stations : List (Station C O slots cell)) : Type 0 where
+  pub spelled : (lefts : List Whole) → AllZip MayBeLeft stations lefts
       → ∥ AllZip Spells (records_of (map (station_view taken failures) stations)) lefts ∥₁
-  pub alone : (lefts : List (Option (List ℕ))) (records : List RecordView) → AllZip MayBeLeft stations lefts
+  pub alone : (lefts : List Whole) (records : List RecordView) → AllZip MayBeLeft stations lefts
       → AllZip Spells records lefts
       → records ≡ records_of (map (station_view taken failures) stations)
 
 -- ---- the same of one station
 
 -- whatever a crash at a moment of the event leaves is in line, and so is the record that is kept in the end
-pub record StaysInLine {C O : Type 0} {cell : CellWords C} (taken : O → List ℤ) (failures : O → ℕ) (net : Network)
-    (old new : Station C O cell) : Type 0 where
-  pub leaves : (left : Option (List ℕ))
-      → cell.left_since (cell_in new.node.store) (cell.moment (cell_in old.node.store)) left
+pub record StaysInLine {C O : Type 0} {cell : CellWords C} {slots : SlotWords C} (taken : O → List ℤ) (failures : O → ℕ) (net : Network)
+    (old new : Station C O slots cell) : Type 0 where
+  pub leaves : (left : Whole)
+      → slots.left_since_whole (cell_in new.node.store) (cell.moment (cell_in old.node.store)) left
       → LeavesInLine net (station_view taken failures old) (station_view taken failures new) left
   pub goes_on : IsBehind (station_view taken failures old).node.kept.permanent
       (station_view taken failures new).node.kept.permanent

@@ -4,6 +4,7 @@ use Rattle.kahn_net.specs.Syntax.{network_of}
 use Rattle.record.specs.RecordView.{RecordView}
 use Rattle.sector_disk.specs.declared.disk.ArmedFault.{ArmedFault}
 use Rattle.gate_cell.specs.declared.cell.StableCell.{Ghosts as CellWords}
+use Rattle.gate_cell.specs.declared.slot_cell.SlotCell.{Ghosts as SlotWords}
 use Rattle.ckpt_store.specs.Spelling.{fits_in}
 use Rattle.ckpt_store.specs.StoreView.{cell_in}
 use Rattle.node.specs.NodeOf.{view_of}
@@ -25,8 +26,8 @@ use Rattle.world.specs.declared.output.Output.{Output}
 use Rattle.world.specs.declared.station.Station.{Station}
 
 -- `taken` and `failures` are the outlets' words
-abbrev pub station_view : {C O : Type 0} {cell : CellWords C} → (O → List ℤ) → (O → ℕ) → Station C O cell → StationView
-station_view {C} {O} {cell} taken failures station = record {
+abbrev pub station_view : {C O : Type 0} {cell : CellWords C} {slots : SlotWords C} → (O → List ℤ) → (O → ℕ) → Station C O slots cell → StationView
+station_view {C} {O} {cell} {slots} taken failures station = record {
   number = station.node.number;
   node = view_of station.node;
   failures = cell.failure_count (cell_in station.node.store);
@@ -35,8 +36,8 @@ station_view {C} {O} {cell} taken failures station = record {
 }
 
 -- a world by its parts: shares of its network and of the inputs, its stations, what is in flight, and the round
-abbrev pub world_view : {C O : Type 0} {cell : CellWords C} → (O → List ℤ) → (O → ℕ) → Arc Net Global
-    → Arc Inputs Global → List (Station C O cell) → Traffic → ℕ → WorldView
+abbrev pub world_view : {C O : Type 0} {cell : CellWords C} {slots : SlotWords C} → (O → List ℤ) → (O → ℕ) → Arc Net Global
+    → Arc Inputs Global → List (Station C O slots cell) → Traffic → ℕ → WorldView
 world_view taken failures net inputs stations traffic round =
     record {
       net = network_of net.value.program;
@@ -48,43 +49,43 @@ world_view taken failures net inputs stations traffic round =
     }
 
 -- what each station's cell has room for
-abbrev pub rooms : {C O : Type 0} {cell : CellWords C} → List (Station C O cell) → List (RecordView → Bool)
-rooms {C} {O} {cell} stations =
-    map (λ (station : Station C O cell). fits_in (cell.capacity (cell_in station.node.store))) stations
+abbrev pub rooms : {C O : Type 0} {cell : CellWords C} {slots : SlotWords C} → List (Station C O slots cell) → List (RecordView → Bool)
+rooms {C} {O} {cell} {slots} stations =
+    map (λ (station : Station C O slots cell). fits_in (slots.slot_capacity (cell_in station.node.store))) stations
 
 -- the most bytes that each station's cell has room for
-abbrev pub capacities : {C O : Type 0} {cell : CellWords C} → List (Station C O cell) → List ℕ
-capacities {C} {O} {cell} stations =
-    map (λ (station : Station C O cell). cell.capacity (cell_in station.node.store)) stations
+abbrev pub capacities : {C O : Type 0} {cell : CellWords C} {slots : SlotWords C} → List (Station C O slots cell) → List ℕ
+capacities {C} {O} {cell} {slots} stations =
+    map (λ (station : Station C O slots cell). slots.slot_capacity (cell_in station.node.store)) stations
 
 -- a station's cell wasn't touched
-abbrev pub IsCellUnchanged : {C O : Type 0} {cell : CellWords C} → Station C O cell → Station C O cell → Type 0
+abbrev pub IsCellUnchanged : {C O : Type 0} {cell : CellWords C} {slots : SlotWords C} → Station C O slots cell → Station C O slots cell → Type 0
 IsCellUnchanged old new = cell_in new.node.store ≡ cell_in old.node.store
 
 -- what has left a station only grew, and is covered at each moment between
-abbrev pub IsGrown : {C O : Type 0} {cell : CellWords C} → (O → List ℤ) → Station C O cell → Station C O cell → Type 0
-IsGrown {C} {O} {cell} taken old new =
-    HasGrown cell.moment cell.left_since (cell_in old.node.store) (cell_in new.node.store)
+abbrev pub IsGrown : {C O : Type 0} {cell : CellWords C} {slots : SlotWords C} → (O → List ℤ) → Station C O slots cell → Station C O slots cell → Type 0
+IsGrown {C} {O} {cell} {slots} taken old new =
+    HasGrown cell.moment slots.left_since_whole (cell_in old.node.store) (cell_in new.node.store)
     (outputs_view taken old.outputs.items) (outputs_view taken new.outputs.items)
 
 -- a station has the outlets of these outputs
-abbrev pub HasOutlets : {C O : Type 0} {cell : CellWords C} → List (Output O) → Station C O cell → Type 0
+abbrev pub HasOutlets : {C O : Type 0} {cell : CellWords C} {slots : SlotWords C} → List (Output O) → Station C O slots cell → Type 0
 HasOutlets {C} {O} outputs station =
     map (λ (output : Output O). output.outlet) station.outputs.items
     ≡ map (λ (output : Output O). output.outlet) outputs
 
 -- The node of a station whose device failed in an event of this round may be recovered after as many rounds as were
 -- armed with the call that failed, by the first fault armed for it, and one round later where there was none.
-abbrev pub RestartsAsArmed : {C O : Type 0} {cell : CellWords C} → ℕ → Station C O cell → Station C O cell → Type 0
-RestartsAsArmed {cell = cell} round old new =
+abbrev pub RestartsAsArmed : {C O : Type 0} {cell : CellWords C} {slots : SlotWords C} → ℕ → Station C O slots cell → Station C O slots cell → Type 0
+RestartsAsArmed {cell = cell} {slots = slots} round old new =
     (view_of new.node).restart
     ≡ restart_after (view_of old.node).armed (cell.failed_call (cell_in new.node.store)) round
 
 -- the same of the station of this place
-abbrev pub RestartsAsArmedAt : {C O : Type 0} {cell : CellWords C} → ℕ → ℕ → List (Station C O cell)
-    → List (Station C O cell) → Type 0
-RestartsAsArmedAt {C} {O} {cell} round place olds news =
-    (old new : Station C O cell) → slice_get olds place ≡ Some old → slice_get news place ≡ Some new
+abbrev pub RestartsAsArmedAt : {C O : Type 0} {cell : CellWords C} {slots : SlotWords C} → ℕ → ℕ → List (Station C O slots cell)
+    → List (Station C O slots cell) → Type 0
+RestartsAsArmedAt {C} {O} {cell} {slots} round place olds news =
+    (old new : Station C O slots cell) → slice_get olds place ≡ Some old → slice_get news place ≡ Some new
     → RestartsAsArmed round old new
 
 -- the faults that are armed behind an event and its answer: an `Arm` that isn't refused puts its own behind them
@@ -94,15 +95,15 @@ armed_then event answer faults = faults
 
 -- What an event leaves of a station's device besides what it holds: no other fault is armed, nor one disarmed, and no
 -- device call that was counted is forgotten.
-abbrev pub LeavesDeviceBy : {C O : Type 0} {cell : CellWords C} → EventView → Option ReplyView → Station C O cell
-    → Station C O cell → Type 0
-LeavesDeviceBy {cell = cell} event answer old new =
+abbrev pub LeavesDeviceBy : {C O : Type 0} {cell : CellWords C} {slots : SlotWords C} → EventView → Option ReplyView → Station C O slots cell
+    → Station C O slots cell → Type 0
+LeavesDeviceBy {cell = cell} {slots = slots} event answer old new =
     (cell.armed (cell_in new.node.store) ≡ armed_then event answer (cell.armed (cell_in old.node.store)))
     × (cell.call_count (cell_in old.node.store) ≤ cell.call_count (cell_in new.node.store))
 
 -- the same of the station of this place
-abbrev pub LeavesDeviceAt : {C O : Type 0} {cell : CellWords C} → EventView → Option ReplyView → ℕ
-    → List (Station C O cell) → List (Station C O cell) → Type 0
-LeavesDeviceAt {C} {O} {cell} event answer place olds news =
-    (old new : Station C O cell) → slice_get olds place ≡ Some old → slice_get news place ≡ Some new
+abbrev pub LeavesDeviceAt : {C O : Type 0} {cell : CellWords C} {slots : SlotWords C} → EventView → Option ReplyView → ℕ
+    → List (Station C O slots cell) → List (Station C O slots cell) → Type 0
+LeavesDeviceAt {C} {O} {cell} {slots} event answer place olds news =
+    (old new : Station C O slots cell) → slice_get olds place ≡ Some old → slice_get news place ≡ Some new
     → LeavesDeviceBy event answer old new

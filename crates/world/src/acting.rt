@@ -23,14 +23,14 @@ ghost use Rattle.world.specs.WorldView.{station_view, IsCellUnchanged, LeavesDev
 use crate::event::{Event, Reply};
 use crate::network::{delay, due_packet, lose, note_delivery, repeat, spell_all};
 use crate::station::Station;
-use gate_cell::StableCell;
+use gate_cell::SlotCell;
 use net_check::{Inputs, Net};
 use outlet::Outlet;
 use std::alloc::{AllocError, Global};
 use std::sync::Arc;
 use wire::Wire;
 
-impl<C: StableCell, O: Outlet> Station<C, O> {
+impl<C: SlotCell, O: Outlet> Station<C, O> {
     // The packet at a place comes to the node, if there is one and it is due. It is then no longer in flight.
     fn deliver(
         &mut self,
@@ -48,7 +48,7 @@ impl<C: StableCell, O: Outlet> Station<C, O> {
         ensures refused { OnErr result
             (station_view O.taken O.failures self.new ≡ station_view O.taken O.failures self.old) }
         ensures step { IfOk result
-            (λ reply. IsPlanned (fits_in (C.capacity (cell_in self.old.node.store))) round
+            (λ reply. IsPlanned (fits_in (C.slot_capacity (cell_in self.old.node.store))) round
             (deliver_plan (network_of net.now.program) place
             (due_bytes round (slice_get (flights_to (traffic_of wire.old) to) place))
             (station_view O.taken O.failures self.old))
@@ -82,7 +82,7 @@ impl<C: StableCell, O: Outlet> Station<C, O> {
         ensures refused { OnErr result
             (station_view O.taken O.failures self.new ≡ station_view O.taken O.failures self.old) }
         ensures step { IfOk result
-            (λ reply. IsPlanned (fits_in (C.capacity (cell_in self.old.node.store))) round
+            (λ reply. IsPlanned (fits_in (C.slot_capacity (cell_in self.old.node.store))) round
             (send_plan (network_of net.now.program) round (station_view O.taken O.failures self.old))
             (station_view O.taken O.failures self.old) (reply_view reply)
             (station_view O.taken O.failures self.new)) }
@@ -114,7 +114,7 @@ impl<C: StableCell, O: Outlet> Station<C, O> {
         ensures outputs { outlet_views O.taken O.failures self.new.outputs.items
             ≡ outlet_views O.taken O.failures self.old.outputs.items }
         ensures same { self.new.node ≡ self.old.node }
-        ensures step { IsPlanned (fits_in (C.capacity (cell_in self.old.node.store))) round
+        ensures step { IsPlanned (fits_in (C.slot_capacity (cell_in self.old.node.store))) round
             (idle_plan round (station_view O.taken O.failures self.old))
             (station_view O.taken O.failures self.old) (reply_view result)
             (station_view O.taken O.failures self.new) }
@@ -140,7 +140,7 @@ impl<C: StableCell, O: Outlet> Station<C, O> {
             (station_view O.taken O.failures self.old) }
         requires named { (view_of self.old.node).kept.node ≡ self.old.node.number }
         requires node { event_node (event_view event.now) < NODES }
-        ensures moved { HasMoved C.moment C.left_since (cell_in self.old.node.store)
+        ensures moved { HasMoved C.moment C.left_since_whole (cell_in self.old.node.store)
             (cell_in self.new.node.store) (view_of self.old.node).kept
             (next_kept (setting_in (network_of net.now.value.program) inputs.now.value
             (traffic_of wire.old) restarts round) (event_view event.now)
@@ -153,7 +153,7 @@ impl<C: StableCell, O: Outlet> Station<C, O> {
         ensures step { IfOk result
             (λ reply. IsStationStep (setting_in (network_of net.now.value.program) inputs.now.value
             (traffic_of wire.old) restarts round)
-            (fits_in (C.capacity (cell_in self.old.node.store))) (event_view event.now)
+            (fits_in (C.slot_capacity (cell_in self.old.node.store))) (event_view event.now)
             (station_view O.taken O.failures self.old) (reply_view reply)
             (station_view O.taken O.failures self.new)) }
         ensures traffic { IfOk result
@@ -162,8 +162,8 @@ impl<C: StableCell, O: Outlet> Station<C, O> {
             (traffic_of wire.old) restarts round) (event_view event.now) (reply_view reply)
             (Some (station_view O.taken O.failures self.old))) }
         ensures same_traffic { OnErr result (traffic_of wire.new ≡ traffic_of wire.old) }
-        ensures same_room { C.capacity (cell_in self.new.node.store)
-            ≡ C.capacity (cell_in self.old.node.store) }
+        ensures same_room { C.slot_capacity (cell_in self.new.node.store)
+            ≡ C.slot_capacity (cell_in self.old.node.store) }
         ensures device { LeavesDeviceBy (event_view event.now) (answer_view result)
             self.old self.new }
         ensures unchanged { LeavesCells (event_view event.now) (answer_view result)

@@ -16,7 +16,7 @@ ghost use Rattle.world.specs.WorldView.{station_view, IsCellUnchanged, RestartsA
 
 use crate::event::Reply;
 use crate::station::Station;
-use gate_cell::StableCell;
+use gate_cell::SlotCell;
 use node::Outcome;
 use outlet::Outlet;
 use protocol::RoundTurns;
@@ -44,13 +44,13 @@ fn note(turns: &mut RoundTurns, noted: RoundTurns, outcome: Outcome)
     }
 }
 
-impl<C: StableCell, O: Outlet> Station<C, O> {
+impl<C: SlotCell, O: Outlet> Station<C, O> {
     /// Begins a checkpoint. That counts as the start of the round also where it is refused or the device fails.
     pub(crate) fn start(&mut self, alloc: Global, round: u64) -> Result<Reply, AllocError>
         requires { IsLikeNow (view_of self.old.node) }
         ensures outputs { outlet_views O.taken O.failures self.new.outputs.items
             ≡ outlet_views O.taken O.failures self.old.outputs.items }
-        ensures leaves { LeaveEitherSince C.moment C.left_since (cell_in self.old.node.store)
+        ensures leaves { LeaveEitherSince C.moment C.left_since_whole (cell_in self.old.node.store)
             (cell_in self.new.node.store) (view_of self.old.node).kept
             (next_record (start_prospect self.old.node.number (view_of self.old.node))
             (view_of self.old.node).kept) }
@@ -59,7 +59,7 @@ impl<C: StableCell, O: Outlet> Station<C, O> {
         ensures refused { OnErr result
             (station_view O.taken O.failures self.new ≡ station_view O.taken O.failures self.old) }
         ensures step { IfOk result
-            (λ reply. IsPlanned (fits_in (C.capacity (cell_in self.old.node.store))) round
+            (λ reply. IsPlanned (fits_in (C.slot_capacity (cell_in self.old.node.store))) round
             (start_plan round (station_view O.taken O.failures self.old))
             (station_view O.taken O.failures self.old) (reply_view reply)
             (station_view O.taken O.failures self.new)) }
@@ -78,7 +78,7 @@ impl<C: StableCell, O: Outlet> Station<C, O> {
     pub(crate) fn decide(&mut self, alloc: Global, round: u64) -> Result<Reply, AllocError>
         ensures outputs { outlet_views O.taken O.failures self.new.outputs.items
             ≡ outlet_views O.taken O.failures self.old.outputs.items }
-        ensures leaves { LeaveEitherSince C.moment C.left_since (cell_in self.old.node.store)
+        ensures leaves { LeaveEitherSince C.moment C.left_since_whole (cell_in self.old.node.store)
             (cell_in self.new.node.store) (view_of self.old.node).kept
             (next_record (decide_prospect self.old.node.number (view_of self.old.node))
             (view_of self.old.node).kept) }
@@ -87,7 +87,7 @@ impl<C: StableCell, O: Outlet> Station<C, O> {
         ensures refused { OnErr result
             (station_view O.taken O.failures self.new ≡ station_view O.taken O.failures self.old) }
         ensures step { IfOk result
-            (λ reply. IsPlanned (fits_in (C.capacity (cell_in self.old.node.store))) round
+            (λ reply. IsPlanned (fits_in (C.slot_capacity (cell_in self.old.node.store))) round
             (decide_plan (station_view O.taken O.failures self.old))
             (station_view O.taken O.failures self.old) (reply_view reply)
             (station_view O.taken O.failures self.new)) }

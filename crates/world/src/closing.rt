@@ -8,7 +8,7 @@ ghost use Rattle.world.specs.Closing.{all_outputs, disk_of, disks_of};
 use crate::output::Output;
 use crate::station::Station;
 use crate::world::World;
-use gate_cell::GateCell;
+use gate_cell::SplitCell;
 use outlet::Outlet;
 use sector_disk::Disk;
 use std::alloc::{AllocError, Global};
@@ -30,7 +30,7 @@ fn add_outputs<O: Outlet>(
 fn add_station<D: Disk, O: Outlet>(
     disks: &mut Vec<D>,
     outputs: &mut Vec<Output<O>>,
-    station: Station<GateCell<D>, O>,
+    station: Station<SplitCell<D>, O>,
 ) -> Result<(), AllocError>
     ensures disks { OnOk result (disks.new.items ≡ disks.old.items ++ disk_of station ∷ []) }
     ensures outputs { OnOk result
@@ -49,7 +49,7 @@ fn add_station<D: Disk, O: Outlet>(
 // The disks of these stations and their outputs, station by station, of which there are this many at most.
 fn parts_of<D: Disk, O: Outlet>(
     alloc: Global,
-    stations: Vec<Station<GateCell<D>, O>>,
+    stations: Vec<Station<SplitCell<D>, O>>,
     most: usize,
 ) -> Result<(Vec<D>, Vec<Output<O>>), AllocError>
     ensures disks { IfOk result (λ parts. parts.0.items ≡ disks_of stations.items) }
@@ -71,7 +71,7 @@ fn sort_outputs<O: Outlet>(outputs: &mut Vec<Output<O>>)
     outputs.sort_unstable_by_key(|output| output.channel);
 }
 
-impl<D: Disk, O: Outlet> World<GateCell<D>, O> {
+impl<D: Disk, O: Outlet> World<SplitCell<D>, O> {
     /// Ends the world: its disks, by node number, and its outputs with their outlets, by channel, as they stand. No device
     /// call is made. Refuses for want of memory alone (1), and then they are gone.
     pub fn close(self, alloc: Global) -> Result<(Vec<D>, Vec<Output<O>>), AllocError>

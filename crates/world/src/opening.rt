@@ -1,12 +1,13 @@
 // A world before its first event.
-ghost use Rattle.std.specs.Prelude.{◌≡◌, ◌+◌, ◌++◌, ◌<◌, ◌≤◌, ℕ, not, filter, length, map, IfErr, IfOk, IsSome, OnErr, OnOk, vec_capacity, vec_len};
+ghost use Rattle.std.specs.Prelude.{◌≡◌, ◌+◌, ◌++◌, ◌<◌, ◌≤◌, ◌↔◌, ℕ, IsTrue, None, not, filter, length, map, IfErr, IfOk, IsSome, OnErr, OnOk, vec_capacity, vec_len};
 ghost use Rattle.std.specs.List.{AllByRecursion};
 ghost use Rattle.kahn_net.specs.Nodes.{node_count};
 ghost use Rattle.kahn_net.specs.Fits.{Fits};
 ghost use Rattle.kahn_net.specs.Syntax.{network_of};
-ghost use Rattle.gate_cell.specs.GateCell.{capacity_of, failures_of};
-ghost use Rattle.gate_cell.specs.Layout.{room_on};
-ghost use Rattle.ckpt_codec.specs.Lengths.{spelled_length};
+ghost use Rattle.gate_cell.specs.SplitCell.{slot_capacity_of, failures_of};
+ghost use Rattle.gate_cell.specs.SplitLayout.{slot_room_on};
+ghost use Rattle.ckpt_codec.specs.HeaderText.{IsImageSpelled};
+ghost use Rattle.ckpt_codec.specs.Lengths.{image_length};
 ghost use Rattle.ckpt_codec.specs.RecordText.{IsRecord};
 ghost use Rattle.ckpt_codec.specs.SizeLaws.{IsRecordWithin};
 ghost use Rattle.ckpt_codec.specs.declared.lengths.TheConstants.{MAX_RETAINED_ITEMS};
@@ -27,15 +28,15 @@ ghost use Rattle.kahn_net.specs.declared.limits.TheConstants.{MAX_NODES};
 use crate::output::Output;
 use crate::station::Station;
 use crate::world::World;
-use ckpt_codec::write_record;
+use ckpt_codec::{spelled_image_length, write_header, write_image};
 use ckpt_store::{Store, StoreFault};
-use gate_cell::{GateCell, StableCell};
+use gate_cell::{LEAST_SPLIT_SECTORS, SlotCell, SplitCell, slot_room_of};
 use kahn_net::Port;
 use net_check::{Inputs, Net};
 use node::{Node, is_here, opening_record};
 use outlet::Outlet;
 use protocol::RoundTurns;
-use record::Record;
+use record::{Image, Record};
 use sector_disk::Disk;
 use std::alloc::Global;
 use std::sync::Arc;
@@ -73,34 +74,54 @@ pub struct OpeningRefused<D: Disk, O: Outlet> {
     pub fault: StoreFault,
 }
 
-// A store on a disk that is formatted with this record. The disk's calls are counted from here on.
+// Whether a disk has room for header and slots, and a slot for this image.
+fn has_room<D: Disk>(disk: &D, image: &Image) -> bool
+    requires { IsImageSpelled image.now }
+    ensures { IsTrue result ↔ HasRoom (D.sector_count disk.now) (image_length image.now) }
+{
+    let sectors = disk.sectors();
+    sectors >= LEAST_SPLIT_SECTORS && spelled_image_length(image) <= slot_room_of(sectors)
+}
+
+// A store on a disk that is formatted with this record: its header, and its permanent image in slot 0. The disk's calls are
+// counted from here on. Whether the image fits is found before anything is written.
 fn open_store<D: Disk>(
     alloc: Global,
     disk: D,
     kept: &Record,
-) -> Result<Store<GateCell<D>>, NotOpened<D>>
+) -> Result<Store<SplitCell<D>>, NotOpened<D>>
     requires written { IsRecord kept.now }
     requires bounded { IsRecordWithin MAX_RETAINED_ITEMS kept.now }
+    requires alone { kept.now.tentative ≡ None }
     ensures record { IfOk result (λ store. record_in store ≡ kept.now) }
     ensures known { IfOk result (λ store. IsSome (known_in store)) }
     ensures failures { IfOk result
         (λ store. failures_of (cell_in store) ≡ D.failure_count disk) }
     ensures holds { IfOk result (λ store. Holds store kept.now) }
     ensures room { IfOk result
-        (λ store. capacity_of (cell_in store) ≡ room_on (D.sector_count disk)) }
-    ensures fits { OnOk result (HasRoom (D.sector_count disk) (spelled_length kept.now)) }
+        (λ store. slot_capacity_of (cell_in store) ≡ slot_room_on (D.sector_count disk)) }
+    ensures fits { OnOk result (HasRoom (D.sector_count disk) (image_length kept.now.permanent)) }
     ensures refused { IfErr result (λ refused. IsOpeningRefusal (D.sector_count disk)
-        (spelled_length kept.now) refused.fault) }
+        (image_length kept.now.permanent) refused.fault) }
     ensures handed_back { IfErr result
         (λ refused. IsNotOpened D.sector_count D.failure_count disk refused.disk refused.fault) }
 {
-    let Ok(bytes) = write_record(alloc, kept) else {
+    if !has_room(&disk, &kept.permanent) {
+        return Err(NotOpened {
+            disk,
+            fault: StoreFault::TooLarge,
+        });
+    }
+    let (Ok(header), Ok(image)) = (
+        write_header(alloc, kept, 0),
+        write_image(alloc, &kept.permanent),
+    ) else {
         return Err(NotOpened {
             disk,
             fault: StoreFault::NoMemory,
         });
     };
-    let cell = match GateCell::format(alloc, disk, bytes.as_slice()) {
+    let mut cell = match SplitCell::format(alloc, disk, header.as_slice()) {
         Ok(cell) => cell,
         Err((fault, disk)) => {
             return Err(NotOpened {
@@ -109,6 +130,12 @@ fn open_store<D: Disk>(
             });
         }
     };
+    if let Err(fault) = cell.fill(0, image.as_slice()) {
+        return Err(NotOpened {
+            disk: cell.close(),
+            fault: StoreFault::from(fault),
+        });
+    }
     let mut store = match Store::open(alloc, cell) {
         Ok(store) => store,
         Err(refused) => {
@@ -129,13 +156,13 @@ fn open_node<D: Disk>(
     number: u8,
     nodes: usize,
     disk: D,
-) -> Result<Node<GateCell<D>>, NotOpened<D>>
+) -> Result<Node<SplitCell<D>>, NotOpened<D>>
     requires here { number < nodes }
     requires few { nodes ≤ MAX_NODES }
     ensures opened { IfOk result
         (IsOpenedNode (network_of net.now.program) nodes number disk) }
     ensures refused { IfErr result (λ refused. IsOpeningRefusal (D.sector_count disk)
-        (spelled_length (opening_record (network_of net.now.program) nodes number))
+        (image_length (opening_record (network_of net.now.program) nodes number).permanent)
         refused.fault) }
     ensures handed_back { IfErr result
         (λ refused. IsNotOpened D.sector_count D.failure_count disk refused.disk refused.fault) }
@@ -159,7 +186,7 @@ fn open_node<D: Disk>(
     }
 }
 
-impl<C: StableCell, O: Outlet> Station<C, O> {
+impl<C: SlotCell, O: Outlet> Station<C, O> {
     // The station of a node before its first event.
     fn new(node: Node<C>, outputs: Vec<Output<O>>) -> Station<C, O>
         ensures node { result.node ≡ node }
@@ -220,7 +247,7 @@ fn open_stations<D: Disk, O: Outlet>(
     nodes: usize,
     disks: &mut Vec<D>,
     outputs: &mut Vec<Output<O>>,
-    stations: &mut Vec<Station<GateCell<D>, O>>,
+    stations: &mut Vec<Station<SplitCell<D>, O>>,
 ) -> Result<(), StoreFault>
     requires nodes { nodes ≡ node_count (network_of net.now.program) }
     requires few { vec_len disks.old ≤ nodes }
@@ -277,7 +304,7 @@ fn open_stations<D: Disk, O: Outlet>(
     }
 }
 
-impl<D: Disk, O: Outlet> World<GateCell<D>, O> {
+impl<D: Disk, O: Outlet> World<SplitCell<D>, O> {
     /// The world of a network before its first event: no process has begun, no item was received or put, and the disks,
     /// one a node, are formatted with the opening records of their nodes. The outputs are those of the network, in order,
     /// and nothing has left by them; each goes to the node of its producer.
@@ -291,7 +318,7 @@ impl<D: Disk, O: Outlet> World<GateCell<D>, O> {
         inputs: Arc<Inputs>,
         disks: Vec<D>,
         outputs: Vec<Output<O>>,
-    ) -> Result<World<GateCell<D>, O>, OpeningRefused<D, O>>
+    ) -> Result<World<SplitCell<D>, O>, OpeningRefused<D, O>>
         requires fits { Fits (network_of net.value.program) inputs.value }
         requires each { length disks.items ≡ node_count (network_of net.value.program) }
         requires listed { map (λ output. output.channel) outputs.items
@@ -315,7 +342,7 @@ impl<D: Disk, O: Outlet> World<GateCell<D>, O> {
             (λ world. LeaveOnlyRecords (network_of net.value.program) 0 world.stations.items) }
         ensures room { IfOk result
             (λ world. capacities world.stations.items
-            ≡ map (λ disk. room_on (D.sector_count disk)) disks.items) }
+            ≡ map (λ disk. slot_room_on (D.sector_count disk)) disks.items) }
         // It is made only on disks with room for those records, and refused for no other reasons than those above.
         ensures fits { OnOk result (HaveRoom (network_of net.value.program) 0
             (map (λ disk. D.sector_count disk) disks.items)) }

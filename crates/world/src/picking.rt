@@ -21,7 +21,7 @@ use crate::network::{first_due, packet_at};
 use crate::nodes::may_restart;
 use crate::station::Station;
 use crate::world::World;
-use gate_cell::StableCell;
+use gate_cell::SlotCell;
 use net_check::{Inputs, Net};
 use node::{Mode, NodeState};
 use outlet::Outlet;
@@ -76,7 +76,7 @@ fn has_new(state: &NodeState, kept: &Record) -> bool
     }
 }
 
-impl<C: StableCell, O: Outlet> Station<C, O> {
+impl<C: SlotCell, O: Outlet> Station<C, O> {
     // Whether its node is down and may be recovered by now, where nodes may restart.
     fn may_recover(&self, restarts: bool, round: u64) -> bool
         ensures { result ≡ may_recover restarts round (station_view O.taken O.failures self.now) }
@@ -189,7 +189,7 @@ impl<C: StableCell, O: Outlet> Station<C, O> {
     }
 }
 
-impl<C: StableCell, O: Outlet> World<C, O> {
+impl<C: SlotCell, O: Outlet> World<C, O> {
     /// The event that is next for a node: a recovery, the delivery of the first packet that is due, a release, a grant (at most
     /// 64 a round), a decision, a start, a send, or else letting its turn pass. Takes no memory.
     pub fn pick(&self, node: u8) -> Event

@@ -14,7 +14,7 @@ ghost use Rattle.kahn_net.specs.declared.limits.TheConstants.{MAX_CHANNELS};
 use crate::output::Output;
 use crate::station::Station;
 use crate::world::World;
-use gate_cell::StableCell;
+use gate_cell::SlotCell;
 use kahn_net::{Channel, History, Port};
 use net_check::Net;
 use node::Mode;
@@ -32,7 +32,7 @@ fn count_of(inputs: &[History], channel: usize) -> usize
     }
 }
 
-impl<C: StableCell, O: Outlet> Station<C, O> {
+impl<C: SlotCell, O: Outlet> Station<C, O> {
     // How many items its node has put on a channel by now; none where it doesn't run.
     fn sent(&self, channel: u8) -> u64
         ensures { result ≡ sent_by channel (running_of (view_of self.now.node)) }
@@ -45,7 +45,7 @@ impl<C: StableCell, O: Outlet> Station<C, O> {
 }
 
 // How many items a process has put on a channel by now, as its own node says.
-fn put_on_by<C: StableCell, O: Outlet>(
+fn put_on_by<C: SlotCell, O: Outlet>(
     net: &Net,
     stations: &[Station<C, O>],
     channel: u8,
@@ -64,7 +64,7 @@ fn put_on_by<C: StableCell, O: Outlet>(
 }
 
 // Whether each item of a channel was received: of an input all that there are, of any other all that were put by now.
-fn has_got_all<C: StableCell, O: Outlet>(
+fn has_got_all<C: SlotCell, O: Outlet>(
     net: &Net,
     channels: &[Channel],
     inputs: &[History],
@@ -89,7 +89,7 @@ fn has_got_all<C: StableCell, O: Outlet>(
 }
 
 // Whether a process can do nothing more: it has finished, or it gets from a channel of which every item was received.
-fn is_at_rest<C: StableCell, O: Outlet>(
+fn is_at_rest<C: SlotCell, O: Outlet>(
     net: &Net,
     inputs: &[History],
     stations: &[Station<C, O>],
@@ -118,7 +118,7 @@ fn is_at_rest<C: StableCell, O: Outlet>(
 }
 
 // Whether no process can do anything more.
-fn are_at_rest<C: StableCell, O: Outlet>(
+fn are_at_rest<C: SlotCell, O: Outlet>(
     net: &Net,
     inputs: &[History],
     stations: &[Station<C, O>],
@@ -136,7 +136,7 @@ fn are_at_rest<C: StableCell, O: Outlet>(
 }
 
 // Whether no more was received of a channel between processes than was put there by now.
-fn has_been_put<C: StableCell, O: Outlet>(
+fn has_been_put<C: SlotCell, O: Outlet>(
     net: &Net,
     stations: &[Station<C, O>],
     image: &Image,
@@ -158,7 +158,7 @@ fn has_been_put<C: StableCell, O: Outlet>(
 }
 
 // The same of each channel of which the node has an end.
-fn have_been_put<C: StableCell, O: Outlet>(
+fn have_been_put<C: SlotCell, O: Outlet>(
     net: &Net,
     stations: &[Station<C, O>],
     image: &Image,
@@ -187,7 +187,7 @@ fn have_all_left<O: Outlet>(image: &Image, outputs: &[Output<O>]) -> bool
     true
 }
 
-impl<C: StableCell, O: Outlet> Station<C, O> {
+impl<C: SlotCell, O: Outlet> Station<C, O> {
     // Whether nothing is left to do here, beside these stations: the node runs, no job is out, no process can do more than
     // it did, nothing was received that wasn't put, and all that was put has left.
     fn is_complete(&self, net: &Net, inputs: &[History], stations: &[Station<C, O>]) -> bool
@@ -208,7 +208,7 @@ impl<C: StableCell, O: Outlet> Station<C, O> {
     }
 }
 
-impl<C: StableCell, O: Outlet> World<C, O> {
+impl<C: SlotCell, O: Outlet> World<C, O> {
     /// Whether nothing is left to do at a node; true of one that isn't of this world. Where it answers no, the world isn't complete.
     /// Takes no memory.
     pub fn is_quiet(&self, node: u8) -> bool

@@ -21,7 +21,7 @@ ghost use Rattle.world.specs.WorldView.{armed_then, station_view, IsCellUnchange
 use crate::checkpoints::answer_by;
 use crate::event::Reply;
 use crate::station::Station;
-use gate_cell::StableCell;
+use gate_cell::SlotCell;
 use node::{Mode, round_later};
 use outlet::Outlet;
 use sector_disk::ArmedFault;
@@ -48,18 +48,18 @@ fn back_reply(mode: &Mode) -> Reply
     }
 }
 
-impl<C: StableCell, O: Outlet> Station<C, O> {
+impl<C: SlotCell, O: Outlet> Station<C, O> {
     /// Its node crashes.
     pub(crate) fn crash(&mut self, round: u64, fill: u8, rounds: u64) -> Reply
         ensures outputs { outlet_views O.taken O.failures self.new.outputs.items
             ≡ outlet_views O.taken O.failures self.old.outputs.items }
-        ensures leaves { LeaveEitherSince C.moment C.left_since (cell_in self.old.node.store)
+        ensures leaves { LeaveEitherSince C.moment C.left_since_whole (cell_in self.old.node.store)
             (cell_in self.new.node.store) (view_of self.old.node).kept
             (view_of self.old.node).kept }
         ensures later { C.moment (cell_in self.old.node.store)
             ≤ C.moment (cell_in self.new.node.store) }
         ensures same_setup { LeavesDevice self.old.node.store self.new.node.store }
-        ensures step { IsPlanned (fits_in (C.capacity (cell_in self.old.node.store))) round
+        ensures step { IsPlanned (fits_in (C.slot_capacity (cell_in self.old.node.store))) round
             (crash_plan true (round_later round rounds) (station_view O.taken O.failures self.old))
             (station_view O.taken O.failures self.old) (reply_view result)
             (station_view O.taken O.failures self.new) }
@@ -73,7 +73,7 @@ impl<C: StableCell, O: Outlet> Station<C, O> {
     pub(crate) fn recover(&mut self, alloc: Global, round: u64) -> Result<Reply, AllocError>
         ensures outputs { outlet_views O.taken O.failures self.new.outputs.items
             ≡ outlet_views O.taken O.failures self.old.outputs.items }
-        ensures leaves { LeaveEitherSince C.moment C.left_since (cell_in self.old.node.store)
+        ensures leaves { LeaveEitherSince C.moment C.left_since_whole (cell_in self.old.node.store)
             (cell_in self.new.node.store) (view_of self.old.node).kept
             (next_record (recover_prospect (view_of self.old.node)) (view_of self.old.node).kept) }
         ensures later { C.moment (cell_in self.old.node.store)
@@ -82,7 +82,7 @@ impl<C: StableCell, O: Outlet> Station<C, O> {
         ensures refused { OnErr result
             (station_view O.taken O.failures self.new ≡ station_view O.taken O.failures self.old) }
         ensures step { IfOk result
-            (λ reply. IsPlanned (fits_in (C.capacity (cell_in self.old.node.store))) round
+            (λ reply. IsPlanned (fits_in (C.slot_capacity (cell_in self.old.node.store))) round
             (recover_plan true (station_view O.taken O.failures self.old))
             (station_view O.taken O.failures self.old) (reply_view reply)
             (station_view O.taken O.failures self.new)) }
@@ -109,13 +109,13 @@ impl<C: StableCell, O: Outlet> Station<C, O> {
     ) -> Result<Reply, AllocError>
         ensures outputs { outlet_views O.taken O.failures self.new.outputs.items
             ≡ outlet_views O.taken O.failures self.old.outputs.items }
-        ensures leaves { LeaveEitherSince C.moment C.left_since (cell_in self.old.node.store)
+        ensures leaves { LeaveEitherSince C.moment C.left_since_whole (cell_in self.old.node.store)
             (cell_in self.new.node.store) (view_of self.old.node).kept
             (view_of self.old.node).kept }
         ensures later { C.moment (cell_in self.old.node.store)
             ≤ C.moment (cell_in self.new.node.store) }
-        ensures same_room { C.capacity (cell_in self.new.node.store)
-            ≡ C.capacity (cell_in self.old.node.store) }
+        ensures same_room { C.slot_capacity (cell_in self.new.node.store)
+            ≡ C.slot_capacity (cell_in self.old.node.store) }
         ensures armed { C.armed (cell_in self.new.node.store)
             ≡ armed_then (ByNode 0 (event.Arm fault rounds)) (answer_view result)
             (C.armed (cell_in self.old.node.store)) }
@@ -124,7 +124,7 @@ impl<C: StableCell, O: Outlet> Station<C, O> {
         ensures refused { OnErr result
             (station_view O.taken O.failures self.new ≡ station_view O.taken O.failures self.old) }
         ensures step { IfOk result
-            (λ reply. IsPlanned (fits_in (C.capacity (cell_in self.old.node.store))) round
+            (λ reply. IsPlanned (fits_in (C.slot_capacity (cell_in self.old.node.store))) round
             (arm_plan fault.call rounds (station_view O.taken O.failures self.old))
             (station_view O.taken O.failures self.old) (reply_view reply)
             (station_view O.taken O.failures self.new)) }

@@ -8,7 +8,7 @@ ghost use Rattle.world.specs.WholeView.{world_of};
 
 use crate::output::Output;
 use crate::world::World;
-use gate_cell::StableCell;
+use gate_cell::SlotCell;
 use outlet::Outlet;
 
 // The items that have left by the output of this channel, where it is one of these.
@@ -26,7 +26,7 @@ fn released_by<O: Outlet>(outputs: &[Output<O>], channel: u8) -> Option<&[i64]>
     None
 }
 
-impl<C: StableCell, O: Outlet> World<C, O> {
+impl<C: SlotCell, O: Outlet> World<C, O> {
     /// The items that have left by the output of this channel, in order; none where the channel is no output.
     pub fn released(&self, channel: u8) -> &[i64]
         ensures stream { result.now ≡ released_of channel (world_of self.now).stations }

@@ -13,7 +13,7 @@ ghost use Rattle.world.specs.WorldView.{station_view};
 use crate::event::{Freed, Reply};
 use crate::output::Output;
 use crate::station::Station;
-use gate_cell::StableCell;
+use gate_cell::SlotCell;
 use net_check::{Inputs, Net};
 use node::Node;
 use outlet::{Outlet, OutletFault};
@@ -60,7 +60,7 @@ pub(crate) fn next_output<O: Outlet>(
 
 // Lets the next item of an output leave, which some approximation has. The shares for the answer come first, since they
 // may be refused.
-fn release_at<C: StableCell, O: Outlet>(
+fn release_at<C: SlotCell, O: Outlet>(
     net: &Arc<Net>,
     inputs: &Arc<Inputs>,
     node: &mut Node<C>,
@@ -101,7 +101,7 @@ fn release_at<C: StableCell, O: Outlet>(
     }
 }
 
-impl<C: StableCell, O: Outlet> Station<C, O> {
+impl<C: SlotCell, O: Outlet> Station<C, O> {
     /// The place of the output by which the next item would leave, if the node runs.
     pub(crate) fn next_release(&self, round: u64) -> Option<usize>
         ensures within { IfSome result (λ j. j < length self.now.outputs.items) }

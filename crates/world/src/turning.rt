@@ -17,7 +17,7 @@ ghost use Rattle.world.specs.WorldView.{station_view};
 
 use crate::event::Reply;
 use crate::station::Station;
-use gate_cell::StableCell;
+use gate_cell::SlotCell;
 use net_check::{Inputs, Net};
 use outlet::Outlet;
 use proc_step::{Done, Job};
@@ -39,7 +39,7 @@ fn note_grant(turns: &mut RoundTurns, granted: Option<Job>, round: u64) -> Reply
     }
 }
 
-impl<C: StableCell, O: Outlet> Station<C, O> {
+impl<C: SlotCell, O: Outlet> Station<C, O> {
     /// Grants a job.
     pub(crate) fn grant(
         &mut self,
@@ -54,7 +54,7 @@ impl<C: StableCell, O: Outlet> Station<C, O> {
         ensures refused { OnErr result
             (station_view O.taken O.failures self.new ≡ station_view O.taken O.failures self.old) }
         ensures step { IfOk result
-            (λ reply. IsPlanned (fits_in (C.capacity (cell_in self.old.node.store))) round
+            (λ reply. IsPlanned (fits_in (C.slot_capacity (cell_in self.old.node.store))) round
             (grant_plan (node_job (network_of net.now.value.program) inputs.now
             (view_of self.old.node)) round (station_view O.taken O.failures self.old))
             (station_view O.taken O.failures self.old) (reply_view reply)

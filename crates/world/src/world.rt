@@ -22,7 +22,7 @@ ghost use Rattle.world.specs.WorldView.{capacities, rooms, station_view, world_v
 use crate::event::{Event, Refused, Reply};
 use crate::nodes::may_restart;
 use crate::station::Station;
-use gate_cell::StableCell;
+use gate_cell::SlotCell;
 use net_check::{Inputs, Net};
 use node::next_after;
 use outlet::Outlet;
@@ -36,7 +36,7 @@ use wire::Wire;
 /// on one approximation of the network's histories, that what its outlets took is a beginning of what the processes put
 /// there, and that its permanent image covers all of that.
 #[derive(Drop)]
-pub struct World<C: StableCell, O: Outlet> {
+pub struct World<C: SlotCell, O: Outlet> {
     pub net: Arc<Net>,
     pub inputs: Arc<Inputs>,
     pub stations: Vec<Station<C, O>>,
@@ -47,7 +47,7 @@ pub struct World<C: StableCell, O: Outlet> {
 }
 
 // An event at the station of this number, where there is one.
-fn act_at<C: StableCell, O: Outlet>(
+fn act_at<C: SlotCell, O: Outlet>(
     alloc: Global,
     net: &Arc<Net>,
     inputs: &Arc<Inputs>,
@@ -102,7 +102,7 @@ fn act_at<C: StableCell, O: Outlet>(
     stations[number].act(alloc, net, inputs, wire, restarts, round, event)
 }
 
-impl<C: StableCell, O: Outlet> Station<C, O> {
+impl<C: SlotCell, O: Outlet> Station<C, O> {
     // Whether the round need not wait for this node: it has idled, or it is down and not to be recovered yet, or not at
     // all.
     fn is_done_with(&self, restarts: bool, round: u64) -> bool
@@ -114,7 +114,7 @@ impl<C: StableCell, O: Outlet> Station<C, O> {
     }
 }
 
-fn are_done_with<C: StableCell, O: Outlet>(
+fn are_done_with<C: SlotCell, O: Outlet>(
     stations: &[Station<C, O>],
     restarts: bool,
     round: u64,
@@ -131,7 +131,7 @@ fn are_done_with<C: StableCell, O: Outlet>(
 }
 
 // The round after this answer.
-fn round_after<C: StableCell, O: Outlet>(
+fn round_after<C: SlotCell, O: Outlet>(
     reply: &Reply,
     round: u64,
     stations: &[Station<C, O>],
@@ -147,7 +147,7 @@ fn round_after<C: StableCell, O: Outlet>(
     }
 }
 
-impl<C: StableCell, O: Outlet> World<C, O> {
+impl<C: SlotCell, O: Outlet> World<C, O> {
     ghost use Rattle.world.specs.WholeView.{world_of, HaveGrown};
 
     /// The round, from 0.

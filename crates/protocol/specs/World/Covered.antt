@@ -1,5 +1,6 @@
 -- What a crash may leave covers what has left the system.
-use Rattle.std.specs.Prelude.{◌≡◌, ◌⊎◌, ℕ, ◌≤◌, List, length, Option, Some, slice_get}
+use Rattle.std.specs.Prelude.{◌≡◌, ◌⊎◌, ℕ, ◌≤◌, List, length, Some, slice_get}
+use Rattle.gate_cell.specs.Whole.{Whole}
 use Rattle.record.specs.ImageView.{ImageView}
 use Rattle.record.specs.RecordView.{RecordView}
 use Rattle.record.specs.Ends.{sent_of}
@@ -7,26 +8,26 @@ use Rattle.ckpt_store.specs.Spelling.{Spells, SpellsSome}
 use Rattle.protocol.specs.World.OutputView.{OutputView}
 
 -- a crash leaves a record, and its permanent image has put each item that left by this output
-pub record IsCovered (left : Option (List ℕ)) (output : OutputView) : Type 0 where
+pub record IsCovered (left : Whole) (output : OutputView) : Type 0 where
   pub something : SpellsSome left
   pub covers : (kept : RecordView) → Spells kept left → length output.taken ≤ sent_of kept.permanent output.channel
 
-abbrev pub AreCovered : Option (List ℕ) → List OutputView → Type 0
+abbrev pub AreCovered : Whole → List OutputView → Type 0
 AreCovered left outputs = (j : ℕ) (output : OutputView) → slice_get outputs j ≡ Some output → IsCovered left output
 
 -- whatever a crash at any moment since `old` leaves
-abbrev pub AreCoveredSince : {C : Type 0} → (C → ℕ) → (C → ℕ → Option (List ℕ) → Type 0) → C → C → List OutputView
+abbrev pub AreCoveredSince : {C : Type 0} → (C → ℕ) → (C → ℕ → Whole → Type 0) → C → C → List OutputView
     → Type 0
 AreCoveredSince moment left_since old new outputs =
-    (left : Option (List ℕ)) → left_since new (moment old) left → AreCovered left outputs
+    (left : Whole) → left_since new (moment old) left → AreCovered left outputs
 
 -- a crash leaves a record whose permanent image has put at least as many items on each channel as this one
-pub record LeavesAsMuch (image : ImageView) (left : Option (List ℕ)) : Type 0 where
+pub record LeavesAsMuch (image : ImageView) (left : Whole) : Type 0 where
   pub something : SpellsSome left
   pub as_much : (kept : RecordView) → Spells kept left → (channel : ℕ)
       → sent_of image channel ≤ sent_of kept.permanent channel
 
 -- a crash leaves a record, and it is one of these two
-pub record LeavesEither (kept next : RecordView) (left : Option (List ℕ)) : Type 0 where
+pub record LeavesEither (kept next : RecordView) (left : Whole) : Type 0 where
   pub something : SpellsSome left
   pub one_of : (spelled : RecordView) → Spells spelled left → (spelled ≡ kept) ⊎ (spelled ≡ next)

@@ -2,6 +2,7 @@
 -- the abstract machine (the crate `recovery_line`); here stands how a world is seen there, and what it is for a line to
 -- be in order.
 use Rattle.std.specs.Prelude.{◌≡◌, ℕ, ◌≤◌, List, [], map, length, Option, Some, None, slice_get}
+use Rattle.gate_cell.specs.Whole.{Whole}
 use Rattle.kahn_net.specs.Nodes.{IsOnOneNode}
 use Rattle.kahn_net.specs.Syntax.{Network}
 use Rattle.record.specs.Ends.{base_of, received_of, sent_of}
@@ -101,7 +102,7 @@ pub record FitsOutputs (net : Network) (home : ℕ) (outputs : List OutputView) 
 
 -- A crash leaves a record of a station with an event: it fits what had left before and what has left by the end, and
 -- its permanent image isn't behind the one of before.
-pub record LeavesInLine (net : Network) (old new : StationView) (left : Option (List ℕ)) : Type 0 where
+pub record LeavesInLine (net : Network) (old new : StationView) (left : Whole) : Type 0 where
   pub something : SpellsSome left
   pub at_first : (kept : RecordView) → Spells kept left
       → FitsOutputs net old.node.kept.node (outputs_of old.outlets) kept

@@ -3,6 +3,7 @@ use Rattle.std.proofs.Common.{◌≡◌, ◌≢◌, ◌⊎◌, inl, inr, ℕ, ze
 use Rattle.std.proofs.Common.{None, refl, sym, ap, subst, ◌∙◌, arith}
 use Rattle.std.specs.Prelude.{slice_get, slice_set}
 use Rattle.std.proofs.lemmas.List.{map-set}
+use Rattle.gate_cell.specs.Whole.{Whole}
 use Rattle.kahn_net.specs.Streams.{IsPrefix}
 use Rattle.kahn_net.specs.Laws.Prefixes.{prefix_refl}
 use Rattle.record.specs.Ends.{sent_of}
@@ -107,7 +108,7 @@ step_begins setting room (ByNetwork k place act) old answer new step =
 -- What a crash leaves covers what has left
 
 -- one of two records has put at least as much, where the next one isn't behind
-either_as_much : (kept next : RecordView) (left : Option (List ℕ)) → IsBehind kept.permanent next.permanent
+either_as_much : (kept next : RecordView) (left : Whole) → IsBehind kept.permanent next.permanent
     → LeavesEither kept next left → LeavesAsMuch kept.permanent left
 either_as_much kept next left ahead leaves =
     record {
@@ -122,10 +123,10 @@ either_as_much kept next left ahead leaves =
     at spelled channel (inr same) = let more = ahead.sent channel in
         omega (arith, more, ap (λ (r : RecordView). sent_of r.permanent channel) same)
 
-module _ {C : Type 0} (moment : C → ℕ) (left_since : C → ℕ → Option (List ℕ) → Type 0)
-    (may_leave : C → Option (List ℕ) → Type 0)
-    (only_now : (cell : C) (left : Option (List ℕ)) → left_since cell (moment cell) left → may_leave cell left) where
-  covered_by : (permanent : ImageView) (outputs : List OutputView) (left : Option (List ℕ))
+module _ {C : Type 0} (moment : C → ℕ) (left_since : C → ℕ → Whole → Type 0)
+    (may_leave : C → Whole → Type 0)
+    (only_now : (cell : C) (left : Whole) → left_since cell (moment cell) left → may_leave cell left) where
+  covered_by : (permanent : ImageView) (outputs : List OutputView) (left : Whole)
       → CoversAll permanent outputs → LeavesAsMuch permanent left → AreCovered left outputs
   covered_by permanent outputs left sound leaves = λ j output h.
       let few = sound j output h in
@@ -137,7 +138,7 @@ module _ {C : Type 0} (moment : C → ℕ) (left_since : C → ℕ → Option (L
 
   module _ (kept next : RecordView) (new : ImageView) (before after : List OutletView) (cell cell' : C)
       (was : CoversAll kept.permanent (outputs_of before)) (is : CoversAll new (outputs_of after))
-      (durable : (left : Option (List ℕ)) → may_leave cell' left → LeavesAsMuch new left)
+      (durable : (left : Whole) → may_leave cell' left → LeavesAsMuch new left)
       (ahead : IsBehind kept.permanent next.permanent)
       (moved : HasMoved moment left_since cell cell' kept next before after) where
     covered_then : AreCoveredSince moment left_since cell cell' (outputs_of after)
@@ -145,7 +146,7 @@ module _ {C : Type 0} (moment : C → ℕ) (left_since : C → ℕ → Option (L
       where
         at : (cell ≡ cell')
             ⊎ ((before ≡ after)
-            × ((other : Option (List ℕ)) → left_since cell' (moment cell) other → LeavesEither kept next other))
+            × ((other : Whole) → left_since cell' (moment cell) other → LeavesEither kept next other))
             → AreCovered left (outputs_of after)
         at (inl same) =
             covered_by new (outputs_of after) left is
@@ -168,7 +169,7 @@ module _ {C : Type 0} (moment : C → ℕ) (left_since : C → ℕ → Option (L
   -- a station that nobody touched
   pub still_grown : (kept : RecordView) (outlets : List OutletView) (cell : C)
       → CoversAll kept.permanent (outputs_of outlets)
-      → ((left : Option (List ℕ)) → may_leave cell left → LeavesAsMuch kept.permanent left)
+      → ((left : Whole) → may_leave cell left → LeavesAsMuch kept.permanent left)
       → HasGrown moment left_since cell cell (outputs_of outlets) (outputs_of outlets)
   still_grown kept outlets cell sound durable =
       has_grown kept kept kept.permanent outlets outlets cell cell sound sound durable (behind_itself kept.permanent)

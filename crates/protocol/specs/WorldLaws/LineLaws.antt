@@ -5,6 +5,7 @@ use Rattle.std.specs.Prelude.{slice_get, IsTrue}
 use Rattle.std.specs.List.{AllZip}
 use Rattle.std.proofs.lemmas.Bool.{eq-eqb}
 use Rattle.std.proofs.lemmas.Option.{slice_get_cases, slice_get_within}
+use Rattle.gate_cell.specs.Whole.{Whole}
 use Rattle.kahn_net.specs.Nodes.{IsOnOneNode, node_count}
 use Rattle.kahn_net.specs.Valid.{IsValid}
 use Rattle.kahn_net.specs.Syntax.{Code, Network}
@@ -110,7 +111,7 @@ module _ (net : Network) (inputs : List (List ℤ)) where
               (omega (arith, received, base, low), omega (arith, received, sent, high))
 
   -- where the record of before is left, and kept by the end
-  pub same_in_line : (old new : StationView) (left : Option (List ℕ)) → StationInvariant net inputs old
+  pub same_in_line : (old new : StationView) (left : Whole) → StationInvariant net inputs old
       → StationInvariant net inputs new → new.node.kept ≡ old.node.kept → LeavesEither old.node.kept old.node.kept left
       → LeavesInLine net old new left
   same_in_line old new left inv later stays leaves = record {
@@ -133,7 +134,7 @@ module _ (net : Network) (inputs : List (List ℤ)) where
 
 module _ (setting : Setting) (sure : IsSoundSetting setting) where
   -- where nothing left, and a record is left that is the one of before or the next one
-  pub either_in_line : (e : EventView) (old new : StationView) (left : Option (List ℕ)) → IsSoundStation setting old
+  pub either_in_line : (e : EventView) (old new : StationView) (left : Whole) → IsSoundStation setting old
       → outputs_of old.outlets ≡ outputs_of new.outlets → new.node.kept.node ≡ old.node.kept.node
       → LeavesEither old.node.kept (next_kept setting e old) left → LeavesInLine setting.net old new left
   either_in_line e old new left sound same node leaves = record {

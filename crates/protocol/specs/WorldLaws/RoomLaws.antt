@@ -1,16 +1,18 @@
--- No event of a node is refused as too large, where its cell has room for the longest record.
+-- No event of a node is refused as too large, where the slots of its cell have room for the longest record.
 use Rattle.std.proofs.Common.{◌≡◌, ⊎_elim, ℕ, zero, suc, ◌≤◌, Bool, true, false, cond, ℤ, List, [], ◌∷◌, length, map}
 use Rattle.std.proofs.Common.{Option, Some, None, option_map, refl, sym, ap, subst, ◌∙◌, arith}
-use Rattle.std.specs.Prelude.{nat_le, slice_get, is_some}
-use Rattle.std.proofs.lemmas.Bool.{le-leb, and_from}
+use Rattle.std.specs.Prelude.{slice_get, is_some}
+use Rattle.std.proofs.lemmas.Bool.{le-leb}
 use Rattle.kahn_net.specs.Syntax.{Network}
 use Rattle.record.specs.RecordView.{RecordView}
-use Rattle.ckpt_codec.specs.Lengths.{record_length, spelled_length}
+use Rattle.record.specs.declared.record.Tentative.{Tentative}
+use Rattle.ckpt_codec.specs.Lengths.{image_length, record_length, spelled_length, tentative_length}
 use Rattle.ckpt_codec.specs.SizeLaws.{IsRecordWithin, record_fits}
 use Rattle.ckpt_codec.specs.declared.lengths.TheConstants.{MAX_RECORD_BYTES, MAX_RETAINED_ITEMS}
 use Rattle.ckpt_codec.specs.declared.version.TheConstants.{VERSION}
 use Rattle.ckpt_codec.proofs.Sizes.{length-record}
-use Rattle.ckpt_store.specs.Spelling.{fits_in}
+use Rattle.ckpt_store.specs.Spelling.{fits_in, held_fits}
+use Rattle.ckpt_store.proofs.Room.{fits_so}
 use Rattle.protocol.specs.Node.Plans.{Prospect, Undue, Exhausted, Planned, IsPut, room_for}
 use Rattle.protocol.specs.declared.outcome.Outcome.TheVariants as outcome
 use Rattle.protocol.specs.declared.outcome.Refusal.TheVariants.{TooLarge}
@@ -39,14 +41,20 @@ bounded_is_short kept within =
     let long : spelled_length kept ≡ record_length kept = spelled_is_long kept in
     omega (arith, few, long)
 
--- a record within its bounds fits a cell with room for the longest one
+-- each image of a record within its bounds is shorter than the record
+held_bounded : (capacity : ℕ) (t : Option Tentative) → tentative_length t ≤ capacity → held_fits capacity t ≡ true
+held_bounded capacity None few = refl
+held_bounded capacity (Some t) few = le-leb (image_length t.image) capacity (omega (arith, few))
+
+-- a record within its bounds fits a cell whose slots have room for the longest one
 bounded_fits : (capacity : ℕ) (kept : RecordView) → MAX_RECORD_BYTES ≤ capacity
     → IsRecordWithin MAX_RETAINED_ITEMS kept → fits_in capacity kept ≡ true
 bounded_fits capacity kept room within =
     let short : spelled_length kept ≤ MAX_RECORD_BYTES = bounded_is_short kept within in
-    let there : spelled_length kept ≤ capacity = omega (arith, short, room) in
-    and_from (nat_le (spelled_length kept) MAX_RECORD_BYTES) (nat_le (spelled_length kept) capacity)
-    (le-leb (spelled_length kept) MAX_RECORD_BYTES short) (le-leb (spelled_length kept) capacity there)
+    let long : spelled_length kept ≡ record_length kept = spelled_is_long kept in
+    fits_so capacity kept short
+    (le-leb (image_length kept.permanent) capacity (omega (arith, short, long, room)))
+    (held_bounded capacity kept.tentative (omega (arith, short, long, room)))
 
 -- ---- answers
 

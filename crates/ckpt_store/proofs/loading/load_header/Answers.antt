@@ -1,4 +1,4 @@
-use Rattle.std.proofs.Common.{◌≡◌, inr, Some, Ok, Err, sym, subst, ap, ◌∙◌}
+use Rattle.std.proofs.Common.{inr, Some, Ok, Err, sym, subst, ap, ◌∙◌}
 use Rattle.gate_cell.specs.Whole.{Looks}
 use Rattle.ckpt_codec.specs.HeaderView.{HeaderView}
 use Rattle.ckpt_codec.specs.HeaderText.{IsHeaderText}

@@ -1,11 +1,15 @@
-use Rattle.std.proofs.Common.{sym, subst}
-use Rattle.ckpt_codec.specs.RecordText.{IsRecord}
+use Rattle.std.proofs.Common.{sym, subst, ap, ◌∙◌}
+use Rattle.record.specs.RecordView.{RecordView}
+use Rattle.ckpt_codec.specs.HeaderText.{IsImageSpelled}
 use Rattle.ckpt_store.proofs.Puts.{permanent_spelled, held_spelled}
 use Rattle.ckpt_store.proofs.putting.last_fits.Goals as goal
 
 pub spelled_image_length-requires : goal.spelled_image_length-requires
-spelled_image_length-requires c = permanent_spelled c.kept.inside (subst IsRecord (sym c.kept.view_is) c.requires)
+spelled_image_length-requires c =
+    subst (λ (r : RecordView). IsImageSpelled r.permanent) (sym c.kept.view_is)
+    (permanent_spelled c.args.kept.now c.requires)
 
 pub spelled_image_length-requires-in-Some : goal.spelled_image_length-requires-in-Some
 spelled_image_length-requires-in-Some c =
-    held_spelled c.kept.inside (subst IsRecord (sym c.kept.view_is) c.requires) _ c.in-Some.is
+    held_spelled c.args.kept.now c.requires _
+    (ap (λ (r : RecordView). r.tentative) (sym c.kept.view_is) ∙ c.in-Some.is)

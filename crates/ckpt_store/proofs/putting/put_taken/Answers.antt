@@ -1,5 +1,4 @@
-use Rattle.std.proofs.Common.{◌≡◌, Option, Some, Result, refl, sym, subst}
-use Rattle.record.specs.RecordView.{RecordView}
+use Rattle.std.proofs.Common.{Option, Some, Result, refl, sym, subst}
 use Rattle.ckpt_store.specs.declared.known.Known.{Known}
 use Rattle.ckpt_store.specs.declared.fault.StoreFault.{StoreFault}
 use Rattle.ckpt_store.specs.Refusals.{no_refusal}

@@ -2,8 +2,8 @@ use Rattle.std.proofs.Common.{rules, ◌≡◌, ◌++◌, vec_len, ◌≤◌, le
 use Rattle.kahn_net.specs.Nodes.{node_count}
 use Rattle.kahn_net.specs.Syntax.{network_of}
 use Rattle.kahn_net.specs.declared.limits.TheConstants.{MAX_NODES}
-use Rattle.gate_cell.specs.GateCell.{disk_in}
-use Rattle.gate_cell.specs.Layout.{room_on}
+use Rattle.gate_cell.specs.SplitCell.{disk_in}
+use Rattle.gate_cell.specs.SplitLayout.{slot_room_on}
 use Rattle.protocol.specs.World.Sound.{is_output}
 use Rattle.protocol.specs.NodeLaws.PlaceLaws.{nodes_few}
 use Rattle.world.proofs.OpenedStations.{none_opened, last_back, before_back, world_refused, last_refused}
@@ -106,7 +106,7 @@ returns-in-Err-open_stations-clause-handed_back g t c =
     c.args.disks.now.items c.push_reserved-in-Err-open_stations.new.self.items c.in-Some.disk
     c.close-in-Err-open_stations.result c.in-Err-open_stations.fault c.in-Some.ensures.items
     c.push_reserved-in-Err-open_stations.ensures.items c.in-Err-open_stations.ensures.handed_back
-    (ap (λ disk. room_on (g.D.Disk.sector_count disk))
+    (ap (λ disk. slot_room_on (g.D.Disk.sector_count disk))
     (c.close-in-Err-open_stations.ensures ∙ ap disk_in c.close.ensures)
     ∙ c.in-Ok.ensures.opened.room)
     (ap g.D.Disk.failure_count (c.close-in-Err-open_stations.ensures ∙ ap disk_in c.close.ensures)

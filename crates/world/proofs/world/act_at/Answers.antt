@@ -42,12 +42,12 @@ act-requires g c =
 
 pub returns-then-number-len-clause-grown : goal.returns-then-number-len-clause-grown
 returns-then-number-len-clause-grown g c =
-    all_still {cell = g.C.StableCell} g.O.Outlet.taken g.O.Outlet.failures g.met.C.StableCell.only_now
+    all_still {cell = g.C.StableCell} g.O.Outlet.taken g.O.Outlet.failures g.met.C.SlotCell.only_now
     (network_of c.args.net.now.value.program) c.args.inputs.now.value c.args.stations.now.items c.requires.sound
 
 pub returns-then-number-len-clause-line : goal.returns-then-number-len-clause-line
 returns-then-number-len-clause-line g c =
-    all_still_in_line {cell = g.C.StableCell} g.O.Outlet.taken g.O.Outlet.failures g.met.C.StableCell.only_now
+    all_still_in_line {cell = g.C.StableCell} g.O.Outlet.taken g.O.Outlet.failures g.met.C.SlotCell.only_now
     (network_of c.args.net.now.value.program) c.args.inputs.now.value c.args.stations.now.items c.requires.sound
 
 pub returns-then-number-len-clause-unchanged : goal.returns-then-number-len-clause-unchanged
@@ -58,7 +58,7 @@ returns-clause-grown g c =
     let net = c.args.net.now.value in
     let x = c.index_mut.result.now in
     let view = station_view {cell = g.C.StableCell} g.O.Outlet.taken g.O.Outlet.failures in
-    all_grown {cell = g.C.StableCell} g.O.Outlet.taken g.O.Outlet.failures g.met.C.StableCell.only_now
+    all_grown {cell = g.C.StableCell} g.O.Outlet.taken g.O.Outlet.failures g.met.C.SlotCell.only_now
     (setting_in (network_of net.program) c.args.inputs.now.value (traffic_of c.args.wire.now)
     c.may_restart-restarts.result c.args.round)
     (record { valid = net.valid; fits = c.requires.fits; traffic = c.requires.flying })
@@ -76,7 +76,7 @@ returns-clause-line g c =
     let net = c.args.net.now.value in
     let x = c.index_mut.result.now in
     let view = station_view {cell = g.C.StableCell} g.O.Outlet.taken g.O.Outlet.failures in
-    all_in_line {cell = g.C.StableCell} g.O.Outlet.taken g.O.Outlet.failures g.met.C.StableCell.only_now
+    all_in_line {cell = g.C.StableCell} g.O.Outlet.taken g.O.Outlet.failures g.met.C.SlotCell.only_now
     (setting_in (network_of net.program) c.args.inputs.now.value (traffic_of c.args.wire.now)
     c.may_restart-restarts.result c.args.round)
     (record { valid = net.valid; fits = c.requires.fits; traffic = c.requires.flying })

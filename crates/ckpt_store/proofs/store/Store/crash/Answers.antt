@@ -1,4 +1,4 @@
-use Rattle.std.proofs.Common.{◌≡◌, Option, Some, sym, subst}
+use Rattle.std.proofs.Common.{◌≡◌, sym, subst}
 use Rattle.std.specs.Prelude.{IsTrue}
 use Rattle.gate_cell.specs.Whole.{Whole, Crashes}
 use Rattle.ckpt_store.specs.Spelling.{Spells}

@@ -13,13 +13,13 @@ use Rattle.world.proofs.station.Station.decide.Goals as goal
 pub returns-in_err-outcome-clause-leaves : goal.returns-in_err-outcome-clause-leaves
 returns-in_err-outcome-clause-leaves g c =
     let was = c.args.self.now in
-    through g.C.StableCell was.node.store c.decide.new.self.store was.node.kept.settled
+    through g.C.StableCell g.C.SlotCell was.node.store c.decide.new.self.store was.node.kept.settled
     _ c.decide.ensures.event.any_moment
 
 pub returns-clause-leaves : goal.returns-clause-leaves
 returns-clause-leaves g c =
     let was = c.args.self.now in
-    through g.C.StableCell was.node.store c.decide.new.self.store was.node.kept.settled
+    through g.C.StableCell g.C.SlotCell was.node.store c.decide.new.self.store was.node.kept.settled
     _ c.decide.ensures.event.any_moment
 
 pub returns-clause-step : goal.returns-clause-step
@@ -28,7 +28,7 @@ returns-clause-step g c =
     let cell = g.C.StableCell in
     let seen = station_view g.O.Outlet.taken g.O.Outlet.failures was in
     let event = c.in_ok-outcome.ensures.event in
-    planned (fits_in (cell.capacity (cell_in was.node.store))) c.args.round (decide_plan seen) seen
+    planned (fits_in (slots.slot_capacity (cell_in was.node.store))) c.args.round (decide_plan seen) seen
     _ (cell.failed_call (cell_in c.decide.new.self.store)) c.in_ok-outcome.outcome _ Decided refl (λ made. refl)
     c.answer_by.ensures (decide_sends was.node.number (view_of was.node)) event.step event.put
     (seen_moved seen _ _ _ _ _ c.decide.ensures.same_number (turns_kept was.turns c.in_ok-outcome.outcome))

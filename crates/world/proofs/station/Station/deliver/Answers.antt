@@ -18,7 +18,7 @@ returns-clause-step g c =
     let seen = station_view g.O.Outlet.taken g.O.Outlet.failures was in
     let node = view_of c.deliver.new.self in
     let came = c.in_ok-outcome.ensures in
-    delivers (fits_in (cell.capacity (cell_in was.node.store))) c.args.round (network_of c.args.net.now.program)
+    delivers (fits_in (slots.slot_capacity (cell_in was.node.store))) c.args.round (network_of c.args.net.now.program)
     c.args.place c.in-Some.bytes.now seen _ (reply_view c.note_delivery.result) _ c.in-Some.ensures.bytes
     (record {
       answers = c.note_delivery.ensures.reply ∙ ap delivery_reply came.answer;

@@ -14,7 +14,7 @@ returns-clause-step g c =
     let was = c.args.self.now in
     let cell = g.C.StableCell in
     let granted = c.in_ok-granted in
-    grants (fits_in (cell.capacity (cell_in was.node.store))) c.args.round
+    grants (fits_in (slots.slot_capacity (cell_in was.node.store))) c.args.round
     (node_job (network_of c.args.net.now.value.program) c.args.inputs.now (view_of was.node)) granted.granted
     (station_view g.O.Outlet.taken g.O.Outlet.failures was) _ _ _ _ _ granted.ensures.job c.note_grant.ensures.reply
     granted.ensures.state c.grant.ensures.same.1

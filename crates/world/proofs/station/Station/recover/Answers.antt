@@ -16,13 +16,13 @@ use Rattle.world.proofs.station.Station.recover.Goals as goal
 pub returns-in-Err-clause-leaves : goal.returns-in-Err-clause-leaves
 returns-in-Err-clause-leaves g c =
     let was = c.args.self.now in
-    through g.C.StableCell was.node.store c.recover.new.self.store was.node.kept.settled
+    through g.C.StableCell g.C.SlotCell was.node.store c.recover.new.self.store was.node.kept.settled
     _ c.recover.ensures.event.any_moment
 
 pub returns-in-Ok-clause-leaves : goal.returns-in-Ok-clause-leaves
 returns-in-Ok-clause-leaves g c =
     let was = c.args.self.now in
-    through g.C.StableCell was.node.store c.recover.new.self.store was.node.kept.settled
+    through g.C.StableCell g.C.SlotCell was.node.store c.recover.new.self.store was.node.kept.settled
     _ c.recover.ensures.event.any_moment
 
 pub returns-in-Ok-clause-step : goal.returns-in-Ok-clause-step
@@ -34,7 +34,7 @@ returns-in-Ok-clause-step g c =
     let came = c.in-Ok.outcome in
     let event = c.in-Ok.ensures.event in
     let mode = mode_view c.recover.new.self.state.mode in
-    planned (fits_in (cell.capacity (cell_in was.node.store))) c.args.round (recover_plan true seen) seen _ call came
+    planned (fits_in (slots.slot_capacity (cell_in was.node.store))) c.args.round (recover_plan true seen) seen _ call came
     _ (back_reply mode) (back_made mode)
     (λ made. ap back_reply
     (back_mode (restart_after (view_of was.node).armed call c.args.round) (view_of was.node)

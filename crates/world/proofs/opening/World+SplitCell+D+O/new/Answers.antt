@@ -5,7 +5,7 @@ use Rattle.wire.specs.Traffic.{traffic_of}
 use Rattle.world.specs.OpeningWorld.{fresh}
 use Rattle.world.proofs.OpenedStations.{opened_all, opened_sound, opened_world, opened_outlets, opened_left}
 use Rattle.world.proofs.OpenedStations.{opened_rooms, opened_fits, world_refused, none_opened}
-use Rattle.world.proofs.opening.World+GateCell+D+O.new.Goals as goal
+use Rattle.world.proofs.opening.World+SplitCell+D+O.new.Goals as goal
 
 pub invariant_of-result : goal.invariant_of-result
 invariant_of-result g c = record {

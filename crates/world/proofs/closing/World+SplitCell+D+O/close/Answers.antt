@@ -2,7 +2,7 @@ use Rattle.std.proofs.Common.{refl, subst}
 use Rattle.std.specs.Prelude.{IsPermutation}
 use Rattle.world.specs.WholeView.{world_of}
 use Rattle.world.proofs.Closed.{closed_listed}
-use Rattle.world.proofs.closing.World+GateCell+D+O.close.Goals as goal
+use Rattle.world.proofs.closing.World+SplitCell+D+O.close.Goals as goal
 
 -- what was collected is all outputs, and sorting only moves them
 pub returns-clause-outputs : goal.returns-clause-outputs
