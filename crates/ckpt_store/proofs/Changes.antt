@@ -11,9 +11,8 @@ use Rattle.ckpt_store.specs.declared.fault.StoreFault.TheVariants.{NoMemory, Dev
 use Rattle.ckpt_store.specs.declared.fault.StoreFault.TheVariants.{Version, Malformed, HoldsOther, PastNumber, NotHeld}
 use Rattle.ckpt_store.specs.declared.fault.StoreFault.TheVariants.{Unsettled, Spent}
 use Rattle.ckpt_store.specs.Refusals.{first_refusal, is_held, no_refusal, refusal_to_decide, ComesFirst}
-use Rattle.ckpt_store.specs.Spelling.{Spells, SpellsAny, fits_in, fits_next, IsLengthTold, IsKept, kept_in, known_as}
+use Rattle.ckpt_store.specs.Spelling.{SpellsAny, fits_next, IsLengthTold, IsKept, kept_in, known_as}
 use Rattle.ckpt_store.specs.Putting.{IsChange}
-use Rattle.ckpt_store.specs.StoreFault.{IsOfPut}
 use Rattle.ckpt_store.specs.declared.known.Known.{Known}
 use Rattle.record.specs.Moves.{decided_by}
 use Rattle.record.specs.declared.record.TheConstants.{MAX_DECISIONS}
@@ -80,29 +79,6 @@ module _ {C : Type 0} (words : CellWords C) (slots : SlotWords C) (cause : Recor
     any_moment =
         no_call words.moment slots.left_since_whole one
         (λ left. slots.may_leave_whole one left ⊎ (SpellsAny known left ⊎ SpellsAny (option_map next known) left))
-        (λ left now. inl (only_now left now));
-    same_setup = setup_stays words.capacity words.armed words.call_count one;
-    same_slot_room = refl;
-  }
-
-  -- a refusal of memory or of the length before a put, where the record itself gives no cause for one
-  pub change_not_tried : (one : C) (kept : RecordView) (fault : StoreFault)
-      → ((left : Whole) → slots.left_since_whole one (words.moment one) left → slots.may_leave_whole one left)
-      → IsOfPut fault → ¬ (fault ≡ Device) → cause kept ≡ None
-      → IsLengthTold {T = Unit {0}} (fits_in (slots.slot_capacity one) (next kept)) (Err fault)
-      → IsChange words slots cause next one one (Some kept) (Some kept) {T = Unit {0}} (Err fault)
-  change_not_tried one kept fault only_now is not_device none told = record {
-    changed = tt;
-    refusals = subst (λ o. ComesFirst {T = Unit {0}} o (Err fault)) (sym none) is;
-    fits = told;
-    failures = record { device = λ e. absurd (not_device (same_err e)); otherwise = λ other. refl };
-    same_record = λ other. refl;
-    same_cell = λ other. refl;
-    unknown = λ e. absurd (not_device (same_err e));
-    one_of_both = λ e. absurd (not_device (same_err e));
-    any_moment =
-        no_call words.moment slots.left_since_whole one
-        (λ left. slots.may_leave_whole one left ⊎ (Spells kept left ⊎ Spells (next kept) left))
         (λ left now. inl (only_now left now));
     same_setup = setup_stays words.capacity words.armed words.call_count one;
     same_slot_room = refl;

@@ -48,12 +48,6 @@ same_fault e = cc
 
 module _ {X : Type 0} (Is : X → List ℕ → Type 0) (Wrong : List ℕ → CodecFault → Type 0) (found : Option (List ℕ))
     (bytes : List ℕ) (there : found ≡ Some bytes) where
-  abbrev There : X → Type 0
-  There x = (b : List ℕ) × (found ≡ Some b) × Is x b
-
-  abbrev WrongThere : StoreFault → Type 0
-  WrongThere fault = (b : List ℕ) × (found ≡ Some b) × IsTextFault (Wrong b) fault
-
   same_bytes : (b : List ℕ) → found ≡ Some b → b ≡ bytes
   same_bytes b is = same_Some b bytes (sym is ∙ there)
 
@@ -109,16 +103,6 @@ module _ {X : Type 0} (Is : X → List ℕ → Type 0) (Wrong : List ℕ → Cod
         (λ is. inl (ap of_codec is ∙ same)) other) (each one wrong)) fault
         (subst (λ b. IsTextFault (Wrong b) fault) (same_bytes at.0 at.1) at.2);
   }
-
--- a refusal that tells nothing of what is held
-pub cell_refused : {X : Type 0} (Is : X → Type 0) (Wrong : StoreFault → Type 0) (fault : StoreFault) → IsOfCell fault
-    → IsRead {X = X} Is Wrong (Err fault)
-cell_refused Is Wrong fault is = record {
-  found = tt;
-  only = λ x at. is;
-  cause = inl is;
-  each = λ other at. inr is;
-}
 
 -- ---- one part, and then another
 
@@ -268,22 +252,6 @@ module _ {C : Type 0} (words : CellWords C) (slots : SlotWords C) where
     any_moment = looks.any_moment;
   }
 
-  -- without a call
-  pub look_none : {X : Type 0} (one : C) (x : X) → IsTrue (words.is_ready one)
-      → LeavesSetup words.capacity words.armed words.call_count one one
-      → LeavesOnly words.moment slots.left_since_whole one one (slots.may_leave_whole one)
-      → IsLook words slots one one (Ok x)
-  look_none one x ready setup run = record {
-    reopen = (λ e. absurd cc, λ not_ready. absurd (false≢true (sym not_ready ∙ ready)));
-    failures = record { device = λ e. absurd cc; otherwise = λ other. refl };
-    unchanged = λ e. refl;
-    stays_ready = λ other. refl;
-    same_whole = refl;
-    same_setup = setup;
-    same_slot_room = refl;
-    any_moment = run;
-  }
-
   -- it was ready where it gave something
   pub ready_before : {X : Type 0} (old new : C) (x : X) → IsLook words slots old new (Ok x)
       → IsTrue (words.is_ready old)
@@ -394,10 +362,6 @@ read_is_record w h permanent held first second header image other =
     (joined_is_apart h permanent held header.0 image.0 s.0 header.2 image.2 s.1)
 
 -- and what is held is read so
-image_in : Option Tentative → Option ImageView
-image_in None = None
-image_in (Some t) = Some t.image
-
 held_read : (permanent : ImageView) (t : Option Tentative) (found : Option (List ℕ)) (bytes : List ℕ)
     → HoldsFor t found bytes → IsTentativeText permanent t bytes
     → (held : Option ImageView) × IsHeldOf permanent (instance_of t) found held × (tentative_with (instance_of t) held ≡ t)
@@ -724,9 +688,6 @@ module _ {C : Type 0} (words : CellWords C) (slots : SlotWords C)
       module _ (new : C) (held : Option ImageView) (third : IsLook words slots last new (Ok held))
           (beside : IsRead (IsHeldOf permanent h.tentative (slot_in (1 - h.slot) (slots.whole last)))
           (IsHeldWrong permanent h.tentative (slot_in (1 - h.slot) (slots.whole last))) (Ok held)) where
-        abbrev whole_record : RecordView
-        whole_record = record_with h permanent held
-
         behind_held : (result : Result RecordView StoreFault) → ¬ (IsErrOf result Device) → ¬ (IsErrOf result Reopen)
             → IsRead (IsShort (record_with h permanent held)) (IsLong (record_with h permanent held)) result
             → IsLoad words slots old new result

@@ -11,7 +11,7 @@ use Rattle.sector_disk.proofs.Moments.{joined, weakened}
 use Rattle.gate_cell.specs.declared.TheConstants.{MIN_HEADER_BYTES}
 use Rattle.gate_cell.specs.declared.cell.StableCell.{Ghosts as CellWords}
 use Rattle.gate_cell.specs.declared.slot_cell.SlotCell.{Ghosts as SlotWords}
-use Rattle.gate_cell.specs.Setup.{LeavesSetup, setup_then, setup_stays}
+use Rattle.gate_cell.specs.Setup.{LeavesSetup, setup_then}
 use Rattle.gate_cell.specs.Whole.{Whole, with_header, LeftByFill, OnlyPuts}
 use Rattle.gate_cell.specs.declared.fault.CellFault.{CellFault}
 use Rattle.gate_cell.specs.declared.fault.CellFault.TheVariants as cell
@@ -32,10 +32,10 @@ use Rattle.ckpt_store.specs.declared.fault.StoreFault.{StoreFault}
 use Rattle.ckpt_store.specs.declared.fault.StoreFault.TheVariants.{NoMemory, Device, TooLarge, Reopen, Truncated}
 use Rattle.ckpt_store.specs.declared.fault.StoreFault.TheVariants.{Version, Malformed, HoldsOther, PastNumber, NotHeld}
 use Rattle.ckpt_store.specs.declared.fault.StoreFault.TheVariants.{Unsettled, Spent}
-use Rattle.ckpt_store.specs.StoreFault.{of_cell, is_failure, IsOfPut}
+use Rattle.ckpt_store.specs.StoreFault.{of_cell, is_failure}
 use Rattle.ckpt_store.specs.Refusals.{no_refusal}
 use Rattle.ckpt_store.specs.Spelling.{SpellsAt, Spells, SpellsSome, fits_in, held_fits, images_fit, is_short}
-use Rattle.ckpt_store.specs.Spelling.{IsLengthTold, IsKept, kept_in, known_as}
+use Rattle.ckpt_store.specs.Spelling.{IsKept, kept_in, known_as}
 use Rattle.ckpt_store.specs.Putting.{IsPut, IsHeldWritten, known_after, IsChange}
 use Rattle.ckpt_store.proofs.Parts.{parts_of}
 use Rattle.ckpt_store.proofs.Spelled.{still_spelled, AllowedBeside}
@@ -122,26 +122,6 @@ module _ {C : Type 0} (words : CellWords C) (slots : SlotWords C) (kept next : R
   still one only spelled only_now =
       no_call words.moment slots.left_since_whole one One
       (λ left now. inl (subst (Spells kept) (sym (only left (only_now left now))) spelled))
-
-  -- a refusal before the first call
-  pub put_not_tried : (one : C) (fault : StoreFault) → IsOfPut fault → ¬ (fault ≡ Device)
-      → IsLengthTold {T = Unit {0}} (fits_in (slots.slot_capacity one) next) (Err fault)
-      → LeavesOnly words.moment slots.left_since_whole one one (λ left. Spells kept left ⊎ Spells next left)
-      → IsPut words slots kept next slot one one {T = Unit {0}} (Err fault)
-  put_not_tried one fault of_put not_device told run = record {
-    ready = tt;
-    spelled = tt;
-    refusals = of_put;
-    fits = told;
-    failures = record { device = λ e. absurd (not_device (same_fault e)); otherwise = λ other. refl };
-    unchanged = λ other. refl;
-    any_moment = run;
-    same_setup = setup_stays words.capacity words.armed words.call_count one;
-    same_slot_room = refl;
-  }
-    where
-      same_fault : {a b : StoreFault} → ◌≡◌ {A = Result (Unit {0}) StoreFault} (Err a) (Err b) → a ≡ b
-      same_fault e = cc
 
   -- the fill was refused
   pub fill_refused : (old new : C) (bytes : List ℕ) (fault : CellFault) → IsTrue (words.is_ready old)
@@ -275,9 +255,6 @@ device_or_not Spent = inr (refl, λ e. cc)
 
 same_err : {a b : StoreFault} → ◌≡◌ {A = Result (Unit {0}) StoreFault} (Err a) (Err b) → a ≡ b
 same_err e = cc
-
-known_failed : (before next : Known) → known_after {T = Unit {0}} (Err Device) before next ≡ None
-known_failed before next = refl
 
 known_refused : (fault : StoreFault) (before next : Known) → is_failure fault ≡ false
     → known_after {T = Unit {0}} (Err fault) before next ≡ Some before

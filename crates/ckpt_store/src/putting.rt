@@ -1,11 +1,9 @@
 // One put of a record.
 ghost use Rattle.std.specs.Prelude.{◌≡◌, ◌≤◌, nat_le, ◌&&◌, IsTrue, IfOk, Some, None, Option};
 ghost use Rattle.std.specs.Option.{ForSome};
-ghost use Rattle.record.specs.ImageView.{ImageView};
 ghost use Rattle.record.specs.RecordView.{RecordView};
 ghost use Rattle.record.specs.declared.record.Tentative.{Tentative as HeldView};
-ghost use Rattle.ckpt_codec.specs.Fields.{AreAllowed};
-ghost use Rattle.ckpt_codec.specs.RecordText.{IsRecord, image_fields};
+ghost use Rattle.ckpt_codec.specs.RecordText.{IsRecord};
 ghost use Rattle.ckpt_codec.specs.HeaderText.{IsImageSpelled};
 ghost use Rattle.ckpt_codec.specs.Lengths.{image_length};
 ghost use Rattle.record.specs.Moves.{last_image, with_permanent};
