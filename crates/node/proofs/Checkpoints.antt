@@ -1,5 +1,5 @@
 -- From a put that a store did, or refused, to what came of the event.
-use Rattle.std.proofs.Common.{◌≡◌, ◌⊎◌, inl, inr, ⊎_elim, ℕ, ◌<◌, ◌≤◌, Bool, true, false, List, length, Option, Some}
+use Rattle.std.proofs.Common.{◌≡◌, ◌⊎◌, inl, inr, ⊎_elim, ℕ, ◌<◌, ◌≤◌, Bool, true, false, length, Option, Some}
 use Rattle.std.proofs.Common.{None, Result, Ok, Err, refl, sym, ◌∙◌, ap, subst}
 use Rattle.std.specs.Prelude.{IsTrue, IsErrOf, OnOk, OnErr, IfOk, IfErr, IsSome}
 use Rattle.sector_disk.specs.Clock.{Only}
@@ -22,7 +22,7 @@ use Rattle.node.specs.StoredView.{HasRecord, LeavesDevice, LeavesNext, IsCrashed
 use Rattle.node.specs.declared.state.NodeState.{NodeState}
 use Rattle.protocol.specs.declared.outcome.Outcome.{Outcome}
 use Rattle.node.specs.Putting.{IsPutEvent}
-use Rattle.node.proofs.Records.{settled_ready, one_of_both, then_crashed, change_fits, change_refusals, change_moments}
+use Rattle.node.proofs.Records.{device_then, settled_ready, one_of_both, then_crashed, change_fits, change_refusals, change_moments}
 use Rattle.node.proofs.Records.{change_done, change_refused}
 
 -- What an event that puts this record comes to.

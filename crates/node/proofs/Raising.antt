@@ -1,5 +1,5 @@
 -- A store that is reopened and put into its next epoch.
-use Rattle.std.proofs.Common.{◌≡◌, ℕ, ◌<◌, ◌≤◌, Bool, true, false, List, Option, Some, None, Result, Ok, Err, refl, sym}
+use Rattle.std.proofs.Common.{◌≡◌, ℕ, ◌<◌, ◌≤◌, Bool, true, false, Option, Some, None, Result, Ok, Err, refl, sym}
 use Rattle.std.proofs.Common.{inl, ◌∙◌, ap, subst, arith}
 use Rattle.std.specs.Prelude.{IsTrue, IsErrOf, OnOk, OnErr, IfOk, IfErr, IsSome, nat_lt, cond}
 use Rattle.std.proofs.lemmas.Bool.{ltb-true}
@@ -110,7 +110,7 @@ module _ {C : Type 0} (words : CellWords C) (slots : SlotWords C)
         any_moment =
             subst (λ (r : RecordView). LeavesNext (with_epoch r) old new) same
             (looked_then words slots includes_now may_stay ready_settled (with_epoch (record_in mid)) old mid new
-            load.any_moment raised.any_moment);
+            same load.any_moment raised.any_moment);
         nothing_put =
             on_err result raised.nothing_put
             (λ quiet other. looked_on words slots includes_now may_stay ready_settled old mid new load.any_moment

@@ -1,5 +1,5 @@
 -- From what a store's calls say to the record that a node has.
-use Rattle.std.proofs.Common.{◌≡◌, ◌⊎◌, inl, inr, ⊎_elim, ℕ, ◌≤◌, List, Option, Some, None, Result, Ok, Err, refl, sym}
+use Rattle.std.proofs.Common.{◌≡◌, ◌⊎◌, inl, inr, ⊎_elim, ℕ, ◌≤◌, Option, Some, None, Result, Ok, Err, refl, sym}
 use Rattle.std.proofs.Common.{◌∙◌, ap, subst}
 use Rattle.std.specs.Prelude.{IsTrue, IsErrOf, OnOk, OnErr, IfErr, IsSome, option_map}
 use Rattle.std.specs.Option.{ForSome}
@@ -16,9 +16,9 @@ use Rattle.ckpt_store.specs.StoreView.{cell_in, known_in, record_in, record_spel
 use Rattle.ckpt_store.specs.declared.store.Store.{Store}
 use Rattle.ckpt_store.specs.declared.fault.StoreFault.{StoreFault}
 use Rattle.ckpt_store.specs.declared.fault.StoreFault.TheVariants as fault
-use Rattle.ckpt_store.proofs.Seen.{spelled_is, known_is}
+use Rattle.ckpt_store.proofs.Seen.{spelled_is, known_is, ready_known}
 use Rattle.gate_cell.specs.Setup.{setup_then}
-use Rattle.node.specs.StoredView.{LeavesNext, LeavesAsBefore, LeavesDevice}
+use Rattle.node.specs.StoredView.{LeavesNext, MayLeaveNext, LeavesAsBefore, LeavesDevice}
 
 module _ {C : Type 0} (words : CellWords C) (slots : SlotWords C) where
   -- a record that is known is the one that is shown
@@ -52,7 +52,8 @@ module _ {C : Type 0} (words : CellWords C) (slots : SlotWords C) where
     -- a ready store leaves its record alone
     pub settled_ready : (store : Store C slots words) → IsSome (known_in store)
         → Only (slots.whole (cell_in store)) (slots.may_leave_whole (cell_in store))
-    settled_ready store some = ready_settled (cell_in store) (store.kept.ready some)
+    settled_ready store some = 
+        ready_settled (cell_in store) (ready_known words slots store (record_in store) (some_known store some))
 
     -- whatever a crash left meanwhile, the record is the old one or the next
     pub one_of_both : (next : RecordView) (old new : Store C slots words)
@@ -60,7 +61,8 @@ module _ {C : Type 0} (words : CellWords C) (slots : SlotWords C) where
         → (record_in new ≡ record_in old) ⊎ (record_in new ≡ next)
     one_of_both next old new only run =
         ⊎_elim (λ was. inl (ap record_spelled (only (slots.whole (cell_in new)) was)))
-        (λ is. inr (spelled_is next (slots.whole (cell_in new)) is))
+        (λ one. ⊎_elim (λ is. inl (spelled_is (record_in old) (slots.whole (cell_in new)) is))
+        (λ is. inr (spelled_is next (slots.whole (cell_in new)) is)) one)
         (run.each (slots.whole (cell_in new))
         (includes_now (cell_in new) (words.moment (cell_in old)) (slots.whole (cell_in new)) run.later
         (may_stay (cell_in new))))
@@ -70,7 +72,7 @@ module _ {C : Type 0} (words : CellWords C) (slots : SlotWords C) where
         → LeavesAsBefore mid new → LeavesNext next old new
     then_crashed next old mid new run crash =
         joined words.moment slots.left_since_whole (cell_in old) (cell_in mid) (cell_in new)
-        (λ left. slots.may_leave_whole (cell_in old) left ⊎ Spells next left) (slots.may_leave_whole (cell_in mid)) run crash
+        (MayLeaveNext next old) (slots.may_leave_whole (cell_in mid)) run crash
         (λ left might. run.each left (includes_now (cell_in mid) (words.moment (cell_in old)) left run.later might))
 
     -- after a look at what the cell holds
@@ -84,7 +86,7 @@ module _ {C : Type 0} (words : CellWords C) (slots : SlotWords C) where
     pub looked : (next : RecordView) (old mid : Store C slots words) → LeavesAsBefore old mid → LeavesNext next old mid
     looked next old mid look =
         weakened words.moment slots.left_since_whole (cell_in old) (cell_in mid)
-        (λ left. slots.may_leave_whole (cell_in old) left ⊎ Spells next left) (slots.may_leave_whole (cell_in old)) look
+        (MayLeaveNext next old) (slots.may_leave_whole (cell_in old)) look
         (λ left was. inl was)
 
     pub looked_on : (old mid new : Store C slots words) → LeavesAsBefore old mid → LeavesAsBefore mid new
@@ -94,16 +96,14 @@ module _ {C : Type 0} (words : CellWords C) (slots : SlotWords C) where
         (slots.may_leave_whole (cell_in mid)) look run
         (λ left might. look.each left (includes_now (cell_in mid) (words.moment (cell_in old)) left look.later might))
 
-    pub looked_then : (next : RecordView) (old mid new : Store C slots words) → LeavesAsBefore old mid
-        → LeavesNext next mid new → LeavesNext next old new
-    looked_then next old mid new look run =
+    pub looked_then : (next : RecordView) (old mid new : Store C slots words) → record_in mid ≡ record_in old
+        → LeavesAsBefore old mid → LeavesNext next mid new → LeavesNext next old new
+    looked_then next old mid new same look run =
         joined words.moment slots.left_since_whole (cell_in old) (cell_in mid) (cell_in new)
-        (λ left. slots.may_leave_whole (cell_in old) left ⊎ Spells next left)
-        (λ left. slots.may_leave_whole (cell_in mid) left ⊎ Spells next left)
-        (looked next old mid look) run
+        (MayLeaveNext next old) (MayLeaveNext next mid) (looked next old mid look) run
         (λ left. ⊎_elim
         (λ was. inl (look.each left (includes_now (cell_in mid) (words.moment (cell_in old)) left look.later was)))
-        (λ is. inr is))
+        (λ one. inr (⊎_elim (λ is. inl (subst (λ (r : RecordView). Spells r left) same is)) (λ is. inr is) one)))
 
     module _ (cause : RecordView → Option StoreFault) (change : RecordView → RecordView) (old mid : Store C slots words)
         (put : Result (Unit {0}) StoreFault) (some : IsSome (known_in old)) (fine : cause (record_in old) ≡ None)
@@ -121,14 +121,17 @@ module _ {C : Type 0} (words : CellWords C) (slots : SlotWords C) where
       pub change_moments : LeavesNext (change (record_in old)) old mid
       change_moments =
           weakened words.moment slots.left_since_whole (cell_in old) (cell_in mid)
-          (λ left. slots.may_leave_whole (cell_in old) left ⊎ Spells (change (record_in old)) left)
-          (λ left. slots.may_leave_whole (cell_in old) left ⊎ SpellsAny (option_map change (known_in old)) left)
+          (MayLeaveNext (change (record_in old)) old)
+          (λ left. slots.may_leave_whole (cell_in old) left
+          ⊎ (SpellsAny (known_in old) left ⊎ SpellsAny (option_map change (known_in old)) left))
           changes.any_moment
-          (λ left. ⊎_elim (λ was. inl was) (λ is. inr (subst (λ (o : Option RecordView). SpellsAny o left) after is)))
+          (λ left. ⊎_elim (λ was. inl was)
+          (λ one. inr (⊎_elim (λ is. inl (subst (λ (o : Option RecordView). SpellsAny o left) known is))
+          (λ is. inr (subst (λ (o : Option RecordView). SpellsAny o left) after is)) one)))
 
       pub change_fits : IsLengthTold (fits_in (slots.slot_capacity (cell_in old)) (change (record_in old))) put
       change_fits =
-          subst (λ (o : Option RecordView). IsLengthTold (fits_next (words.capacity (cell_in old)) o) put) after
+          subst (λ (o : Option RecordView). IsLengthTold (fits_next (slots.slot_capacity (cell_in old)) o) put) after
           changes.fits
 
       -- after a put that succeeded

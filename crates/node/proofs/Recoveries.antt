@@ -1,5 +1,5 @@
 -- What a crash and a recovery leave of a node.
-use Rattle.std.proofs.Common.{◌≡◌, ◌⊎◌, inl, inr, ⊎_elim, ℕ, ◌<◌, ◌≤◌, Bool, true, false, List, length, Option, Some}
+use Rattle.std.proofs.Common.{◌≡◌, ◌⊎◌, inl, inr, ⊎_elim, ℕ, ◌<◌, ◌≤◌, Bool, true, false, length}
 use Rattle.std.proofs.Common.{Result, Ok, Err, refl, sym, ◌∙◌, ap, subst, arith}
 use Rattle.std.specs.Prelude.{IsErrOf, IsTrue, nat_lt}
 use Rattle.std.proofs.lemmas.Bool.{lt-ltb, ltb-true}
@@ -31,7 +31,7 @@ use Rattle.ckpt_store.specs.declared.fault.StoreFault.{StoreFault}
 use Rattle.ckpt_store.specs.declared.fault.StoreFault.TheVariants as fault
 use Rattle.record.specs.ImageView.{ImageView}
 use Rattle.std.specs.declared.alloc.AllocError.{AllocError}
-use Rattle.node.proofs.Records.{crash_keeps, looked, looked_on, one_of_both, then_crashed}
+use Rattle.node.proofs.Records.{crash_keeps, device_then, looked, looked_on, one_of_both, then_crashed}
 
 module _ {C : Type 0} (words : CellWords C) (slots : SlotWords C) (number restart : ℕ) (old new : Store C slots words) (before after : NodeState)
     (has : HasRecord number (mode_view before.mode) old) (up : is_down (mode_view before.mode) ≡ false)

@@ -33,7 +33,6 @@ use Rattle.protocol.specs.Node.Modes.{is_none, is_running, is_down, crashed, wit
 use Rattle.node.specs.StoredView.{HasRecord, IsCrashed, has_failed, put_outcome, IsAnswer}
 use Rattle.node.specs.declared.state.NodeState.{NodeState}
 use Rattle.protocol.specs.declared.outcome.Outcome.{Outcome}
-use Rattle.protocol.specs.declared.outcome.Outcome.TheVariants as outcome
 use Rattle.node.specs.Putting.{IsPutEvent}
 use Rattle.node.proofs.Checkpoints.{Ends, ended, ends_event, ends_kept}
 use Rattle.node.proofs.Records.{some_known}

@@ -5,6 +5,7 @@ use Rattle.sector_disk.specs.Clock.{Only, LeavesOnly}
 use Rattle.gate_cell.specs.declared.cell.StableCell.{Ghosts as CellWords}
 use Rattle.gate_cell.specs.declared.slot_cell.SlotCell.{Ghosts as SlotWords}
 use Rattle.gate_cell.specs.Setup.{LeavesSetup}
+use Rattle.gate_cell.specs.Whole.{Whole}
 use Rattle.record.specs.RecordView.{RecordView}
 use Rattle.record.specs.ImageView.{ImageView}
 use Rattle.record.specs.Moves.{with_epoch}
@@ -30,11 +31,16 @@ pub record HasRecord {C : Type 0} {words : CellWords C} {slots : SlotWords C} (n
     pub ready : is_down mode ≡ false → IsSome (known_in store)
     pub settled : Only (slots.whole (cell_in store)) (slots.may_leave_whole (cell_in store))
 
--- a crash at any moment between leaves what it might have left before, or this record
+-- a crash leaves what it might have left before, or the record that was there, or this one
+abbrev pub MayLeaveNext : {C : Type 0} {words : CellWords C} {slots : SlotWords C} → RecordView
+    → Store C slots words → Whole → Type 0
+MayLeaveNext {slots = slots} next old left =
+    slots.may_leave_whole (cell_in old) left ⊎ (Spells (record_in old) left ⊎ Spells next left)
+
+-- and so it does at any moment between
 abbrev pub LeavesNext : {C : Type 0} {words : CellWords C} {slots : SlotWords C} → RecordView → Store C slots words → Store C slots words → Type 0
 LeavesNext {words = words} {slots = slots} next old new =
-    LeavesOnly words.moment slots.left_since_whole (cell_in old) (cell_in new)
-    (λ left. slots.may_leave_whole (cell_in old) left ⊎ Spells next left)
+    LeavesOnly words.moment slots.left_since_whole (cell_in old) (cell_in new) (MayLeaveNext next old)
 
 -- or nothing but that
 abbrev pub LeavesAsBefore : {C : Type 0} {words : CellWords C} {slots : SlotWords C} → Store C slots words → Store C slots words → Type 0

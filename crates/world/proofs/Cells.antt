@@ -17,8 +17,7 @@ use Rattle.protocol.specs.World.Pairs.{LeaveEitherSince}
 
 -- what was left spells one record alone
 one_record : (kept other : RecordView) (left : Whole) → Spells kept left → Spells other left → kept ≡ other
-one_record kept other None is too = absurd is
-one_record kept other (Some bytes) is too = sym (spelled_is kept bytes is) ∙ spelled_is other bytes too
+one_record kept other left is too = sym (spelled_is kept left is) ∙ spelled_is other left too
 
 module _ {C : Type 0} (words : CellWords C) (slots : SlotWords C) where
   -- what a crash leaves spells the record of its store, and no other
@@ -68,8 +67,15 @@ module _ {C : Type 0} (words : CellWords C) (slots : SlotWords C) where
         → LeaveEitherSince words.moment slots.left_since_whole (cell_in old) (cell_in new) (record_in old) next
     through next run left since =
         ⊎_elim (own_left old next settled left)
-        (λ is. record
-        { something = ∣ (next, is) ∣₁; one_of = λ spelled too. inr (one_record spelled next left too is) })
+        (λ one. ⊎_elim
+        (λ is. record {
+          something = ∣ (record_in old, is) ∣₁;
+          one_of = λ spelled too. inl (one_record spelled (record_in old) left too is);
+        })
+        (λ is. record {
+          something = ∣ (next, is) ∣₁;
+          one_of = λ spelled too. inr (one_record spelled next left too is);
+        }) one)
         (run.each left since)
 
     -- and where nothing was put
