@@ -4,7 +4,7 @@
 ghost use Rattle.std.specs.Prelude.{◌*◌, ◌^◌, ◌<◌};
 ghost use Rattle.sector_disk.specs.declared.TheConstants.{SECTOR_BYTES};
 
-use gate_cell::GateCell;
+use gate_cell::SplitCell;
 use net_check::{bind, check};
 use net_text::{parse, parse_inputs};
 use outlet::ListOutlet;
@@ -38,7 +38,7 @@ fn crash() -> Event {
 /// One event. `World::apply` refuses for want of memory alone.
 fn apply(
     alloc: Global,
-    world: &mut World<GateCell<MemDisk>, ListOutlet>,
+    world: &mut World<SplitCell<MemDisk>, ListOutlet>,
     event: Event,
 ) -> anyhow::Result<Reply> {
     match world.apply(alloc, event) {
@@ -48,7 +48,7 @@ fn apply(
 }
 
 /// The event that is next for node 0. A job that it grants is run, and what came of it is brought back.
-fn step(alloc: Global, world: &mut World<GateCell<MemDisk>, ListOutlet>) -> anyhow::Result<()> {
+fn step(alloc: Global, world: &mut World<SplitCell<MemDisk>, ListOutlet>) -> anyhow::Result<()> {
     let event = world.pick(0);
     if let Reply::Granted(job) = apply(alloc, world, event)? {
         let Ok(done) = job.run(alloc) else {

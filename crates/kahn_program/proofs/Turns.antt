@@ -6,7 +6,7 @@ use Rattle.std.specs.Prelude.{replicate, IfErr, OnOk, Result}
 use Rattle.kahn_net.specs.Nodes.{node_count}
 use Rattle.kahn_net.specs.Syntax.{Network}
 use Rattle.kahn_net.specs.Valid.{IsValid}
-use Rattle.gate_cell.specs.Layout.{room_on, HasNoRoom}
+use Rattle.gate_cell.specs.SplitLayout.{slot_room_on}
 use Rattle.ckpt_codec.specs.declared.lengths.TheConstants.{MAX_RECORD_BYTES}
 use Rattle.ckpt_store.specs.declared.fault.StoreFault.{StoreFault}
 use Rattle.ckpt_store.specs.declared.fault.StoreFault.TheVariants.{NoMemory, Device, TooLarge, Reopen, Truncated}
@@ -15,10 +15,11 @@ use Rattle.ckpt_store.specs.declared.fault.StoreFault.TheVariants.{Unsettled, Sp
 use Rattle.protocol.specs.Node.Opening.{opening_record}
 use Rattle.protocol.specs.NodeLaws.PlaceLaws.{nodes_few}
 use Rattle.protocol.specs.NodeLaws.SizeLaws.{opening_within}
-use Rattle.protocol.specs.WorldLaws.RoomLaws.{bounded_is_short}
+use Rattle.protocol.specs.WorldLaws.RoomLaws.{bounded_image}
 use Rattle.kahn_net.specs.declared.program.Channel.{Channel}
 use Rattle.record.specs.RecordView.{RecordView}
 use Rattle.gate_cell.specs.declared.cell.StableCell.{Ghosts as CellWords}
+use Rattle.gate_cell.specs.declared.slot_cell.SlotCell.{Ghosts as SlotWords}
 use Rattle.ckpt_store.specs.Spelling.{fits_in}
 use Rattle.proc_step.specs.declared.job.Job.{Job}
 use Rattle.wire.specs.Traffic.{opening_traffic}
@@ -33,7 +34,7 @@ use Rattle.protocol.specs.World.ReplyView.{ReplyView}
 use Rattle.protocol.specs.World.ReplyView as view
 use Rattle.world.specs.ReplyView.{reply_view}
 use Rattle.world.specs.WorldView.{capacities, rooms, station_view}
-use Rattle.world.specs.OpeningWorld.{opening_length, IsOpeningRefusal, IsWorldRefusal}
+use Rattle.world.specs.OpeningWorld.{opening_length, HasNoRoom, IsOpeningRefusal, IsWorldRefusal}
 use Rattle.gate_cell.specs.declared.TheConstants.{SECTORS}
 use Rattle.world.specs.declared.event.Reply.{Reply}
 use Rattle.world.specs.declared.event.Reply.TheVariants.{Delivered, Dropped, Granted, Installed, Discarded, Sent}
@@ -103,17 +104,17 @@ none_more count (y ∷ xs) x (suc many) none one =
 
 -- the room of each station's cell
 
-module _ {C O : Type 0} {cell : CellWords C} where
-  rooms_are : (taken : O → List ℤ) (failures : O → ℕ) (stations : List (Station C O cell))
+module _ {C O : Type 0} {cell : CellWords C} {slots : SlotWords C} where
+  rooms_are : (taken : O → List ℤ) (failures : O → ℕ) (stations : List (Station C O slots cell))
       → AllByRecursion IsRunRoom (capacities stations)
       → rooms stations ≡ run_rooms (map (station_view taken failures) stations)
   rooms_are taken failures [] room = refl
   rooms_are taken failures (s ∷ stations) room =
       ap (λ (n : ℕ). fits_in n ∷ rooms stations) room.0
-      ∙ ap (λ (rest : List (RecordView → Bool)). fits_in (room_on SECTORS) ∷ rest)
+      ∙ ap (λ (rest : List (RecordView → Bool)). fits_in (slot_room_on SECTORS) ∷ rest)
       (rooms_are taken failures stations room.1)
 
-  pub in_room : (taken : O → List ℤ) (failures : O → ℕ) (stations : List (Station C O cell)) (event : EventView)
+  pub in_room : (taken : O → List ℤ) (failures : O → ℕ) (stations : List (Station C O slots cell)) (event : EventView)
       (old new : WorldView)
       (answer : ReplyView) → AllByRecursion IsRunRoom (capacities stations)
       → old.stations ≡ map (station_view taken failures) stations
@@ -124,15 +125,15 @@ module _ {C O : Type 0} {cell : CellWords C} where
 
 -- what the disks of a run have room for
 pub rooms_given : {D : Type 0} (sectors : D → ℕ) (disks : List D) (rooms : List ℕ)
-    → rooms ≡ map (λ (disk : D). room_on (sectors disk)) disks
+    → rooms ≡ map (λ (disk : D). slot_room_on (sectors disk)) disks
     → AllByRecursion (λ (disk : D). sectors disk ≡ SECTORS) disks
     → AllByRecursion IsRunRoom rooms
 rooms_given {D} sectors disks rooms are all = subst (AllByRecursion IsRunRoom) (sym are) (at disks all)
   where
     at : (list : List D) → AllByRecursion (λ (disk : D). sectors disk ≡ SECTORS) list
-        → AllByRecursion IsRunRoom (map (λ (disk : D). room_on (sectors disk)) list)
+        → AllByRecursion IsRunRoom (map (λ (disk : D). slot_room_on (sectors disk)) list)
     at [] all = tt
-    at (d ∷ list) all = (ap room_on all.0, at list all.1)
+    at (d ∷ list) all = (ap slot_room_on all.0, at list all.1)
 
 -- Why a run isn't opened: no disk is too small for an opening record
 pub run_refused : {D : Type 0} (Failed : Type 0) (sectors : D → ℕ) (net : Network) (number : ℕ) (disks : List D)
@@ -147,7 +148,7 @@ run_refused {D} Failed sectors net number (d ∷ disks) fault valid all (inr ref
 run_refused {D} Failed sectors net number (d ∷ disks) fault valid all (inl refused) failed = at fault refused failed
   where
     short : opening_length net number ≤ MAX_RECORD_BYTES
-    short = bounded_is_short (opening_record net (node_count net) number)
+    short = bounded_image (opening_record net (node_count net) number)
         (opening_within net (node_count net) number valid (nodes_few net valid))
 
     has_room : HasNoRoom (sectors d) (opening_length net number) → ⊥

@@ -4,7 +4,7 @@ use Rattle.std.specs.Prelude.{length, map, replicate, Option, Some, None, is_som
 use Rattle.std.specs.List.{list_all}
 use Rattle.kahn_net.specs.Nodes.{node_count}
 use Rattle.kahn_net.specs.Syntax.{Network}
-use Rattle.gate_cell.specs.Layout.{room_on}
+use Rattle.gate_cell.specs.SplitLayout.{slot_room_on}
 use Rattle.record.specs.RecordView.{RecordView}
 use Rattle.ckpt_store.specs.Spelling.{fits_in}
 use Rattle.protocol.specs.World.Choice.{choice}
@@ -19,13 +19,13 @@ use Rattle.protocol.specs.World.StationView.{OutletView, StationView}
 use Rattle.protocol.specs.World.Steps.{WorldView, IsStep}
 use Rattle.gate_cell.specs.declared.TheConstants.{SECTORS}
 
--- the room of each cell of a run: that of a disk of so many sectors
+-- the room of the slots of each cell of a run: that of a disk of so many sectors
 abbrev pub IsRunRoom : ℕ → Type 0
-IsRunRoom room = room ≡ room_on SECTORS
+IsRunRoom room = room ≡ slot_room_on SECTORS
 
 -- which records fit at each of these stations
 abbrev pub run_rooms : List StationView → List (RecordView → Bool)
-run_rooms stations = map (λ (station : StationView). fits_in (room_on SECTORS)) stations
+run_rooms stations = map (λ (station : StationView). fits_in (slot_room_on SECTORS)) stations
 
 -- a step of a world of a run
 abbrev pub IsRunStep : EventView → WorldView → ReplyView → WorldView → Type 0

@@ -22,7 +22,7 @@ ghost use Rattle.kahn_net.specs.declared.limits.TheConstants.{MAX_CHANNELS, MAX_
 use crate::failure::Failure;
 use crate::reporting::{Stream, report};
 use ckpt_store::StoreFault;
-use gate_cell::GateCell;
+use gate_cell::SplitCell;
 use kahn_net::{Channel, Port};
 use net_check::{Inputs, Net};
 use outlet::ListOutlet;
@@ -35,7 +35,7 @@ use world::{Event, Reply, SECTORS, World, list_outputs, node_count};
 pub(crate) const MAX_TURNS: u64 = u64::MAX;
 
 /// The world of a run: of nodes on disks in memory, with outlets in memory.
-type RunWorld = World<GateCell<MemDisk>, ListOutlet>;
+type RunWorld = World<SplitCell<MemDisk>, ListOutlet>;
 
 /// A disk in memory of so many sectors, which never failed. (What it holds is left out of the contract: of a given number, a
 /// proof that has it in reach would write out all the zeros.)

@@ -14,7 +14,7 @@ ghost use Rattle.world.specs.OpeningWorld.{IsUnused};
 
 use crate::counting::CountingDisk;
 use crate::ledger::{Ledger, Weakness};
-use gate_cell::GateCell;
+use gate_cell::SplitCell;
 use net_check::{Net, bind, check};
 use net_text::{parse, parse_inputs};
 use outlet::Outlet;
@@ -35,7 +35,7 @@ const CRASHES_AT: u32 = 2;
 
 type OwnDisk = CountingDisk<MemDisk>;
 
-type OwnWorld = World<GateCell<OwnDisk>, Ledger>;
+type OwnWorld = World<SplitCell<OwnDisk>, Ledger>;
 
 fn empty_disk(alloc: Global, sectors: usize) -> Result<OwnDisk, AllocError>
     requires { SECTOR_BYTES * sectors < 2 ^ 64 }

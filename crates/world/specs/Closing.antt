@@ -18,7 +18,7 @@ disk_of station = disk_in (cell_in station.node.store)
 -- the disks of these stations, one each, in their order
 abbrev pub disks_of : {D O : Type 0} {disk : DiskWords D} {cell : CellWords (SplitCell D disk)} {slots : SlotWords (SplitCell D disk)}
     → List (Station (SplitCell D disk) O slots cell) → List D
-disks_of {D} {O} {disk} {cell} stations = map (λ (station : Station (SplitCell D disk) O slots cell). disk_of station) stations
+disks_of {D} {O} {disk} {cell} {slots} stations = map (λ (station : Station (SplitCell D disk) O slots cell). disk_of station) stations
 
 -- their outputs, station by station
 abbrev pub all_outputs : {C O : Type 0} {cell : CellWords C} {slots : SlotWords C} → List (Station C O slots cell) → List (Output O)

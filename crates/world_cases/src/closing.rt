@@ -1,6 +1,7 @@
 //! What a world stands on, once it is closed.
 
 use case_table::{byte, listed, size};
+use gate_cell::HEADER_SECTORS;
 use outlet::{ListOutlet, Outlet};
 use sector_disk::{Disk, MemDisk, SECTOR_BYTES};
 use std::alloc::{AllocError, Global};
@@ -20,8 +21,10 @@ pub enum ClosedQuestion {
     Calls(usize),
     /// The first byte of its gate.
     Gate(usize),
-    /// The record in its first area: its length in 8 bytes, and so many bytes of it.
-    FirstArea(usize),
+    /// The header in the area that the gate names.
+    Header(usize),
+    /// The bytes in slot 0 or 1 of a disk whose slots have one sector each.
+    Slot(usize, usize),
     /// The channels of the outputs, as they come.
     Channels,
     /// What has left by the output of a channel.
@@ -33,7 +36,8 @@ pub fn closed_question(words: &[&str]) -> anyhow::Result<ClosedQuestion> {
     let question = match words {
         ["disk", node, "calls"] => ClosedQuestion::Calls(size(node)?),
         ["disk", node, "gate"] => ClosedQuestion::Gate(size(node)?),
-        ["disk", node, "area"] => ClosedQuestion::FirstArea(size(node)?),
+        ["disk", node, "header"] => ClosedQuestion::Header(size(node)?),
+        ["disk", node, "slot", slot] => ClosedQuestion::Slot(size(node)?, size(slot)?),
         ["outputs"] => ClosedQuestion::Channels,
         ["output", channel] => ClosedQuestion::Output(byte(channel)?),
         _ => anyhow::bail!("it asks for nothing that is known"),
@@ -48,17 +52,12 @@ fn sector_of(disk: &mut MemDisk, number: usize) -> anyhow::Result<[u8; SECTOR_BY
     Ok(sector)
 }
 
-/// A sector's bytes, without the zeros at its end.
-fn area_text(alloc: Global, sector: &[u8]) -> Result<String, AllocError> {
-    let mut length = 0;
-    for (place, byte) in sector.iter().enumerate() {
-        if *byte != 0 {
-            length = place.saturating_add(1);
-        }
-    }
-    match sector.get(..length) {
-        Some(bytes) => hex::encode(alloc, bytes),
-        None => hex::encode(alloc, sector),
+/// The bytes that stand in a sector behind their length.
+fn stored_text(alloc: Global, sector: &[u8; SECTOR_BYTES]) -> anyhow::Result<String> {
+    let length = u16::from_be_bytes([sector[6], sector[7]]);
+    match sector.get(8..8 + usize::from(length)) {
+        Some(bytes) => Ok(hex::encode(alloc, bytes)?),
+        None => anyhow::bail!("more than a sector holds"),
     }
 }
 
@@ -104,8 +103,15 @@ impl Closed {
                 let gate = sector_of(self.disk(node)?, 0)?;
                 format!(in alloc; "{}", gate[0])?
             }
-            ClosedQuestion::FirstArea(node) => {
-                area_text(alloc, &sector_of(self.disk(node)?, 1)?)?
+            ClosedQuestion::Header(node) => {
+                let disk = self.disk(node)?;
+                let gate = sector_of(disk, 0)?;
+                let area = 1 + usize::from(gate[0] % 2);
+                stored_text(alloc, &sector_of(disk, area)?)?
+            }
+            ClosedQuestion::Slot(node, slot) => {
+                anyhow::ensure!(slot <= 1, "there are slots 0 and 1");
+                stored_text(alloc, &sector_of(self.disk(node)?, HEADER_SECTORS + slot)?)?
             }
             ClosedQuestion::Channels => channels(alloc, &self.outputs)?,
             ClosedQuestion::Output(channel) => left_by(alloc, &self.outputs, channel)?,

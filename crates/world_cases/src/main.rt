@@ -44,7 +44,7 @@
 //! | Line | Meaning |
 //! |---|---|
 //! | `closed disk 0 calls -> 8` | the device calls of the node's disk since it was formatted |
-//! | `closed disk 0 gate -> 0`, `closed disk 0 area -> 0000000000000062 01 ..` | the first byte of its gate; the first sector of its first area, in hexadecimal, without the zeros at its end |
+//! | `closed disk 0 gate -> 0`, `closed disk 0 header -> 02 00 ..`, `closed disk 0 slot 1 -> 01 ..` | the first byte of its gate; the header in the area that it names, and the bytes in a slot (of one sector), in hexadecimal |
 //! | `closed outputs -> 2 3`, `closed output 2 -> 4 9` | the channels of the outputs, as they come; what has left by one |
 //!
 //! `run`, `turns`, `jobs` and `chance` answer nothing. An event answers `delivered`, `dropped 33`, `job`, `done` (of an install),

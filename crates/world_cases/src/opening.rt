@@ -5,7 +5,7 @@ ghost use Rattle.sector_disk.specs.declared.TheConstants.{SECTOR_BYTES};
 
 use crate::plan::{EarlyFault, Settings};
 use ckpt_store::StoreFault;
-use gate_cell::GateCell;
+use gate_cell::SplitCell;
 use net_check::{bind, check};
 use net_text::{parse, parse_inputs};
 use outlet::ListOutlet;
@@ -15,7 +15,7 @@ use std::sync::Arc;
 use world::{World, list_outputs, node_count};
 
 /// A case's world.
-pub type CaseWorld = World<GateCell<MemDisk>, ListOutlet>;
+pub type CaseWorld = World<SplitCell<MemDisk>, ListOutlet>;
 
 /// The sectors of a disk where a case says nothing of them.
 const SECTORS: usize = 5;

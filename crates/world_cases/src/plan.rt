@@ -151,7 +151,7 @@ fn wanted_closed(
     wanted: &str,
 ) -> Result<String, AllocError> {
     match question {
-        ClosedQuestion::FirstArea(_) => joined(alloc, wanted),
+        ClosedQuestion::Header(_) | ClosedQuestion::Slot(_, _) => joined(alloc, wanted),
         _ => String::from_str(alloc, wanted),
     }
 }

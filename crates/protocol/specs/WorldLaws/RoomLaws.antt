@@ -41,6 +41,13 @@ bounded_is_short kept within =
     let long : spelled_length kept ≡ record_length kept = spelled_is_long kept in
     omega (arith, few, long)
 
+pub bounded_image : (kept : RecordView) → IsRecordWithin MAX_RETAINED_ITEMS kept
+    → image_length kept.permanent ≤ MAX_RECORD_BYTES
+bounded_image kept within =
+    let short : spelled_length kept ≤ MAX_RECORD_BYTES = bounded_is_short kept within in
+    let long : spelled_length kept ≡ record_length kept = spelled_is_long kept in
+    omega (arith, short, long)
+
 -- each image of a record within its bounds is shorter than the record
 held_bounded : (capacity : ℕ) (t : Option Tentative) → tentative_length t ≤ capacity → held_fits capacity t ≡ true
 held_bounded capacity None few = refl

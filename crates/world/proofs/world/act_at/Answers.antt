@@ -42,12 +42,12 @@ act-requires g c =
 
 pub returns-then-number-len-clause-grown : goal.returns-then-number-len-clause-grown
 returns-then-number-len-clause-grown g c =
-    all_still {cell = g.C.StableCell} g.O.Outlet.taken g.O.Outlet.failures g.met.C.SlotCell.only_now
+    all_still {cell = g.C.StableCell} {slots = g.C.SlotCell} g.O.Outlet.taken g.O.Outlet.failures g.met.C.SlotCell.only_now_whole
     (network_of c.args.net.now.value.program) c.args.inputs.now.value c.args.stations.now.items c.requires.sound
 
 pub returns-then-number-len-clause-line : goal.returns-then-number-len-clause-line
 returns-then-number-len-clause-line g c =
-    all_still_in_line {cell = g.C.StableCell} g.O.Outlet.taken g.O.Outlet.failures g.met.C.SlotCell.only_now
+    all_still_in_line {cell = g.C.StableCell} {slots = g.C.SlotCell} g.O.Outlet.taken g.O.Outlet.failures g.met.C.SlotCell.only_now_whole
     (network_of c.args.net.now.value.program) c.args.inputs.now.value c.args.stations.now.items c.requires.sound
 
 pub returns-then-number-len-clause-unchanged : goal.returns-then-number-len-clause-unchanged
@@ -57,12 +57,12 @@ pub returns-clause-grown : goal.returns-clause-grown
 returns-clause-grown g c =
     let net = c.args.net.now.value in
     let x = c.index_mut.result.now in
-    let view = station_view {cell = g.C.StableCell} g.O.Outlet.taken g.O.Outlet.failures in
-    all_grown {cell = g.C.StableCell} g.O.Outlet.taken g.O.Outlet.failures g.met.C.SlotCell.only_now
+    let view = station_view {cell = g.C.StableCell} {slots = g.C.SlotCell} g.O.Outlet.taken g.O.Outlet.failures in
+    all_grown {cell = g.C.StableCell} {slots = g.C.SlotCell} g.O.Outlet.taken g.O.Outlet.failures g.met.C.SlotCell.only_now_whole
     (setting_in (network_of net.program) c.args.inputs.now.value (traffic_of c.args.wire.now)
     c.may_restart-restarts.result c.args.round)
     (record { valid = net.valid; fits = c.requires.fits; traffic = c.requires.flying })
-    (fits_in (g.C.StableCell.capacity (cell_in x.node.store))) (event_view c.args.event.now)
+    (fits_in (g.C.SlotCell.slot_capacity (cell_in x.node.store))) (event_view c.args.event.now)
     c.args.stations.now.items c.args.number x _ c.act.result
     (sound_at view (network_of net.program) c.args.inputs.now.value (traffic_of c.args.wire.now) c.args.stations.now.items
     c.args.number x c.may_restart-restarts.result c.len-2.result c.args.round
@@ -75,12 +75,12 @@ pub returns-clause-line : goal.returns-clause-line
 returns-clause-line g c =
     let net = c.args.net.now.value in
     let x = c.index_mut.result.now in
-    let view = station_view {cell = g.C.StableCell} g.O.Outlet.taken g.O.Outlet.failures in
-    all_in_line {cell = g.C.StableCell} g.O.Outlet.taken g.O.Outlet.failures g.met.C.SlotCell.only_now
+    let view = station_view {cell = g.C.StableCell} {slots = g.C.SlotCell} g.O.Outlet.taken g.O.Outlet.failures in
+    all_in_line {cell = g.C.StableCell} {slots = g.C.SlotCell} g.O.Outlet.taken g.O.Outlet.failures g.met.C.SlotCell.only_now_whole
     (setting_in (network_of net.program) c.args.inputs.now.value (traffic_of c.args.wire.now)
     c.may_restart-restarts.result c.args.round)
     (record { valid = net.valid; fits = c.requires.fits; traffic = c.requires.flying })
-    (fits_in (g.C.StableCell.capacity (cell_in x.node.store))) (event_view c.args.event.now)
+    (fits_in (g.C.SlotCell.slot_capacity (cell_in x.node.store))) (event_view c.args.event.now)
     c.args.stations.now.items c.args.number x _ c.act.result
     (sound_at view (network_of net.program) c.args.inputs.now.value (traffic_of c.args.wire.now) c.args.stations.now.items
     c.args.number x c.may_restart-restarts.result c.len-2.result c.args.round
@@ -97,10 +97,10 @@ returns-clause-refused g c =
 pub returns-clause-step : goal.returns-clause-step
 returns-clause-step g c =
     let net = network_of c.args.net.now.value.program in
-    let view = station_view {cell = g.C.StableCell} g.O.Outlet.taken g.O.Outlet.failures in
+    let view = station_view {cell = g.C.StableCell} {slots = g.C.SlotCell} g.O.Outlet.taken g.O.Outlet.failures in
     let room =
-    λ (station : Station g.row.C.Denot g.row.O.Denot g.C.StableCell). fits_in
-    (g.C.StableCell.capacity (cell_in station.node.store)) in
+    λ (station : Station g.row.C.Denot g.row.O.Denot g.C.SlotCell g.C.StableCell). fits_in
+    (g.C.SlotCell.slot_capacity (cell_in station.node.store)) in
     subst (λ (setting : Setting). IfOk c.act.result
     (λ reply. IsAct setting c.args.number (map room c.args.stations.now.items) (event_view c.args.event.now)
     (map view c.args.stations.now.items) (reply_view reply)
@@ -114,7 +114,7 @@ returns-clause-step g c =
 pub returns-clause-same_capacities : goal.returns-clause-same_capacities
 returns-clause-same_capacities g c =
     set_keeps
-    (λ (station : Station g.row.C.Denot g.row.O.Denot g.C.StableCell). g.C.StableCell.capacity
+    (λ (station : Station g.row.C.Denot g.row.O.Denot g.C.SlotCell g.C.StableCell). g.C.SlotCell.slot_capacity
     (cell_in station.node.store)) c.args.stations.now.items c.args.number c.index_mut.result.now _
     (slice_get_read c.args.stations.now.items _ c.args.number c.index_mut.result.now refl (search rules)
     c.index_mut.ensures.value) c.act.ensures.same_room
@@ -127,7 +127,7 @@ returns-clause-unchanged g c =
 pub returns-clause-traffic : goal.returns-clause-traffic
 returns-clause-traffic g c =
     let net = network_of c.args.net.now.value.program in
-    let view = station_view {cell = g.C.StableCell} g.O.Outlet.taken g.O.Outlet.failures in
+    let view = station_view {cell = g.C.StableCell} {slots = g.C.SlotCell} g.O.Outlet.taken g.O.Outlet.failures in
     let there =
     seen_at view c.args.stations.now.items c.args.number c.index_mut.result.now (search rules)
     c.index_mut.ensures.value in

@@ -53,11 +53,11 @@ send-requires g c =
 
 pub returns-in-Deliver-clause-traffic : goal.returns-in-Deliver-clause-traffic
 returns-in-Deliver-clause-traffic g c =
-    let was = station_view {cell = g.C.StableCell} g.O.Outlet.taken g.O.Outlet.failures c.args.self.now in
+    let was = station_view {cell = g.C.StableCell} {slots = g.C.SlotCell} g.O.Outlet.taken g.O.Outlet.failures c.args.self.now in
     let setting =
     setting_in (network_of c.args.net.now.value.program) c.args.inputs.now.value (traffic_of c.args.wire.now)
     c.args.restarts c.args.round in
-    delivered_in (fits_in (g.C.StableCell.capacity (cell_in c.args.self.now.node.store))) setting c.in-Deliver.node
+    delivered_in (fits_in (g.C.SlotCell.slot_capacity (cell_in c.args.self.now.node.store))) setting c.in-Deliver.node
     c.in-Deliver.place (network_of c.deref.result.now.program) (event_view c.args.event.now) was _
     (traffic_of c.deliver.new.wire) c.deliver.result (ap (λ (n : Net). network_of n.program) c.deref.ensures)
     (ap event_view c.in-Deliver.is) c.deliver.ensures.step c.deliver.ensures.traffic

@@ -26,6 +26,7 @@ pub returns-clause-step : goal.returns-clause-step
 returns-clause-step g c =
     let was = c.args.self.now in
     let cell = g.C.StableCell in
+    let slots = g.C.SlotCell in
     let seen = station_view g.O.Outlet.taken g.O.Outlet.failures was in
     let event = c.in_ok-outcome.ensures.event in
     planned (fits_in (slots.slot_capacity (cell_in was.node.store))) c.args.round (decide_plan seen) seen

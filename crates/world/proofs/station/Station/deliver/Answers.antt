@@ -15,6 +15,7 @@ pub returns-clause-step : goal.returns-clause-step
 returns-clause-step g c =
     let was = c.args.self.now in
     let cell = g.C.StableCell in
+    let slots = g.C.SlotCell in
     let seen = station_view g.O.Outlet.taken g.O.Outlet.failures was in
     let node = view_of c.deliver.new.self in
     let came = c.in_ok-outcome.ensures in

@@ -13,6 +13,7 @@ pub returns-clause-step : goal.returns-clause-step
 returns-clause-step g c =
     let was = c.args.self.now in
     let cell = g.C.StableCell in
+    let slots = g.C.SlotCell in
     let granted = c.in_ok-granted in
     grants (fits_in (slots.slot_capacity (cell_in was.node.store))) c.args.round
     (node_job (network_of c.args.net.now.value.program) c.args.inputs.now (view_of was.node)) granted.granted

@@ -29,6 +29,7 @@ pub returns-in-Ok-clause-step : goal.returns-in-Ok-clause-step
 returns-in-Ok-clause-step g c =
     let was = c.args.self.now in
     let cell = g.C.StableCell in
+    let slots = g.C.SlotCell in
     let call = cell.failed_call (cell_in c.recover.new.self.store) in
     let seen = station_view g.O.Outlet.taken g.O.Outlet.failures was in
     let came = c.in-Ok.outcome in

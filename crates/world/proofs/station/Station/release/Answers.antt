@@ -36,7 +36,7 @@ returns-clause-refused g c =
     (view_of now.node) _ now.node.number _ c.release_at.result
     (outlet_at taken failures c.args.self.now.outputs.items j x c.in-Some.ensures.within c.index_mut.ensures.value)
     made.same.1
-    (ap (λ (store : Store g.row.C.Denot g.C.StableCell). g.C.StableCell.failure_count (cell_in store)) made.same.0)
+    (ap (λ (store : Store g.row.C.Denot g.C.SlotCell g.C.StableCell). g.C.StableCell.failure_count (cell_in store)) made.same.0)
     (outlet_set taken failures c.args.self.now.outputs.items j now.output) made.refused
 
 pub returns-in_default-clause-step : goal.returns-in_default-clause-step
@@ -58,5 +58,5 @@ returns-clause-step g c =
     (sym c.in-Some.ensures.next)
     (outlet_at taken failures c.args.self.now.outputs.items j x c.in-Some.ensures.within c.index_mut.ensures.value)
     made.same.1
-    (ap (λ (store : Store g.row.C.Denot g.C.StableCell). g.C.StableCell.failure_count (cell_in store)) made.same.0)
+    (ap (λ (store : Store g.row.C.Denot g.C.SlotCell g.C.StableCell). g.C.StableCell.failure_count (cell_in store)) made.same.0)
     (outlet_set taken failures c.args.self.now.outputs.items j now.output) made.trimmed made.handed

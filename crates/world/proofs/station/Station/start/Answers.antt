@@ -28,6 +28,7 @@ pub returns-clause-step : goal.returns-clause-step
 returns-clause-step g c =
     let was = c.args.self.now in
     let cell = g.C.StableCell in
+    let slots = g.C.SlotCell in
     let seen = station_view g.O.Outlet.taken g.O.Outlet.failures was in
     let event = c.in_ok-outcome.ensures.event in
     let noted : c.with_start-noted.result ≡ count_start (turns_of c.args.round was.turns) = search rules in

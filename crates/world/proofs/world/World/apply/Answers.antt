@@ -24,7 +24,7 @@ use Rattle.world.proofs.world.World.apply.Goals as goal
 pub invariant_of-self : goal.invariant_of-self
 invariant_of-self g c =
     let was = c.args.self.now in
-    let view = station_view {cell = g.C.StableCell} g.O.Outlet.taken g.O.Outlet.failures in
+    let view = station_view {cell = g.C.StableCell} {slots = g.C.SlotCell} g.O.Outlet.taken g.O.Outlet.failures in
     record {
       sound = act_keeps_world (rooms was.stations.items) (event_view c.args.event) (world_of was)
           (reply_view c.in-Ok.reply)
@@ -35,16 +35,16 @@ invariant_of-self g c =
           was.stations.items was.round) (c.from-number.ensures ∙ c.node.ensures)
           c.in-Ok.ensures.step (c.in-Ok.ensures.traffic)
           (c.round_after-self.ensures
-          ∙ ap (λ (l : List (Station g.row.C.Denot g.row.O.Denot g.C.StableCell)). round_after
+          ∙ ap (λ (l : List (Station g.row.C.Denot g.row.O.Denot g.C.SlotCell g.C.StableCell)). round_after
           (reply_view c.in-Ok.reply) was.round (map view l)) c.deref.ensures.value);
     }
 
 pub returns-in-Ok-clause-prefix : goal.returns-in-Ok-clause-prefix
 returns-in-Ok-clause-prefix g c =
     let was = c.args.self.now in
-    let view = station_view {cell = g.C.StableCell} g.O.Outlet.taken g.O.Outlet.failures in
+    let view = station_view {cell = g.C.StableCell} {slots = g.C.SlotCell} g.O.Outlet.taken g.O.Outlet.failures in
     released_prefix
-    (world_view {cell = g.C.StableCell} g.O.Outlet.taken g.O.Outlet.failures was.net was.inputs
+    (world_view {cell = g.C.StableCell} {slots = g.C.SlotCell} g.O.Outlet.taken g.O.Outlet.failures was.net was.inputs
     c.act_at.new.stations.items (traffic_of c.act_at.new.wire) c.round_after-self.result)
     (act_keeps_world (rooms was.stations.items) (event_view c.args.event) (world_of was) (reply_view c.in-Ok.reply)
     (setting_in (network_of was.net.value.program) was.inputs.value (traffic_of was.wire)
@@ -54,7 +54,7 @@ returns-in-Ok-clause-prefix g c =
     was.stations.items was.round) (c.from-number.ensures ∙ c.node.ensures) c.in-Ok.ensures.step
     (c.in-Ok.ensures.traffic)
     (c.round_after-self.ensures
-    ∙ ap (λ (l : List (Station g.row.C.Denot g.row.O.Denot g.C.StableCell)). round_after (reply_view c.in-Ok.reply)
+    ∙ ap (λ (l : List (Station g.row.C.Denot g.row.O.Denot g.C.SlotCell g.C.StableCell)). round_after (reply_view c.in-Ok.reply)
     was.round (map view l)) c.deref.ensures.value))
 
 pub returns-in-Err-clause-prefix : goal.returns-in-Err-clause-prefix
@@ -75,8 +75,8 @@ returns-in-Err-clause-prefix g c =
 pub returns-in-Ok-clause-line : goal.returns-in-Ok-clause-line
 returns-in-Ok-clause-line g c =
     let was = c.args.self.now in
-    let view = station_view {cell = g.C.StableCell} g.O.Outlet.taken g.O.Outlet.failures in
-    keeps_line {cell = g.C.StableCell} g.O.Outlet.taken g.O.Outlet.failures (network_of was.net.value.program)
+    let view = station_view {cell = g.C.StableCell} {slots = g.C.SlotCell} g.O.Outlet.taken g.O.Outlet.failures in
+    keeps_line {cell = g.C.StableCell} {slots = g.C.SlotCell} g.O.Outlet.taken g.O.Outlet.failures (network_of was.net.value.program)
     was.inputs.value was.stations.items c.act_at.new.stations.items was.round c.round_after-self.result
     (traffic_of was.wire) (traffic_of c.act_at.new.wire) was.sound
     (act_keeps_world (rooms was.stations.items) (event_view c.args.event) (world_of was) (reply_view c.in-Ok.reply)
@@ -87,7 +87,7 @@ returns-in-Ok-clause-line g c =
     was.stations.items was.round) (c.from-number.ensures ∙ c.node.ensures) c.in-Ok.ensures.step
     (c.in-Ok.ensures.traffic)
     (c.round_after-self.ensures
-    ∙ ap (λ (l : List (Station g.row.C.Denot g.row.O.Denot g.C.StableCell)). round_after (reply_view c.in-Ok.reply)
+    ∙ ap (λ (l : List (Station g.row.C.Denot g.row.O.Denot g.C.SlotCell g.C.StableCell)). round_after (reply_view c.in-Ok.reply)
     was.round (map view l)) c.deref.ensures.value))
     c.act_at.ensures.line
 
@@ -104,23 +104,23 @@ returns-in-Err-clause-line g c =
           traffic_of was.wire;
       round = was.round;
     })) (sym c.in-Err.ensures.refused.0) was.sound in
-    keeps_line {cell = g.C.StableCell} g.O.Outlet.taken g.O.Outlet.failures (network_of was.net.value.program)
+    keeps_line {cell = g.C.StableCell} {slots = g.C.SlotCell} g.O.Outlet.taken g.O.Outlet.failures (network_of was.net.value.program)
     was.inputs.value was.stations.items c.act_at.new.stations.items was.round was.round (traffic_of was.wire)
     (traffic_of was.wire) was.sound kept c.act_at.ensures.line
 
 pub returns-in-Ok-clause-settled : goal.returns-in-Ok-clause-settled
 returns-in-Ok-clause-settled g c =
-    one_line {cell = g.C.StableCell} g.O.Outlet.taken g.O.Outlet.failures c.act_at.new.stations.items
+    one_line {cell = g.C.StableCell} {slots = g.C.SlotCell} g.O.Outlet.taken g.O.Outlet.failures c.act_at.new.stations.items
 
 pub returns-in-Err-clause-settled : goal.returns-in-Err-clause-settled
 returns-in-Err-clause-settled g c =
-    one_line {cell = g.C.StableCell} g.O.Outlet.taken g.O.Outlet.failures c.act_at.new.stations.items
+    one_line {cell = g.C.StableCell} {slots = g.C.SlotCell} g.O.Outlet.taken g.O.Outlet.failures c.act_at.new.stations.items
 
 -- the rooms are what the capacities say
 pub returns-in-Ok-clause-same_rooms : goal.returns-in-Ok-clause-same_rooms
 returns-in-Ok-clause-same_rooms g c =
     let capacity =
-    λ (station : Station g.row.C.Denot g.row.O.Denot g.C.StableCell). g.C.StableCell.capacity
+    λ (station : Station g.row.C.Denot g.row.O.Denot g.C.SlotCell g.C.StableCell). g.C.SlotCell.slot_capacity
     (cell_in station.node.store) in
     rooms_of capacity c.act_at.new.stations.items
     ∙ (ap (map fits_in) c.in-Ok.ensures.same_capacities ∙ sym (rooms_of capacity c.args.self.now.stations.items))
@@ -128,7 +128,7 @@ returns-in-Ok-clause-same_rooms g c =
 pub returns-in-Err-clause-same_rooms : goal.returns-in-Err-clause-same_rooms
 returns-in-Err-clause-same_rooms g c =
     let capacity =
-    λ (station : Station g.row.C.Denot g.row.O.Denot g.C.StableCell). g.C.StableCell.capacity
+    λ (station : Station g.row.C.Denot g.row.O.Denot g.C.SlotCell g.C.StableCell). g.C.SlotCell.slot_capacity
     (cell_in station.node.store) in
     rooms_of capacity c.act_at.new.stations.items
     ∙ (ap (map fits_in) c.in-Err.ensures.same_capacities ∙ sym (rooms_of capacity c.args.self.now.stations.items))
@@ -136,11 +136,11 @@ returns-in-Err-clause-same_rooms g c =
 pub returns-in-Ok-clause-roomy : goal.returns-in-Ok-clause-roomy
 returns-in-Ok-clause-roomy g c = λ room.
     let was = c.args.self.now in
-    let view = station_view {cell = g.C.StableCell} g.O.Outlet.taken g.O.Outlet.failures in
+    let view = station_view {cell = g.C.StableCell} {slots = g.C.SlotCell} g.O.Outlet.taken g.O.Outlet.failures in
     never_too_large (world_of was)
     (setting_in (network_of was.net.value.program) was.inputs.value (traffic_of was.wire)
     (may_restart (length was.stations.items)) was.round)
-    (λ (station : Station g.row.C.Denot g.row.O.Denot g.C.StableCell). g.C.StableCell.capacity
+    (λ (station : Station g.row.C.Denot g.row.O.Denot g.C.SlotCell g.C.StableCell). g.C.SlotCell.slot_capacity
     (cell_in station.node.store)) was.stations.items c.from-number.result _ (event_view c.args.event)
     (reply_view c.in-Ok.reply) (map view c.act_at.new.stations.items)
     was.sound
@@ -150,7 +150,7 @@ returns-in-Ok-clause-roomy g c = λ room.
 pub returns-in-Ok-clause-heard : goal.returns-in-Ok-clause-heard
 returns-in-Ok-clause-heard g c =
     let was = c.args.self.now in
-    let view = station_view {cell = g.C.StableCell} g.O.Outlet.taken g.O.Outlet.failures in
+    let view = station_view {cell = g.C.StableCell} {slots = g.C.SlotCell} g.O.Outlet.taken g.O.Outlet.failures in
     never_dropped (world_of was)
     (setting_in (network_of was.net.value.program) was.inputs.value (traffic_of was.wire)
     (may_restart (length was.stations.items)) was.round) (rooms was.stations.items) c.from-number.result

@@ -15,10 +15,10 @@ use Rattle.world.proofs.world.World.complete.Goals as goal
 pub returns-clause-whole : goal.returns-clause-whole
 returns-clause-whole g c is =
     let now = c.args.self.now in
-    let view = station_view {cell = g.C.StableCell} g.O.Outlet.taken g.O.Outlet.failures in
+    let view = station_view {cell = g.C.StableCell} {slots = g.C.SlotCell} g.O.Outlet.taken g.O.Outlet.failures in
     quiet_is_whole (world_of now) now.sound
     (sym c.loop-station.invariant
-    ∙ ap (λ (l : List (Station g.row.C.Denot g.row.O.Denot g.C.StableCell)). list_all
+    ∙ ap (λ (l : List (Station g.row.C.Denot g.row.O.Denot g.C.SlotCell g.C.StableCell)). list_all
     (λ (station : StationView). is_quiet_at (network_of now.net.value.program) now.inputs.value
     (map view now.stations.items) (running_of station.node) (outputs_of station.outlets)) (map view l))
     (drop_all c.loop-station.station-index c.deref-station-items.result.now c.loop-station-test.false))

@@ -9,6 +9,6 @@ pub packet_at-requires : goal.packet_at-requires
 packet_at-requires g c =
     let was = c.args.self.now in
     let within : c.args.node < length was.stations.items = search rules in
-    let view = station_view {cell = g.C.StableCell} g.O.Outlet.taken g.O.Outlet.failures in
+    let view = station_view {cell = g.C.StableCell} {slots = g.C.SlotCell} g.O.Outlet.taken g.O.Outlet.failures in
     let many = length-map was.stations.items view in
     few_places (world_of was) c.args.node was.sound (omega (arith, within, many))

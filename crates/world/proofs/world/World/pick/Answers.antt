@@ -14,7 +14,7 @@ use Rattle.world.proofs.world.World.pick.Goals as goal
 pub pick-requires : goal.pick-requires
 pick-requires g c =
     let was = c.args.self.now in
-    let view = station_view {cell = g.C.StableCell} g.O.Outlet.taken g.O.Outlet.failures in
+    let view = station_view {cell = g.C.StableCell} {slots = g.C.SlotCell} g.O.Outlet.taken g.O.Outlet.failures in
     let within : c.args.node < length was.stations.items = search rules in
     number_few (world_of was) c.args.node (view c.in-Some.station.now) was.sound
     (seen_at view was.stations.items c.args.node c.in-Some.station.now within (search rules))
@@ -22,7 +22,7 @@ pick-requires g c =
 pub returns-in-Some : goal.returns-in-Some
 returns-in-Some g c =
     let was = c.args.self.now in
-    let view = station_view {cell = g.C.StableCell} g.O.Outlet.taken g.O.Outlet.failures in
+    let view = station_view {cell = g.C.StableCell} {slots = g.C.SlotCell} g.O.Outlet.taken g.O.Outlet.failures in
     let world = world_of was in
     let within : c.args.node < length was.stations.items = search rules in
     let station = view c.in-Some.station.now in
@@ -40,7 +40,7 @@ returns-in-Some g c =
 pub returns-in-None : goal.returns-in-None
 returns-in-None g c =
     let was = c.args.self.now in
-    let view = station_view {cell = g.C.StableCell} g.O.Outlet.taken g.O.Outlet.failures in
+    let view = station_view {cell = g.C.StableCell} {slots = g.C.SlotCell} g.O.Outlet.taken g.O.Outlet.failures in
     let past : length was.stations.items ≤ c.args.node = search rules in
     let many = length-map was.stations.items view in
     sym (ap (choice_of (world_of was) c.args.node)
