@@ -1,4 +1,4 @@
-//! What a case stores on: a disk, a cell on it, with slots or without, and a store in one without.
+//! What a case stores on: a disk, a cell on it, with slots or without, and a store in one with slots.
 
 ghost use Rattle.std.specs.Prelude.{◌*◌, ◌^◌, ◌<◌};
 ghost use Rattle.sector_disk.specs.declared.TheConstants.{SECTOR_BYTES};
@@ -78,12 +78,12 @@ fn open_split(alloc: Global, disk: MemDisk) -> (Medium, Answer) {
 }
 
 /// A cell that is refused is handed back.
-fn open_store(alloc: Global, cell: GateCell<MemDisk>) -> (Medium, Answer) {
+fn open_store(alloc: Global, cell: SplitCell<MemDisk>) -> (Medium, Answer) {
     match Store::open(alloc, cell) {
         Ok(store) => (Medium::Store(store), Answer::Done),
         Err(refused) => {
             let number = refused.fault.number();
-            (Medium::Cell(refused.cell), Answer::Refused(number))
+            (Medium::Split(refused.cell), Answer::Refused(number))
         }
     }
 }
@@ -105,27 +105,31 @@ fn disk_becomes(
     (medium, Some(answer))
 }
 
-fn cell_becomes(alloc: Global, cell: GateCell<MemDisk>, word: &str) -> (Medium, Option<Answer>) {
+fn cell_becomes(cell: GateCell<MemDisk>, word: &str) -> (Medium, Option<Answer>) {
+    match word {
+        "close" => (Medium::Disk(cell.close()), Some(Answer::Done)),
+        _ => (Medium::Cell(cell), None),
+    }
+}
+
+fn split_becomes(
+    alloc: Global,
+    cell: SplitCell<MemDisk>,
+    word: &str,
+) -> (Medium, Option<Answer>) {
     match word {
         "close" => (Medium::Disk(cell.close()), Some(Answer::Done)),
         "store" => {
             let (medium, answer) = open_store(alloc, cell);
             (medium, Some(answer))
         }
-        _ => (Medium::Cell(cell), None),
-    }
-}
-
-fn split_becomes(cell: SplitCell<MemDisk>, word: &str) -> (Medium, Option<Answer>) {
-    match word {
-        "close" => (Medium::Disk(cell.close()), Some(Answer::Done)),
         _ => (Medium::Split(cell), None),
     }
 }
 
 fn store_becomes(store: CaseStore, word: &str) -> (Medium, Option<Answer>) {
     match word {
-        "close" => (Medium::Cell(store.close()), Some(Answer::Done)),
+        "close" => (Medium::Split(store.close()), Some(Answer::Done)),
         _ => (Medium::Store(store), None),
     }
 }
@@ -136,8 +140,8 @@ impl Medium {
         match self {
             Medium::Nothing => (Medium::Nothing, None),
             Medium::Disk(disk) => disk_becomes(alloc, disk, word, value),
-            Medium::Cell(cell) => cell_becomes(alloc, cell, word),
-            Medium::Split(cell) => split_becomes(cell, word),
+            Medium::Cell(cell) => cell_becomes(cell, word),
+            Medium::Split(cell) => split_becomes(alloc, cell, word),
             Medium::Store(store) => store_becomes(store, word),
         }
     }

@@ -5,13 +5,13 @@ use crate::answer::Answer;
 use crate::words::{fault_of, fill_of};
 use case_table::{byte, listed, number};
 use ckpt_store::{Store, StoreFault};
-use gate_cell::GateCell;
+use gate_cell::SplitCell;
 use record::{Decision, Image, Record};
 use sector_disk::MemDisk;
 use std::alloc::{AllocError, Global};
 
 /// A case's store.
-pub type CaseStore = Store<GateCell<MemDisk>>;
+pub type CaseStore = Store<SplitCell<MemDisk>>;
 
 fn answer_of(answered: Result<(), StoreFault>) -> Answer {
     match answered {

@@ -14,9 +14,18 @@ use Rattle.gate_cell.specs.declared.slot_cell.SlotCell.{Ghosts as SlotWords}
 use Rattle.gate_cell.specs.declared.fault.CellFault.{CellFault}
 use Rattle.gate_cell.specs.declared.fault.CellFault.TheVariants as cell
 use Rattle.record.specs.RecordView.{RecordView}
-use Rattle.ckpt_codec.specs.HeaderText.{header_of, IsHeaderText, IsImageText}
+use Rattle.record.specs.ImageView.{ImageView}
+use Rattle.ckpt_codec.specs.Fields.{AreAllowed}
+use Rattle.ckpt_codec.specs.HeaderText.{header_of, IsHeaderText, IsHeaderTextIn, IsImageText}
+use Rattle.ckpt_codec.specs.RecordText.{image_fields, IsRecord}
+use Rattle.ckpt_codec.specs.SizeLaws.{IsRecordWithin}
+use Rattle.ckpt_codec.specs.declared.version.TheConstants.{VERSION}
+use Rattle.ckpt_codec.proofs.Headers.{written_is_header}
+use Rattle.ckpt_store.proofs.Parts.{parts_of}
+use Rattle.node.specs.declared.node.Node.{Node}
+use Rattle.protocol.specs.WorldLaws.RoomLaws.{bounded_is_short}
 use Rattle.ckpt_codec.specs.Lengths.{spelled_length}
-use Rattle.ckpt_codec.specs.declared.lengths.TheConstants.{MAX_HEADER_BYTES, MAX_RECORD_BYTES}
+use Rattle.ckpt_codec.specs.declared.lengths.TheConstants.{MAX_HEADER_BYTES, MAX_RECORD_BYTES, MAX_RETAINED_ITEMS}
 use Rattle.ckpt_store.specs.Loading.{IsLoad, IsOfCell}
 use Rattle.ckpt_store.specs.Spelling.{Spells}
 use Rattle.ckpt_store.specs.StoreFault.{of_cell}
@@ -46,6 +55,32 @@ stands_first kept whole base header image is says shows alone short = (
     short = short;
   },
 )
+
+-- what is written of a record, on a disk that was formatted and in a slot that was filled, is the record
+pub first_spelled : (kept inside : RecordView) (now formatted base : Whole) (header image header_given image_given : List ℕ)
+    → inside ≡ kept → formatted ≡ with_header (Some header_given) base → now ≡ with_slot 0 (Some image_given) formatted
+    → header_given ≡ header → image_given ≡ image → IsHeaderTextIn VERSION (header_of 0 kept) header
+    → ((like : Option ImageView) → AreAllowed (image_fields like inside.permanent)
+    → IsImageText like inside.permanent image)
+    → IsRecord kept → kept.tentative ≡ None → IsRecordWithin MAX_RETAINED_ITEMS kept → Spells kept now
+first_spelled kept inside now formatted base header image header_given image_given view laid filled header_is image_is
+    says shows written alone bounded =
+    stands_first kept now base header_given image_given
+    (filled ∙ ap (with_slot 0 (Some image_given)) laid)
+    (subst (IsHeaderText (header_of 0 kept)) (sym header_is) (written_is_header (header_of 0 kept) header says))
+    (subst (λ (r : RecordView). IsImageText None r.permanent image_given) view
+    (subst (IsImageText None inside.permanent) (sym image_is)
+    (shows None (subst (λ (r : RecordView). AreAllowed (image_fields None r.permanent)) (sym view)
+    (parts_of kept written).permanent)))) alone (bounded_is_short kept bounded)
+
+-- a crash leaves the opening record of a node that was opened
+pub node_left : {C : Type 0} (words : CellWords C) (slots : SlotWords C) (node : Node C slots words)
+    (store : Store C slots words) (kept opening : RecordView) → node.store ≡ store → kept ≡ opening → Holds store kept
+    → (left : Whole) → slots.may_leave_whole (cell_in node.store) left → Spells opening left
+node_left {C} words slots node store kept opening same is holds left might =
+    subst (Spells opening) (sym (node.kept.settled left might))
+    (subst (λ (r : RecordView). Spells r (slots.whole (cell_in node.store))) is
+    (subst (λ (s : Store C slots words). Holds s kept) (sym same) holds))
 
 answered : (o : Option RecordView) → IsSome o → ¬ (IsErrOf (record_or Reopen o) Device)
 answered None known failed = absurd (cc)

@@ -1,4 +1,4 @@
-use Rattle.std.proofs.Common.{ℕ, length, sym, ap, subst, ◌∙◌, arith}
+use Rattle.std.proofs.Common.{ℕ, rules, length, sym, ap, subst, ◌∙◌, arith}
 use Rattle.std.proofs.lemmas.List.{length-replicate}
 use Rattle.kahn_net.specs.Syntax.{network_of}
 use Rattle.ckpt_codec.specs.RecordText.{IsRecord}
@@ -7,6 +7,7 @@ use Rattle.ckpt_codec.specs.declared.lengths.TheConstants.{MAX_RETAINED_ITEMS}
 use Rattle.protocol.specs.NodeLaws.SizeLaws.{opening_within}
 use Rattle.protocol.specs.NodeLaws.LikeLaws.{opening_allowed}
 use Rattle.record.specs.RecordView.{RecordView}
+use Rattle.world.proofs.OpeningStores.{node_left}
 use Rattle.world.proofs.opening.open_node.Goals as goal
 
 pub open_store-requires-clause-written : goal.open_store-requires-clause-written
@@ -30,3 +31,14 @@ run_from-requires-clause-listed g c =
 pub run_from-requires-clause-named : goal.run_from-requires-clause-named
 run_from-requires-clause-named g c =
     ap (λ (kept : RecordView). kept.node) (c.in-Ok-open_store.ensures.record ∙ c.in-Ok.ensures)
+
+pub returns-in-Ok-run_from-clause-opened : goal.returns-in-Ok-run_from-clause-opened
+returns-in-Ok-run_from-clause-opened g c = record {
+  number_is = search rules;
+  view = search rules;
+  failures = search rules;
+  left = node_left _ _ c.in-Ok-run_from.node c.in-Ok-open_store.store _ _ c.in-Ok-run_from.ensures.same.1
+      c.in-Ok.ensures c.in-Ok-open_store.ensures.holds;
+  room = search rules;
+  fits = search rules;
+}

@@ -1,0 +1,83 @@
+use Rattle.std.proofs.Common.{ℕ, ◌≡◌, List, length, sym, ap, subst, ◌∙◌, rules}
+use Rattle.std.specs.Prelude.{IsTrue}
+use Rattle.gate_cell.specs.SplitCell.{slot_capacity_of, is_ready_of, failures_of}
+use Rattle.gate_cell.specs.SplitLayout.{slot_room_on}
+use Rattle.record.specs.RecordView.{RecordView}
+use Rattle.ckpt_codec.specs.HeaderText.{IsImageSpelled}
+use Rattle.ckpt_codec.specs.Lengths.{image_length}
+use Rattle.ckpt_store.proofs.Puts.{permanent_spelled}
+use Rattle.world.specs.OpeningWorld.{HasRoom}
+use Rattle.world.proofs.OpeningStores.{first_spelled, opened_record, opened_failures, opened_holds, fill_refusal, open_refusal, load_back}
+use Rattle.world.proofs.opening.open_store.Goals as goal
+
+pub has_room-requires : goal.has_room-requires
+has_room-requires g c =
+    subst (λ (r : RecordView). IsImageSpelled r.permanent) (sym c.kept.view_is)
+    (permanent_spelled c.args.kept.now c.requires.written)
+
+pub write_image-requires : goal.write_image-requires
+write_image-requires g c =
+    subst (λ (r : RecordView). IsImageSpelled r.permanent) (sym c.kept.view_is)
+    (permanent_spelled c.args.kept.now c.requires.written)
+
+pub returns-in-Err-fill-clause-refused : goal.returns-in-Err-fill-clause-refused
+returns-in-Err-fill-clause-refused g c =
+    let sectors = g.D.Disk.sector_count c.args.disk in
+    let found : IsTrue c.has_room.result = search rules in
+    let room : HasRoom sectors (image_length c.args.kept.now.permanent) =
+    subst (λ (r : RecordView). HasRoom sectors (image_length r.permanent)) c.kept.view_is (c.has_room.ensures.0 found) in
+    let long : length c.as_slice-2.result.now ≡ image_length c.args.kept.now.permanent =
+    ap (length {A = ℕ}) c.as_slice-2.ensures.value
+    ∙ (c.in-Ok-Ok.ensures'.long ∙ ap (λ (r : RecordView). image_length r.permanent) c.kept.view_is) in
+    fill_refusal sectors (image_length c.args.kept.now.permanent) (slot_capacity_of c.in-Ok.cell)
+    (length c.as_slice-2.result.now) _ _ (is_ready_of c.in-Ok.cell) _ c.in-Err-fill.fault c.from-in-Err-fill.result room
+    (ap slot_room_on c.in-Ok.ensures.setup.same_sectors) long c.in-Ok.ensures.formatted.ready
+    c.from-in-Err-fill.ensures c.in-Err-fill.ensures.too_large c.in-Err-fill.ensures.cause
+
+pub returns-in-Err-open-clause-refused : goal.returns-in-Err-open-clause-refused
+returns-in-Err-open-clause-refused g c =
+    let sectors = g.D.Disk.sector_count c.args.disk in
+    let found : IsTrue c.has_room.result = search rules in
+    let fill = c.in_default-fill.ensures in
+    open_refusal _ _ c.args.kept.now c.fill.new.self c.in-Err-open.refused.cell c.in-Err-open.refused.fault sectors
+    (image_length c.args.kept.now.permanent) c.in-Err-open.ensures.opens
+    (first_spelled c.args.kept.now c.kept.inside _ _ _ _ _ c.as_slice.result.now c.as_slice-2.result.now c.kept.view_is
+    c.in-Ok.ensures.formatted.holds fill.ok c.as_slice.ensures.value c.as_slice-2.ensures.value c.in-Ok-Ok.ensures.text
+    c.in-Ok-Ok.ensures'.text c.requires.written c.requires.alone c.requires.bounded)
+    (fill.cause.stays_ready ∙ c.in-Ok.ensures.formatted.ready)
+    (subst (λ (r : RecordView). HasRoom sectors (image_length r.permanent)) c.kept.view_is (c.has_room.ensures.0 found))
+
+pub returns-in-Err-open-clause-handed_back : goal.returns-in-Err-open-clause-handed_back
+returns-in-Err-open-clause-handed_back g c =
+    let fill = c.in_default-fill.ensures in
+    load_back _ _ g.D.Disk.sector_count g.D.Disk.failure_count c.args.disk c.close-in-Err-open.result c.fill.new.self
+    c.in-Err-open.refused.cell c.in-Err-open.refused.fault c.in-Err-open.ensures.opens
+    (fill.same_slot_room ∙ ap slot_room_on c.in-Ok.ensures.setup.same_sectors)
+    (ap (λ disk. slot_room_on (g.D.Disk.sector_count disk)) (sym c.close-in-Err-open.ensures))
+    (fill.cause.otherwise (λ e. absurd cc) ∙ c.in-Ok.ensures.failures)
+    (ap g.D.Disk.failure_count (sym c.close-in-Err-open.ensures))
+
+pub returns-clause-record : goal.returns-clause-record
+returns-clause-record g c =
+    let fill = c.in_default-fill.ensures in
+    opened_record _ _ c.args.kept.now c.fill.new.self c.in-Ok-open.store c.recount.new.self c.in-Ok-open.ensures.opens
+    c.recount.ensures.untouched
+    (first_spelled c.args.kept.now c.kept.inside _ _ _ _ _ c.as_slice.result.now c.as_slice-2.result.now c.kept.view_is
+    c.in-Ok.ensures.formatted.holds fill.ok c.as_slice.ensures.value c.as_slice-2.ensures.value c.in-Ok-Ok.ensures.text
+    c.in-Ok-Ok.ensures'.text c.requires.written c.requires.alone c.requires.bounded)
+
+pub returns-clause-failures : goal.returns-clause-failures
+returns-clause-failures g c =
+    let fill = c.in_default-fill.ensures in
+    opened_failures _ _ c.args.kept.now c.fill.new.self c.in-Ok-open.store c.recount.new.self
+    c.in-Ok-open.ensures.opens c.recount.ensures.untouched c.in-Ok-open.ensures.ready
+    ∙ (fill.cause.otherwise (λ e. absurd cc) ∙ c.in-Ok.ensures.failures)
+
+pub returns-clause-holds : goal.returns-clause-holds
+returns-clause-holds g c =
+    let fill = c.in_default-fill.ensures in
+    opened_holds _ _ c.args.kept.now c.fill.new.self c.in-Ok-open.store c.recount.new.self c.in-Ok-open.ensures.opens
+    c.recount.ensures.untouched
+    (first_spelled c.args.kept.now c.kept.inside _ _ _ _ _ c.as_slice.result.now c.as_slice-2.result.now c.kept.view_is
+    c.in-Ok.ensures.formatted.holds fill.ok c.as_slice.ensures.value c.as_slice-2.ensures.value c.in-Ok-Ok.ensures.text
+    c.in-Ok-Ok.ensures'.text c.requires.written c.requires.alone c.requires.bounded)
