@@ -1,23 +1,25 @@
 //! How a case's node is made.
 
-ghost use Rattle.std.specs.Prelude.{◌*◌, ◌^◌, ◌<◌};
+ghost use Rattle.std.specs.Prelude.{◌*◌, ◌^◌, ◌<◌, ◌≤◌};
 ghost use Rattle.sector_disk.specs.declared.TheConstants.{SECTOR_BYTES};
 
 use crate::settings::Settings;
+use ckpt_codec::{is_image, read_record, write_header, write_image};
 use ckpt_store::Store;
-use gate_cell::GateCell;
+use gate_cell::{SlotCell, SplitCell};
 use net_check::{Inputs, Net, bind, check};
 use net_text::{parse, parse_inputs};
 use node::Node;
+use record::Image;
 use sector_disk::{ArmedFault, MemDisk};
 use std::alloc::{AllocError, Global};
 use std::sync::Arc;
 
 /// A case's store.
-pub type CaseStore = Store<GateCell<MemDisk>>;
+pub type CaseStore = Store<SplitCell<MemDisk>>;
 
 /// A case's node.
-pub type CaseNode = Node<GateCell<MemDisk>>;
+pub type CaseNode = Node<SplitCell<MemDisk>>;
 
 /// The most sectors of a disk.
 const MAX_SECTORS: usize = 5_000;
@@ -40,13 +42,35 @@ pub fn inputs_of(alloc: Global, net: &Net, text: &str) -> anyhow::Result<Inputs>
     Ok(bind(alloc, net, parse_inputs(alloc, text)?)?)
 }
 
-/// A cell that holds a record's bytes.
-fn cell_of(alloc: Global, sectors: usize, record: &[u8]) -> anyhow::Result<GateCell<MemDisk>> {
+/// Fills a slot with an image.
+fn fill(
+    alloc: Global,
+    cell: &mut SplitCell<MemDisk>,
+    slot: usize,
+    image: &Image,
+) -> anyhow::Result<()>
+    requires { slot ≤ 1 }
+{
+    anyhow::ensure!(is_image(None, image), "an image that has no spelling");
+    let bytes = write_image(alloc, image)?;
+    cell.fill(slot, bytes.as_slice())?;
+    Ok(())
+}
+
+/// A cell that holds the record of these bytes: its header, its permanent image in slot 0, and a tentative one in slot 1.
+fn cell_of(alloc: Global, sectors: usize, record: &[u8]) -> anyhow::Result<SplitCell<MemDisk>> {
     anyhow::ensure!(sectors <= MAX_SECTORS, "{sectors} sectors are too many");
-    match GateCell::format(alloc, empty_disk(alloc, sectors)?, record) {
-        Ok(cell) => Ok(cell),
+    let kept = read_record(alloc, record)?;
+    let header = write_header(alloc, &kept, 0)?;
+    let mut cell = match SplitCell::format(alloc, empty_disk(alloc, sectors)?, header.as_slice()) {
+        Ok(cell) => cell,
         Err(_) => anyhow::bail!("the disk isn't formatted"),
+    };
+    fill(alloc, &mut cell, 0, &kept.permanent)?;
+    if let Some(held) = &kept.tentative {
+        fill(alloc, &mut cell, 1, &held.image)?;
     }
+    Ok(cell)
 }
 
 /// The store of these bytes.

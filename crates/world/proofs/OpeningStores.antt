@@ -1,7 +1,7 @@
 -- A store that was opened on a cell with a header and an image, and why none is.
-use Rattle.std.proofs.Common.{◌≡◌, ◌⊎◌, inl, inr, ℕ, ◌-◌, ◌<◌, ◌≤◌, Bool, true, false, List, length, Option, Some, None, refl, sym, ap, subst}
+use Rattle.std.proofs.Common.{◌≡◌, ◌⊎◌, inl, inr, ℕ, ◌<◌, ◌≤◌, Bool, true, false, List, Option, Some, None, refl, sym, ap, subst}
 use Rattle.std.proofs.Common.{◌∙◌, arith}
-use Rattle.std.specs.Prelude.{◌↔◌, Result, Ok, Err, IsSome, IsTrue, IsErrOf, nat_le}
+use Rattle.std.specs.Prelude.{◌↔◌, Result, Err, IsSome, IsTrue, IsErrOf, nat_le}
 use Rattle.std.proofs.lemmas.Bool.{cases_Bool, leb-true, leb-false, true≢false}
 use Rattle.std.proofs.lemmas.Option.{none-some}
 use Rattle.gate_cell.specs.CellFault.{HasCause}

@@ -24,7 +24,7 @@ use Rattle.protocol.specs.Node.Plans.{Prospect, Undue, becoming, if_due, packets
 use Rattle.protocol.specs.Node.Plans.{IsMade, IsPut}
 use Rattle.protocol.specs.Node.Recovering.{recover_prospect, restored, restored_mode}
 use Rattle.protocol.specs.declared.round_turns.RoundTurns.{RoundTurns}
-use Rattle.protocol.specs.World.EventView.{EventView, ByNode}
+use Rattle.protocol.specs.World.EventView.{EventView, ByNode, Deed}
 use Rattle.protocol.specs.World.EventView as event
 use Rattle.protocol.specs.World.Replies.{answer_by, back_reply, delivery_reply, grant_reply, has_happened, outcome_of}
 use Rattle.protocol.specs.World.ReplyView.{ReplyView}
@@ -256,6 +256,28 @@ delivered_traffic fits setting k place old new answer came =
         (sym (ap (map sending_of) (deliver_sends setting.net place (Some bytes) old (outcome_of answer))))
 
 -- the same where the network is the one behind a share, and the event is seen
+-- an event by which nothing is sent, and no packet came, leaves what is in flight
+pub nothing_sent : (setting : Setting) (k : ℕ) (deed : Deed) (seen : EventView) (station : StationView)
+    (traffic : Traffic) (result : Result Reply AllocError) → seen ≡ ByNode k deed → traffic ≡ setting.traffic
+    → (plan_of setting k deed station).came ≡ None
+    → ((came : Outcome) → packets_by (plan_of setting k deed station).prospect came ≡ [])
+    → IfOk result (λ (r : Reply). traffic ≡ traffic_after setting seen (reply_view r) (Some station))
+nothing_sent setting k deed seen station traffic (Err e) is same none sends = tt
+nothing_sent setting k deed seen station traffic (Ok r) is same none sends =
+    subst (λ (e : EventView). traffic ≡ traffic_after setting e (reply_view r) (Some station)) (sym is)
+    (same ∙ sym (after (has_happened (reply_view r))))
+  where
+    after : (b : Bool)
+        → cond b (all_sent setting.round
+        (map sending_of (packets_by (plan_of setting k deed station).prospect (outcome_of (reply_view r))))
+        (traffic_left setting.traffic k (plan_of setting k deed station).came)) setting.traffic
+        ≡ setting.traffic
+    after true =
+        ap (λ (ps : List Packet). all_sent setting.round (map sending_of ps)
+        (traffic_left setting.traffic k (plan_of setting k deed station).came)) (sends (outcome_of (reply_view r)))
+        ∙ ap (λ (o : Option ℕ). traffic_left setting.traffic k o) none
+    after false = refl
+
 pub delivered_in : (fits : RecordView → Bool) (setting : Setting) (k place : ℕ) (net : Network) (seen : EventView)
     (old new : StationView) (after : Traffic) (result : Result Reply AllocError)
     → net ≡ setting.net → seen ≡ ByNode k (event.Deliver place)

@@ -1,5 +1,5 @@
 -- What has left the stations of a list, after an event at one of them, and what a crash meanwhile leaves of each.
-use Rattle.std.proofs.Common.{◌≡◌, ◌⊎◌, inl, inr, ℕ, ◌<◌, Bool, List, ℤ, length, get_or, Option, map, refl, sym, ap}
+use Rattle.std.proofs.Common.{◌≡◌, ◌⊎◌, inl, inr, ℕ, ◌<◌, Bool, List, ℤ, length, get_or, map, refl, sym, ap}
 use Rattle.std.proofs.Common.{subst}
 use Rattle.std.specs.Prelude.{Result, Ok, Err, IfOk, OnErr, slice_set}
 use Rattle.std.specs.List.{AllZip}

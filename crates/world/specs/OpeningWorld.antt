@@ -1,5 +1,5 @@
 -- What a world is opened with: outputs, and a disk with room for the opening image; and why it isn't opened.
-use Rattle.std.specs.Prelude.{◌≡◌, ◌⊎◌, ◌<◌, ◌≤◌, ℕ, suc, ℤ, List, [], ◌∷◌, filter, map, Option, None}
+use Rattle.std.specs.Prelude.{◌≡◌, ◌⊎◌, ◌<◌, ◌≤◌, ℕ, suc, ℤ, List, [], ◌∷◌, filter, map, None}
 use Rattle.std.specs.List.{AllZip}
 use Rattle.kahn_net.specs.Nodes.{node_count}
 use Rattle.kahn_net.specs.Syntax.{Network}

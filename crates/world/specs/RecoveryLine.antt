@@ -1,6 +1,6 @@
 -- The recovery line of a world with an event: what a crash of all nodes may leave of their cells, and what is promised
 -- of it.
-use Rattle.std.specs.Prelude.{◌≡◌, ℕ, ℤ, List, [], ◌∷◌, map, Option}
+use Rattle.std.specs.Prelude.{◌≡◌, ℕ, ℤ, List, [], ◌∷◌, map}
 use Rattle.std.specs.List.{AllZip}
 use Rattle.kahn_net.specs.Syntax.{Network}
 use Rattle.gate_cell.specs.declared.cell.StableCell.{Ghosts as CellWords}

@@ -7,6 +7,8 @@ use Rattle.ckpt_codec.specs.declared.lengths.TheConstants.{MAX_RETAINED_ITEMS}
 use Rattle.protocol.specs.NodeLaws.SizeLaws.{opening_within}
 use Rattle.protocol.specs.NodeLaws.LikeLaws.{opening_allowed}
 use Rattle.record.specs.RecordView.{RecordView}
+use Rattle.ckpt_codec.specs.Lengths.{image_length}
+use Rattle.world.specs.OpeningWorld.{HasRoom}
 use Rattle.world.proofs.OpeningStores.{node_left}
 use Rattle.world.proofs.opening.open_node.Goals as goal
 
@@ -40,5 +42,6 @@ returns-in-Ok-run_from-clause-opened g c = record {
   left = node_left _ _ c.in-Ok-run_from.node c.in-Ok-open_store.store _ _ c.in-Ok-run_from.ensures.same.1
       c.in-Ok.ensures c.in-Ok-open_store.ensures.holds;
   room = search rules;
-  fits = search rules;
+  fits = subst (λ (r : RecordView). HasRoom (g.D.Disk.sector_count c.args.disk) (image_length r.permanent))
+      c.in-Ok.ensures c.in-Ok-open_store.ensures.fits;
 }

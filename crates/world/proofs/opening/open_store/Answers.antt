@@ -1,7 +1,7 @@
-use Rattle.std.proofs.Common.{ℕ, ◌≡◌, List, length, sym, ap, subst, ◌∙◌, rules}
+use Rattle.std.proofs.Common.{ℕ, ◌≡◌, length, sym, ap, subst, ◌∙◌, rules}
 use Rattle.std.specs.Prelude.{IsTrue}
-use Rattle.gate_cell.specs.SplitCell.{slot_capacity_of, is_ready_of, failures_of}
-use Rattle.gate_cell.specs.SplitLayout.{slot_room_on}
+use Rattle.gate_cell.specs.SplitCell.{slot_capacity_of, is_ready_of}
+use Rattle.gate_cell.specs.SplitLayout.{slot_room_on, whole_on}
 use Rattle.record.specs.RecordView.{RecordView}
 use Rattle.ckpt_codec.specs.HeaderText.{IsImageSpelled}
 use Rattle.ckpt_codec.specs.Lengths.{image_length}
@@ -41,7 +41,8 @@ returns-in-Err-open-clause-refused g c =
     let fill = c.in_default-fill.ensures in
     open_refusal _ _ c.args.kept.now c.fill.new.self c.in-Err-open.refused.cell c.in-Err-open.refused.fault sectors
     (image_length c.args.kept.now.permanent) c.in-Err-open.ensures.opens
-    (first_spelled c.args.kept.now c.kept.inside _ _ _ _ _ c.as_slice.result.now c.as_slice-2.result.now c.kept.view_is
+    (first_spelled c.args.kept.now _ _ _
+    (whole_on (g.D.Disk.sector_count c.args.disk) (g.D.Disk.content c.args.disk)) _ _ c.as_slice.result.now c.as_slice-2.result.now c.kept.view_is
     c.in-Ok.ensures.formatted.holds fill.ok c.as_slice.ensures.value c.as_slice-2.ensures.value c.in-Ok-Ok.ensures.text
     c.in-Ok-Ok.ensures'.text c.requires.written c.requires.alone c.requires.bounded)
     (fill.cause.stays_ready ∙ c.in-Ok.ensures.formatted.ready)
@@ -62,7 +63,8 @@ returns-clause-record g c =
     let fill = c.in_default-fill.ensures in
     opened_record _ _ c.args.kept.now c.fill.new.self c.in-Ok-open.store c.recount.new.self c.in-Ok-open.ensures.opens
     c.recount.ensures.untouched
-    (first_spelled c.args.kept.now c.kept.inside _ _ _ _ _ c.as_slice.result.now c.as_slice-2.result.now c.kept.view_is
+    (first_spelled c.args.kept.now _ _ _
+    (whole_on (g.D.Disk.sector_count c.args.disk) (g.D.Disk.content c.args.disk)) _ _ c.as_slice.result.now c.as_slice-2.result.now c.kept.view_is
     c.in-Ok.ensures.formatted.holds fill.ok c.as_slice.ensures.value c.as_slice-2.ensures.value c.in-Ok-Ok.ensures.text
     c.in-Ok-Ok.ensures'.text c.requires.written c.requires.alone c.requires.bounded)
 
@@ -78,6 +80,7 @@ returns-clause-holds g c =
     let fill = c.in_default-fill.ensures in
     opened_holds _ _ c.args.kept.now c.fill.new.self c.in-Ok-open.store c.recount.new.self c.in-Ok-open.ensures.opens
     c.recount.ensures.untouched
-    (first_spelled c.args.kept.now c.kept.inside _ _ _ _ _ c.as_slice.result.now c.as_slice-2.result.now c.kept.view_is
+    (first_spelled c.args.kept.now _ _ _
+    (whole_on (g.D.Disk.sector_count c.args.disk) (g.D.Disk.content c.args.disk)) _ _ c.as_slice.result.now c.as_slice-2.result.now c.kept.view_is
     c.in-Ok.ensures.formatted.holds fill.ok c.as_slice.ensures.value c.as_slice-2.ensures.value c.in-Ok-Ok.ensures.text
     c.in-Ok-Ok.ensures'.text c.requires.written c.requires.alone c.requires.bounded)

@@ -26,6 +26,6 @@ returns-clause-step g c =
       told = came.step;
       down = came.down;
       same = seen_moved seen _ _ _ _ _ came.same.1 refl
-          ∙ ap (λ (store : Store _ cell). moved_to node (cell.failure_count (cell_in store)) was.turns seen)
+          ∙ ap (λ (store : Store _ slots cell). moved_to node (cell.failure_count (cell_in store)) was.turns seen)
           came.same.0;
     })

@@ -19,5 +19,5 @@ returns-clause-step g c =
     (node_job (network_of c.args.net.now.value.program) c.args.inputs.now (view_of was.node)) granted.granted
     (station_view g.O.Outlet.taken g.O.Outlet.failures was) _ _ _ _ _ granted.ensures.job c.note_grant.ensures.reply
     granted.ensures.state c.grant.ensures.same.1
-    (ap (λ (store : Store _ cell). cell.failure_count (cell_in store)) c.grant.ensures.same.0)
+    (ap (λ (store : Store _ slots cell). cell.failure_count (cell_in store)) c.grant.ensures.same.0)
     c.note_grant.ensures.turns
