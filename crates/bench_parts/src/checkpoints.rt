@@ -1,5 +1,5 @@
 //! Checkpoints of growing images, as a store makes them: a line for each size, with the nanoseconds of taking a tentative image
-//! and of making it permanent, and the bytes of the record that each puts.
+//! and of making it permanent, and the bytes of image and header that each writes.
 
 ghost use Rattle.std.specs.Prelude.{◌*◌, ◌^◌, ◌<◌, length, IsTrue};
 ghost use Rattle.sector_disk.specs.declared.TheConstants.{SECTOR_BYTES};
@@ -7,15 +7,15 @@ ghost use Rattle.ckpt_store.specs.Spelling.{IsLike};
 
 use crate::clock::processor_nanos;
 use crate::records::spelling;
-use ckpt_codec::read_record;
+use ckpt_codec::{is_image, read_record, write_header, write_image};
 use ckpt_store::{Store, is_like};
-use gate_cell::{GateCell, SECTORS, StableCell};
+use gate_cell::{SECTORS, SlotCell, SplitCell, StableCell};
 use record::{Image, Record};
 use sector_disk::MemDisk;
 use std::alloc::{AllocError, Global};
 use std::time::CpuClock;
 
-type MemStore = Store<GateCell<MemDisk>>;
+type MemStore = Store<SplitCell<MemDisk>>;
 
 // A disk in memory of so many sectors.
 fn empty_disk(alloc: Global, sectors: usize) -> Result<MemDisk, AllocError>
@@ -24,12 +24,24 @@ fn empty_disk(alloc: Global, sectors: usize) -> Result<MemDisk, AllocError>
     MemDisk::new(alloc, sectors)
 }
 
+// The bytes of an image.
+fn image_bytes(alloc: Global, image: &Image) -> anyhow::Result<Vec<u8>> {
+    if !is_image(None, image) {
+        anyhow::bail!("no image");
+    }
+    Ok(write_image(alloc, image)?)
+}
+
 // A store of the record that these bytes spell.
 fn store_of(alloc: Global, bytes: &[u8]) -> anyhow::Result<MemStore> {
-    let cell = match GateCell::format(alloc, empty_disk(alloc, SECTORS)?, bytes) {
+    let kept = read_record(alloc, bytes)?;
+    let header = write_header(alloc, &kept, 0)?;
+    let image = image_bytes(alloc, &kept.permanent)?;
+    let mut cell = match SplitCell::format(alloc, empty_disk(alloc, SECTORS)?, header.as_slice()) {
         Ok(cell) => cell,
         Err((fault, _disk)) => return Err(fault.into()),
     };
+    cell.fill(0, image.as_slice())?;
     match Store::open(alloc, cell) {
         Ok(store) => Ok(store),
         Err(refused) => Err(refused.fault.into()),
@@ -82,10 +94,12 @@ fn decide(
     Ok(processor_nanos(rt)?.saturating_sub(before))
 }
 
-// The bytes of the record that a store keeps.
-fn record_bytes(store: MemStore) -> anyhow::Result<usize> {
+// How many bytes the header of a store has, and the image in slot 1.
+fn written_bytes(store: MemStore) -> anyhow::Result<(usize, usize)> {
     let mut cell = store.close();
-    Ok(cell.get()?.len())
+    let header = cell.get()?.len();
+    let image = cell.slot(1)?.len();
+    Ok((header, image))
 }
 
 fn measure_size(rt: &(impl Print + CpuClock), alloc: Global, items: u32) -> anyhow::Result<()> {
@@ -99,10 +113,11 @@ fn measure_size(rt: &(impl Print + CpuClock), alloc: Global, items: u32) -> anyh
         starting = starting.saturating_add(start(rt, alloc, &mut store, image, number)?);
         deciding = deciding.saturating_add(decide(rt, alloc, &mut store, number)?);
     }
-    let decided = record_bytes(store)?;
+    let (decided, _) = written_bytes(store)?;
     let mut store = store_of(alloc, &bytes)?;
     start(rt, alloc, &mut store, image_of(alloc, &bytes)?, 1)?;
-    let started = record_bytes(store)?;
+    let (header, image) = written_bytes(store)?;
+    let started = header.saturating_add(image);
     let starting = starting / times.max(1);
     let deciding = deciding / times.max(1);
     println!(rt; "{items} {starting} {started} {deciding} {decided}")?;
@@ -110,7 +125,7 @@ fn measure_size(rt: &(impl Print + CpuClock), alloc: Global, items: u32) -> anyh
 }
 
 pub fn measure(rt: &(impl Print + CpuClock), alloc: Global) -> anyhow::Result<()> {
-    for items in [0, 64, 512, 4096, 28_672, 57_344] {
+    for items in [100, 10_000, 57_000] {
         measure_size(rt, alloc, items)?;
     }
     Ok(())

@@ -37,9 +37,8 @@ use Rattle.world.specs.WorldView.{capacities, rooms, station_view}
 use Rattle.world.specs.OpeningWorld.{opening_length, HasNoRoom, IsOpeningRefusal, IsWorldRefusal}
 use Rattle.gate_cell.specs.declared.TheConstants.{SECTORS}
 use Rattle.world.specs.declared.event.Reply.{Reply}
-use Rattle.world.specs.declared.event.Reply.TheVariants.{Delivered, Dropped, Granted, Installed, Discarded, Sent}
-use Rattle.world.specs.declared.event.Reply.TheVariants.{Started, Decided, Refused, Released, OutletFailed, Crashed}
-use Rattle.world.specs.declared.event.Reply.TheVariants.{Recovered, InDoubt, Down, Acted, Idled, NotDue}
+use Rattle.world.specs.declared.event.Reply.TheVariants.{Granted}
+use Rattle.world.specs.declared.event.Reply.TheVariants.{Down}
 use Rattle.world.specs.declared.output.Output.{Output}
 use Rattle.world.specs.declared.station.Station.{Station}
 use Rattle.kahn_program.specs.Turning.{turn_node, CameTo, first_world, Follows, HasFailed, IsRunRoom, IsRunStep}
