@@ -1,2 +1,4 @@
+mod Acts
 mod Apart
+mod Forms
 mod Numerals

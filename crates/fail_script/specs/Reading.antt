@@ -1,15 +1,17 @@
 -- What the code reads of a script, function by function; `Lines` says what it should be.
-use Rattle.std.specs.Prelude.{◌≡◌, ℕ, suc, Bool, true, false, ◌&&◌, ◌==◌, if◌then◌else◌, not, nat_le, min, codes}
+use Rattle.std.specs.Prelude.{◌≡◌, ℕ, suc, Bool, true, false, ◌&&◌, ◌==◌, if◌then◌else◌, not, nat_le, nat_lt, min, codes}
 use Rattle.std.specs.Prelude.{List, [], ◌∷◌, length, map, Option, Some, None, Result, Ok, Err, get_or, option_and_then, option_map}
 use Rattle.std.specs.List.{slice_get, slice_split}
 use Rattle.net_text.specs.Numbers.{is_numeral, numeral_value}
-use Rattle.net_text.specs.InputLines.{is_space, is_comment}
-use Rattle.fail_script.specs.Lines.{words_of}
+use Rattle.net_text.specs.InputLines.{is_space, is_comment, IsBlank}
+use Rattle.fail_script.specs.Lines.{words_of, IsLineText, HasForm, IsInNetwork, IsFormless, NamesNoNode, IsBadLine}
 use Rattle.fail_script.specs.declared.act.Act.{Act}
 use Rattle.fail_script.specs.declared.act.Act.TheVariants.{Lose, Repeat, Delay, Crash, CrashAtDelivery, StopAtCall, FailCall, Start}
 use Rattle.fail_script.specs.declared.act.ScriptLine.{ScriptLine}
 use Rattle.fail_script.specs.declared.words.Form.{Form}
 use Rattle.fail_script.specs.declared.words.Form.TheVariants as form
+use Rattle.fail_script.specs.declared.fault.ScriptFault.{ScriptFault}
+use Rattle.fail_script.specs.declared.fault.ScriptFault.TheVariants.{NoMemory, BadLine, UnknownNode}
 use Rattle.fail_script.specs.declared.limits.TheConstants.{MAX_ROUND, MAX_COUNT, MAX_FILL, MAX_ROUNDS, BEYOND_NODES}
 
 -- a number from the least to the greatest
@@ -80,3 +82,54 @@ act_in form.StopAtCall words =
 act_in form.FailCall words =
     node_in (word words 1) >>= (λ k. number_in 1 MAX_COUNT (word words 3) >>= (λ n. Some (FailCall k n)))
 act_in form.Start words = node_in (word words 1) >>= (λ k. Some (Start k))
+
+-- the act with nodes as far as they are read
+abbrev pub node_cut : ℕ → ℕ
+node_cut node = min node BEYOND_NODES
+
+abbrev pub cut : Act → Act
+cut (Lose from to count) = Lose (node_cut from) (node_cut to) count
+cut (Repeat from to count) = Repeat (node_cut from) (node_cut to) count
+cut (Delay from to count rounds) = Delay (node_cut from) (node_cut to) count rounds
+cut (Crash node fill rounds) = Crash (node_cut node) fill rounds
+cut (CrashAtDelivery node count fill rounds) = CrashAtDelivery (node_cut node) count fill rounds
+cut (StopAtCall node count fill rounds) = StopAtCall (node_cut node) count fill rounds
+cut (FailCall node count) = FailCall (node_cut node) count
+cut (Start node) = Start (node_cut node)
+
+-- whether its nodes are among so many
+abbrev pub is_in_network : ℕ → Act → Bool
+is_in_network nodes (Lose from to count) = nat_lt from nodes && nat_lt to nodes
+is_in_network nodes (Repeat from to count) = nat_lt from nodes && nat_lt to nodes
+is_in_network nodes (Delay from to count rounds) = nat_lt from nodes && nat_lt to nodes
+is_in_network nodes (Crash node fill rounds) = nat_lt node nodes
+is_in_network nodes (CrashAtDelivery node count fill rounds) = nat_lt node nodes
+is_in_network nodes (StopAtCall node count fill rounds) = nat_lt node nodes
+is_in_network nodes (FailCall node count) = nat_lt node nodes
+is_in_network nodes (Start node) = nat_lt node nodes
+
+-- a line, with its act's nodes as far as they are read
+abbrev pub cut_line : ScriptLine → ScriptLine
+cut_line line = record { round = line.round; act = cut line.act }
+
+-- what is read of words: a line that they write, or nothing where they write none
+abbrev pub IsLineRead : List (List ℕ) → Option ScriptLine → Type 0
+IsLineRead words None = (v : ScriptLine) → IsLineText v words → ⊥
+IsLineRead words (Some line) = (v : ScriptLine) × IsLineText v words × (cut_line v ≡ line)
+
+-- what is read of a line behind one of this round
+abbrev pub IsTextRead : (nodes round : ℕ) → List ℕ → Option ScriptLine → Type 0
+IsTextRead nodes round text None = IsBlank text
+IsTextRead nodes round text (Some line) = HasForm round text line × IsInNetwork nodes line.act
+
+-- why it isn't read
+abbrev pub IsTextFault : (nodes number round : ℕ) → List ℕ → ScriptFault → Type 0
+IsTextFault nodes number round text NoMemory = Unit {0}
+IsTextFault nodes number round text (BadLine line) = (line ≡ number) × IsFormless round text
+IsTextFault nodes number round text (UnknownNode line) = (line ≡ number) × NamesNoNode nodes round text
+
+-- why lines aren't read
+abbrev pub IsLinesFault : (nodes : ℕ) → List (List ℕ) → ScriptFault → Type 0
+IsLinesFault nodes texts NoMemory = Unit {0}
+IsLinesFault nodes texts (BadLine line) = IsBadLine nodes texts line IsFormless
+IsLinesFault nodes texts (UnknownNode line) = IsBadLine nodes texts line (NamesNoNode nodes)

@@ -1,12 +1,17 @@
 //! What a line does.
 
-ghost use Rattle.std.specs.Prelude.{◌≡◌, map};
-ghost use Rattle.fail_script.specs.Reading.{packet_in, crash_in, act_in, has_form};
+ghost use Rattle.std.specs.Prelude.{◌≡◌, ◌||◌, map, IfOk, IfErr};
+ghost use Rattle.std.specs.List.{list_all};
+ghost use Rattle.net_text.specs.InputLines.{is_space, is_comment};
+ghost use Rattle.fail_script.specs.Reading.{packet_in, crash_in, act_in, has_form, is_in_network};
+ghost use Rattle.fail_script.specs.Reading.{IsLineRead, IsTextRead, IsTextFault};
 
-use crate::act::Act;
-use crate::limits::{MAX_COUNT, MAX_ROUNDS};
+use crate::act::{Act, ScriptLine};
+use crate::fault::ScriptFault;
+use crate::limits::{MAX_COUNT, MAX_ROUND, MAX_ROUNDS};
 use crate::numbers::{are_apart, byte_in, node_in, number_in};
-use crate::words::Form;
+use crate::words::{Form, form_of, words_of};
+use std::alloc::Global;
 
 // The two nodes of a packet, which differ, and its count.
 fn packet_in(from: &str, to: &str, count: &str) -> Option<(u8, u8, u32)>
@@ -91,4 +96,70 @@ pub fn act_of(form: Form, words: &[&str]) -> Option<Act>
             Some(Act::Start { node })
         }
     }
+}
+
+// Whether the nodes that an act names are among so many.
+fn is_in_network(act: &Act, nodes: u8) -> bool
+    ensures { result ≡ is_in_network nodes act.now }
+{
+    match act {
+        Act::Lose { from, to, .. } | Act::Repeat { from, to, .. } | Act::Delay { from, to, .. } => {
+            *from < nodes && *to < nodes
+        }
+        Act::Crash { node, .. }
+        | Act::CrashAtDelivery { node, .. }
+        | Act::StopAtCall { node, .. }
+        | Act::FailCall { node, .. }
+        | Act::Start { node } => *node < nodes,
+    }
+}
+
+// The line that words write.
+fn line_of(words: &[&str]) -> Option<ScriptLine>
+    ensures { IsLineRead (map (λ w. w.now) words.now) result }
+{
+    let [round, others @ ..] = words else {
+        return None;
+    };
+    let round = number_in(round, 0, MAX_ROUND)?;
+    let form = form_of(others)?;
+    let act = act_of(form, others)?;
+    Some(ScriptLine { round, act })
+}
+
+// Nothing but spaces, or a comment.
+fn is_blank(bytes: &[u8]) -> bool
+    ensures { result ≡ (list_all is_space bytes.now || is_comment bytes.now) }
+{
+    if bytes.is_empty() {
+        return true;
+    }
+    bytes[0] == b'#' || bytes.iter().all(|b| *b == b' ')
+}
+
+/// What is read of the line of this number, behind a line of this round, in a network of so many nodes.
+pub fn read_line(
+    alloc: Global,
+    text: &str,
+    number: usize,
+    nodes: u8,
+    round: u32,
+) -> Result<Option<ScriptLine>, ScriptFault>
+    ensures ok { IfOk result (IsTextRead nodes round text.now) }
+    ensures err { IfErr result (IsTextFault nodes number round text.now) }
+{
+    if is_blank(text.as_bytes()) {
+        return Ok(None);
+    }
+    let words = words_of(alloc, text)?;
+    let Some(line) = line_of(&words) else {
+        return Err(ScriptFault::BadLine { line: number });
+    };
+    if line.round < round {
+        return Err(ScriptFault::BadLine { line: number });
+    }
+    if !is_in_network(&line.act, nodes) {
+        return Err(ScriptFault::UnknownNode { line: number });
+    }
+    Ok(Some(line))
 }
