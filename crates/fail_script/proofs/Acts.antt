@@ -29,16 +29,16 @@ kept_else : {A : Type 0} (test : Bool) (x y : A) → cond test None (Some x) ≡
 kept_else false x y e = (refl, ap (inside x) e)
 kept_else true x y e = absurd cc
 
-node_read : (w : List ℕ) (a : ℕ) → node_in w ≡ Some a → (is_numeral w ≡ true) × (node_cut (numeral_value w) ≡ a)
+pub node_read : (w : List ℕ) (a : ℕ) → node_in w ≡ Some a → (is_numeral w ≡ true) × (node_cut (numeral_value w) ≡ a)
 node_read w a e = kept (is_numeral w) (min (numeral_value w) BEYOND_NODES) a e
 
-record IsNumber (least greatest : ℕ) (w : List ℕ) (n : ℕ) : Type 0 where
-  numeral : is_numeral w ≡ true
-  value : numeral_value w ≡ n
-  above : least ≤ n
-  below : n ≤ greatest
+pub record IsNumber (least greatest : ℕ) (w : List ℕ) (n : ℕ) : Type 0 where
+  pub numeral : is_numeral w ≡ true
+  pub value : numeral_value w ≡ n
+  pub above : least ≤ n
+  pub below : n ≤ greatest
 
-number_read : (least greatest : ℕ) (w : List ℕ) (n : ℕ) → number_in least greatest w ≡ Some n
+pub number_read : (least greatest : ℕ) (w : List ℕ) (n : ℕ) → number_in least greatest w ≡ Some n
     → IsNumber least greatest w n
 number_read least greatest w n e =
     let h = kept _ (numeral_value w) n e in
@@ -54,7 +54,7 @@ number_read least greatest w n e =
 node_reads : (w : List ℕ) (a : ℕ) → IsNumeralOf w a → node_in w ≡ Some (node_cut a)
 node_reads w a is = rw is.0 (ap (λ v. Some (node_cut v)) is.1)
 
-number_reads : (least greatest : ℕ) (w : List ℕ) (n : ℕ) → IsNumeralOf w n → least ≤ n → n ≤ greatest
+pub number_reads : (least greatest : ℕ) (w : List ℕ) (n : ℕ) → IsNumeralOf w n → least ≤ n → n ≤ greatest
     → number_in least greatest w ≡ Some n
 number_reads least greatest w n is above below =
     rw (is.0, within (numeral_value w) least greatest (rw is.1 above) (rw is.1 below)) (ap Some is.1)

@@ -1,4 +1,5 @@
 mod Acts
 mod Apart
 mod Forms
+mod LineLaws
 mod Numerals

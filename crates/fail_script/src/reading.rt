@@ -1,6 +1,6 @@
 //! What a line does.
 
-ghost use Rattle.std.specs.Prelude.{◌≡◌, ◌||◌, map, IfOk, IfErr};
+ghost use Rattle.std.specs.Prelude.{◌≡◌, ◌||◌, ◌∷◌, map, IfOk, IfErr};
 ghost use Rattle.std.specs.List.{list_all};
 ghost use Rattle.net_text.specs.InputLines.{is_space, is_comment};
 ghost use Rattle.fail_script.specs.Reading.{packet_in, crash_in, act_in, has_form, is_in_network};
@@ -114,17 +114,31 @@ fn is_in_network(act: &Act, nodes: u8) -> bool
     }
 }
 
-// The line that words write.
-fn line_of(words: &[&str]) -> Option<ScriptLine>
-    ensures { IsLineRead (map (λ w. w.now) words.now) result }
+// The line that a round and the words behind it write.
+fn line_with(round: &str, others: &[&str]) -> Option<ScriptLine>
+    ensures { IsLineRead (round.now ∷ map (λ w. w.now) others.now) result }
 {
-    let [round, others @ ..] = words else {
-        return None;
-    };
     let round = number_in(round, 0, MAX_ROUND)?;
     let form = form_of(others)?;
     let act = act_of(form, others)?;
     Some(ScriptLine { round, act })
+}
+
+// The line that words write.
+fn line_of(words: &[&str]) -> Option<ScriptLine>
+    ensures { IsLineRead (map (λ w. w.now) words.now) result }
+{
+    match words {
+        [round, others @ ..] => line_with(round, others),
+        [] => None,
+    }
+}
+
+// Nothing but spaces.
+fn are_spaces(bytes: &[u8]) -> bool
+    ensures { result ≡ list_all is_space bytes.now }
+{
+    bytes.iter().all(|b| *b == b' ')
 }
 
 // Nothing but spaces, or a comment.
@@ -134,7 +148,7 @@ fn is_blank(bytes: &[u8]) -> bool
     if bytes.is_empty() {
         return true;
     }
-    bytes[0] == b'#' || bytes.iter().all(|b| *b == b' ')
+    are_spaces(bytes) || bytes[0] == b'#'
 }
 
 /// What is read of the line of this number, behind a line of this round, in a network of so many nodes.
