@@ -3,3 +3,4 @@ mod Apart
 mod Forms
 mod LineLaws
 mod Numerals
+mod ScriptLaws

@@ -16,14 +16,14 @@ use Rattle.fail_script.specs.Reading.{has_form, act_in, number_in, node_cut, cut
 use Rattle.fail_script.proofs.Acts.{act_read, act_reads, number_read, number_reads}
 use Rattle.fail_script.proofs.Forms.{inside, same_form}
 
-head_of : {x y : List ℕ} {xs ys : List (List ℕ)} → x ∷ xs ≡ y ∷ ys → x ≡ y
+pub head_of : {x y : List ℕ} {xs ys : List (List ℕ)} → x ∷ xs ≡ y ∷ ys → x ≡ y
 head_of {x} e = ap (first x) e
   where
   first : List ℕ → List (List ℕ) → List ℕ
   first other [] = other
   first other (w ∷ ws) = w
 
-tail_of : {x y : List ℕ} {xs ys : List (List ℕ)} → x ∷ xs ≡ y ∷ ys → xs ≡ ys
+pub tail_of : {x y : List ℕ} {xs ys : List (List ℕ)} → x ∷ xs ≡ y ∷ ys → xs ≡ ys
 tail_of e = ap (drop 1) e
 
 -- words that begin with no number of a round write no line

@@ -1,6 +1,6 @@
 -- What the code reads of a script, function by function; `Lines` says what it should be.
 use Rattle.std.specs.Prelude.{◌≡◌, ℕ, suc, Bool, true, false, ◌&&◌, ◌==◌, if◌then◌else◌, not, nat_le, nat_lt, min, codes}
-use Rattle.std.specs.Prelude.{List, [], ◌∷◌, length, map, Option, Some, None, Result, Ok, Err, get_or, option_and_then, option_map}
+use Rattle.std.specs.Prelude.{List, [], ◌∷◌, ◌++◌, length, map, Option, Some, None, Result, Ok, Err, get_or, option_and_then, option_map}
 use Rattle.std.specs.List.{slice_get, slice_split}
 use Rattle.net_text.specs.Numbers.{is_numeral, numeral_value}
 use Rattle.net_text.specs.InputLines.{is_space, is_comment, IsBlank}
@@ -133,3 +133,13 @@ abbrev pub IsLinesFault : (nodes : ℕ) → List (List ℕ) → ScriptFault → 
 IsLinesFault nodes texts NoMemory = Unit {0}
 IsLinesFault nodes texts (BadLine line) = IsBadLine nodes texts line IsFormless
 IsLinesFault nodes texts (UnknownNode line) = IsBadLine nodes texts line (NamesNoNode nodes)
+
+-- the lines, with what was read of one more text
+abbrev pub lines_with : Option ScriptLine → List ScriptLine → List ScriptLine
+lines_with None lines = lines
+lines_with (Some line) lines = lines ++ line ∷ []
+
+-- the round of the last line then
+abbrev pub round_after : ℕ → Option ScriptLine → ℕ
+round_after round None = round
+round_after round (Some line) = line.round

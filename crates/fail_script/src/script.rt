@@ -1,10 +1,10 @@
 //! Reading a failure script.
 
-ghost use Rattle.std.specs.Prelude.{◌≡◌, ◌<◌, ◌^◌, ◌==◌, List, length, map, IfOk, IfErr};
+ghost use Rattle.std.specs.Prelude.{◌≡◌, ◌<◌, ◌^◌, ◌==◌, List, length, map, IfOk, IfErr, OnOk};
 ghost use Rattle.std.specs.List.{slice_split};
 ghost use Rattle.std.specs.Str.Lines.{strip_carriage_return};
 ghost use Rattle.fail_script.specs.Lines.{AreScriptLines, IsScript, IsScriptFault, AnswersLines, IsRefusedBy};
-ghost use Rattle.fail_script.specs.Reading.{IsLinesFault};
+ghost use Rattle.fail_script.specs.Reading.{IsLinesFault, lines_with, round_after};
 ghost use Rattle.fail_script.specs.declared.act.ScriptLine.{ScriptLine as LineValue};
 ghost use Rattle.fail_script.specs.declared.fault.ScriptFault.{ScriptFault as FaultValue};
 
@@ -26,6 +26,24 @@ fn without_return(line: &str) -> &str
     content
 }
 
+// Adds a line, if there is one, and gives the round of the last line then.
+fn add_line(
+    lines: &mut Vec<ScriptLine>,
+    line: Option<ScriptLine>,
+    round: u32,
+) -> Result<u32, AllocError>
+    ensures lines { OnOk result (lines.new.items ≡ lines_with line lines.old.items) }
+    ensures round { IfOk result (λ after. after ≡ round_after round line) }
+{
+    match line {
+        None => Ok(round),
+        Some(line) => {
+            lines.push(line)?;
+            Ok(line.round)
+        }
+    }
+}
+
 // The lines of these parts of a text, in a network of so many nodes.
 fn read_lines(alloc: Global, parts: &[&str], nodes: u8) -> Result<Vec<ScriptLine>, ScriptFault>
     requires { length parts.now < 2 ^ 63 }
@@ -37,10 +55,8 @@ fn read_lines(alloc: Global, parts: &[&str], nodes: u8) -> Result<Vec<ScriptLine
     let mut lines = Vec::new(alloc);
     let mut round = 0;
     for (i, part) in parts.iter().enumerate() {
-        if let Some(line) = read_line(alloc, without_return(part), i + 1, nodes, round)? {
-            lines.push(line)?;
-            round = line.round;
-        }
+        let line = read_line(alloc, without_return(part), i + 1, nodes, round)?;
+        round = add_line(&mut lines, line, round)?;
     }
     Ok(lines)
 }
