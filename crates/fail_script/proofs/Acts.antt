@@ -1,19 +1,22 @@
 -- What the code reads of a line's words is what they say.
-use Rattle.std.proofs.Common.{◌≡◌, ◌≢◌, ℕ, suc, zero, ◌+◌, ◌<◌, ◌≤◌, ◌==◌, ◌&&◌, Bool, true, false, cond, not, nat_le}
-use Rattle.std.proofs.Common.{List, [], ◌∷◌, length, get_or, IsTrue, rules, tests, refl, ap, arith, sym, ◌∙◌, subst}
-use Rattle.std.proofs.Common.{Option, Some, None, codes, min, option_and_then}
-use Rattle.std.specs.List.{AllZip, slice_get}
-use Rattle.std.proofs.lemmas.Bool.{eqb-true, eqb-false, eq-eqb, ne_eqb, and_parts}
+use Rattle.std.proofs.Common.{◌≡◌, ◌≢◌, ℕ, ◌≤◌, ◌==◌, ◌&&◌, Bool, true, false, cond, nat_le}
+use Rattle.std.proofs.Common.{List, [], ◌∷◌, length, rules, tests, refl, ap, arith, sym, ◌∙◌, subst}
+use Rattle.std.proofs.Common.{Option, Some, None, codes, min}
+use Rattle.std.specs.List.{slice_get}
+use Rattle.std.proofs.lemmas.Bool.{eqb-false, ne_eqb, and_parts}
 use Rattle.std.proofs.lemmas.Option.{get_or_from_slice_get}
 use Rattle.net_text.specs.Numbers.{is_numeral, numeral_value}
 use Rattle.fail_script.specs.declared.act.Act.{Act}
-use Rattle.fail_script.specs.declared.act.Act.TheVariants.{Lose, Repeat, Delay, Crash, CrashAtDelivery, StopAtCall, FailCall, Start}
+use Rattle.fail_script.specs.declared.act.Act.TheVariants.{Lose, Repeat, Delay, Crash, CrashAtDelivery, StopAtCall}
+use Rattle.fail_script.specs.declared.act.Act.TheVariants.{FailCall, Start}
 use Rattle.fail_script.specs.declared.words.Form.{Form}
 use Rattle.fail_script.specs.declared.words.Form.TheVariants as form
-use Rattle.fail_script.specs.declared.limits.TheConstants.{MAX_ROUND, MAX_COUNT, MAX_FILL, MAX_ROUNDS, BEYOND_NODES}
-use Rattle.fail_script.specs.Lines.{IsNumeralOf, AreNumeralsOf, IsActText, words_with, form_of, numbers_of, IsInRange, IsCount, AreRounds}
-use Rattle.fail_script.proofs.Forms.{inside, same_form}
-use Rattle.fail_script.specs.Reading.{has_form, word, act_in, node_in, number_in, packet_in, crash_in, node_cut, cut, ◌>>=◌}
+use Rattle.fail_script.specs.declared.limits.TheConstants.{MAX_COUNT, MAX_FILL, MAX_ROUNDS, BEYOND_NODES}
+use Rattle.fail_script.specs.Lines.{IsNumeralOf, AreNumeralsOf, IsActText, words_with, form_of, numbers_of, IsInRange}
+use Rattle.fail_script.specs.Lines.{IsCount, AreRounds}
+use Rattle.fail_script.proofs.Forms.{inside}
+use Rattle.fail_script.specs.Reading.{has_form, word, act_in, node_in, number_in, packet_in, crash_in, node_cut, cut}
+use Rattle.fail_script.specs.Reading.{◌>>=◌}
 
 bound : {A B : Type 0} (o : Option A) (f : A → Option B) (y : B) → (o >>= f) ≡ Some y
     → (x : A) × (o ≡ Some x) × (f x ≡ Some y)
@@ -59,8 +62,8 @@ pub number_reads : (least greatest : ℕ) (w : List ℕ) (n : ℕ) → IsNumeral
 number_reads least greatest w n is above below =
     rw (is.0, within (numeral_value w) least greatest (rw is.1 above) (rw is.1 below)) (ap Some is.1)
   where
-  within : (v least greatest : ℕ) → least ≤ v → v ≤ greatest → (nat_le v greatest && nat_le least v) ≡ true
-  within v least greatest above below = search (rules, tests)
+    within : (v least greatest : ℕ) → least ≤ v → v ≤ greatest → (nat_le v greatest && nat_le least v) ≡ true
+    within v least greatest above below = search (rules, tests)
 
 record IsPacketOf (from to count : List ℕ) (p : ℕ × ℕ × ℕ) : Type 0 where
   sender : is_numeral from ≡ true
@@ -84,7 +87,8 @@ packet_read from to count p e =
       sender_is = sender.1 ∙ ap (λ q. q.0) last.1;
       receiver_is = receiver.1 ∙ ap (λ q. q.1) last.1;
       apart = eqb-false _ _ last.0;
-      counted = subst (λ k. IsNumber 1 MAX_COUNT count k) (ap (λ q. q.2) last.1) (number_read 1 MAX_COUNT count n.0 n.1);
+      counted =
+          subst (λ k. IsNumber 1 MAX_COUNT count k) (ap (λ q. q.2) last.1) (number_read 1 MAX_COUNT count n.0 n.1);
     }
 
 crash_read : (fill rounds : List ℕ) (c : ℕ × ℕ) → crash_in fill rounds ≡ Some c
@@ -92,20 +96,28 @@ crash_read : (fill rounds : List ℕ) (c : ℕ × ℕ) → crash_in fill rounds 
 crash_read fill rounds c e =
     let f = bound (number_in 0 MAX_FILL fill) _ c e in
     let r = bound (number_in 1 MAX_ROUNDS rounds) _ c f.2 in
-    let both = ap (inside c) r.2 in
-    ( subst (λ k. IsNumber 0 MAX_FILL fill k) (ap (λ q. q.0) both) (number_read 0 MAX_FILL fill f.0 f.1),
-      subst (λ k. IsNumber 1 MAX_ROUNDS rounds k) (ap (λ q. q.1) both) (number_read 1 MAX_ROUNDS rounds r.0 r.1) )
+    let both = ap (inside c) r.2 in (
+      subst (λ k. IsNumber 0 MAX_FILL fill k) (ap (λ q. q.0) both) (number_read 0 MAX_FILL fill f.0 f.1),
+      subst (λ k. IsNumber 1 MAX_ROUNDS rounds k) (ap (λ q. q.1) both) (number_read 1 MAX_ROUNDS rounds r.0 r.1),
+    )
 
 packet_reads : (from to count : List ℕ) (a b n : ℕ) → IsNumeralOf from a → IsNumeralOf to b → IsNumeralOf count n
     → a ≢ b → IsCount n → packet_in from to count ≡ Some (node_cut a, node_cut b, n)
 packet_reads from to count a b n x y z apart counted =
-    rw (node_reads from a x, node_reads to b y, number_reads 1 MAX_COUNT count n z counted.0 counted.1, x.1, y.1,
-    ne_eqb a b apart) refl
+    rw (
+      node_reads from a x,
+      node_reads to b y,
+      number_reads 1 MAX_COUNT count n z counted.0 counted.1,
+      x.1,
+      y.1,
+      ne_eqb a b apart,
+    ) refl
 
 crash_reads : (fill rounds : List ℕ) (f r : ℕ) → IsNumeralOf fill f → IsNumeralOf rounds r → f ≤ MAX_FILL → AreRounds r
     → crash_in fill rounds ≡ Some (f, r)
 crash_reads fill rounds f r x y small within =
-    rw (number_reads 0 MAX_FILL fill f x (omega arith) small, number_reads 1 MAX_ROUNDS rounds r y within.0 within.1) refl
+    rw (number_reads 0 MAX_FILL fill f x (omega arith) small, number_reads 1 MAX_ROUNDS rounds r y within.0 within.1)
+    refl
 
 -- a list of words, one by one
 two : (ws : List (List ℕ)) → length ws ≡ 2 → ws ≡ word ws 0 ∷ word ws 1 ∷ []
@@ -131,7 +143,8 @@ five (a ∷ b ∷ c ∷ d ∷ []) long = absurd (omega arith)
 five (a ∷ b ∷ c ∷ d ∷ e ∷ []) long = refl
 five (a ∷ b ∷ c ∷ d ∷ e ∷ f ∷ ws) long = absurd (omega arith)
 
-six : (ws : List (List ℕ)) → length ws ≡ 6 → ws ≡ word ws 0 ∷ word ws 1 ∷ word ws 2 ∷ word ws 3 ∷ word ws 4 ∷ word ws 5 ∷ []
+six : (ws : List (List ℕ)) → length ws ≡ 6
+    → ws ≡ word ws 0 ∷ word ws 1 ∷ word ws 2 ∷ word ws 3 ∷ word ws 4 ∷ word ws 5 ∷ []
 six [] long = absurd (omega arith)
 six (a ∷ []) long = absurd (omega arith)
 six (a ∷ b ∷ []) long = absurd (omega arith)
@@ -153,56 +166,72 @@ numeral_of w is = (is.numeral, is.value)
 read_lose : (ws : List (List ℕ)) (act : Act) → has_form form.Lose ws → act_in form.Lose ws ≡ Some act → IsReadAs act ws
 read_lose ws act has e =
     let p = bound (packet_in (word ws 1) (word ws 2) (word ws 3)) _ act e in
-    let is = packet_read (word ws 1) (word ws 2) (word ws 3) p.0 p.1 in
-    ( Lose (numeral_value (word ws 1)) (numeral_value (word ws 2)) p.0.2,
-      ( word ws 1 ∷ word ws 2 ∷ word ws 3 ∷ [],
+    let is = packet_read (word ws 1) (word ws 2) (word ws 3) p.0 p.1 in (
+      Lose (numeral_value (word ws 1)) (numeral_value (word ws 2)) p.0.2,
+      (
+        word ws 1 ∷ word ws 2 ∷ word ws 3 ∷ [],
         four ws has.0 ∙ ap (λ w. w ∷ word ws 1 ∷ word ws 2 ∷ word ws 3 ∷ []) (word_at ws 0 _ has.1),
         ((is.sender, refl), ((is.receiver, refl), (numeral_of _ is.counted, tt))),
-        (is.apart, (is.counted.above, is.counted.below)) ),
+        (is.apart, (is.counted.above, is.counted.below)),
+      ),
       ap (λ a. Lose a (node_cut (numeral_value (word ws 2))) p.0.2) is.sender_is
-      ∙ ap (λ b. Lose p.0.0 b p.0.2) is.receiver_is ∙ ap (inside act) p.2 )
+          ∙ ap (λ b. Lose p.0.0 b p.0.2) is.receiver_is ∙ ap (inside act) p.2,
+    )
 
-read_repeat : (ws : List (List ℕ)) (act : Act) → has_form form.Repeat ws → act_in form.Repeat ws ≡ Some act → IsReadAs act ws
+read_repeat : (ws : List (List ℕ)) (act : Act) → has_form form.Repeat ws → act_in form.Repeat ws ≡ Some act
+    → IsReadAs act ws
 read_repeat ws act has e =
     let p = bound (packet_in (word ws 1) (word ws 2) (word ws 3)) _ act e in
-    let is = packet_read (word ws 1) (word ws 2) (word ws 3) p.0 p.1 in
-    ( Repeat (numeral_value (word ws 1)) (numeral_value (word ws 2)) p.0.2,
-      ( word ws 1 ∷ word ws 2 ∷ word ws 3 ∷ [],
+    let is = packet_read (word ws 1) (word ws 2) (word ws 3) p.0 p.1 in (
+      Repeat (numeral_value (word ws 1)) (numeral_value (word ws 2)) p.0.2,
+      (
+        word ws 1 ∷ word ws 2 ∷ word ws 3 ∷ [],
         four ws has.0 ∙ ap (λ w. w ∷ word ws 1 ∷ word ws 2 ∷ word ws 3 ∷ []) (word_at ws 0 _ has.1),
         ((is.sender, refl), ((is.receiver, refl), (numeral_of _ is.counted, tt))),
-        (is.apart, (is.counted.above, is.counted.below)) ),
+        (is.apart, (is.counted.above, is.counted.below)),
+      ),
       ap (λ a. Repeat a (node_cut (numeral_value (word ws 2))) p.0.2) is.sender_is
-      ∙ ap (λ b. Repeat p.0.0 b p.0.2) is.receiver_is ∙ ap (inside act) p.2 )
+          ∙ ap (λ b. Repeat p.0.0 b p.0.2) is.receiver_is ∙ ap (inside act) p.2,
+    )
 
-read_delay : (ws : List (List ℕ)) (act : Act) → has_form form.Delay ws → act_in form.Delay ws ≡ Some act → IsReadAs act ws
+read_delay : (ws : List (List ℕ)) (act : Act) → has_form form.Delay ws → act_in form.Delay ws ≡ Some act
+    → IsReadAs act ws
 read_delay ws act has e =
     let p = bound (packet_in (word ws 1) (word ws 2) (word ws 3)) _ act e in
     let is = packet_read (word ws 1) (word ws 2) (word ws 3) p.0 p.1 in
     let r = bound (number_in 1 MAX_ROUNDS (word ws 4)) _ act p.2 in
-    let late = number_read 1 MAX_ROUNDS (word ws 4) r.0 r.1 in
-    ( Delay (numeral_value (word ws 1)) (numeral_value (word ws 2)) p.0.2 r.0,
-      ( word ws 1 ∷ word ws 2 ∷ word ws 3 ∷ word ws 4 ∷ [],
+    let late = number_read 1 MAX_ROUNDS (word ws 4) r.0 r.1 in (
+      Delay (numeral_value (word ws 1)) (numeral_value (word ws 2)) p.0.2 r.0,
+      (
+        word ws 1 ∷ word ws 2 ∷ word ws 3 ∷ word ws 4 ∷ [],
         five ws has.0 ∙ ap (λ w. w ∷ word ws 1 ∷ word ws 2 ∷ word ws 3 ∷ word ws 4 ∷ []) (word_at ws 0 _ has.1),
         ((is.sender, refl), ((is.receiver, refl), (numeral_of _ is.counted, (numeral_of _ late, tt)))),
-        (is.apart, (is.counted.above, is.counted.below), (late.above, late.below)) ),
+        (is.apart, (is.counted.above, is.counted.below), (late.above, late.below)),
+      ),
       ap (λ a. Delay a (node_cut (numeral_value (word ws 2))) p.0.2 r.0) is.sender_is
-      ∙ ap (λ b. Delay p.0.0 b p.0.2 r.0) is.receiver_is ∙ ap (inside act) r.2 )
+          ∙ ap (λ b. Delay p.0.0 b p.0.2 r.0) is.receiver_is ∙ ap (inside act) r.2,
+    )
 
-read_crash : (ws : List (List ℕ)) (act : Act) → has_form form.Crash ws → act_in form.Crash ws ≡ Some act → IsReadAs act ws
+read_crash : (ws : List (List ℕ)) (act : Act) → has_form form.Crash ws → act_in form.Crash ws ≡ Some act
+    → IsReadAs act ws
 read_crash ws act has e =
     let k = bound (node_in (word ws 1)) _ act e in
     let node = node_read (word ws 1) k.0 k.1 in
     let c = bound (crash_in (word ws 3) (word ws 4)) _ act k.2 in
-    let is = crash_read (word ws 3) (word ws 4) c.0 c.1 in
-    ( Crash (numeral_value (word ws 1)) c.0.0 c.0.1,
-      ( word ws 1 ∷ word ws 3 ∷ word ws 4 ∷ [],
+    let is = crash_read (word ws 3) (word ws 4) c.0 c.1 in (
+      Crash (numeral_value (word ws 1)) c.0.0 c.0.1,
+      (
+        word ws 1 ∷ word ws 3 ∷ word ws 4 ∷ [],
         five ws has.0 ∙ ap (λ w. w ∷ word ws 1 ∷ word ws 2 ∷ word ws 3 ∷ word ws 4 ∷ []) (word_at ws 0 _ has.1)
-        ∙ ap (λ w. codes "crash" ∷ word ws 1 ∷ w ∷ word ws 3 ∷ word ws 4 ∷ []) (word_at ws 2 _ has.2),
+            ∙ ap (λ w. codes "crash" ∷ word ws 1 ∷ w ∷ word ws 3 ∷ word ws 4 ∷ []) (word_at ws 2 _ has.2),
         ((node.0, refl), (numeral_of _ is.0, (numeral_of _ is.1, tt))),
-        (is.0.below, (is.1.above, is.1.below)) ),
-      ap (λ a. Crash a c.0.0 c.0.1) node.1 ∙ ap (inside act) c.2 )
+        (is.0.below, (is.1.above, is.1.below)),
+      ),
+      ap (λ a. Crash a c.0.0 c.0.1) node.1 ∙ ap (inside act) c.2,
+    )
 
-read_delivery : (ws : List (List ℕ)) (act : Act) → has_form form.CrashAtDelivery ws → act_in form.CrashAtDelivery ws ≡ Some act
+read_delivery : (ws : List (List ℕ)) (act : Act) → has_form form.CrashAtDelivery ws
+    → act_in form.CrashAtDelivery ws ≡ Some act
     → IsReadAs act ws
 read_delivery ws act has e =
     let k = bound (node_in (word ws 1)) _ act e in
@@ -210,15 +239,18 @@ read_delivery ws act has e =
     let n = bound (number_in 1 MAX_COUNT (word ws 3)) _ act k.2 in
     let counted = number_read 1 MAX_COUNT (word ws 3) n.0 n.1 in
     let c = bound (crash_in (word ws 4) (word ws 5)) _ act n.2 in
-    let is = crash_read (word ws 4) (word ws 5) c.0 c.1 in
-    ( CrashAtDelivery (numeral_value (word ws 1)) n.0 c.0.0 c.0.1,
-      ( word ws 1 ∷ word ws 3 ∷ word ws 4 ∷ word ws 5 ∷ [],
+    let is = crash_read (word ws 4) (word ws 5) c.0 c.1 in (
+      CrashAtDelivery (numeral_value (word ws 1)) n.0 c.0.0 c.0.1,
+      (
+        word ws 1 ∷ word ws 3 ∷ word ws 4 ∷ word ws 5 ∷ [],
         six ws has.0
-        ∙ ap (λ w. w ∷ word ws 1 ∷ word ws 2 ∷ word ws 3 ∷ word ws 4 ∷ word ws 5 ∷ []) (word_at ws 0 _ has.1)
-        ∙ ap (λ w. codes "crash" ∷ word ws 1 ∷ w ∷ word ws 3 ∷ word ws 4 ∷ word ws 5 ∷ []) (word_at ws 2 _ has.2),
+            ∙ ap (λ w. w ∷ word ws 1 ∷ word ws 2 ∷ word ws 3 ∷ word ws 4 ∷ word ws 5 ∷ []) (word_at ws 0 _ has.1)
+            ∙ ap (λ w. codes "crash" ∷ word ws 1 ∷ w ∷ word ws 3 ∷ word ws 4 ∷ word ws 5 ∷ []) (word_at ws 2 _ has.2),
         ((node.0, refl), (numeral_of _ counted, (numeral_of _ is.0, (numeral_of _ is.1, tt)))),
-        ((counted.above, counted.below), is.0.below, (is.1.above, is.1.below)) ),
-      ap (λ a. CrashAtDelivery a n.0 c.0.0 c.0.1) node.1 ∙ ap (inside act) c.2 )
+        ((counted.above, counted.below), is.0.below, (is.1.above, is.1.below)),
+      ),
+      ap (λ a. CrashAtDelivery a n.0 c.0.0 c.0.1) node.1 ∙ ap (inside act) c.2,
+    )
 
 read_stop : (ws : List (List ℕ)) (act : Act) → has_form form.StopAtCall ws → act_in form.StopAtCall ws ≡ Some act
     → IsReadAs act ws
@@ -228,15 +260,18 @@ read_stop ws act has e =
     let n = bound (number_in 1 MAX_COUNT (word ws 3)) _ act k.2 in
     let counted = number_read 1 MAX_COUNT (word ws 3) n.0 n.1 in
     let c = bound (crash_in (word ws 4) (word ws 5)) _ act n.2 in
-    let is = crash_read (word ws 4) (word ws 5) c.0 c.1 in
-    ( StopAtCall (numeral_value (word ws 1)) n.0 c.0.0 c.0.1,
-      ( word ws 1 ∷ word ws 3 ∷ word ws 4 ∷ word ws 5 ∷ [],
+    let is = crash_read (word ws 4) (word ws 5) c.0 c.1 in (
+      StopAtCall (numeral_value (word ws 1)) n.0 c.0.0 c.0.1,
+      (
+        word ws 1 ∷ word ws 3 ∷ word ws 4 ∷ word ws 5 ∷ [],
         six ws has.0
-        ∙ ap (λ w. w ∷ word ws 1 ∷ word ws 2 ∷ word ws 3 ∷ word ws 4 ∷ word ws 5 ∷ []) (word_at ws 0 _ has.1)
-        ∙ ap (λ w. codes "crash" ∷ word ws 1 ∷ w ∷ word ws 3 ∷ word ws 4 ∷ word ws 5 ∷ []) (word_at ws 2 _ has.2),
+            ∙ ap (λ w. w ∷ word ws 1 ∷ word ws 2 ∷ word ws 3 ∷ word ws 4 ∷ word ws 5 ∷ []) (word_at ws 0 _ has.1)
+            ∙ ap (λ w. codes "crash" ∷ word ws 1 ∷ w ∷ word ws 3 ∷ word ws 4 ∷ word ws 5 ∷ []) (word_at ws 2 _ has.2),
         ((node.0, refl), (numeral_of _ counted, (numeral_of _ is.0, (numeral_of _ is.1, tt)))),
-        ((counted.above, counted.below), is.0.below, (is.1.above, is.1.below)) ),
-      ap (λ a. StopAtCall a n.0 c.0.0 c.0.1) node.1 ∙ ap (inside act) c.2 )
+        ((counted.above, counted.below), is.0.below, (is.1.above, is.1.below)),
+      ),
+      ap (λ a. StopAtCall a n.0 c.0.0 c.0.1) node.1 ∙ ap (inside act) c.2,
+    )
 
 read_fail : (ws : List (List ℕ)) (act : Act) → has_form form.FailCall ws → act_in form.FailCall ws ≡ Some act
     → IsReadAs act ws
@@ -244,23 +279,27 @@ read_fail ws act has e =
     let k = bound (node_in (word ws 1)) _ act e in
     let node = node_read (word ws 1) k.0 k.1 in
     let n = bound (number_in 1 MAX_COUNT (word ws 3)) _ act k.2 in
-    let counted = number_read 1 MAX_COUNT (word ws 3) n.0 n.1 in
-    ( FailCall (numeral_value (word ws 1)) n.0,
-      ( word ws 1 ∷ word ws 3 ∷ [],
+    let counted = number_read 1 MAX_COUNT (word ws 3) n.0 n.1 in (
+      FailCall (numeral_value (word ws 1)) n.0,
+      (
+        word ws 1 ∷ word ws 3 ∷ [],
         four ws has.0 ∙ ap (λ w. w ∷ word ws 1 ∷ word ws 2 ∷ word ws 3 ∷ []) (word_at ws 0 _ has.1)
-        ∙ ap (λ w. codes "fail" ∷ word ws 1 ∷ w ∷ word ws 3 ∷ []) (word_at ws 2 _ has.2),
+            ∙ ap (λ w. codes "fail" ∷ word ws 1 ∷ w ∷ word ws 3 ∷ []) (word_at ws 2 _ has.2),
         ((node.0, refl), (numeral_of _ counted, tt)),
-        (counted.above, counted.below) ),
-      ap (λ a. FailCall a n.0) node.1 ∙ ap (inside act) n.2 )
+        (counted.above, counted.below),
+      ),
+      ap (λ a. FailCall a n.0) node.1 ∙ ap (inside act) n.2,
+    )
 
 read_start : (ws : List (List ℕ)) (act : Act) → has_form form.Start ws → act_in form.Start ws ≡ Some act
     → IsReadAs act ws
 read_start ws act has e =
     let k = bound (node_in (word ws 1)) _ act e in
-    let node = node_read (word ws 1) k.0 k.1 in
-    ( Start (numeral_value (word ws 1)),
-      ( word ws 1 ∷ [], two ws has.0 ∙ ap (λ w. w ∷ word ws 1 ∷ []) (word_at ws 0 _ has.1), ((node.0, refl), tt), tt ),
-      ap Start node.1 ∙ ap (inside act) k.2 )
+    let node = node_read (word ws 1) k.0 k.1 in (
+      Start (numeral_value (word ws 1)),
+      (word ws 1 ∷ [], two ws has.0 ∙ ap (λ w. w ∷ word ws 1 ∷ []) (word_at ws 0 _ has.1), ((node.0, refl), tt), tt),
+      ap Start node.1 ∙ ap (inside act) k.2,
+    )
 
 -- what is read of words is what they say, but for nodes beyond all
 pub act_read : (f : Form) (ws : List (List ℕ)) (act : Act) → has_form f ws → act_in f ws ≡ Some act → IsReadAs act ws
@@ -311,8 +350,10 @@ reads_delay a b c d (x ∷ y ∷ z ∷ []) are within = absurd are.1.1.1
 reads_delay a b c d (x ∷ y ∷ z ∷ u ∷ []) are within =
     record {
       has = (refl, refl);
-      gives = rw (packet_reads x y z a b c are.0 are.1.0 are.1.1.0 within.0 within.1,
-      number_reads 1 MAX_ROUNDS u d are.1.1.1.0 within.2.0 within.2.1) refl;
+      gives = rw (
+        packet_reads x y z a b c are.0 are.1.0 are.1.1.0 within.0 within.1,
+        number_reads 1 MAX_ROUNDS u d are.1.1.1.0 within.2.0 within.2.1,
+      ) refl;
     }
 reads_delay a b c d (x ∷ y ∷ z ∷ u ∷ (v ∷ vs)) are within = absurd are.1.1.1.1
 
@@ -337,8 +378,11 @@ reads_delivery a b c d (x ∷ y ∷ z ∷ []) are within = absurd are.1.1.1
 reads_delivery a b c d (x ∷ y ∷ z ∷ u ∷ []) are within =
     record {
       has = (refl, refl, refl);
-      gives = rw (node_reads x a are.0, number_reads 1 MAX_COUNT y b are.1.0 within.0.0 within.0.1,
-      crash_reads z u c d are.1.1.0 are.1.1.1.0 within.1 within.2) refl;
+      gives = rw (
+        node_reads x a are.0,
+        number_reads 1 MAX_COUNT y b are.1.0 within.0.0 within.0.1,
+        crash_reads z u c d are.1.1.0 are.1.1.1.0 within.1 within.2,
+      ) refl;
     }
 reads_delivery a b c d (x ∷ y ∷ z ∷ u ∷ (v ∷ vs)) are within = absurd are.1.1.1.1
 
@@ -351,8 +395,11 @@ reads_stop a b c d (x ∷ y ∷ z ∷ []) are within = absurd are.1.1.1
 reads_stop a b c d (x ∷ y ∷ z ∷ u ∷ []) are within =
     record {
       has = (refl, refl, refl);
-      gives = rw (node_reads x a are.0, number_reads 1 MAX_COUNT y b are.1.0 within.0.0 within.0.1,
-      crash_reads z u c d are.1.1.0 are.1.1.1.0 within.1 within.2) refl;
+      gives = rw (
+        node_reads x a are.0,
+        number_reads 1 MAX_COUNT y b are.1.0 within.0.0 within.0.1,
+        crash_reads z u c d are.1.1.0 are.1.1.1.0 within.1 within.2,
+      ) refl;
     }
 reads_stop a b c d (x ∷ y ∷ z ∷ u ∷ (v ∷ vs)) are within = absurd are.1.1.1.1
 
@@ -383,7 +430,8 @@ reads_numerals (Lose from to count) xs are within = reads_lose from to count xs 
 reads_numerals (Repeat from to count) xs are within = reads_repeat from to count xs are within
 reads_numerals (Delay from to count rounds) xs are within = reads_delay from to count rounds xs are within
 reads_numerals (Crash node fill rounds) xs are within = reads_crash node fill rounds xs are within
-reads_numerals (CrashAtDelivery node count fill rounds) xs are within = reads_delivery node count fill rounds xs are within
+reads_numerals (CrashAtDelivery node count fill rounds) xs are within =
+    reads_delivery node count fill rounds xs are within
 reads_numerals (StopAtCall node count fill rounds) xs are within = reads_stop node count fill rounds xs are within
 reads_numerals (FailCall node count) xs are within = reads_fail node count xs are within
 reads_numerals (Start node) xs are within = reads_start node xs are within

@@ -1,6 +1,6 @@
 -- Two numerals write different numbers exactly where they differ but for the zeros in front.
-use Rattle.std.proofs.Common.{◌≡◌, ◌≢◌, ℕ, suc, zero, ◌+◌, ◌*◌, ◌^◌, ◌<◌, ◌≤◌, ◌==◌, ◌/◌, ◌%◌, Bool, true, false, not}
-use Rattle.std.proofs.Common.{List, [], ◌∷◌, length, IsTrue, rules, tests, refl, ap, arith, sym, ◌∙◌, inl, inr, cond, get_or}
+use Rattle.std.proofs.Common.{◌≡◌, ◌≢◌, ℕ, suc, zero, ◌+◌, ◌*◌, ◌^◌, ◌<◌, ◌≤◌, ◌==◌, ◌/◌, ◌%◌, Bool, true, false}
+use Rattle.std.proofs.Common.{List, [], ◌∷◌, length, rules, refl, ap, arith, sym, ◌∙◌, inl, inr, cond, get_or}
 use Rattle.std.proofs.lemmas.Bool.{eqb-true, eqb-false, eq-eqb, ne_eqb, cases_lt, and_parts}
 use Rattle.std.proofs.lemmas.Int.Digits.{digits_value-lt}
 use Rattle.std.proofs.lemmas.Nat.{div-mul-add, mod-mul-add}
@@ -82,25 +82,29 @@ same_digits (a ∷ xs) (b ∷ ys) x y long same =
     sym (others_of a xs (are_digits xs one.1))
     ∙ ap (λ v. v % 10 ^ length xs) same ∙ ap (λ k. digits_value 10 (b ∷ ys) % 10 ^ k) as_long
     ∙ others_of b ys (are_digits ys other.1) in
-    ap (λ c. c ∷ xs) (digit_of a b one.0 other.0 fronts) ∙ ap (λ cs. b ∷ cs) (same_digits xs ys one.1 other.1 as_long rests)
+    ap (λ c. c ∷ xs) (digit_of a b one.0 other.0 fronts)
+    ∙ ap (λ cs. b ∷ cs) (same_digits xs ys one.1 other.1 as_long rests)
   where
-  suc_inside : {m n : ℕ} → suc m ≡ suc n → m ≡ n
-  suc_inside e = omega arith
+    suc_inside : {m n : ℕ} → suc m ≡ suc n → m ≡ n
+    suc_inside e = omega arith
 
 -- digits behind no zero write at least as much as their number of places says
 large_front : (b : ℕ) (bs : List ℕ) → is_ascii_digit b ≡ true → b ≢ 48 → 10 ^ length bs ≤ digits_value 10 (b ∷ bs)
 large_front b bs digit some =
     let value = digit_value_digit b (digit_bounds b digit) in
-    rw (front_value b bs) (above (digit_value b) (10 ^ length bs) (digits_value 10 bs) (past b (digit_value b) value some))
+    rw (front_value b bs)
+    (above (digit_value b) (10 ^ length bs) (digits_value 10 bs) (past b (digit_value b) value some))
   where
-  past : (b d : ℕ) → d + 48 ≡ b → b ≢ 48 → 1 ≤ d
-  past b d e some = omega (arith, some)
-  above : (d p v : ℕ) → 1 ≤ d → p ≤ d * p + v
-  above zero p v some = absurd (omega arith)
-  above (suc d) p v some = omega arith
+    past : (b d : ℕ) → d + 48 ≡ b → b ≢ 48 → 1 ≤ d
+    past b d e some = omega (arith, some)
+
+    above : (d p v : ℕ) → 1 ≤ d → p ≤ d * p + v
+    above zero p v some = absurd (omega arith)
+    above (suc d) p v some = omega arith
 
 -- the zeros in front are gone
-no_zero_at : (b : ℕ) (bs rest : List ℕ) (zero : Bool) → (b == 48) ≡ zero → ((rest : List ℕ) → without_zeros bs ≢ 48 ∷ rest)
+no_zero_at : (b : ℕ) (bs rest : List ℕ) (zero : Bool) → (b == 48) ≡ zero
+    → ((rest : List ℕ) → without_zeros bs ≢ 48 ∷ rest)
     → cond zero (without_zeros bs) (b ∷ bs) ≢ 48 ∷ rest
 no_zero_at b bs rest true e others same = others rest same
 no_zero_at b bs rest false e others same = eqb-false b 48 e (ap (λ xs. get_or xs 0 0) same)
@@ -114,10 +118,10 @@ plain_digits [] digits = refl
 plain_digits (b ∷ bs) digits =
     plain_at _ _ (b == 48) (plain_digits bs (and_parts (is_ascii_digit b) (list_all is_ascii_digit bs) digits).1) digits
   where
-  plain_at : (xs ys : List ℕ) (zero : Bool) → list_all is_ascii_digit xs ≡ true → list_all is_ascii_digit ys ≡ true
-      → list_all is_ascii_digit (cond zero xs ys) ≡ true
-  plain_at xs ys true x y = x
-  plain_at xs ys false x y = y
+    plain_at : (xs ys : List ℕ) (zero : Bool) → list_all is_ascii_digit xs ≡ true → list_all is_ascii_digit ys ≡ true
+        → list_all is_ascii_digit (cond zero xs ys) ≡ true
+    plain_at xs ys true x y = x
+    plain_at xs ys false x y = y
 
 -- fewer places without zeros in front write less
 fewer_less : (xs ys : List ℕ) → list_all is_ascii_digit xs ≡ true → list_all is_ascii_digit ys ≡ true
@@ -130,8 +134,8 @@ fewer_less xs (b ∷ ys) x y plain fewer =
     let large = large_front b ys parts.0 (λ e. plain ys (ap (λ c. c ∷ ys) e)) in
     omega (arith, small, room, large)
   where
-  shorter : {m n : ℕ} → m < suc n → m ≤ n
-  shorter lt = omega arith
+    shorter : {m n : ℕ} → m < suc n → m ≤ n
+    shorter lt = omega arith
 
 -- one value, one list of digits
 same_plain : (xs ys : List ℕ) → list_all is_ascii_digit xs ≡ true → list_all is_ascii_digit ys ≡ true
@@ -160,7 +164,7 @@ pub told_apart : (xs ys : List ℕ) → is_numeral xs ≡ true → is_numeral ys
     → pointwise nat_eq (without_zeros xs) (without_zeros ys) ≡ (numeral_value xs == numeral_value ys)
 told_apart xs ys x y = told (pointwise nat_eq (without_zeros xs) (without_zeros ys)) refl
   where
-  told : (r : Bool) → r ≡ pointwise nat_eq (without_zeros xs) (without_zeros ys)
-      → r ≡ (numeral_value xs == numeral_value ys)
-  told true same = sym (eq-eqb _ _ (same_plainly xs ys (same_text _ _ same)))
-  told false differ = sym (ne_eqb _ _ (λ e. other_text _ _ differ (same_value xs ys x y e)))
+    told : (r : Bool) → r ≡ pointwise nat_eq (without_zeros xs) (without_zeros ys)
+        → r ≡ (numeral_value xs == numeral_value ys)
+    told true same = sym (eq-eqb _ _ (same_plainly xs ys (same_text _ _ same)))
+    told false differ = sym (ne_eqb _ _ (λ e. other_text _ _ differ (same_value xs ys x y e)))

@@ -1,8 +1,6 @@
 -- Words have one form at most, and those of a line have its own.
-use Rattle.std.proofs.Common.{◌≡◌, ◌≢◌, ℕ, suc, zero, ◌+◌, ◌<◌, ◌≤◌, ◌==◌, Bool, true, false, List, [], ◌∷◌, length, get_or}
-use Rattle.std.proofs.Common.{IsTrue, rules, tests, refl, ap, arith, sym, ◌∙◌, Option, Some, None, codes, min}
-use Rattle.std.specs.List.{AllZip, slice_get}
-use Rattle.net_text.specs.Numbers.{is_numeral, numeral_value}
+use Rattle.std.proofs.Common.{◌≡◌, ◌≢◌, ℕ, List, get_or}
+use Rattle.std.proofs.Common.{rules, refl, ap, arith, sym, ◌∙◌, Option, Some, None}
 use Rattle.fail_script.specs.declared.words.Form.{Form}
 use Rattle.fail_script.specs.declared.words.Form.TheVariants as form
 use Rattle.fail_script.specs.Reading.{has_form, word}
@@ -55,14 +53,16 @@ same_form form.CrashAtDelivery form.Repeat words x y = absurd (omega (arith, x.0
 same_form form.CrashAtDelivery form.Delay words x y = absurd (omega (arith, x.0, y.0))
 same_form form.CrashAtDelivery form.Crash words x y = absurd (omega (arith, x.0, y.0))
 same_form form.CrashAtDelivery form.CrashAtDelivery words x y = refl
-same_form form.CrashAtDelivery form.StopAtCall words x y = absurd (differ x.2 y.2 (λ e. absurd (omega (arith, ap third e))))
+same_form form.CrashAtDelivery form.StopAtCall words x y =
+    absurd (differ x.2 y.2 (λ e. absurd (omega (arith, ap third e))))
 same_form form.CrashAtDelivery form.FailCall words x y = absurd (omega (arith, x.0, y.0))
 same_form form.CrashAtDelivery form.Start words x y = absurd (omega (arith, x.0, y.0))
 same_form form.StopAtCall form.Lose words x y = absurd (omega (arith, x.0, y.0))
 same_form form.StopAtCall form.Repeat words x y = absurd (omega (arith, x.0, y.0))
 same_form form.StopAtCall form.Delay words x y = absurd (omega (arith, x.0, y.0))
 same_form form.StopAtCall form.Crash words x y = absurd (omega (arith, x.0, y.0))
-same_form form.StopAtCall form.CrashAtDelivery words x y = absurd (differ x.2 y.2 (λ e. absurd (omega (arith, ap third e))))
+same_form form.StopAtCall form.CrashAtDelivery words x y =
+    absurd (differ x.2 y.2 (λ e. absurd (omega (arith, ap third e))))
 same_form form.StopAtCall form.StopAtCall words x y = refl
 same_form form.StopAtCall form.FailCall words x y = absurd (omega (arith, x.0, y.0))
 same_form form.StopAtCall form.Start words x y = absurd (omega (arith, x.0, y.0))

@@ -1,8 +1,8 @@
 -- What std reads of a numeral is the number that it writes, or the number is too large.
-use Rattle.std.proofs.Common.{◌≡◌, ℕ, ◌^◌, ◌<◌, ◌≤◌, ◌==◌, Bool, true, false, List, [], ◌∷◌, length, Result, Ok, Err, inl, inr, rules, tests, refl, ap, nat_le, arith, Some, None}
+use Rattle.std.proofs.Common.{◌≡◌, ℕ, ◌^◌, ◌<◌, ◌≤◌, ◌==◌, true, false, List, [], ◌∷◌, length, Err, inl, inr, rules}
+use Rattle.std.proofs.Common.{tests, refl, ap, nat_le, arith, Some, None}
 use Rattle.std.proofs.lemmas.Bool.{cases_lt}
 use Rattle.std.specs.List.{list_all}
-use Rattle.std.specs.Result.{OkIff}
 use Rattle.std.specs.Char.{is_ascii_digit}
 use Rattle.std.specs.Str.Parse.{ParsesUnsigned, digits_value}
 use Rattle.std.proofs.lemmas.Str.Parse.{IsNumeralModel, numerals_by_value, parse_digits}
@@ -43,5 +43,5 @@ pub number_beyond : (least greatest : ℕ) (bs : List ℕ) → is_numeral bs ≡
     → 2 ^ 32 ≤ numeral_value bs → number_in least greatest bs ≡ None
 number_beyond least greatest bs numeral small large = rw (numeral, beyond) refl
   where
-  beyond : nat_le (numeral_value bs) greatest ≡ false
-  beyond = search (rules, tests)
+    beyond : nat_le (numeral_value bs) greatest ≡ false
+    beyond = search (rules, tests)

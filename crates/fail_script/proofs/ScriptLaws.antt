@@ -1,21 +1,21 @@
 -- A script has one list of lines, or one fault.
-use Rattle.std.proofs.Common.{◌≡◌, ◌≢◌, ℕ, suc, zero, ◌<◌, ◌≤◌, ◌+◌, ◌==◌, Bool, true, false, List, [], ◌∷◌, ◌++◌, drop, length, take}
-use Rattle.std.proofs.Common.{rules, tests, refl, ap, arith, sym, ◌∙◌, subst, Option, Some, None, inl, inr, append_assoc, ◌⊎◌}
+use Rattle.std.proofs.Common.{◌≡◌, ℕ, suc, ◌<◌, ◌≤◌, ◌+◌, ◌==◌, true, List, [], ◌∷◌, ◌++◌, drop, length, take}
+use Rattle.std.proofs.Common.{rules, refl, ap, arith, sym, ◌∙◌, subst, Option, Some, None, inl, inr, ◌⊎◌}
 use Rattle.std.proofs.Common.{Bor, get_or, map, add-one, drop-cons}
 use Rattle.std.proofs.Math.Seq.{take-suc}
 use Rattle.std.proofs.lemmas.List.{map-append, take-append-drop, length-map, length-take-le}
 use Rattle.std.specs.List.{slice_split}
 use Rattle.std.specs.Str.Lines.{strip_carriage_return}
 use Rattle.net_text.specs.InputLines.{IsBlank, lines_of}
-use Rattle.fail_script.specs.declared.act.Act.{Act}
 use Rattle.fail_script.specs.declared.act.ScriptLine.{ScriptLine}
-use Rattle.fail_script.specs.declared.words.Form.{Form}
 use Rattle.fail_script.specs.declared.fault.ScriptFault.{ScriptFault}
 use Rattle.fail_script.specs.declared.fault.ScriptFault.TheVariants.{NoMemory, BadLine, UnknownNode}
 use Rattle.fail_script.specs.declared.limits.TheConstants.{BEYOND_NODES, MAX_SCRIPT_BYTES}
-use Rattle.fail_script.specs.Lines.{words_of, form_of, IsActText, IsLineText, HasForm, IsInNetwork, AreScriptLines, last_round}
+use Rattle.fail_script.specs.Lines.{words_of, form_of, IsActText, IsLineText, HasForm, IsInNetwork, AreScriptLines}
+use Rattle.fail_script.specs.Lines.{last_round}
 use Rattle.fail_script.specs.Lines.{IsFormless, NamesNoNode, IsBadLine, IsScript, IsScriptFault}
-use Rattle.fail_script.specs.Reading.{cut, act_in, is_in_network, IsTextRead, IsTextFault, IsLinesFault, lines_with, round_after}
+use Rattle.fail_script.specs.Reading.{cut, act_in, is_in_network, IsTextRead, IsTextFault, IsLinesFault, lines_with}
+use Rattle.fail_script.specs.Reading.{round_after}
 use Rattle.fail_script.proofs.Acts.{act_reads}
 use Rattle.fail_script.proofs.Forms.{inside, same_form}
 use Rattle.fail_script.proofs.LineLaws.{head_of, tail_of, same_round, within_network, network_seen}
@@ -25,24 +25,38 @@ pub grows : (nodes round : ℕ) (texts : List (List ℕ)) (lines : List ScriptLi
     → AreScriptLines nodes round texts lines → HasForm (last_round round lines) text line → IsInNetwork nodes line.act
     → AreScriptLines nodes round (texts ++ text ∷ []) (lines ++ line ∷ [])
 grows nodes round [] lines text line are form within =
-    inr (line, [], ap (λ ls. ls ++ line ∷ []) are,
-    subst (λ ls. HasForm (last_round round ls) text line) are form, within, refl)
+    inr (
+      line,
+      [],
+      ap (λ ls. ls ++ line ∷ []) are,
+      subst (λ ls. HasForm (last_round round ls) text line) are form,
+      within,
+      refl,
+    )
 grows nodes round (t ∷ texts) lines text line (inl blank) form within =
     inl (blank.0, grows nodes round texts lines text line blank.1 form within)
 grows nodes round (t ∷ texts) lines text line (inr are) form within =
-    inr (are.0, are.1 ++ line ∷ [], ap (λ ls. ls ++ line ∷ []) are.2, are.3, are.4,
-    grows nodes are.0.round texts are.1 text line are.5
-    (subst (λ ls. HasForm (last_round round ls) text line) are.2 form) within)
+    inr (
+      are.0,
+      are.1 ++ line ∷ [],
+      ap (λ ls. ls ++ line ∷ []) are.2,
+      are.3,
+      are.4,
+      grows nodes are.0.round texts are.1 text line are.5
+          (subst (λ ls. HasForm (last_round round ls) text line) are.2 form) within,
+    )
 
 -- a blank line more
 pub grows_blank : (nodes round : ℕ) (texts : List (List ℕ)) (lines : List ScriptLine) (text : List ℕ)
     → AreScriptLines nodes round texts lines → IsBlank text → AreScriptLines nodes round (texts ++ text ∷ []) lines
 grows_blank nodes round [] lines text are blank = inl (blank, are)
-grows_blank nodes round (t ∷ texts) lines text (inl is) blank = inl (is.0, grows_blank nodes round texts lines text is.1 blank)
+grows_blank nodes round (t ∷ texts) lines text (inl is) blank =
+    inl (is.0, grows_blank nodes round texts lines text is.1 blank)
 grows_blank nodes round (t ∷ texts) lines text (inr are) blank =
     inr (are.0, are.1, are.2, are.3, are.4, grows_blank nodes are.0.round texts are.1 text are.5 blank)
 
-pub last_of : (round : ℕ) (lines : List ScriptLine) (line : ScriptLine) → last_round round (lines ++ line ∷ []) ≡ line.round
+pub last_of : (round : ℕ) (lines : List ScriptLine) (line : ScriptLine)
+    → last_round round (lines ++ line ∷ []) ≡ line.round
 last_of round [] line = refl
 last_of round (l ∷ lines) line = last_of l.round lines line
 
@@ -50,9 +64,11 @@ last_of round (l ∷ lines) line = last_of l.round lines line
 same_cut : (words : List (List ℕ)) (v w : ScriptLine) → IsLineText v words → IsLineText w words → cut v.act ≡ cut w.act
 same_cut words v w one other =
     let a = act_reads v.act one.others one.act in
-    let b = act_reads w.act one.others (subst (λ ws. IsActText w.act ws) (tail_of (sym other.parts ∙ one.parts)) other.act) in
+    let b = act_reads w.act one.others
+    (subst (λ ws. IsActText w.act ws) (tail_of (sym other.parts ∙ one.parts)) other.act) in
     ap (inside (cut v.act))
-    (sym a.gives ∙ ap (λ f. act_in f one.others) (same_form (form_of v.act) (form_of w.act) one.others a.has b.has) ∙ b.gives)
+    (sym a.gives ∙ ap (λ f. act_in f one.others) (same_form (form_of v.act) (form_of w.act) one.others a.has b.has)
+    ∙ b.gives)
 
 -- so a right text is one line
 one_line : (nodes round : ℕ) (text : List ℕ) (v w : ScriptLine) → nodes ≤ BEYOND_NODES → HasForm round text v
@@ -70,7 +86,8 @@ both_within : (nodes : ℕ) (words : List (List ℕ)) (v w : ScriptLine) → nod
     → IsLineText w words → IsInNetwork nodes w.act → IsInNetwork nodes v.act
 both_within nodes words v w few one other is =
     (within_network nodes v.act few
-    (subst (λ a. is_in_network nodes a ≡ true) (sym (same_cut words v w one other)) (network_seen nodes w.act few is))).1
+    (subst (λ a. is_in_network nodes a ≡ true) (sym (same_cut words v w one other))
+    (network_seen nodes w.act few is))).1
 
 -- right lines are one list
 pub one_list : (nodes round : ℕ) (texts : List (List ℕ)) (xs ys : List ScriptLine) → nodes ≤ BEYOND_NODES
@@ -92,7 +109,8 @@ behind : (nodes round : ℕ) (before after : List (List ℕ)) (read all : List S
     → (rest : List ScriptLine) × AreScriptLines nodes (last_round round read) after rest
 behind nodes round [] after read all few one other =
     (all, subst (λ ls. AreScriptLines nodes (last_round round ls) after all) (sym one) other)
-behind nodes round (t ∷ before) after read all few (inl one) (inl other) = behind nodes round before after read all few one.1 other.1
+behind nodes round (t ∷ before) after read all few (inl one) (inl other) =
+    behind nodes round before after read all few one.1 other.1
 behind nodes round (t ∷ before) after read all few (inl one) (inr other) = absurd (other.3.shown one.0)
 behind nodes round (t ∷ before) after read all few (inr one) (inl other) = absurd (one.3.shown other.0)
 behind nodes round (t ∷ before) after read all few (inr one) (inr other) =
@@ -103,12 +121,14 @@ behind nodes round (t ∷ before) after read all few (inr one) (inr other) =
     (h.0, subst (λ ls. AreScriptLines nodes (last_round round ls) after h.0) (sym one.2) h.1)
 
 -- a line that isn't right is none of right ones
-pub formless_fails : (nodes round : ℕ) (text : List ℕ) (texts : List (List ℕ)) (lines : List ScriptLine) → IsFormless round text
+pub formless_fails : (nodes round : ℕ) (text : List ℕ) (texts : List (List ℕ)) (lines : List ScriptLine)
+    → IsFormless round text
     → AreScriptLines nodes round (text ∷ texts) lines → ⊥
 formless_fails nodes round text texts lines bad (inl blank) = bad.0 blank.0
 formless_fails nodes round text texts lines bad (inr are) = bad.1 are.0 are.3
 
-pub no_node_fails : (nodes round : ℕ) (text : List ℕ) (texts : List (List ℕ)) (lines : List ScriptLine) → nodes ≤ BEYOND_NODES
+pub no_node_fails : (nodes round : ℕ) (text : List ℕ) (texts : List (List ℕ)) (lines : List ScriptLine)
+    → nodes ≤ BEYOND_NODES
     → NamesNoNode nodes round text → AreScriptLines nodes round (text ∷ texts) lines → ⊥
 no_node_fails nodes round text texts lines few bad (inl blank) = bad.1.shown blank.0
 no_node_fails nodes round text texts lines few bad (inr are) =
@@ -131,11 +151,11 @@ cuts [] after (o ∷ others) behind x y e = Earlier others (ap (λ w. w ∷ othe
 cuts (b ∷ before) after [] behind x y e = Later before (ap (λ w. w ∷ before) (head_of e))
 cuts (b ∷ before) after (o ∷ others) behind x y e = deeper (cuts before after others behind x y (tail_of e))
   where
-  deeper : Cuts before after others behind x y → Cuts (b ∷ before) after (o ∷ others) behind x y
-  deeper (Same all same) = Same (ap (λ w. w ∷ before) (head_of e) ∙ ap (λ ws. o ∷ ws) all) same
-  deeper (Earlier middle all) =
-      Earlier middle (ap (λ w. w ∷ others) (sym (head_of e)) ∙ ap (λ ws. b ∷ ws) all)
-  deeper (Later middle all) = Later middle (ap (λ w. w ∷ before) (head_of e) ∙ ap (λ ws. o ∷ ws) all)
+    deeper : Cuts before after others behind x y → Cuts (b ∷ before) after (o ∷ others) behind x y
+    deeper (Same all same) = Same (ap (λ w. w ∷ before) (head_of e) ∙ ap (λ ws. o ∷ ws) all) same
+    deeper (Earlier middle all) =
+        Earlier middle (ap (λ w. w ∷ others) (sym (head_of e)) ∙ ap (λ ws. b ∷ ws) all)
+    deeper (Later middle all) = Later middle (ap (λ w. w ∷ before) (head_of e) ∙ ap (λ ws. o ∷ ws) all)
 
 -- what is bad in a line is bad behind no right lines
 abbrev Fails : (nodes : ℕ) → (ℕ → List ℕ → Type 0) → Type 0
@@ -164,25 +184,26 @@ one_place : (nodes : ℕ) (texts : List (List ℕ)) (number other : ℕ) (IsBad 
 one_place nodes texts number other IsBad IsOther few fails also one two =
     placed (cuts one.before one.after two.before two.after one.line two.line (sym one.parts ∙ two.parts))
   where
-  placed : Cuts one.before one.after two.before two.after one.line two.line → AtOnePlace number other IsBad IsOther
-  placed (Earlier middle e) =
-      let h = within_right nodes one.before two.before middle one.line one.read two.read few one.right two.right e in
-      absurd (fails (last_round 0 one.read) one.line middle h.0 one.bad h.1)
-  placed (Later middle e) =
-      let h = within_right nodes two.before one.before middle two.line two.read one.read few two.right one.right e in
-      absurd (also (last_round 0 two.read) two.line middle h.0 two.bad h.1)
-  placed (Same e line) =
-      let read =
-      one_list nodes 0 two.before one.read two.read few (subst (λ ts. AreScriptLines nodes 0 ts one.read) e one.right) two.right in
-      record {
-        same = one.number_is ∙ ap (λ ts. suc (length ts)) e ∙ sym two.number_is;
-        round = last_round 0 one.read;
-        text = one.line;
-        bad = one.bad;
-        also =
-          subst (λ ls. IsOther (last_round 0 ls) one.line) (sym read)
-          (subst (λ t. IsOther (last_round 0 two.read) t) (sym line) two.bad);
-      }
+    placed : Cuts one.before one.after two.before two.after one.line two.line → AtOnePlace number other IsBad IsOther
+    placed (Earlier middle e) =
+        let h = within_right nodes one.before two.before middle one.line one.read two.read few one.right two.right e in
+        absurd (fails (last_round 0 one.read) one.line middle h.0 one.bad h.1)
+    placed (Later middle e) =
+        let h = within_right nodes two.before one.before middle two.line two.read one.read few two.right one.right e in
+        absurd (also (last_round 0 two.read) two.line middle h.0 two.bad h.1)
+    placed (Same e line) =
+        let read =
+        one_list nodes 0 two.before one.read two.read few
+        (subst (λ ts. AreScriptLines nodes 0 ts one.read) e one.right) two.right in
+        record {
+          same = one.number_is ∙ ap (λ ts. suc (length ts)) e ∙ sym two.number_is;
+          round = last_round 0 one.read;
+          text = one.line;
+          bad = one.bad;
+          also =
+              subst (λ ls. IsOther (last_round 0 ls) one.line) (sym read)
+              (subst (λ t. IsOther (last_round 0 two.read) t) (sym line) two.bad);
+        }
 
 no_node_is_bad : (nodes : ℕ) → nodes ≤ BEYOND_NODES → Fails nodes (NamesNoNode nodes)
 no_node_is_bad nodes few round text texts lines bad are = no_node_fails nodes round text texts lines few bad are
@@ -198,26 +219,31 @@ one_fault nodes texts (BadLine a) (BadLine b) few one two =
     inr (inr (ap BadLine (sym h.same)))
 one_fault nodes texts (BadLine a) (UnknownNode b) few one two =
     let h =
-    one_place nodes texts a b IsFormless (NamesNoNode nodes) few (formless_fails nodes) (no_node_is_bad nodes few) one two in
+    one_place nodes texts a b IsFormless (NamesNoNode nodes) few (formless_fails nodes) (no_node_is_bad nodes few) one
+    two in
     absurd (formless_has_node nodes h.round h.text h.bad h.also)
 one_fault nodes texts (UnknownNode a) (BadLine b) few one two =
     let h =
-    one_place nodes texts a b (NamesNoNode nodes) IsFormless few (no_node_is_bad nodes few) (formless_fails nodes) one two in
+    one_place nodes texts a b (NamesNoNode nodes) IsFormless few (no_node_is_bad nodes few) (formless_fails nodes) one
+    two in
     absurd (formless_has_node nodes h.round h.text h.also h.bad)
 one_fault nodes texts (UnknownNode a) (UnknownNode b) few one two =
     let h =
-    one_place nodes texts a b (NamesNoNode nodes) (NamesNoNode nodes) few (no_node_is_bad nodes few) (no_node_is_bad nodes few)
+    one_place nodes texts a b (NamesNoNode nodes) (NamesNoNode nodes) few (no_node_is_bad nodes few)
+    (no_node_is_bad nodes few)
     one two in
     inr (inr (ap UnknownNode (sym h.same)))
 
 -- and right lines have none
 right_or_bad : (nodes : ℕ) (texts : List (List ℕ)) (number : ℕ) (IsBad : ℕ → List ℕ → Type 0) (lines : List ScriptLine)
-    → nodes ≤ BEYOND_NODES → Fails nodes IsBad → IsBadLine nodes texts number IsBad → AreScriptLines nodes 0 texts lines → ⊥
+    → nodes ≤ BEYOND_NODES → Fails nodes IsBad → IsBadLine nodes texts number IsBad
+    → AreScriptLines nodes 0 texts lines → ⊥
 right_or_bad nodes texts number IsBad lines few fails bad are =
     let h = within_right nodes bad.before texts bad.after bad.line bad.read lines few bad.right are bad.parts in
     fails (last_round 0 bad.read) bad.line bad.after h.0 bad.bad h.1
 
-pub right_has_no_fault : (nodes : ℕ) (texts : List (List ℕ)) (lines : List ScriptLine) (fault : ScriptFault) → nodes ≤ BEYOND_NODES
+pub right_has_no_fault : (nodes : ℕ) (texts : List (List ℕ)) (lines : List ScriptLine) (fault : ScriptFault)
+    → nodes ≤ BEYOND_NODES
     → AreScriptLines nodes 0 texts lines → IsLinesFault nodes texts fault → fault ≡ NoMemory
 right_has_no_fault nodes texts lines NoMemory few are is = refl
 right_has_no_fault nodes texts lines (BadLine n) few are is =
@@ -233,19 +259,41 @@ pub fault_at : (nodes : ℕ) (before after : List (List ℕ)) (text : List ℕ) 
     → IsLinesFault nodes (before ++ text ∷ after) fault
 fault_at nodes before after text read NoMemory are is = tt
 fault_at nodes before after text read (BadLine n) are is =
-    record { before = before; line = text; after = after; parts = refl; number_is = is.0; read = read; right = are; bad = is.1 }
+    record {
+      before = before;
+      line = text;
+      after = after;
+      parts = refl;
+      number_is = is.0;
+      read = read;
+      right =
+          are;
+      bad = is.1;
+    }
 fault_at nodes before after text read (UnknownNode n) are is =
-    record { before = before; line = text; after = after; parts = refl; number_is = is.0; read = read; right = are; bad = is.1 }
+    record {
+      before = before;
+      line = text;
+      after = after;
+      parts = refl;
+      number_is = is.0;
+      read = read;
+      right =
+          are;
+      bad = is.1;
+    }
 
 -- the next text is read
-pub one_more : (nodes round : ℕ) (before : List (List ℕ)) (text : List ℕ) (read : List ScriptLine) (line : Option ScriptLine)
+pub one_more : (nodes round : ℕ) (before : List (List ℕ)) (text : List ℕ) (read : List ScriptLine)
+    (line : Option ScriptLine)
     → AreScriptLines nodes 0 before read → round ≡ last_round 0 read → IsTextRead nodes round text line
     → AreScriptLines nodes 0 (before ++ text ∷ []) (lines_with line read)
     × (round_after round line ≡ last_round 0 (lines_with line read))
 one_more nodes round before text read None are same is = (grows_blank nodes 0 before read text are is, same)
-one_more nodes round before text read (Some line) are same is =
-    ( grows nodes 0 before read text line are (subst (λ r. HasForm r text line) same is.0) is.1,
-      sym (last_of 0 read line) )
+one_more nodes round before text read (Some line) are same is = (
+  grows nodes 0 before read text line are (subst (λ r. HasForm r text line) same is.0) is.1,
+  sym (last_of 0 read line),
+)
 
 -- ---- texts as parts of a script
 
@@ -275,21 +323,28 @@ pub turn_goes_on : (nodes round : ℕ) (parts : List (Bor (List ℕ))) (i : ℕ)
     → AreScriptLines nodes 0 (texts_of (take (i + 1) parts)) now × (after ≡ last_round 0 now)
 turn_goes_on nodes round parts i d text read now line after within is so_far told lines rounds =
     let h =
-    one_more nodes round (texts_of (take i parts)) (strip_carriage_return (get_or parts i d).now) read line so_far.0 so_far.1
-    (subst (λ t. IsTextRead nodes round t line) is told) in
-    ( subst (λ ts. AreScriptLines nodes 0 ts now) (sym (next_text parts i d within))
-      (subst
-      (λ ls. AreScriptLines nodes 0 (texts_of (take i parts) ++ strip_carriage_return (get_or parts i d).now ∷ []) ls)
-      (sym lines) h.0),
-      rounds ∙ h.1 ∙ ap (last_round 0) (sym lines) )
+    one_more nodes round (texts_of (take i parts)) (strip_carriage_return (get_or parts i d).now) read line so_far.0
+    so_far.1
+    (subst (λ t. IsTextRead nodes round t line) is told) in (
+      subst (λ ts. AreScriptLines nodes 0 ts now) (sym (next_text parts i d within))
+          (subst
+          (λ ls. AreScriptLines nodes 0 (texts_of (take i parts) ++ strip_carriage_return (get_or parts i d).now ∷ [])
+          ls)
+          (sym lines) h.0),
+      rounds ∙ h.1 ∙ ap (last_round 0) (sym lines),
+    )
 
 pub turn_fails : (nodes round : ℕ) (parts : List (Bor (List ℕ))) (i : ℕ) (d : Bor (List ℕ)) (text : List ℕ)
-    (read : List ScriptLine) (fault : ScriptFault) → i < length parts → text ≡ strip_carriage_return (get_or parts i d).now
+    (read : List ScriptLine) (fault : ScriptFault) → i < length parts
+    → text ≡ strip_carriage_return (get_or parts i d).now
     → AreScriptLines nodes 0 (texts_of (take i parts)) read × (round ≡ last_round 0 read)
     → IsTextFault nodes (i + 1) round text fault → IsLinesFault nodes (texts_of parts) fault
 turn_fails nodes round parts i d text read fault within is so_far told =
     let number : i + 1 ≡ suc (length (texts_of (take i parts))) =
-    add-one i ∙ ap suc (sym (length-map (take i parts) (λ part. strip_carriage_return part.now) ∙ length-take-le i parts (omega (arith, within)))) in
+    add-one i
+    ∙ ap suc
+    (sym (length-map (take i parts) (λ part. strip_carriage_return part.now)
+    ∙ length-take-le i parts (omega (arith, within)))) in
     let here =
     subst (λ n. IsTextFault nodes n (last_round 0 read) (strip_carriage_return (get_or parts i d).now) fault) number
     (subst (λ r. IsTextFault nodes (i + 1) r (strip_carriage_return (get_or parts i d).now) fault) so_far.1
@@ -299,13 +354,14 @@ turn_fails nodes round parts i d text read fault within is so_far told =
 
 -- ---- the whole script
 
-pub parts_are_lines : (parts : List (Bor (List ℕ))) (text : List ℕ) → map (λ part. part.now) parts ≡ slice_split (λ b. b == 10) text
+pub parts_are_lines : (parts : List (Bor (List ℕ))) (text : List ℕ)
+    → map (λ part. part.now) parts ≡ slice_split (λ b. b == 10) text
     → texts_of parts ≡ lines_of text
 parts_are_lines parts text e = in_turn parts ∙ ap (map strip_carriage_return) e
   where
-  in_turn : (ps : List (Bor (List ℕ))) → texts_of ps ≡ map strip_carriage_return (map (λ part. part.now) ps)
-  in_turn [] = refl
-  in_turn (p ∷ ps) = ap (λ ts. strip_carriage_return p.now ∷ ts) (in_turn ps)
+    in_turn : (ps : List (Bor (List ℕ))) → texts_of ps ≡ map strip_carriage_return (map (λ part. part.now) ps)
+    in_turn [] = refl
+    in_turn (p ∷ ps) = ap (λ ts. strip_carriage_return p.now ∷ ts) (in_turn ps)
 
 script_fault : (nodes : ℕ) (text : List ℕ) (fault : ScriptFault) → length text ≤ MAX_SCRIPT_BYTES
     → IsLinesFault nodes (lines_of text) fault → IsScriptFault nodes text fault
@@ -336,7 +392,8 @@ pub told_no_script : (nodes : ℕ) (texts : List (List ℕ)) (text : List ℕ) (
     → texts ≡ lines_of text → IsLinesFault nodes texts told → (lines : List ScriptLine) → IsScript nodes text lines
     → told ≡ NoMemory
 told_no_script nodes texts text told few same is lines script =
-    right_has_no_fault nodes (lines_of text) lines told few script.lines_are (subst (λ ts. IsLinesFault nodes ts told) same is)
+    right_has_no_fault nodes (lines_of text) lines told few script.lines_are
+    (subst (λ ts. IsLinesFault nodes ts told) same is)
 
 pub read_script : (nodes : ℕ) (texts : List (List ℕ)) (text : List ℕ) (lines : List ScriptLine) → texts ≡ lines_of text
     → length text ≤ MAX_SCRIPT_BYTES → AreScriptLines nodes 0 texts lines → IsScript nodes text lines
@@ -351,7 +408,9 @@ read_no_fault nodes texts text lines few same small are fault is =
     (lines_fault nodes text fault small is)
 
 pub read_once : (nodes : ℕ) (texts : List (List ℕ)) (text : List ℕ) (lines : List ScriptLine) → nodes ≤ BEYOND_NODES
-    → texts ≡ lines_of text → AreScriptLines nodes 0 texts lines → (others : List ScriptLine) → IsScript nodes text others
+    → texts ≡ lines_of text → AreScriptLines nodes 0 texts lines → (others : List ScriptLine)
+    → IsScript nodes text others
     → lines ≡ others
 read_once nodes texts text lines few same are others script =
-    one_list nodes 0 (lines_of text) lines others few (subst (λ ts. AreScriptLines nodes 0 ts lines) same are) script.lines_are
+    one_list nodes 0 (lines_of text) lines others few (subst (λ ts. AreScriptLines nodes 0 ts lines) same are)
+    script.lines_are

@@ -1,11 +1,12 @@
 -- The lines of a failure script. Lines end at line feeds; of each, one trailing carriage return is left out.
-use Rattle.std.specs.Prelude.{◌≡◌, ◌≢◌, ◌⊎◌, ℕ, suc, ◌<◌, ◌≤◌, Bool, false, List, [], ◌∷◌, ◌++◌, length, IsTrue, codes, not, ◌==◌, Result, Ok, Err}
+use Rattle.std.specs.Prelude.{◌≡◌, ◌≢◌, ◌⊎◌, ℕ, suc, ◌<◌, ◌≤◌, List, [], ◌∷◌, ◌++◌, length, IsTrue, codes, not, ◌==◌}
+use Rattle.std.specs.Prelude.{Result, Ok, Err}
 use Rattle.std.specs.List.{AllZip, slice_split, filter}
-
 use Rattle.net_text.specs.Numbers.{is_numeral, numeral_value}
 use Rattle.net_text.specs.InputLines.{lines_of, is_space, IsBlank}
 use Rattle.fail_script.specs.declared.act.Act.{Act}
-use Rattle.fail_script.specs.declared.act.Act.TheVariants.{Lose, Repeat, Delay, Crash, CrashAtDelivery, StopAtCall, FailCall, Start}
+use Rattle.fail_script.specs.declared.act.Act.TheVariants.{Lose, Repeat, Delay, Crash, CrashAtDelivery, StopAtCall}
+use Rattle.fail_script.specs.declared.act.Act.TheVariants.{FailCall, Start}
 use Rattle.fail_script.specs.declared.words.Form.{Form}
 use Rattle.fail_script.specs.declared.words.Form.TheVariants as form
 use Rattle.fail_script.specs.declared.act.ScriptLine.{ScriptLine}

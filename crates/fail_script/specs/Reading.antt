@@ -1,18 +1,19 @@
 -- What the code reads of a script, function by function; `Lines` says what it should be.
-use Rattle.std.specs.Prelude.{◌≡◌, ℕ, suc, Bool, true, false, ◌&&◌, ◌==◌, if◌then◌else◌, not, nat_le, nat_lt, min, codes}
-use Rattle.std.specs.Prelude.{List, [], ◌∷◌, ◌++◌, length, map, Option, Some, None, Result, Ok, Err, get_or, option_and_then, option_map}
-use Rattle.std.specs.List.{slice_get, slice_split}
+use Rattle.std.specs.Prelude.{◌≡◌, ℕ, Bool, ◌&&◌, ◌==◌, if◌then◌else◌, nat_le, nat_lt, min, codes}
+use Rattle.std.specs.Prelude.{List, [], ◌∷◌, ◌++◌, length, Option, Some, None, get_or, option_and_then}
+use Rattle.std.specs.List.{slice_get}
 use Rattle.net_text.specs.Numbers.{is_numeral, numeral_value}
-use Rattle.net_text.specs.InputLines.{is_space, is_comment, IsBlank}
-use Rattle.fail_script.specs.Lines.{words_of, IsLineText, HasForm, IsInNetwork, IsFormless, NamesNoNode, IsBadLine}
+use Rattle.net_text.specs.InputLines.{IsBlank}
+use Rattle.fail_script.specs.Lines.{IsLineText, HasForm, IsInNetwork, IsFormless, NamesNoNode, IsBadLine}
 use Rattle.fail_script.specs.declared.act.Act.{Act}
-use Rattle.fail_script.specs.declared.act.Act.TheVariants.{Lose, Repeat, Delay, Crash, CrashAtDelivery, StopAtCall, FailCall, Start}
+use Rattle.fail_script.specs.declared.act.Act.TheVariants.{Lose, Repeat, Delay, Crash, CrashAtDelivery, StopAtCall}
+use Rattle.fail_script.specs.declared.act.Act.TheVariants.{FailCall, Start}
 use Rattle.fail_script.specs.declared.act.ScriptLine.{ScriptLine}
 use Rattle.fail_script.specs.declared.words.Form.{Form}
 use Rattle.fail_script.specs.declared.words.Form.TheVariants as form
 use Rattle.fail_script.specs.declared.fault.ScriptFault.{ScriptFault}
 use Rattle.fail_script.specs.declared.fault.ScriptFault.TheVariants.{NoMemory, BadLine, UnknownNode}
-use Rattle.fail_script.specs.declared.limits.TheConstants.{MAX_ROUND, MAX_COUNT, MAX_FILL, MAX_ROUNDS, BEYOND_NODES}
+use Rattle.fail_script.specs.declared.limits.TheConstants.{MAX_COUNT, MAX_FILL, MAX_ROUNDS, BEYOND_NODES}
 
 -- a number from the least to the greatest
 abbrev pub number_in : (least greatest : ℕ) → List ℕ → Option ℕ

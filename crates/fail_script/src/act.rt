@@ -4,9 +4,17 @@
 #[derive(Clone, Copy, Debug, PartialEq, Eq)]
 pub enum Act {
     /// The packet of this count, from 1, of those that go from one node to another isn't put in flight.
-    Lose { from: u8, to: u8, count: u32 },
+    Lose {
+        from: u8,
+        to: u8,
+        count: u32,
+    },
     /// It is put in flight twice.
-    Repeat { from: u8, to: u8, count: u32 },
+    Repeat {
+        from: u8,
+        to: u8,
+        count: u32,
+    },
     /// It is due so many rounds later.
     Delay {
         from: u8,
@@ -16,7 +24,11 @@ pub enum Act {
     },
     /// The node crashes now. What its disk has in doubt is filled with this byte, and it may be recovered so many
     /// rounds later; so for the next two.
-    Crash { node: u8, fill: u8, rounds: u32 },
+    Crash {
+        node: u8,
+        fill: u8,
+        rounds: u32,
+    },
     /// The node crashes at the end of its delivery of this count, from 1.
     CrashAtDelivery {
         node: u8,
@@ -32,9 +44,14 @@ pub enum Act {
         rounds: u32,
     },
     /// The node's device call of this count fails.
-    FailCall { node: u8, count: u32 },
+    FailCall {
+        node: u8,
+        count: u32,
+    },
     /// The node begins a checkpoint.
-    Start { node: u8 },
+    Start {
+        node: u8,
+    },
 }
 
 /// A line: what it does, once the world has come to its round.

@@ -1,6 +1,6 @@
 //! The numbers that words write.
 
-ghost use Rattle.std.specs.Prelude.{◌≡◌, ℕ, not, ◌==◌, IsTrue};
+ghost use Rattle.std.specs.Prelude.{◌≡◌, not, ◌==◌, IsTrue};
 ghost use Rattle.net_text.specs.Numbers.{is_numeral, numeral_value};
 ghost use Rattle.fail_script.specs.declared.limits.TheConstants.{MAX_FILL};
 ghost use Rattle.fail_script.specs.Reading.{number_in, node_in, without_zeros};

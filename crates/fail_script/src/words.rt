@@ -1,6 +1,6 @@
 //! The words of a line, and the form that they have.
 
-ghost use Rattle.std.specs.Prelude.{◌≡◌, ℕ, List, map, MatchOption, IfOk, length, not, ◌==◌};
+ghost use Rattle.std.specs.Prelude.{◌≡◌, map, MatchOption, IfOk, length, not, ◌==◌};
 ghost use Rattle.std.specs.List.{slice_split, filter};
 ghost use Rattle.net_text.specs.InputLines.{is_space};
 ghost use Rattle.fail_script.specs.Lines.{words_of};

@@ -1,4 +1,4 @@
-use Rattle.std.proofs.Common.{◌≡◌, ℕ, map, take}
+use Rattle.std.proofs.Common.{◌≡◌, map, take}
 use Rattle.std.specs.Str.Lines.{strip_carriage_return}
 use Rattle.fail_script.specs.Lines.{AreScriptLines, last_round}
 use Rattle.fail_script.proofs.script.read_lines.Given as goal

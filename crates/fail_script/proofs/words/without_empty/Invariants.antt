@@ -1,4 +1,4 @@
-use Rattle.std.proofs.Common.{◌≡◌, ℕ, map, length, not, ◌==◌, take}
+use Rattle.std.proofs.Common.{◌≡◌, map, length, not, ◌==◌, take}
 use Rattle.std.specs.List.{filter}
 use Rattle.fail_script.proofs.words.without_empty.Given as goal
 
