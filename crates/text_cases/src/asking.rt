@@ -3,6 +3,7 @@
 use crate::devices::{Given, Writer};
 use crate::judging::Outcome;
 use crate::plan::{Asked, Plan};
+use fail_script::{Script, parse_script};
 use kahn_program::{Options, options, run};
 use net_text::{Token, tokens};
 use std::alloc::{AllocError, Global};
@@ -92,6 +93,33 @@ fn tokens_text(alloc: Global, bytes: &[u8]) -> anyhow::Result<String> {
     Ok(lines)
 }
 
+/// A line for each line of a script: its round, and what it does.
+fn script_lines(alloc: Global, script: &Script) -> Result<String, AllocError> {
+    let mut text = String::new(alloc);
+    for line in &script.lines {
+        write!(text, "{} {:?}\n", line.round, line.act)?;
+    }
+    Ok(text)
+}
+
+/// The lines of a failure script for so many nodes, or why it has none.
+fn script_text(alloc: Global, bytes: &[u8], nodes: u8) -> anyhow::Result<String> {
+    let Ok(text) = str::from_utf8(bytes) else {
+        anyhow::bail!("it is no text");
+    };
+    let lines = match parse_script(alloc, text, nodes) {
+        Ok(script) => script_lines(alloc, &script)?,
+        Err(fault) => {
+            format!(in alloc;
+                "refused {} {}\n",
+                fault.number(),
+                fault.line().unwrap_or(0)
+            )?
+        }
+    };
+    Ok(lines)
+}
+
 /// What a case wants, and what comes of it.
 pub fn outcomes(alloc: Global, plan: Plan) -> anyhow::Result<(Outcome, Outcome)> {
     let Plan {
@@ -111,6 +139,7 @@ pub fn outcomes(alloc: Global, plan: Plan) -> anyhow::Result<(Outcome, Outcome)>
         }
         Asked::Options(words) => told(alloc, options_text(alloc, &words)?)?,
         Asked::Tokens => told(alloc, tokens_text(alloc, &net.bytes)?)?,
+        Asked::Script(nodes) => told(alloc, script_text(alloc, &net.bytes, nodes)?)?,
     };
     Ok((wanted, came))
 }

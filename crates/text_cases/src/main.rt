@@ -22,6 +22,7 @@
 //! | `-- net fails other` | a reader that fails behind its bytes: `other`, `invalid data`, `unexpected end`, `out of memory` |
 //! | `-- out fails behind 3`, `-- err fails at the flush` | a writer that fails behind so many bytes, or at its flush |
 //! | `-- options kahnrun a.net b` | nothing runs: on standard output comes what this command line asks for, or `refused KIND` |
+//! | `-- script 2` | nothing runs: the network's text is a failure script for so many nodes, and on standard output comes a line for each of its lines, or `refused NUMBER LINE` |
 //! | `-- tokens` | nothing runs: on standard output comes a line for each token of the network's text, or `refused NUMBER LINE` |
 #![tactic(auto)]
 

@@ -29,6 +29,8 @@ pub enum Asked {
     Options(String),
     /// The tokens of the network's text.
     Tokens,
+    /// The lines of a failure script for so many nodes, which stands in the place of the network's text.
+    Script(u8),
 }
 
 /// A case.
@@ -150,6 +152,10 @@ impl Plan {
             "err" => set_taking(&mut self.err, rest),
             "status" => {
                 self.wanted.status = byte(rest)?;
+                Ok(())
+            }
+            "script" => {
+                self.asked = Asked::Script(byte(rest)?);
                 Ok(())
             }
             "words" => {

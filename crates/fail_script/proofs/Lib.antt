@@ -1,0 +1,6 @@
+mod Acts
+mod Apart
+mod Forms
+mod LineLaws
+mod Numerals
+mod ScriptLaws

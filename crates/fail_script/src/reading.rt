@@ -1,0 +1,179 @@
+//! What a line does.
+
+ghost use Rattle.std.specs.Prelude.{◌≡◌, ◌||◌, ◌∷◌, map, IfOk, IfErr};
+ghost use Rattle.std.specs.List.{list_all};
+ghost use Rattle.net_text.specs.InputLines.{is_space, is_comment};
+ghost use Rattle.fail_script.specs.Reading.{packet_in, crash_in, act_in, has_form, is_in_network};
+ghost use Rattle.fail_script.specs.Reading.{IsLineRead, IsTextRead, IsTextFault};
+
+use crate::act::{Act, ScriptLine};
+use crate::fault::ScriptFault;
+use crate::limits::{MAX_COUNT, MAX_ROUND, MAX_ROUNDS};
+use crate::numbers::{are_apart, byte_in, node_in, number_in};
+use crate::words::{Form, form_of, words_of};
+use std::alloc::Global;
+
+// The two nodes of a packet, which differ, and its count.
+fn packet_in(from: &str, to: &str, count: &str) -> Option<(u8, u8, u32)>
+    ensures { result ≡ packet_in from.now to.now count.now }
+{
+    let sender = node_in(from)?;
+    let receiver = node_in(to)?;
+    let count = number_in(count, 1, MAX_COUNT)?;
+    if !are_apart(from, to) {
+        return None;
+    }
+    Some((sender, receiver, count))
+}
+
+// The byte to fill with at a crash, and the rounds until the node may come back.
+fn crash_in(fill: &str, rounds: &str) -> Option<(u8, u32)>
+    ensures { result ≡ crash_in fill.now rounds.now }
+{
+    let fill = byte_in(fill)?;
+    let rounds = number_in(rounds, 1, MAX_ROUNDS)?;
+    Some((fill, rounds))
+}
+
+/// What words of this form do.
+pub fn act_of(form: Form, words: &[&str]) -> Option<Act>
+    requires { has_form form (map (λ w. w.now) words.now) }
+    ensures { result ≡ act_in form (map (λ w. w.now) words.now) }
+{
+    match form {
+        Form::Lose => {
+            let (from, to, count) = packet_in(words[1], words[2], words[3])?;
+            Some(Act::Lose { from, to, count })
+        }
+        Form::Repeat => {
+            let (from, to, count) = packet_in(words[1], words[2], words[3])?;
+            Some(Act::Repeat { from, to, count })
+        }
+        Form::Delay => {
+            let (from, to, count) = packet_in(words[1], words[2], words[3])?;
+            let rounds = number_in(words[4], 1, MAX_ROUNDS)?;
+            Some(Act::Delay {
+                from,
+                to,
+                count,
+                rounds,
+            })
+        }
+        Form::Crash => {
+            let node = node_in(words[1])?;
+            let (fill, rounds) = crash_in(words[3], words[4])?;
+            Some(Act::Crash { node, fill, rounds })
+        }
+        Form::CrashAtDelivery => {
+            let node = node_in(words[1])?;
+            let count = number_in(words[3], 1, MAX_COUNT)?;
+            let (fill, rounds) = crash_in(words[4], words[5])?;
+            Some(Act::CrashAtDelivery {
+                node,
+                count,
+                fill,
+                rounds,
+            })
+        }
+        Form::StopAtCall => {
+            let node = node_in(words[1])?;
+            let count = number_in(words[3], 1, MAX_COUNT)?;
+            let (fill, rounds) = crash_in(words[4], words[5])?;
+            Some(Act::StopAtCall {
+                node,
+                count,
+                fill,
+                rounds,
+            })
+        }
+        Form::FailCall => {
+            let node = node_in(words[1])?;
+            let count = number_in(words[3], 1, MAX_COUNT)?;
+            Some(Act::FailCall { node, count })
+        }
+        Form::Start => {
+            let node = node_in(words[1])?;
+            Some(Act::Start { node })
+        }
+    }
+}
+
+// Whether the nodes that an act names are among so many.
+fn is_in_network(act: &Act, nodes: u8) -> bool
+    ensures { result ≡ is_in_network nodes act.now }
+{
+    match act {
+        Act::Lose { from, to, .. } | Act::Repeat { from, to, .. } | Act::Delay { from, to, .. } => {
+            *from < nodes && *to < nodes
+        }
+        Act::Crash { node, .. }
+        | Act::CrashAtDelivery { node, .. }
+        | Act::StopAtCall { node, .. }
+        | Act::FailCall { node, .. }
+        | Act::Start { node } => *node < nodes,
+    }
+}
+
+// The line that a round and the words behind it write.
+fn line_with(round: &str, others: &[&str]) -> Option<ScriptLine>
+    ensures { IsLineRead (round.now ∷ map (λ w. w.now) others.now) result }
+{
+    let round = number_in(round, 0, MAX_ROUND)?;
+    let form = form_of(others)?;
+    let act = act_of(form, others)?;
+    Some(ScriptLine { round, act })
+}
+
+// The line that words write.
+fn line_of(words: &[&str]) -> Option<ScriptLine>
+    ensures { IsLineRead (map (λ w. w.now) words.now) result }
+{
+    match words {
+        [round, others @ ..] => line_with(round, others),
+        [] => None,
+    }
+}
+
+// Nothing but spaces.
+fn are_spaces(bytes: &[u8]) -> bool
+    ensures { result ≡ list_all is_space bytes.now }
+{
+    bytes.iter().all(|b| *b == b' ')
+}
+
+// Nothing but spaces, or a comment.
+fn is_blank(bytes: &[u8]) -> bool
+    ensures { result ≡ (list_all is_space bytes.now || is_comment bytes.now) }
+{
+    if bytes.is_empty() {
+        return true;
+    }
+    are_spaces(bytes) || bytes[0] == b'#'
+}
+
+/// What is read of the line of this number, behind a line of this round, in a network of so many nodes.
+pub fn read_line(
+    alloc: Global,
+    text: &str,
+    number: usize,
+    nodes: u8,
+    round: u32,
+) -> Result<Option<ScriptLine>, ScriptFault>
+    ensures ok { IfOk result (IsTextRead nodes round text.now) }
+    ensures err { IfErr result (IsTextFault nodes number round text.now) }
+{
+    if is_blank(text.as_bytes()) {
+        return Ok(None);
+    }
+    let words = words_of(alloc, text)?;
+    let Some(line) = line_of(&words) else {
+        return Err(ScriptFault::BadLine { line: number });
+    };
+    if line.round < round {
+        return Err(ScriptFault::BadLine { line: number });
+    }
+    if !is_in_network(&line.act, nodes) {
+        return Err(ScriptFault::UnknownNode { line: number });
+    }
+    Ok(Some(line))
+}
