@@ -576,7 +576,7 @@ reopen_failed words slots old new failed looks setup = record {
 pub image_read : (like : Option ImageView) (found : Option (List ℕ)) (bytes : List ℕ) → found ≡ Some bytes
     → (result : Result ImageView StoreFault)
     → IsRead (IsImageOf like found) (λ fault. (b : List ℕ) × (found ≡ Some b) × IsTextFault (IsImageFault like b) fault)
-      result
+    result
     → IsRead (IsImageOf like found) (IsImageWrong like found) result
 image_read like found bytes there result read = record {
   found = read.found;

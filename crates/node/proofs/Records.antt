@@ -52,7 +52,7 @@ module _ {C : Type 0} (words : CellWords C) (slots : SlotWords C) where
     -- a ready store leaves its record alone
     pub settled_ready : (store : Store C slots words) → IsSome (known_in store)
         → Only (slots.whole (cell_in store)) (slots.may_leave_whole (cell_in store))
-    settled_ready store some = 
+    settled_ready store some =
         ready_settled (cell_in store) (ready_known words slots store (record_in store) (some_known store some))
 
     -- whatever a crash left meanwhile, the record is the old one or the next

@@ -112,11 +112,7 @@ fn cell_becomes(cell: GateCell<MemDisk>, word: &str) -> (Medium, Option<Answer>)
     }
 }
 
-fn split_becomes(
-    alloc: Global,
-    cell: SplitCell<MemDisk>,
-    word: &str,
-) -> (Medium, Option<Answer>) {
+fn split_becomes(alloc: Global, cell: SplitCell<MemDisk>, word: &str) -> (Medium, Option<Answer>) {
     match word {
         "close" => (Medium::Disk(cell.close()), Some(Answer::Done)),
         "store" => {

@@ -131,11 +131,7 @@ fn are_done_with<C: SlotCell, O: Outlet>(
 }
 
 // The round after this answer.
-fn round_after<C: SlotCell, O: Outlet>(
-    reply: &Reply,
-    round: u64,
-    stations: &[Station<C, O>],
-) -> u64
+fn round_after<C: SlotCell, O: Outlet>(reply: &Reply, round: u64, stations: &[Station<C, O>]) -> u64
     ensures { result ≡ round_after (reply_view reply.now) round
         (map (station_view O.taken O.failures) stations.now) }
 {
