@@ -1,7 +1,10 @@
 -- The repetitions round a site, and the passes that can remain of each where a process stands there.
-use Rattle.std.specs.Prelude.{ℕ, ◌+◌, ◌≤◌, ◌==◌, nat_lt, cond, List, [], ◌∷◌, Option, Some, None}
+use Rattle.std.specs.Prelude.{◌≡◌, ℕ, ◌+◌, ◌-◌, ◌*◌, ◌≤◌, ◌==◌, nat_lt, leb, cond, Bool, true, ◌&&◌, IsTrue, List, []}
+use Rattle.std.specs.Prelude.{◌∷◌, slice_get, Option, Some, None}
 use Rattle.std.specs.List.{AllZip}
 use Rattle.kahn_net.specs.Syntax.{Block, Nothing, GetThen, AssignThen, PutThen, StopThen, IfThen, RepeatThen, Code}
+use Rattle.kahn_net.specs.Syntax.{Network}
+use Rattle.kahn_net.specs.declared.limits.TheConstants.{MAX_TIMES, MAX_NESTED_TIMES, MAX_REPEATS}
 use Rattle.kahn_net.specs.Statements.{Point, sites_of}
 
 -- how often each repetition round this site is made, the outermost first, among these statements, the first of which
@@ -37,3 +40,37 @@ CanRemain left times = (1 ≤ left) × (left ≤ times)
 -- at this point as many passes remain as can, of each repetition round its site
 abbrev pub FitsRepeats : Code → Point → Type 0
 FitsRepeats code point = AllZip CanRemain point.left (repeats_at code point.site)
+
+-- A repetition of this number is within its limits where so many more may be opened and those round it are made so
+-- often in all.
+abbrev pub is_repeat_within : ℕ → ℕ → ℕ → Bool
+is_repeat_within open_yet round times =
+    nat_lt 0 open_yet && (nat_lt 0 times && (leb times MAX_TIMES && leb (round * times) MAX_NESTED_TIMES))
+
+-- each repetition of these statements is within its limits
+abbrev pub repeats_within : ℕ → ℕ → Block → Bool
+repeats_within open_yet round Nothing = true
+repeats_within open_yet round (GetThen x channel rest) = repeats_within open_yet round rest
+repeats_within open_yet round (AssignThen x e rest) = repeats_within open_yet round rest
+repeats_within open_yet round (PutThen e channel rest) = repeats_within open_yet round rest
+repeats_within open_yet round (StopThen rest) = repeats_within open_yet round rest
+repeats_within open_yet round (IfThen test first second rest) =
+    repeats_within open_yet round first
+    && (repeats_within open_yet round second && repeats_within open_yet round rest)
+repeats_within open_yet round (RepeatThen times body rest) =
+    is_repeat_within open_yet round times
+    && (repeats_within (open_yet - 1) (round * times) body && repeats_within open_yet round rest)
+
+abbrev pub body_repeats_within : Option Block → Bool
+body_repeats_within None = true
+body_repeats_within (Some body) = repeats_within MAX_REPEATS 1 body
+
+-- each repetition of a process
+abbrev pub code_repeats_within : Code → Bool
+code_repeats_within code = repeats_within MAX_REPEATS 1 code.prelude && body_repeats_within code.body
+
+-- A repetition is made from 1 to 1000 times, with those round it no more than 1,000,000 times in all, and no more than
+-- 64 stand round a statement.
+abbrev pub AreRepeatsWithin : Network → Type 0
+AreRepeatsWithin net =
+    (p : ℕ) (code : Code) → slice_get net.codes p ≡ Some code → IsTrue (code_repeats_within code)

@@ -7,6 +7,7 @@ ghost use Rattle.net_check.specs.NetFaults.{HasFault};
 ghost use Rattle.net_check.specs.Resolution.{Resolves};
 ghost use Rattle.kahn_net.specs.Syntax.{Network, network_of};
 ghost use Rattle.kahn_net.specs.Valid.{IsValid};
+ghost use Rattle.kahn_net.specs.Repeats.{AreRepeatsWithin};
 
 use crate::declared::Declared;
 use crate::fault::NetFault;
@@ -23,7 +24,7 @@ use std::alloc::Global;
 /// The network of a text: valid, by its type.
 ///
 /// The first fault counts, in this order: 10 and 15 over the declarations, in order of the text; 11, 12 and 13 over
-/// the uses, in order of the text; 15 and 14 process by process; 16 and 17 channel by channel.
+/// the uses, in order of the text; 15 and 14 process by process, its units before its repetitions; 16 and 17 channel by channel.
 pub fn check(alloc: Global, text: NetText) -> Result<Net, NetFault>
     // The network is the resolution of the text.
     ensures resolved { IfOk result
@@ -31,9 +32,9 @@ pub fn check(alloc: Global, text: NetText) -> Result<Net, NetFault>
         (network_of net.program)) }
     // What is refused has the fault, on its line.
     ensures fault { IfErr result (HasFault (net_tree text)) }
-    // A text that has a valid resolution is accepted.
+    // A text that has a valid resolution whose repetitions are within their limits is accepted.
     ensures accepted { (channels processes : List NameTree) (net : Network) → Resolves
-        (net_tree text) channels processes net → IsValid net
+        (net_tree text) channels processes net → IsValid net → AreRepeatsWithin net
         → IsOkUnless result NetFault.NoMemory }
 {
     check_in_order(alloc, text)

@@ -2,7 +2,7 @@
 use Rattle.std.specs.Prelude.{ℕ, Bool, true, false, ◌&&◌, leb, Option, Some, None}
 use Rattle.net_text.specs.declared.edition.Edition.{Edition}
 use Rattle.net_text.specs.declared.edition.Edition.TheVariants.{First, Second}
-use Rattle.net_text.specs.declared.limits.TheConstants.{MAX_TIMES}
+use Rattle.kahn_net.specs.declared.limits.TheConstants.{MAX_TIMES}
 use Rattle.kahn_net.specs.declared.program.Operator.{Operator}
 use Rattle.kahn_net.specs.declared.program.Operator.TheVariants.{Add, Subtract, Multiply, Divide, Remainder, Equal}
 use Rattle.kahn_net.specs.declared.program.Operator.TheVariants.{NotEqual, Less, LessOrEqual, Greater, GreaterOrEqual}

@@ -15,7 +15,7 @@ mod tree;
 
 pub use fault::TextFault;
 pub use inputs::parse_inputs;
-pub use limits::{MAX_INPUTS_BYTES, MAX_NAME_BYTES, MAX_NESTING, MAX_TEXT_BYTES, MAX_TIMES};
+pub use limits::{MAX_INPUTS_BYTES, MAX_NAME_BYTES, MAX_NESTING, MAX_TEXT_BYTES};
 pub use name::Name;
 pub use raw_inputs::{InputLine, RawInputs};
 pub use text::{parse, tokens};

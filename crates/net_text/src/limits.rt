@@ -11,6 +11,3 @@ pub const MAX_NAME_BYTES: usize = 64;
 
 /// The most blocks, parentheses and minus signs that may be open around a place of a network's text.
 pub const MAX_NESTING: usize = 64;
-
-/// The most times that a repetition may make its block.
-pub const MAX_TIMES: u16 = 1_000;

@@ -12,14 +12,14 @@ ghost use Rattle.net_text.specs.Reading.{Gives, has_word, has_symbol, is_name, i
 ghost use Rattle.net_text.specs.declared.parser.ParseError.TheVariants.{NoMemory};
 
 use crate::edition::Edition;
-use crate::limits::{MAX_NESTING, MAX_TIMES};
+use crate::limits::MAX_NESTING;
 use crate::name::Name;
 use crate::token::{Keyword, Symbol, Token, TokenKind};
 use crate::tree::{
     ChannelText, Declaration, ExprText, LinkText, LoopText, NetText, NodeText, ProcessText, Role,
     StatementText, VariableText,
 };
-use kahn_net::Operator;
+use kahn_net::{MAX_TIMES, Operator};
 use std::alloc::{AllocError, AllocFailed, Global};
 use std::marker::Model;
 
