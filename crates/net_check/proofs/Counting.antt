@@ -115,3 +115,21 @@ pub past_at : (open_yet round : ℕ) (ts : List StatementText) (i : ℕ) (t : St
     ≡ or_line (past_line open_yet round (then_tree t NothingTree))
     (past_line open_yet round (block_tree (drop (i + 1) ts)))
 past_at o m ts i t lt e = ap (past_line o m) (tree_at ts i t lt e) ∙ then_past o m t (block_tree (drop (i + 1) ts))
+
+pub past_here : (open_yet round : ℕ) (ts : List StatementText) (i : ℕ) (t : StatementText) (line : ℕ) → i < length ts
+    → t ≡ get_or ts i t
+    → past_line open_yet round (block_tree (drop i ts)) ≡ past_line open_yet round (block_tree ts)
+    → Some line ≡ past_line open_yet round (then_tree t NothingTree)
+    → Some line ≡ past_line open_yet round (block_tree ts)
+past_here o m ts i t line lt e same here =
+    ap (λ (x : Option ℕ). or_line x (past_line o m (block_tree (drop (i + 1) ts)))) here ∙ sym (past_at o m ts i t lt e)
+    ∙ same
+
+pub past_later : (open_yet round : ℕ) (ts : List StatementText) (i : ℕ) (t : StatementText) → i < length ts
+    → t ≡ get_or ts i t
+    → past_line open_yet round (block_tree (drop i ts)) ≡ past_line open_yet round (block_tree ts)
+    → None ≡ past_line open_yet round (then_tree t NothingTree)
+    → past_line open_yet round (block_tree (drop (i + 1) ts)) ≡ past_line open_yet round (block_tree ts)
+past_later o m ts i t lt e same here =
+    ap (λ (x : Option ℕ). or_line x (past_line o m (block_tree (drop (i + 1) ts)))) here ∙ sym (past_at o m ts i t lt e)
+    ∙ same
