@@ -1,9 +1,8 @@
 -- The repetitions round a site, and the passes that can remain of each where a process stands there.
-use Rattle.std.specs.Prelude.{◌≡◌, ℕ, ◌+◌, ◌-◌, ◌*◌, ◌≤◌, ◌==◌, nat_lt, leb, cond, Bool, true, ◌&&◌, IsTrue, List, []}
-use Rattle.std.specs.Prelude.{◌∷◌, slice_get, Option, Some, None}
+use Rattle.std.specs.Prelude.{ℕ, ◌+◌, ◌-◌, ◌*◌, ◌≤◌, ◌==◌, nat_lt, leb, cond, Bool, true, ◌&&◌, List, []}
+use Rattle.std.specs.Prelude.{◌∷◌, Option, Some, None}
 use Rattle.std.specs.List.{AllZip}
 use Rattle.kahn_net.specs.Syntax.{Block, Nothing, GetThen, AssignThen, PutThen, StopThen, IfThen, RepeatThen, Code}
-use Rattle.kahn_net.specs.Syntax.{Network}
 use Rattle.kahn_net.specs.declared.limits.TheConstants.{MAX_TIMES, MAX_NESTED_TIMES, MAX_REPEATS}
 use Rattle.kahn_net.specs.Statements.{Point, sites_of}
 
@@ -65,12 +64,7 @@ abbrev pub body_repeats_within : Option Block → Bool
 body_repeats_within None = true
 body_repeats_within (Some body) = repeats_within MAX_REPEATS 1 body
 
--- each repetition of a process
+-- Each repetition of a process: made from 1 to 1000 times, with those round it no more than 1,000,000 times in all, and
+-- no more than 64 stand round a statement.
 abbrev pub code_repeats_within : Code → Bool
 code_repeats_within code = repeats_within MAX_REPEATS 1 code.prelude && body_repeats_within code.body
-
--- A repetition is made from 1 to 1000 times, with those round it no more than 1,000,000 times in all, and no more than
--- 64 stand round a statement.
-abbrev pub AreRepeatsWithin : Network → Type 0
-AreRepeatsWithin net =
-    (p : ℕ) (code : Code) → slice_get net.codes p ≡ Some code → IsTrue (code_repeats_within code)

@@ -7,6 +7,7 @@ use Rattle.kahn_net.specs.declared.program.Channel.{Channel}
 use Rattle.kahn_net.specs.declared.program.Port.TheVariants.{Outside, Process}
 use Rattle.kahn_net.specs.declared.limits.TheConstants.{MAX_CHANNELS, MAX_NODES, MAX_PROCESSES, MAX_UNITS}
 use Rattle.kahn_net.specs.declared.limits.TheConstants.{MAX_VARIABLES}
+use Rattle.kahn_net.specs.Repeats.{code_repeats_within}
 
 -- Statements pass where one of them passes: a get and a stop do, an if both of whose blocks do, and a repetition that
 -- is made at all and whose block does. A loop whose body passes can't go round without end on what is at hand.
@@ -122,6 +123,7 @@ pub record IsValidCode (channels : ℕ) (code : Code) : Type 0 where
   pub prelude_within : IsTrue (block_within (length code.vars) channels code.prelude)
   pub body_within : IsTrue (body_within (length code.vars) channels code.body)
   pub units : block_units code.prelude + body_units code.body ≤ MAX_UNITS
+  pub repeats : IsTrue (code_repeats_within code)
   pub passes : (body : Block) → code.body ≡ Some body → IsTrue (is_passing body)
 
 pub record IsValid (net : Network) : Type 0 where

@@ -32,7 +32,6 @@ use Rattle.net_check.specs.Resolution.{ResolvesLoop, ResolvesProcess, channel_na
 use Rattle.net_check.specs.Resolution.{variable_names}
 use Rattle.net_check.specs.ResolutionLaws.{put_named, get_named, put_numbered, get_numbered, units_kept}
 use Rattle.net_check.specs.ResolutionLaws.{passes_kept_text, is_none, repeats_kept}
-use Rattle.kahn_net.specs.Repeats.{AreRepeatsWithin}
 use Rattle.net_check.specs.Binding.{Binds, HasInputFault, line_names}
 use Rattle.net_check.proofs.Places.{name_reads_from, read_of, reads_from}
 use Rattle.net_check.proofs.Claiming.{reads_same}
@@ -134,7 +133,7 @@ port_either Outside = inl refl
 port_either (Process q) = inr (q, refl)
 
 module _ (text : List DeclarationTree) (cs ps : List NameTree) (net : Network) (r : Resolves text cs ps net)
-    (v : IsValid net) (within : AreRepeatsWithin net) where
+    (v : IsValid net) where
   names : channel_names (channels_of text) ≡ cs
   names = sym r.channels_named
 
@@ -264,7 +263,7 @@ module _ (text : List DeclarationTree) (cs ps : List NameTree) (net : Network) (
   no_limit line (many_times p process hp past) =
       let x = code_of_process p process hp in
       let none : false ≡ true =
-      sym (ap is_none past) ∙ (repeats_kept cs process x.0 x.2 ∙ within p x.0 x.1) in absurd (false≢true none)
+      sym (ap is_none past) ∙ (repeats_kept cs process x.0 x.2 ∙ (v.codes p x.0 x.1).repeats) in absurd (false≢true none)
 
   no_missing_producer : (line : ℕ) → HasNoUser Input PutOn text line → ⊥
   no_missing_producer line h =

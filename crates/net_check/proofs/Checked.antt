@@ -24,7 +24,6 @@ use Rattle.net_check.specs.Resolution.{AllDifferent, Resolves, ResolvesProcess, 
 use Rattle.net_check.specs.Resolution.{processes_of, process_names, variable_names}
 use Rattle.net_check.specs.ResolutionLaws.{Numbered, put_numbered, get_numbered, units_kept, passes_kept}
 use Rattle.net_check.specs.ResolutionLaws.{block_kept_within, loop_kept_within, is_none, repeats_kept}
-use Rattle.kahn_net.specs.Repeats.{AreRepeatsWithin}
 use Rattle.net_check.proofs.Places.{reads_from, same_got}
 use Rattle.net_check.proofs.Joining.{process_there}
 
@@ -84,15 +83,11 @@ module _ (channels : List ChannelText) (ps : List ProcessTree) (codes : List Cod
             (subst (λ (x : ℕ). IsTrue (body_within (length vs) x code.body)) m
             (loop_kept_within (channel_names channels) vs t.0.repeated code.body rp.body));
         units = let e = units_kept (channel_names channels) t.0 code rp in let few = f.units in omega arith;
+        repeats =
+            sym (repeats_kept (channel_names channels) t.0 code rp) ∙ ap is_none f.repeats;
         passes = λ body e. let k = passes_kept (channel_names channels) vs t.0.repeated code.body body rp.body e in
             k.2 ∙ f.passes k.0 k.1;
       }
-
-  pub repeats : AreRepeatsWithin net
-  repeats p code h =
-      let t = process_there ps codes p code r.count h in
-      sym (repeats_kept (channel_names channels) t.0 code (r.codes_of p t.0 code t.1 h))
-      ∙ ap is_none (fit p t.0 t.1).repeats
 
   port_code : (uses : ℕ → Code → Bool) (ports : List Port) (c p : ℕ) (port : Port) (code : Code)
       → ((k q : ℕ) → slice_get ports k ≡ Some (Process q)

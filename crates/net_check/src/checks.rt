@@ -7,7 +7,6 @@ ghost use Rattle.net_check.specs.NetFaults.{HasFault};
 ghost use Rattle.net_check.specs.Resolution.{Resolves};
 ghost use Rattle.kahn_net.specs.Syntax.{Network, network_of};
 ghost use Rattle.kahn_net.specs.Valid.{IsValid};
-ghost use Rattle.kahn_net.specs.Repeats.{AreRepeatsWithin};
 
 use crate::declared::Declared;
 use crate::fault::NetFault;
@@ -32,9 +31,9 @@ pub fn check(alloc: Global, text: NetText) -> Result<Net, NetFault>
         (network_of net.program)) }
     // What is refused has the fault, on its line.
     ensures fault { IfErr result (HasFault (net_tree text)) }
-    // A text that has a valid resolution whose repetitions are within their limits is accepted.
+    // A text that has a valid resolution is accepted.
     ensures accepted { (channels processes : List NameTree) (net : Network) → Resolves
-        (net_tree text) channels processes net → IsValid net → AreRepeatsWithin net
+        (net_tree text) channels processes net → IsValid net
         → IsOkUnless result NetFault.NoMemory }
 {
     check_in_order(alloc, text)

@@ -4,7 +4,6 @@ ghost use Rattle.std.specs.Prelude.{◌≡◌, length, map};
 ghost use Rattle.net_check.specs.Resolution.{AllDifferent};
 ghost use Rattle.kahn_net.specs.Syntax.{network_of};
 ghost use Rattle.kahn_net.specs.Valid.{IsValid};
-ghost use Rattle.kahn_net.specs.Repeats.{AreRepeatsWithin};
 ghost use Rattle.proc_code.specs.CodeView.{code_view};
 ghost use Rattle.proc_code.specs.Translation.{flat_code};
 
@@ -21,7 +20,6 @@ pub struct Net {
     pub process_names: Vec<Name>,
     pub codes: Vec<Code>,
     pub ghost valid: { IsValid (network_of program) },
-    pub ghost repeats: { AreRepeatsWithin (network_of program) },
     pub ghost channels_named: { length channel_names.items ≡ length program.channels.items },
     pub ghost processes_named: { length process_names.items ≡ length program.processes.items },
     pub ghost channels_differ: { AllDifferent channel_names.items },

@@ -10,7 +10,7 @@ use Rattle.net_check.specs.Resolution.{AllDifferent}
 use Rattle.kahn_net.specs.declared.program.Process.{Process}
 use Rattle.kahn_net.specs.Syntax.{code_of}
 use Rattle.proc_code.specs.Translation.{flat_code}
-use Rattle.net_check.proofs.Checked.{end_fault_in, repeats, resolves, valid}
+use Rattle.net_check.proofs.Checked.{end_fault_in, resolves, valid}
 use Rattle.net_check.proofs.checks.check_in_order.Goals as goal
 
 pub returns-in_err-channels-clause-fault : goal.returns-in_err-channels-clause-fault
@@ -40,7 +40,6 @@ invariant_of-result c =
     c.deref-2.ensures.value c.in_ok-channels.ensures.ok in
     record {
       valid = valid _ _ _ _ _ _ d.declared r fit j;
-      repeats = repeats _ _ _ _ _ _ d.declared r fit j;
       channels_named =
           ap length c.in_ok-channel_names.ensures
           ∙ length-map c.in_ok-declared.declared.channels.items (λ (x : ChannelText). x.name) ∙ sym j.count;

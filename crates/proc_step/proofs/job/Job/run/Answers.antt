@@ -23,8 +23,7 @@ take_turn-requires-clause-within c =
     let p = c.args.self.process in
     let lt =
     subst (λ (n : Net). p < length n.program.processes.items) (sym c.deref-net.ensures) c.args.self.named in
-    net.repeats p (code_of c.index-process.result.now)
-    (code_at net.program.processes.items p c.index-process.result.now lt c.index-process.ensures)
+    (valid_at net.program p c.index-process.result.now net.valid lt c.index-process.ensures).repeats
 
 pub take_turn-requires-clause-compiled : goal.take_turn-requires-clause-compiled
 take_turn-requires-clause-compiled c =
