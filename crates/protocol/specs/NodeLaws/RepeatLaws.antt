@@ -95,7 +95,7 @@ few_open : (open_yet : ℕ) (left times : List ℕ) → AreWithin open_yet times
     → (length left ≤ open_yet) × AreFew left
 few_open o [] [] within fits = (omega arith, tt)
 few_open o [] (t ∷ times) within fits = (omega arith, tt)
-few_open o (k ∷ left) [] within fits = absurd (cc)
+few_open o (k ∷ left) [] within fits = absurd fits
 few_open o (k ∷ left) (t ∷ times) within fits =
     let r = few_open (o - 1) left times within.2 fits.1 in
     let some = within.0 in
