@@ -103,7 +103,7 @@ few_open o (k ∷ left) (t ∷ times) within fits =
     let least = fits.0.0 in
     let here = fits.0.1 in
     let long = r.0 in
-    (omega (arith, some, long), least, omega (arith, here, most), r.1)
+    (omega (arith, some, long), (least, omega (arith, here, most), r.1))
 
 -- wherever a process of a valid network stands at a point
 pub passes_few : (net : Network) (p : ℕ) (code : Code) (inputs : List (List ℤ)) (m : ℕ) (point : Point) (vars : List ℤ)
