@@ -155,10 +155,13 @@ works_ok net k a b before later live ok s = record_stays_ok net k a b ok (record
     fits = record {
       after = at_most_next a.disk.permanent before later old.after rises;
       latest = λ x n i held. at_most_next i before later (old.latest x n i held) rises;
-      local = λ c is. (let had = (old.local c is).0 in let more = s.received c in elim (s.base c) [
-        | inl stays ↦ (omega arith)
-        | inr goes ↦ goes.2
-      ], s.local c is);
+      local = λ c is. (
+        let had = (old.local c is).0 in let more = s.received c in elim (s.base c) [
+          | inl stays ↦ (omega arith)
+          | inr goes ↦ goes.2
+        ],
+        s.local c is,
+      );
       output = λ c is. let had = old.output c is in elim (s.base c) [
         | inl stays ↦ (omega arith)
         | inr goes ↦ absurd (some_not_none is.to goes.0.to)
