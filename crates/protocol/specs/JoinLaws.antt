@@ -13,3 +13,10 @@ pub mod Concludes
 pub mod Settles
 pub mod Lines
 pub mod Plans
+pub mod Cuts
+pub mod Hears
+pub mod Works
+pub mod Returns
+pub mod Turns
+pub mod Leaves
+pub mod Opens

@@ -253,6 +253,9 @@ module _ (net : Network) (valid : IsValid net) (stations : List StationView) (k 
   answer_leads TakesNow told =
       let next = with_current_as x n old.node.mode old.node.kept in
       tells next (took_packet net k x n c m next)
-      (λ w is_asked is_up is. (took_may net valid k x n c m q cross w is_asked is_up next is
-      (held_then x n c m old.node.kept old.node.mode told), tt))
+      (λ w is_asked is_up is. (
+        took_may net valid k x n c m q cross w is_asked is_up next is
+            (held_then x n c m old.node.kept old.node.mode told),
+        tt,
+      ))
       (took told)

@@ -121,9 +121,9 @@ own_met net home held (need ∷ needs) d j all is own =
     by true at found met rest =
         let here : need.channel ≡ d = eqb-true need.channel d at in
         let le : need.count ≤ sent_of held.image need.channel =
-            at_most need.count (sent_of held.image need.channel)
-            (second (producer_node net need.channel == home) (nat_le need.count (sent_of held.image need.channel))
-            (eq-eqb (producer_node net need.channel) home (ap (producer_node net) here ∙ own)) met) in
+        at_most need.count (sent_of held.image need.channel)
+        (second (producer_node net need.channel == home) (nat_le need.count (sent_of held.image need.channel))
+        (eq-eqb (producer_node net need.channel) home (ap (producer_node net) here ∙ own)) met) in
         let count : need.count ≡ j = one_inside refl found in
         let sent : sent_of held.image need.channel ≡ sent_of held.image d = ap (sent_of held.image) here in
         omega (arith, le, count, sent)
@@ -182,7 +182,7 @@ module _ (net : Network) (home p c n to : ℕ) (needs : List Need) (cross : IsCr
           ⊎ ((need_of needs d ≡ Some j) × (answer ≡ Awaited) × ((net_seen net).producer d ≢ Some home))
       asks_new d j answer other later =
           let within = asked_within (with_needs net home needs (with_answer By_took c live.questions)) d (j, answer)
-              later in
+          later in
           let same = needs_length net home needs (with_answer By_took c live.questions) in
           elim (needs_new net home needs (with_answer By_took c live.questions) d j answer
           (omega (arith, within, same)) later) [
@@ -200,7 +200,7 @@ module _ (net : Network) (home p c n to : ℕ) (needs : List Need) (cross : IsCr
             let within : d < length net.channels = cross_within net d r p from in
             let same = answer_length live.questions c By_took in
             let found = needs_met net home needs (with_answer By_took c live.questions) d j need
-                (λ own. other (sym (producer_is net d r from.from) ∙ own)) (omega (arith, within, wide, same)) in
+            (λ own. other (sym (producer_is net d r from.from) ∙ own)) (omega (arith, within, wide, same)) in
             (other, found.0.0, found.0.1, found.1))
       ]
 
@@ -244,7 +244,7 @@ module _ (net : Network) (home : ℕ) (w : World) (live : LiveView) (is : IsLive
       ∙ needs_stay net home needs (with_need net home need questions) need.channel (need.count, Awaited) now)
       (new_may needs (with_need net home need questions)
       (λ i other at. (let same : length (with_need net home need questions) ≡ length questions =
-          need_length net home need questions in
+      need_length net home need questions in
       let below = few (suc i) other at in omega (arith, same, below))) last)
 
 -- ---- one station of several
@@ -342,4 +342,4 @@ module _ (net : Network) (stations : List StationView) (k : ℕ) (old : StationV
         (ap live_of (mode_at later k new (set_there stations k old new there))) needs
         (with_answer By_took c live.questions)
         (λ i need there_is. (let below = few i need there_is in
-            let same = answer_length live.questions c By_took in omega (arith, below, same, wide))) refl)))
+        let same = answer_length live.questions c By_took in omega (arith, below, same, wide))) refl)))

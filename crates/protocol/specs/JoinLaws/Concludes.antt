@@ -202,8 +202,8 @@ module _ (net : Network) (stations : List StationView) (k : ℕ) (old : StationV
     decided_before n decided =
         let ok = (is_consistent (net_seen net) (world_seen stations sent) reached).nodes k in
         let held = held_seen k live.number old.node.kept.tentative
-            (held_where k live.number old.node.kept.tentative
-            (both_true (holds k live.number old.node.kept.tentative) (all_answered live.questions) ready).0) in
+        (held_where k live.number old.node.kept.tentative
+        (both_true (holds k live.number old.node.kept.tentative) (all_answered live.questions) ready).0) in
         ok.older live.number n _
         (ap (λ (r : Record). r.tentative) (record_at stations k old there) ∙ held)
         (ap (λ (r : Record). r.decided n) (record_at stations k old there) ∙ decided)

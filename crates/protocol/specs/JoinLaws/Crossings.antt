@@ -1,5 +1,6 @@
 -- Channels between nodes, as a node tells them by its ports and as the abstract machine does.
-use Rattle.std.proofs.Common.{◌≡◌, ◌⊎◌, inl, inr, ℕ, ◌<◌, ◌≤◌, ◌&&◌, Bool, true, false, length, get_or, Option, Some, None}
+use Rattle.std.proofs.Common.{◌≡◌, ◌⊎◌, inl, inr, ℕ, ◌<◌, ◌≤◌, ◌&&◌, Bool, true, false, length, get_or, Option, Some}
+use Rattle.std.proofs.Common.{None}
 use Rattle.std.proofs.Common.{option_map, refl, sym, ap, subst, ◌∙◌, arith}
 use Rattle.std.specs.Prelude.{◌≢◌, ◌==◌, nat_lt, not, slice_get}
 use Rattle.std.proofs.lemmas.Bool.{eqb-true, eq-eqb, ne_eqb, lt-ltb}
@@ -13,7 +14,8 @@ use Rattle.kahn_net.specs.declared.program.Port.TheVariants.{Outside, Process}
 use Rattle.recovery_line.proofs.Basics.{one_inside}
 use Rattle.recovery_line.specs.Images.{IsCross}
 use Rattle.protocol.specs.Node.Addresses.{address, producer_node, consumer_node, ends_run, runs_between}
-use Rattle.protocol.specs.Node.Layout.{node_at, producer_of, consumer_of, is_node, port_on, port_away, comes_in, goes_out}
+use Rattle.protocol.specs.Node.Layout.{node_at, producer_of, consumer_of, is_node, port_on, port_away, comes_in}
+use Rattle.protocol.specs.Node.Layout.{goes_out}
 use Rattle.protocol.specs.Node.Layout.{is_incoming, is_outgoing}
 use Rattle.protocol.specs.NodeLaws.PlaceLaws.{node_below}
 use Rattle.protocol.specs.World.RecoveryLine.{net_seen}
@@ -32,11 +34,11 @@ not_true false e = refl
 
 -- ---- nodes at ports
 
-is_it : (home : ℕ) (o : Option ℕ) → is_node home o ≡ true → o ≡ Some home
+pub is_it : (home : ℕ) (o : Option ℕ) → is_node home o ≡ true → o ≡ Some home
 is_it home None is = absurd (cc)
 is_it home (Some p) is = ap (λ (q : ℕ). Some q) (eqb-true p home is)
 
-it_is : (home : ℕ) (o : Option ℕ) → o ≡ Some home → is_node home o ≡ true
+pub it_is : (home : ℕ) (o : Option ℕ) → o ≡ Some home → is_node home o ≡ true
 it_is home o is = rw is (eq-eqb home home refl)
 
 it_is_not : (home p : ℕ) (o : Option ℕ) → o ≡ Some p → p ≢ home → is_node home o ≡ false
@@ -142,7 +144,7 @@ between_cross net p q c is =
     let parts = both_true (not (p == q)) (ends_run net p q (slice_get net.channels c)) is in
     by (slice_get net.channels c) refl parts.1
     (λ same. let equal : (p == q) ≡ true = eq-eqb p q same in
-        let bad : not true ≡ true = ap not (sym equal) ∙ parts.0 in absurd (cc))
+    let bad : not true ≡ true = ap not (sym equal) ∙ parts.0 in absurd (cc))
   where
     by : (o : Option Channel) → slice_get net.channels c ≡ o → ends_run net p q o ≡ true → p ≢ q
         → IsCross (net_seen net) c p q

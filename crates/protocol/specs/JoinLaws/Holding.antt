@@ -74,5 +74,5 @@ not_held x n (Some held) fails image is =
     let initiator : held.initiator ≡ x = ap (λ (t : Tentative). t.initiator) (one_inside refl is) in
     let number : held.number ≡ n = ap (λ (t : Tentative). t.number) (one_inside refl is) in
     let whole : holds x n (Some held) ≡ true = true_both (held.initiator == x) (held.number == n)
-        (eq-eqb held.initiator x initiator) (eq-eqb held.number n number) in
+    (eq-eqb held.initiator x initiator) (eq-eqb held.number n number) in
     cc

@@ -45,9 +45,9 @@ pub lines_hold : LinesHold
 lines_hold net w records left reached to =
     let there = leads_on net _ w to.world reached to.leads in
     let moment : AtMoment to.world to.world records left =
-        record { of_records = inl (sym to.records_are); of_outlets = inl (sym to.outlets_are) } in
+    record { of_records = inl (sym to.records_are); of_outlets = inl (sym to.outlets_are) } in
     let on = line_never_falls_back net w to.world to.world to.leads.0 records left reached to.leads.1
-        (waits net to.world) moment in
+    (waits net to.world) moment in
     record {
       sound = line_is_sound net to.world to.world records left there (waits net to.world) moment;
       covers = line_covers net to.world to.world records left there (waits net to.world) moment;
@@ -105,9 +105,9 @@ line_stays : (net : Network) (before after : List StationView) (sent : List Pack
     → LineStays net before after records
 line_stays net before after sent records reached first last =
     let one = lines_hold (net_seen net) (world_seen before sent) (records_seen records) (outlets_seen before) reached
-        first in
+    first in
     let other = lines_hold (net_seen net) (world_seen before sent) (records_seen records) (outlets_seen after) reached
-        last in
+    last in
     record {
       at_first = record { sound = one.sound; covers = one.covers };
       at_last = record { sound = other.sound; covers = other.covers };

@@ -102,15 +102,15 @@ module _ (net : Network) (stations : List StationView) (k : ℕ) (old : StationV
         let more = all_seen plan.packets ++ run.sent in
         let made = slice_set stations k done in
         let fallen : Leads (net_seen net) (world_seen stations run.sent) (world_seen (slice_set stations k down) more) =
-            subst (λ (xs : List StationView). Leads (net_seen net) (world_seen stations run.sent) (world_seen xs more))
-            (set_again stations k done down)
-            (leads_on (net_seen net) (world_seen stations run.sent) (world_seen made more) _
-            (by_steps.leads failures turns)
-            (leads_by (net_seen net) (world_seen made more) (world_seen (slice_set made k down) more)
-            (acts made k done down (set_there stations k old done there) (net_seen net) more
-            (outlets_same made k done down (set_there stations k old done there) refl)
-            (falls (net_seen net) k (node_seen done (outlets_seen made)) (node_seen down (outlets_seen made)) refl refl
-            refl)))) in
+        subst (λ (xs : List StationView). Leads (net_seen net) (world_seen stations run.sent) (world_seen xs more))
+        (set_again stations k done down)
+        (leads_on (net_seen net) (world_seen stations run.sent) (world_seen made more) _
+        (by_steps.leads failures turns)
+        (leads_by (net_seen net) (world_seen made more) (world_seen (slice_set made k down) more)
+        (acts made k done down (set_there stations k old done there) (net_seen net) more
+        (outlets_same made k done down (set_there stations k old done there) refl)
+        (falls (net_seen net) k (node_seen done (outlets_seen made)) (node_seen down (outlets_seen made)) refl refl
+        refl)))) in
         subst (λ (n : NodeView). HasRun net (slice_set stations k (moved_to n failures turns old)) flown) (sym same)
         (record {
           sent = more;

@@ -215,12 +215,12 @@ module _ (net : Network) (home : ℕ) where
           inl (was ∙ ap (λ (x : ℕ × Answer). Some x) (sym now))
       here at (Asks other new same) rest =
           let set : questions_seen (slice_set questions need.channel (new_question need)) need.channel
-              ≡ Some (need.count, Awaited) =
-              set_question questions need.channel (record { count = need.count; answer = Awaited })
-              (let e : need.channel ≡ d = at in omega (arith, within, e)) in
+          ≡ Some (need.count, Awaited) =
+          set_question questions need.channel (record { count = need.count; answer = Awaited })
+          (let e : need.channel ≡ d = at in omega (arith, within, e)) in
           let now = lasts (need.count, Awaited)
-              (ap (λ (qs : List (Option QuestionView)). questions_seen qs d) same
-              ∙ (ap (questions_seen (slice_set questions need.channel (new_question need))) (sym at) ∙ set)) in
+          (ap (λ (qs : List (Option QuestionView)). questions_seen qs d) same
+          ∙ (ap (questions_seen (slice_set questions need.channel (new_question need))) (sym at) ∙ set)) in
           inr (
             ap (λ (x : ℕ × Answer). Some (x.0)) (sym now),
             ap (λ (x : ℕ × Answer). x.1) now,
@@ -259,6 +259,8 @@ module _ (net : Network) (home : ℕ) where
       by true at found rest =
           let here : need.channel ≡ d = eqb-true need.channel d at in
           let one = one_here need questions (with_need net home need questions) (after_need need questions)
-              (λ own. other (ap (producer_node net) (sym here) ∙ own)) (omega (arith, within, here)) in
-          (one.0, needs_stay needs (with_need net home need questions) d one.0
-              (ap (questions_seen (with_need net home need questions)) (sym here) ∙ one.1))
+          (λ own. other (ap (producer_node net) (sym here) ∙ own)) (omega (arith, within, here)) in (
+            one.0,
+            needs_stay needs (with_need net home need questions) d one.0
+                (ap (questions_seen (with_need net home need questions)) (sym here) ∙ one.1),
+          )
