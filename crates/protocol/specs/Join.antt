@@ -10,3 +10,5 @@ pub mod Collecting
 pub mod Verdicts
 pub mod Hearing
 pub mod Telling
+pub mod Deeds
+pub mod Joined

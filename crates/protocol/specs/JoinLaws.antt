@@ -20,3 +20,4 @@ pub mod Returns
 pub mod Turns
 pub mod Leaves
 pub mod Opens
+pub mod Deeds
