@@ -21,3 +21,4 @@ pub mod Turns
 pub mod Leaves
 pub mod Opens
 pub mod Deeds
+pub mod Events

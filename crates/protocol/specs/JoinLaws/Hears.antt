@@ -92,7 +92,7 @@ few_needs net p (x ∷ needs) all (suc i) need is =
 
 module _ (net : Network) (valid : IsValid net) (stations : List StationView) (k : ℕ) (old : StationView)
     (there : slice_get stations k ≡ Some old) (sent : List Packet) (from : ℕ) (up : is_down old.node.mode ≡ false)
-    (listed : from < length old.node.kept.highest)
+    (listed : are_nodes net from k ≡ true → from < length old.node.kept.highest)
     (wide : (running : RunningView) (live : LiveView) → old.node.mode ≡ Runs running → running.live ≡ Some live
     → length live.questions ≡ length net.channels) where
   -- what changes nothing that is seen
@@ -278,13 +278,13 @@ module _ (net : Network) (valid : IsValid net) (stations : List StationView) (k 
 
   -- ---- an answer, and verdicts
 
-  asked : (n c m : ℕ) → WasSent sent (Ask from n c m) → is_outgoing net k c ≡ true
+  asked : (n c m : ℕ) → WasSent sent (Ask from n c m) → are_nodes net from k ≡ true → is_outgoing net k c ≡ true
       → ProspectLeads net stations k old sent
       (answering net k from n c m (answer_to_ask from n c m old.node.kept old.node.mode) old.node)
-  asked n c m came outgoing = record {
+  asked n c m came nodes outgoing = record {
     leads = λ failures turns.
         let cross = goes_cross net k c valid outgoing in
-        answer_leads net valid stations k old there sent from n c m cross.0 cross.1 came up listed failures turns
+        answer_leads net valid stations k old there sent from n c m cross.0 cross.1 came up (listed nodes) failures turns
         (answer_to_ask from n c m old.node.kept old.node.mode) (answer_tells from n c m old.node.kept old.node.mode);
     silent = refl;
     keeps = unput (answer_to_ask from n c m old.node.kept old.node.mode);
@@ -368,7 +368,7 @@ module _ (net : Network) (valid : IsValid net) (stations : List StationView) (k 
       remembers (hearing (says.Ack channel epoch next)) (record { current = λ r. refl; live = λ r. refl })
   hear_leads (says.Kept channel count) right was = kept_cuts channel count (was (Kept channel count) refl) right
   hear_leads (says.Ask n c m) right was =
-      asked n c m (was (Ask from n c m) refl)
+      asked n c m (was (Ask from n c m) refl) (both_true (are_nodes net from k) (is_outgoing net k c) right).0
       (both_true (are_nodes net from k) (is_outgoing net k c) right).1
   hear_leads (says.Took n c m needs) right was =
       let all = list_all (λ (need : Need). is_incoming net from need.channel) needs in
