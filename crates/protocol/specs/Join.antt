@@ -12,3 +12,4 @@ pub mod Hearing
 pub mod Telling
 pub mod Deeds
 pub mod Joined
+pub mod Promises

@@ -22,3 +22,4 @@ pub mod Leaves
 pub mod Opens
 pub mod Deeds
 pub mod Events
+pub mod Whole

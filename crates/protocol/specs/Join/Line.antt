@@ -1,5 +1,5 @@
 -- What holds of the recovery line of a world to which steps of the abstract machine have led.
-use Rattle.std.specs.Prelude.{List}
+use Rattle.std.specs.Prelude.{◌≡◌, ◌⊎◌, List, [], ◌∷◌}
 use Rattle.kahn_net.specs.Syntax.{Network}
 use Rattle.record.specs.RecordView.{RecordView}
 use Rattle.recovery_line.specs.Line.{Sound, Covers, NotBehind}
@@ -18,3 +18,14 @@ pub record LineStays (net : Network) (before after : List StationView) (records 
   pub at_first : IsSoundLine net before records
   pub at_last : IsSoundLine net after records
   pub not_behind : NotBehind (records_seen (records_of before)) (records_seen records)
+
+-- ---- the records that a crash inside an event leaves
+
+-- a record of each station: the one of before, or the next one
+abbrev pub AreEither : List RecordView → List RecordView → List RecordView → Type 0
+AreEither [] [] [] = Unit {0}
+AreEither [] [] (r ∷ records) = ⊥
+AreEither [] (n ∷ nexts) records = ⊥
+AreEither (k ∷ kepts) [] records = ⊥
+AreEither (k ∷ kepts) (n ∷ nexts) [] = ⊥
+AreEither (k ∷ kepts) (n ∷ nexts) (r ∷ records) = ((r ≡ k) ⊎ (r ≡ n)) × AreEither kepts nexts records

@@ -20,6 +20,7 @@ use Rattle.protocol.specs.Join.Beginning.{live_in}
 use Rattle.protocol.specs.Join.Deeds.{come_plan}
 use Rattle.protocol.specs.Join.Hearing.{hear_prospect, told_prospect, come_prospect}
 use Rattle.protocol.specs.Join.Joined.{IsJoined}
+use Rattle.protocol.specs.Join.Promises.{traffic_by}
 use Rattle.protocol.specs.Join.Runs.{Leads, SaysWhatWasSent, Carries, HasRun}
 use Rattle.protocol.specs.Join.Seen.{body_seen, live_seen, mode_seen, node_seen, world_seen}
 use Rattle.protocol.specs.JoinLaws.Crossings.{both_true, true_both}
@@ -54,11 +55,6 @@ use Rattle.protocol.specs.declared.outcome.Outcome.{Outcome}
 use Rattle.protocol.specs.declared.outcome.Outcome.TheVariants as outcome
 use Rattle.protocol.specs.declared.round_turns.RoundTurns.{RoundTurns}
 
--- what is in flight after an answer: as before, where nothing happened
-abbrev pub traffic_by : Traffic → ℕ → ℕ → StationPlan → ReplyView → Traffic
-traffic_by traffic k round plan answer =
-    cond (has_happened answer) (all_sent round (plan_sendings plan answer) (traffic_left traffic k plan.came)) traffic
-
 nothing_happened : (answer : ReplyView) → has_happened answer ≡ false → answer ≡ reply.NotDue
 nothing_happened reply.NotDue is = refl
 nothing_happened reply.Acted is = absurd (cc)
@@ -90,7 +86,7 @@ left_carries : (traffic : Traffic) (k : ℕ) (came : Option ℕ) (sent : List Pa
 left_carries traffic k None sent carries = carries
 left_carries traffic k (Some place) sent carries = gone_holds (SaysWhatWasSent sent) traffic k place carries
 
-acted_carries : (act : NetworkAct) (traffic : Traffic) (k place : ℕ) (sent : List Packet) → Carries traffic sent
+pub acted_carries : (act : NetworkAct) (traffic : Traffic) (k place : ℕ) (sent : List Packet) → Carries traffic sent
     → Carries (traffic_acted act traffic k place) sent
 acted_carries event.Lose traffic k place sent carries = gone_holds (SaysWhatWasSent sent) traffic k place carries
 acted_carries event.Repeat traffic k place sent carries = repeated_holds (SaysWhatWasSent sent) traffic k place carries

@@ -13,7 +13,7 @@ use Rattle.recovery_line.specs.Packets.{Packet}
 use Rattle.recovery_line.specs.Records.{Record, effective}
 use Rattle.recovery_line.specs.Worlds.{World, Reachable}
 use Rattle.wire.specs.Traffic.{Traffic}
-use Rattle.protocol.specs.Join.Line.{LineStays}
+use Rattle.protocol.specs.Join.Line.{AreEither, LineStays}
 use Rattle.protocol.specs.Join.Runs.{Leads, HasRun}
 use Rattle.protocol.specs.Join.Seen.{world_seen}
 use Rattle.protocol.specs.JoinLaws.Leading.{leads_here, leads_on, outlets_same}
@@ -56,15 +56,6 @@ lines_hold net w records left reached to =
     }
 
 -- ---- the records that a crash inside an event leaves
-
--- a record of each station: the one of before, or the next one
-abbrev pub AreEither : List RecordView → List RecordView → List RecordView → Type 0
-AreEither [] [] [] = Unit {0}
-AreEither [] [] (r ∷ records) = ⊥
-AreEither [] (n ∷ nexts) records = ⊥
-AreEither (k ∷ kepts) [] records = ⊥
-AreEither (k ∷ kepts) (n ∷ nexts) [] = ⊥
-AreEither (k ∷ kepts) (n ∷ nexts) (r ∷ records) = ((r ≡ k) ⊎ (r ≡ n)) × AreEither kepts nexts records
 
 -- where no station has another one, they are those of before
 pub none_other : (kepts records : List RecordView) → AreEither kepts kepts records → records ≡ kepts
@@ -175,3 +166,18 @@ pub line_known : (net : Network) (stations before after : List StationView) (tra
     → (HasRun net stations traffic → LineStays net before after records) → LineStays net before after records
 line_known net stations before after traffic records known by =
     ∥∥₁_elim known (hlevel (le_prop)) by
+
+-- the records that stations keep are in line with themselves
+pub line_now : (net : Network) (stations : List StationView) (sent : List Packet)
+    → Reachable (net_seen net) (world_seen stations sent) → LineStays net stations stations (records_of stations)
+line_now net stations sent reached =
+    line_stays net stations stations sent (records_of stations) reached as_it_is as_it_is
+  where
+    as_it_is : LeadsTo (net_seen net) (world_seen stations sent) (records_seen (records_of stations))
+        (outlets_seen stations)
+    as_it_is = record {
+      world = world_seen stations sent;
+      leads = leads_here (net_seen net) (world_seen stations sent) (world_seen stations sent) refl;
+      records_are = refl;
+      outlets_are = refl;
+    }

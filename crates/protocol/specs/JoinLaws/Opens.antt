@@ -15,6 +15,7 @@ use Rattle.recovery_line.specs.Nodes.{Mode, Running}
 use Rattle.recovery_line.specs.Observers.{image_seen, record_seen}
 use Rattle.recovery_line.specs.Records.{Record, new_record}
 use Rattle.recovery_line.specs.Worlds.{opening}
+use Rattle.protocol.specs.Join.Promises.{HaveTakenNothing}
 use Rattle.protocol.specs.Join.Runs.{SaysWhatWasSent, HasRun}
 use Rattle.protocol.specs.Join.Seen.{modes_seen, world_seen}
 use Rattle.protocol.specs.Node.Layout.{port_on, channel_on}
@@ -114,10 +115,6 @@ module _ (net : Network) (home : ℕ) where
       none zero x = refl
       none (suc count) zero = refl
       none (suc count) (suc x) = none count x
-
--- nothing has left by these outlets
-abbrev pub HaveTakenNothing : List OutletView → Type 0
-HaveTakenNothing outlets = (i : ℕ) (outlet : OutletView) → slice_get outlets i ≡ Some outlet → outlet.taken ≡ []
 
 module _ (net : Network) (nodes : ℕ) (outlets : List OutletView) where
   records_open : (number : ℕ) (failures : List ℕ) (k : ℕ)

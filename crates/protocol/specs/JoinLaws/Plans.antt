@@ -14,8 +14,8 @@ use Rattle.protocol.specs.Join.Runs.{Leads, Carries, HasRun}
 use Rattle.protocol.specs.Join.Seen.{mode_seen, all_seen, node_seen, world_seen}
 use Rattle.protocol.specs.JoinLaws.Leading.{leads_here, leads_by, leads_on, acts, outlets_same, set_there, set_again}
 use Rattle.protocol.specs.JoinLaws.Leading.{set_itself, unseen}
-use Rattle.protocol.specs.Join.Line.{LineStays}
-use Rattle.protocol.specs.JoinLaws.Lines.{AreEither, line_at_put}
+use Rattle.protocol.specs.Join.Line.{AreEither, LineStays}
+use Rattle.protocol.specs.JoinLaws.Lines.{line_at_put}
 use Rattle.protocol.specs.JoinLaws.Sent.{carries_still, carries_all}
 use Rattle.protocol.specs.Node.Modes.{crashed, with_kept}
 use Rattle.protocol.specs.Node.NodeView.{NodeView}
