@@ -23,3 +23,4 @@ pub mod Opens
 pub mod Deeds
 pub mod Events
 pub mod Whole
+pub mod Spelled

@@ -54,7 +54,7 @@ module _ (net : Network) (stations : List StationView) (k : ℕ) (old : StationV
     here_below : k < length old.node.kept.highest
     here_below =
         let within = slice_get_within stations k old there in
-        let listed = joined.listed in
+        let listed = joined.kept.listed in
         omega (arith, within, listed, count)
 
     pub starts_lead : IsValid net → ProspectLeads net stations k old sent (begin_prospect net k old.node)
@@ -107,7 +107,7 @@ module _ (net : Network) (stations : List StationView) (k : ℕ) (old : StationV
               let enough : is_ready k old.node.kept (Some live) ≡ true =
                   ap (is_ready k old.node.kept) (sym is) ∙ ready in
               let listed : length old.node.kept.highest ≡ length stations =
-                  (let one = joined.listed in omega (arith, one, count)) in
+                  (let one = joined.kept.listed in omega (arith, one, count)) in
               subst (λ (o : Option LiveView). Leads (net_seen net) (world_seen stations sent)
               (world_seen (slice_set stations k (moved_to (concluded old.node) failures turns old))
               (all_seen (commit_packets k (length old.node.kept.highest) o) ++ sent))) (sym is)

@@ -149,7 +149,7 @@ module _ (net : Network) (stations : List StationView) (k : ℕ) (old : StationV
                 (nat_lt says.packet.from (node_count net) && nat_lt k (node_count net)) nodes in
             let below = ltb-true says.packet.from (node_count net)
                 (both_true (nat_lt says.packet.from (node_count net)) (nat_lt k (node_count net)) both.1).0 in
-            let listed = joined.listed in
+            let listed = joined.kept.listed in
             omega (arith, below, listed)
 
         wide : (running : RunningView) (live : LiveView) → old.node.mode ≡ Runs running → running.live ≡ Some live
