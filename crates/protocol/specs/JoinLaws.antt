@@ -24,3 +24,4 @@ pub mod Deeds
 pub mod Events
 pub mod Whole
 pub mod Spelled
+pub mod Keeps

@@ -1,6 +1,7 @@
 -- What is true of a station where checkpoints are coordinated, beside what is true of every station: what it collects and
 -- keeps may be said to other nodes.
-use Rattle.std.specs.Prelude.{◌≡◌, ◌≢◌, ℕ, ◌<◌, ◌≤◌, true, List, length, Some, slice_get}
+use Rattle.std.specs.Prelude.{◌≡◌, ◌≢◌, ℕ, ◌<◌, ◌≤◌, true, length, Some}
+use Rattle.std.specs.List.{AllByRecursion}
 use Rattle.datagram.specs.PacketText.{IsPositive}
 use Rattle.kahn_net.specs.Nodes.{node_count}
 use Rattle.kahn_net.specs.Syntax.{Network}
@@ -59,7 +60,7 @@ pub record DecisionIsSound (net : Network) (home : ℕ) (decision : DecisionView
 pub record KeepsNodes (net : Network) (home : ℕ) (kept : RecordView) : Type 0 where
   pub listed : length kept.highest ≡ node_count net
   pub held : (held : Tentative) → kept.tentative ≡ Some held → HeldIsSound net home held
-  pub decisions : (i : ℕ) (d : DecisionView) → slice_get kept.decisions i ≡ Some d → DecisionIsSound net home d
+  pub decisions : AllByRecursion (DecisionIsSound net home) kept.decisions
 
 -- so it is of a station's record, and of what its node collects
 pub record IsJoined (net : Network) (station : StationView) : Type 0 where

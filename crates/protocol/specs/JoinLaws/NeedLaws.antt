@@ -116,7 +116,7 @@ module _ (net : Network) (home : ℕ) (valid : IsValid net) (permanent image : I
       true_both (is_incoming net home c) (nat_lt (received_of permanent c) (received_of image c))
       (cross_comes net home c p cross) (lt-ltb (received_of permanent c) (received_of image c) above)
 
-  needed_cross : (c : ℕ) → is_needed net home permanent image c ≡ true → (p : ℕ) × IsCross (net_seen net) c p home
+  pub needed_cross : (c : ℕ) → is_needed net home permanent image c ≡ true → (p : ℕ) × IsCross (net_seen net) c p home
   needed_cross c is =
       comes_cross net home c valid
       (both_true (is_incoming net home c) (nat_lt (received_of permanent c) (received_of image c)) is).0
@@ -182,6 +182,22 @@ module _ (net : Network) (home : ℕ) (valid : IsValid net) (permanent image : I
   asked_past : (c : ℕ) → length net.channels ≤ c → questions_seen (questions_of net home permanent image) c ≡ None
   asked_past c past = ap question_seen (each_past (question_on net home permanent image) 0 (length net.channels) c past)
 
+  -- what is asked is needed
+  pub asked_only : (c m : ℕ) (answer : Answer)
+      → questions_seen (questions_of net home permanent image) c ≡ Some (m, answer)
+      → (is_needed net home permanent image c ≡ true) × (m ≡ received_of image c) × (answer ≡ Awaited)
+  asked_only c m answer is = elim (above_or c (length net.channels)) [
+    | inl within ↦ by (is_needed net home permanent image c) refl (sym (asked_at c within) ∙ is)
+    | inr past ↦ absurd (some_not_none (asked_past c past) is)
+  ]
+    where
+      by : (b : Bool) → is_needed net home permanent image c ≡ b → asked_if b (received_of image c) ≡ Some (m, answer)
+          → (is_needed net home permanent image c ≡ true) × (m ≡ received_of image c) × (answer ≡ Awaited)
+      by false fails e = absurd (cc)
+      by true passes e =
+          let pair : (m, answer) ≡ (received_of image c, Awaited) = one_inside e refl in
+          (passes, ap (λ (x : ℕ × Answer). x.0) pair, ap (λ (x : ℕ × Answer). x.1) pair)
+
   pub asks_needs : AsksNeeds (net_seen net) home (image_seen permanent) (image_seen image)
       (questions_seen (questions_of net home permanent image))
   asks_needs = record { each = each; only = only }
@@ -195,15 +211,7 @@ module _ (net : Network) (home : ℕ) (valid : IsValid net) (permanent image : I
       only : (c m : ℕ) (answer : Answer)
           → questions_seen (questions_of net home permanent image) c ≡ Some (m, answer)
           → (p : ℕ) × IsCross (net_seen net) c p home × (m ≡ received_of image c) × (answer ≡ Awaited)
-      only c m answer is = elim (above_or c (length net.channels)) [
-        | inl within ↦ by (is_needed net home permanent image c) refl (sym (asked_at c within) ∙ is)
-        | inr past ↦ absurd (some_not_none (asked_past c past) is)
-      ]
-        where
-          by : (b : Bool) → is_needed net home permanent image c ≡ b → asked_if b (received_of image c) ≡ Some (m, answer)
-              → (p : ℕ) × IsCross (net_seen net) c p home × (m ≡ received_of image c) × (answer ≡ Awaited)
-          by false fails e = absurd (cc)
-          by true passes e =
-              let pair : (m, answer) ≡ (received_of image c, Awaited) = one_inside e refl in
-              let cross = needed_cross c passes in
-              (cross.0, cross.1, ap (λ (x : ℕ × Answer). x.0) pair, ap (λ (x : ℕ × Answer). x.1) pair)
+      only c m answer is =
+          let asked = asked_only c m answer is in
+          let cross = needed_cross c asked.0 in
+          (cross.0, cross.1, asked.1, asked.2)

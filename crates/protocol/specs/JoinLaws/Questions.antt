@@ -81,6 +81,17 @@ module _ (questions : List (Option QuestionView)) (c : ℕ) (answer : Answer) wh
       ∙ ap question_seen
       (set_there questions c (Some question) (Some (record { count = question.count; answer = answer })) is)
 
+  -- where nothing was asked, nothing is
+  pub answered_none : slice_get questions c ≡ None → questions_seen (with_answer answer c questions) c ≡ None
+  answered_none is =
+      ap (λ (o : Option (Option QuestionView)). questions_seen (replaced_at (answered_by answer) c questions o) c) is
+      ∙ ap question_seen is
+
+  pub answered_nothing : slice_get questions c ≡ Some None → questions_seen (with_answer answer c questions) c ≡ None
+  answered_nothing is =
+      ap (λ (o : Option (Option QuestionView)). questions_seen (replaced_at (answered_by answer) c questions o) c) is
+      ∙ ap question_seen (set_there questions c None None is)
+
   pub answer_elsewhere : (d : ℕ) → d ≢ c
       → questions_seen (with_answer answer c questions) d ≡ questions_seen questions d
   answer_elsewhere d other = by (slice_get questions c)

@@ -2,7 +2,7 @@
 use Rattle.std.proofs.Common.{◌≡◌, ℕ, zero, suc, ◌+◌, ◌<◌, ◌≤◌, ◌&&◌, Bool, true, false, cond, List, ℤ, [], ◌∷◌, ◌++◌, length, map}
 use Rattle.std.proofs.Common.{All, Option, Some, None, refl, sym, ap, subst, ◌∙◌, arith}
 use Rattle.std.specs.Prelude.{◌≢◌, ◌==◌, ◌||◌, nat_le, nat_lt, not, slice_get, slice_index, IsTrue}
-use Rattle.std.specs.List.{flat_map, list_all}
+use Rattle.std.specs.List.{AllByRecursion, flat_map, list_all}
 use Rattle.std.specs.List.Sorted.{IsStrictlyIncreasing}
 use Rattle.std.proofs.lemmas.Bool.{eqb-true, eq-eqb, ne_eqb, ltb-true, lt-ltb}
 use Rattle.std.proofs.lemmas.List.Elements.{All-nil, All-cons, All-append, All-head, All-tail}
@@ -411,14 +411,12 @@ module _ (net : Network) (inputs : List (List ℤ)) (valid : IsValid net) (home 
       (query_packets home kept.tentative) (decisions kept.decisions keeps.decisions)
       (query kept.tentative refl)
     where
-      decisions : (ds : List DecisionView)
-          → ((i : ℕ) (d : DecisionView) → slice_get ds i ≡ Some d → DecisionIsSound net home d)
+      decisions : (ds : List DecisionView) → AllByRecursion (DecisionIsSound net home) ds
           → All (IsSendable net inputs) (flat_map (decision_packets home) ds)
       decisions [] each = none_sendable
       decisions (d ∷ ds) each =
           All-append (IsSendable net inputs) (decision_packets home d) (flat_map (decision_packets home) ds)
-          (commits_sendable d.number (each 0 d refl).number d.participants (each 0 d refl).others)
-          (decisions ds (λ i e is. each (suc i) e is))
+          (commits_sendable d.number each.0.number d.participants each.0.others) (decisions ds each.1)
 
       query : (o : Option Tentative) → kept.tentative ≡ o → All (IsSendable net inputs) (query_packets home o)
       query None is = none_sendable
