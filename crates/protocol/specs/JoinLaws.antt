@@ -25,3 +25,4 @@ pub mod Events
 pub mod Whole
 pub mod Spelled
 pub mod Keeps
+pub mod Sayable

@@ -1,7 +1,6 @@
 -- What is true of a station where checkpoints are coordinated, beside what is true of every station: what it collects and
 -- keeps may be said to other nodes.
-use Rattle.std.specs.Prelude.{◌≡◌, ◌≢◌, ℕ, ◌<◌, ◌≤◌, true, length, Some}
-use Rattle.std.specs.List.{AllByRecursion}
+use Rattle.std.specs.Prelude.{◌≡◌, ◌≢◌, ℕ, ◌<◌, ◌≤◌, true, length, Some, slice_get}
 use Rattle.datagram.specs.PacketText.{IsPositive}
 use Rattle.kahn_net.specs.Nodes.{node_count}
 use Rattle.kahn_net.specs.Syntax.{Network}
@@ -11,14 +10,13 @@ use Rattle.record.specs.Ends.{received_of}
 use Rattle.record.specs.ImageView.{ImageView}
 use Rattle.record.specs.RecordView.{RecordView}
 use Rattle.record.specs.declared.record.Tentative.{Tentative}
-use Rattle.recovery_line.specs.Images.{IsCross}
 use Rattle.recovery_line.specs.Nodes.{Answer}
 use Rattle.recovery_line.specs.Observers.{has_node}
 use Rattle.protocol.specs.Join.Beginning.{live_in}
 use Rattle.protocol.specs.Join.Seen.{questions_seen}
-use Rattle.protocol.specs.Node.Layout.{is_incoming}
+use Rattle.protocol.specs.Node.Addresses.{are_nodes, producer_node}
+use Rattle.protocol.specs.Node.Layout.{is_incoming, is_outgoing}
 use Rattle.protocol.specs.Node.LiveView.{LiveView}
-use Rattle.protocol.specs.World.RecoveryLine.{net_seen}
 use Rattle.protocol.specs.World.StationView.{StationView}
 
 -- another node of the network
@@ -26,13 +24,11 @@ pub record IsOther (net : Network) (home p : ℕ) : Type 0 where
   pub below : p < node_count net
   pub apart : p ≢ home
 
--- so many items of this channel may be asked for: it comes from another node than this one
+-- so many items of this channel may be asked for: the node that puts on it is another one, from which it goes
 pub record IsQuestion (net : Network) (home c m : ℕ) : Type 0 where
   pub positive : IsPositive m
-  pub from : ℕ
-  pub to : ℕ
-  pub cross : IsCross (net_seen net) c from to
-  pub apart : from ≢ home
+  pub nodes : are_nodes net home (producer_node net c) ≡ true
+  pub goes : is_outgoing net (producer_node net c) c ≡ true
 
 -- What a node collects has a place for each channel of the network; its number and each question may be written; and
 -- whoever took part is another node.
@@ -60,7 +56,7 @@ pub record DecisionIsSound (net : Network) (home : ℕ) (decision : DecisionView
 pub record KeepsNodes (net : Network) (home : ℕ) (kept : RecordView) : Type 0 where
   pub listed : length kept.highest ≡ node_count net
   pub held : (held : Tentative) → kept.tentative ≡ Some held → HeldIsSound net home held
-  pub decisions : AllByRecursion (DecisionIsSound net home) kept.decisions
+  pub decisions : (i : ℕ) (d : DecisionView) → slice_get kept.decisions i ≡ Some d → DecisionIsSound net home d
 
 -- so it is of a station's record, and of what its node collects
 pub record IsJoined (net : Network) (station : StationView) : Type 0 where

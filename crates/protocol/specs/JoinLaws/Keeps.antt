@@ -32,6 +32,7 @@ use Rattle.protocol.specs.Join.Needs.{question_on, questions_of}
 use Rattle.protocol.specs.Join.Seen.{need_of, question_seen, questions_seen}
 use Rattle.protocol.specs.Join.Verdicts.{participants_of, decision_on}
 use Rattle.protocol.specs.JoinLaws.Crossings.{both_true, comes_cross, cross_within, producer_is}
+use Rattle.protocol.specs.JoinLaws.Spelled.{question_of}
 use Rattle.protocol.specs.JoinLaws.NeedLaws.{asked_only, needed_above, needed_cross, each_length, has_where_below}
 use Rattle.protocol.specs.JoinLaws.Questions.{answer_length, answer_elsewhere, answer_here, question_at, needs_length}
 use Rattle.protocol.specs.JoinLaws.Questions.{needs_new, asked_within, answered_none, answered_nothing}
@@ -85,6 +86,18 @@ without_fewer node p (q ∷ nodes) is = by (not (q == node)) is (without_fewer n
     by true e rest = at (q == p) e rest
     by false e rest = rw (rest e) (or_true (q == p))
 
+-- of each element, as what stands at each place
+each_place : {A : Type 0} (P : A → Type 0) (xs : List A) → AllByRecursion P xs → (i : ℕ) (x : A)
+    → slice_get xs i ≡ Some x → P x
+each_place P [] all i x is = absurd (cc)
+each_place P (y ∷ xs) all zero x is = let same : y ≡ x = cc in subst P same all.0
+each_place P (y ∷ xs) all (suc i) x is = each_place P xs all.1 i x is
+
+each_of : {A : Type 0} (P : A → Type 0) (xs : List A) → ((i : ℕ) (x : A) → slice_get xs i ≡ Some x → P x)
+    → AllByRecursion P xs
+each_of P [] each = tt
+each_of P (x ∷ xs) each = (each 0 x refl, each_of P xs (λ i y is. each (suc i) y is))
+
 module _ (net : Network) (home : ℕ) where
   -- ---- records
 
@@ -117,27 +130,30 @@ module _ (net : Network) (home : ℕ) where
     decides_keeps live sound = record {
       listed = keeps.listed;
       held = λ held is. absurd (some_not_none refl is);
-      decisions = by (participants_of (length kept.highest) live.takers)
+      decisions = each_place (DecisionIsSound net home)
+          (decided_by live.number (participants_of (length kept.highest) live.takers) kept.decisions)
+          (by (participants_of (length kept.highest) live.takers)
           (λ p has. sound.takers p
-          (has_where_below (λ q. has_node q live.takers) p 0 (length kept.highest) has).0);
+          (has_where_below (λ q. has_node q live.takers) p 0 (length kept.highest) has).0));
     }
       where
         by : (nodes : List ℕ) → ((p : ℕ) → has_node p nodes ≡ true → IsOther net home p)
             → AllByRecursion (DecisionIsSound net home) (decided_by live.number nodes kept.decisions)
-        by [] others = keeps.decisions
+        by [] others = each_of (DecisionIsSound net home) kept.decisions keeps.decisions
         by (p ∷ nodes) others =
             each_both (DecisionIsSound net home) (decided_below live.number kept.decisions)
             (decision_by live.number (p ∷ nodes))
             (each_filter (DecisionIsSound net home) (λ (d : DecisionView). nat_lt d.number live.number) kept.decisions
-            keeps.decisions)
+            (each_of (DecisionIsSound net home) kept.decisions keeps.decisions))
             (record { number = sound.number; others = others }, tt)
 
     pub confirms_keeps : (n p : ℕ) → KeepsNodes net home (with_confirmed n p kept)
     confirms_keeps n p = record {
       listed = keeps.listed;
       held = keeps.held;
-      decisions = each_flat (DecisionIsSound net home) (DecisionIsSound net home) (confirmed_one n p) one kept.decisions
-          keeps.decisions;
+      decisions = each_place (DecisionIsSound net home) (confirmed n p kept.decisions)
+          (each_flat (DecisionIsSound net home) (DecisionIsSound net home) (confirmed_one n p) one kept.decisions
+          (each_of (DecisionIsSound net home) kept.decisions keeps.decisions));
     }
       where
         few : (d : DecisionView) (nodes : List ℕ) → IsPositive d.number → d.number ≡ n
@@ -177,7 +193,7 @@ module _ (net : Network) (home : ℕ) where
 
   -- ---- what is collected
 
-  module _ (valid : IsValid net) where
+  module _ (inputs : List (List ℤ)) (valid : IsValid net) (here : home < node_count net) where
     pub begun_sound : (kept : RecordView) (image : ImageView) → nat_lt (highest_seen home kept) MAX_COUNT ≡ true
         → MayBeAskedFor net home image → LiveIsSound net home (live_begun net home kept image)
     begun_sound kept image less counts = record {
@@ -189,13 +205,8 @@ module _ (net : Network) (home : ℕ) where
           let more = needed_above net home valid kept.permanent image c asked.0 in
           let few = counts c (incoming_of c asked.0) in
           let count = asked.1 in
-          record {
-            positive = (omega (arith, more, count), omega (arith, few, count));
-            from = cross.0;
-            to = home;
-            cross = cross.1;
-            apart = cross.1.apart;
-          };
+          question_of net inputs valid home here c m cross.0 home
+          (omega (arith, more, count), omega (arith, few, count)) cross.1 cross.1.apart;
       takers = λ p has. absurd (cc);
     }
       where
@@ -313,13 +324,8 @@ module _ (net : Network) (home : ℕ) where
                   sound.questions d m was.0 was.1)
               | inr new ↦ (let need = need_there needs p d m new.0 each all in
                   let cross = comes_cross net p d valid need.1 in
-                  record {
-                    positive = need.0;
-                    from = cross.0;
-                    to = p;
-                    cross = cross.1;
-                    apart = λ own. new.2 (producer_is net d cross.0 cross.1.from ∙ own);
-                  })
+                  question_of net inputs valid home here d m cross.0 p need.0 cross.1
+                  (λ own. new.2 (producer_is net d cross.0 cross.1.from ∙ own)))
             ]
 
     -- what a node that runs has now may be asked for

@@ -2,7 +2,7 @@
 use Rattle.std.proofs.Common.{◌≡◌, ℕ, zero, suc, ◌+◌, ◌<◌, ◌≤◌, ◌&&◌, Bool, true, false, cond, List, ℤ, [], ◌∷◌, ◌++◌, length, map}
 use Rattle.std.proofs.Common.{All, Option, Some, None, refl, sym, ap, subst, ◌∙◌, arith}
 use Rattle.std.specs.Prelude.{◌≢◌, ◌==◌, ◌||◌, nat_le, nat_lt, not, slice_get, slice_index, IsTrue}
-use Rattle.std.specs.List.{AllByRecursion, flat_map, list_all}
+use Rattle.std.specs.List.{flat_map, list_all}
 use Rattle.std.specs.List.Sorted.{IsStrictlyIncreasing}
 use Rattle.std.proofs.lemmas.Bool.{eqb-true, eq-eqb, ne_eqb, ltb-true, lt-ltb}
 use Rattle.std.proofs.lemmas.List.Elements.{All-nil, All-cons, All-append, All-head, All-tail}
@@ -37,7 +37,7 @@ use Rattle.protocol.specs.Join.Needs.{is_needed, need_on, needs_of, held_needs}
 use Rattle.protocol.specs.Join.Seen.{questions_seen, in_front}
 use Rattle.protocol.specs.Join.Telling.{decision_packets, packet_if, query_packets, verdicts_told}
 use Rattle.protocol.specs.Join.Verdicts.{commit_to, settled_packets, verdict_packets}
-use Rattle.protocol.specs.JoinLaws.Crossings.{both_true, true_both, not_true, channel_within, comes_cross, cross_goes}
+use Rattle.protocol.specs.JoinLaws.Crossings.{both_true, true_both, channel_within, comes_cross, cross_goes, goes_cross}
 use Rattle.protocol.specs.JoinLaws.Crossings.{cross_within, producer_below, producer_is}
 use Rattle.protocol.specs.JoinLaws.NeedLaws.{needed_above}
 use Rattle.protocol.specs.Node.Addresses.{are_nodes, names_run, producer_node}
@@ -71,7 +71,7 @@ module _ (net : Network) (inputs : List (List ℤ)) (valid : IsValid net) (home 
       (true_both (nat_lt home (node_count net)) (nat_lt p (node_count net)) (lt-ltb home (node_count net) here)
       (lt-ltb p (node_count net) other.below))
 
-  other_of : (p : ℕ) → are_nodes net p home ≡ true → IsOther net home p
+  pub other_of : (p : ℕ) → are_nodes net p home ≡ true → IsOther net home p
   other_of p nodes =
       let both = both_true (not (p == home)) (nat_lt p (node_count net) && nat_lt home (node_count net)) nodes in
       record {
@@ -98,19 +98,38 @@ module _ (net : Network) (inputs : List (List ℤ)) (valid : IsValid net) (home 
 
   -- ---- questions
 
+  other_from : (p : ℕ) → are_nodes net home p ≡ true → IsOther net home p
+  other_from p nodes =
+      let both = both_true (not (home == p)) (nat_lt home (node_count net) && nat_lt p (node_count net)) nodes in
+      record {
+        below = ltb-true p (node_count net)
+            (both_true (nat_lt home (node_count net)) (nat_lt p (node_count net)) both.1).1;
+        apart = λ same. (let equal : (home == p) ≡ true = eq-eqb home p (sym same) in
+            let bad : not true ≡ true = ap not (sym equal) ∙ both.0 in absurd (cc));
+      }
+
+  -- a channel from another node may be asked for
+  pub question_of : (c m from to : ℕ) → IsPositive m → IsCross (net_seen net) c from to → from ≢ home
+      → IsQuestion net home c m
+  question_of c m from to positive cross apart =
+      let producer : producer_node net c ≡ from = producer_is net c from cross.from in
+      record {
+        positive = positive;
+        nodes = subst (λ (p : ℕ). are_nodes net home p ≡ true) (sym producer)
+            (nodes_are from (record { below = producer_below net c from cross.from; apart = apart }));
+        goes = subst (λ (p : ℕ). is_outgoing net p c ≡ true) (sym producer) (cross_goes net from c to cross);
+      }
+
   ask_sendable : (number c m : ℕ) → IsPositive number → IsQuestion net home c m
       → IsSendable net inputs (ask_on net home number c m)
   ask_sendable number c m positive question =
-      let producer : producer_node net c ≡ question.from = producer_is net c question.from question.cross.from in
-      let within = cross_within net c question.from question.to question.cross in
-      let other : IsOther net home question.from = record {
-        below = producer_below net c question.from question.cross.from;
-        apart = question.apart;
-      } in
-      subst (λ (p : ℕ). IsSendable net inputs (record { from = home; to = p; body = says.Ask number c m })) (sym producer)
-      (says_to question.from (says.Ask number c m) other (positive, channel_fits c within, question.positive)
-      (true_both (are_nodes net home question.from) (is_outgoing net question.from c) (nodes_are question.from other)
-      (cross_goes net question.from c question.to question.cross)) tt)
+      let p = producer_node net c in
+      let cross = goes_cross net p c valid question.goes in
+      let within = cross_within net c p cross.0 cross.1 in
+      says_to (producer_node net c) (says.Ask number c m) (other_from (producer_node net c) question.nodes)
+      (positive, channel_fits c within, question.positive)
+      (true_both (are_nodes net home (producer_node net c)) (is_outgoing net (producer_node net c) c) question.nodes
+      question.goes) tt
 
   in_front_sendable : (o : Option Packet) (packets : List Packet)
       → ((packet : Packet) → o ≡ Some packet → IsSendable net inputs packet) → All (IsSendable net inputs) packets
@@ -157,13 +176,8 @@ module _ (net : Network) (inputs : List (List ℤ)) (valid : IsValid net) (home 
       → producer_node net need.channel ≢ home → IsQuestion net home need.channel need.count
   need_question p need is incoming other =
       let cross = comes_cross net p need.channel valid incoming in
-      record {
-        positive = is.1;
-        from = cross.0;
-        to = p;
-        cross = cross.1;
-        apart = λ same. other (producer_is net need.channel cross.0 cross.1.from ∙ same);
-      }
+      question_of need.channel need.count cross.0 p is.1 cross.1
+      (λ same. other (producer_is net need.channel cross.0 cross.1.from ∙ same))
 
   pub new_sendable : (number p : ℕ) → IsPositive number → (needs : List Need) (questions : List (Option QuestionView))
       → All IsNeed needs → list_all (λ (need : Need). is_incoming net p need.channel) needs ≡ true
@@ -411,12 +425,14 @@ module _ (net : Network) (inputs : List (List ℤ)) (valid : IsValid net) (home 
       (query_packets home kept.tentative) (decisions kept.decisions keeps.decisions)
       (query kept.tentative refl)
     where
-      decisions : (ds : List DecisionView) → AllByRecursion (DecisionIsSound net home) ds
+      decisions : (ds : List DecisionView)
+          → ((i : ℕ) (d : DecisionView) → slice_get ds i ≡ Some d → DecisionIsSound net home d)
           → All (IsSendable net inputs) (flat_map (decision_packets home) ds)
       decisions [] each = none_sendable
       decisions (d ∷ ds) each =
           All-append (IsSendable net inputs) (decision_packets home d) (flat_map (decision_packets home) ds)
-          (commits_sendable d.number each.0.number d.participants each.0.others) (decisions ds each.1)
+          (commits_sendable d.number (each 0 d refl).number d.participants (each 0 d refl).others)
+          (decisions ds (λ i e is. each (suc i) e is))
 
       query : (o : Option Tentative) → kept.tentative ≡ o → All (IsSendable net inputs) (query_packets home o)
       query None is = none_sendable
