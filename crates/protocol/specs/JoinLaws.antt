@@ -26,3 +26,4 @@ pub mod Whole
 pub mod Spelled
 pub mod Keeps
 pub mod Sayable
+pub mod Lasting

@@ -1,6 +1,7 @@
 //! Laws of checkpoints that several nodes take together.
 ghost use Rattle.protocol.specs.Join.Promises.{OpeningHasRun, DeedsRun, InstallsRun, ReleasesRun, NetworkRuns};
 ghost use Rattle.protocol.specs.Join.Promises.{DeedsKeepTheLine, LinesAreSound};
+ghost use Rattle.protocol.specs.Join.Promises.{OpeningIsJoined, DeedsStayJoined, OthersStayJoined};
 
 /// Every event of a world is steps of the abstract machine of recovery lines, for any number of nodes.
 ///
@@ -24,4 +25,11 @@ pub fn event_law()
 pub fn line_law()
     ensures kept { LinesAreSound }
     ensures any_moment { DeedsKeepTheLine }
+{}
+
+/// What a station keeps and collects may be said to other nodes, after every event: what `event_law` asks of a station.
+pub fn joined_law()
+    ensures opening { OpeningIsJoined }
+    ensures deeds { DeedsStayJoined }
+    ensures others { OthersStayJoined }
 {}

@@ -15,7 +15,7 @@ mod round_turns;
 
 pub use armed_restart::ArmedRestart;
 pub use delivery::Delivery;
-pub use joint_laws::{event_law, line_law};
+pub use joint_laws::{event_law, joined_law, line_law};
 pub use limits::{MAX_GRANTS, MAX_INBOX_ITEMS, MAX_JOB_ITEMS, WINDOW};
 pub use links::{Inbox, Outbox};
 pub use outcome::{Outcome, Refusal};

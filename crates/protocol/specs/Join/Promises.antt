@@ -1,5 +1,5 @@
 -- What is promised of checkpoints that several nodes take together, as the contracts of the law calls say it.
-use Rattle.std.specs.Prelude.{◌≡◌, ℕ, ℤ, Bool, if◌then◌else◌, List, [], length, Some, slice_get, slice_set}
+use Rattle.std.specs.Prelude.{◌≡◌, ◌⊎◌, ℕ, ℤ, Bool, if◌then◌else◌, List, [], length, Some, slice_get, slice_set}
 use Rattle.kahn_net.specs.Nodes.{node_count}
 use Rattle.kahn_net.specs.Syntax.{Network}
 use Rattle.kahn_net.specs.Valid.{IsValid}
@@ -102,3 +102,24 @@ abbrev pub LinesAreSound : Type 0
 LinesAreSound =
     (net : Network) (stations : List StationView) (traffic : Traffic) → ∥ HasRun net stations traffic ∥₁
     → LineStays net stations stations (records_of stations)
+
+-- ---- what may be said
+
+-- After each deed, however it comes out, what a station keeps and collects may be said to other nodes; and so it is after
+-- a turn that comes back and an item that leaves, and of each station of an opening world.
+abbrev pub DeedsStayJoined : Type 0
+DeedsStayJoined =
+    (setting : Setting) (stations : List StationView) (k : ℕ) (old new : StationView) (deed : Deed)
+    (fits : RecordView → Bool) (answer : ReplyView) → StandsIn setting stations k old
+    → IsPlanned fits setting.round (deed_plan setting k deed old) old answer new → IsJoined setting.net new
+
+abbrev pub OthersStayJoined : Type 0
+OthersStayJoined =
+    (net : Network) (old new : StationView) (done : DoneView) (round : ℕ) (answer : ReplyView)
+    → IsInstalled net.channels done old answer new ⊎ IsRelease round (next_release round old) old answer new
+    → IsJoined net old → IsJoined net new
+
+abbrev pub OpeningIsJoined : Type 0
+OpeningIsJoined =
+    (net : Network) (failures : List ℕ) (outlets : List OutletView) (k : ℕ) (station : StationView)
+    → slice_get (opening_stations net failures outlets) k ≡ Some station → IsJoined net station

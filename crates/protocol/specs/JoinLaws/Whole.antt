@@ -47,7 +47,7 @@ opening_has_run net failures outlets nothing = ∣ run_opens net (node_count net
 
 -- ---- the bytes that come in a deed, if any do
 
-abbrev SpelledBytes : Setting → ℕ → Option (List ℕ) → Type 0
+abbrev pub SpelledBytes : Setting → ℕ → Option (List ℕ) → Type 0
 SpelledBytes setting k None = Unit {0}
 SpelledBytes setting k (Some bytes) = SpellsSound setting.net setting.inputs k bytes
 
@@ -75,7 +75,7 @@ due_are round (Some flight) bytes is = by (is_due round flight) is
 
 module _ (setting : Setting) (stations : List StationView) (k : ℕ) (old : StationView)
     (in_world : StandsIn setting stations k old) where
-  bytes_spelled : (place : ℕ) (o : Option (List ℕ)) → due_bytes setting.round (flight_at setting k place) ≡ o
+  pub bytes_spelled : (place : ℕ) (o : Option (List ℕ)) → due_bytes setting.round (flight_at setting k place) ≡ o
       → ∥ SpelledBytes setting k o ∥₁
   bytes_spelled place None is = ∣ tt ∣₁
   bytes_spelled place (Some bytes) is =
