@@ -10,7 +10,8 @@ use Rattle.record.specs.RecordView.{RecordView}
 use Rattle.record.specs.declared.image.End.TheVariants.{Receives, Sends}
 use Rattle.record.specs.declared.record.Tentative.{Tentative}
 use Rattle.recovery_line.specs.Nodes.{Awaited, By_took}
-use Rattle.protocol.specs.Join.Answering.{Silent, CoveredBefore, TookBefore, TakesNow, Declines, answer_to_ask, kept_then}
+use Rattle.protocol.specs.Join.Answering.{Silent, CoveredBefore, TookBefore, TakesNow, Declines, answer_to_ask}
+use Rattle.protocol.specs.Join.Answering.{kept_then}
 use Rattle.protocol.specs.Join.Answering.{answer_packets}
 use Rattle.protocol.specs.Join.Beginning.{live_begun, live_asks, may_begin}
 use Rattle.protocol.specs.Join.Collecting.{Joins, GivesUp, answer_to_took, joined_live, new_asks}
@@ -28,13 +29,19 @@ code_on node = record { node = node; vars = []; prelude = Nothing; body = None }
 abbrev row : Network
 row = record {
   channels = record { producer = Outside; consumer = Process 0 } ∷ record { producer = Process 0; consumer = Process 1 }
-      ∷ record { producer = Process 1; consumer = Process 2 } ∷ record { producer = Process 2; consumer = Outside } ∷ [];
+      ∷ record { producer = Process 1; consumer = Process 2 } ∷ record { producer = Process 2; consumer = Outside }
+      ∷ [];
   codes = code_on 0 ∷ code_on 1 ∷ code_on 2 ∷ [];
 }
 
 -- an image of node 0, 1 or 2 that put, or got and put, so many items, of which the logs hold none
 abbrev puts : ℕ → ℕ → ImageView
-puts channel count = record { processes = []; ends = record { channel = channel; end = Sends (record { base = count; items = [] }) } ∷ [] }
+puts channel count =
+    record {
+      processes = [];
+      ends =
+          record { channel = channel; end = Sends (record { base = count; items = [] }) } ∷ [];
+    }
 
 abbrev gets_and_puts : ℕ → ℕ → ℕ → ℕ → ImageView
 gets_and_puts from got to put = record {
@@ -92,7 +99,8 @@ again : answer_to_ask 1 1 1 3 (kept_by 0 (0 ∷ 1 ∷ 0 ∷ []) [] (puts 1 0) (h
     ≡ TookBefore
 again = refl
 
--- asked for more than its current image put, it declines; asked for no more than its permanent one, it needn't take part
+-- asked for more than its current image put, it declines; asked for no more than its permanent one, it needn't take
+-- part
 too_much : answer_to_ask 1 1 1 4 (kept_by 0 (0 ∷ 0 ∷ 0 ∷ []) [] (puts 1 0) None) (running (puts 1 3)) ≡ Declines Behind
 too_much = refl
 
@@ -103,8 +111,10 @@ covered = refl
 settled_before : answer_to_ask 1 3 1 9 (kept_by 0 (0 ∷ 3 ∷ 0 ∷ []) [] (puts 1 3) None) (running (puts 1 9)) ≡ Silent
 settled_before = refl
 
--- node 1 holds (0, 4) and is asked by node 2: for more than it keeps for good it is busy, or coming back; else it is covered
-busy : answer_to_ask 2 1 2 5 (kept_by 1 (4 ∷ 0 ∷ 0 ∷ []) [] (gets_and_puts 1 0 2 4) (holding 0 4 (gets_and_puts 1 3 2 6)))
+-- node 1 holds (0, 4) and is asked by node 2: for more than it keeps for good it is busy, or coming back; else it is
+-- covered
+busy : answer_to_ask 2 1 2 5
+    (kept_by 1 (4 ∷ 0 ∷ 0 ∷ []) [] (gets_and_puts 1 0 2 4) (holding 0 4 (gets_and_puts 1 3 2 6)))
     (running (gets_and_puts 1 3 2 6)) ≡ Declines Busy
 busy = refl
 
@@ -119,7 +129,8 @@ coming_back : answer_to_ask 2 1 2 5
 coming_back = refl
 
 -- who still holds (1, 1) and is asked for (1, 2) is busy
-still_holds : answer_to_ask 1 2 1 5 (kept_by 0 (0 ∷ 1 ∷ 0 ∷ []) [] (puts 1 0) (holding 1 1 (puts 1 3))) (running (puts 1 5))
+still_holds : answer_to_ask 1 2 1 5 (kept_by 0 (0 ∷ 1 ∷ 0 ∷ []) [] (puts 1 0) (holding 1 1 (puts 1 3)))
+    (running (puts 1 5))
     ≡ Declines Busy
 still_holds = refl
 
@@ -140,7 +151,8 @@ joins = refl
 
 third_asked : joined_live row 2 1 2 (record { channel = 1; count = 2 } ∷ []) two_begins ≡ record {
   number = 1;
-  questions = None ∷ Some (record { count = 2; answer = Awaited }) ∷ Some (record { count = 2; answer = By_took }) ∷ None
+  questions =
+      None ∷ Some (record { count = 2; answer = Awaited }) ∷ Some (record { count = 2; answer = By_took }) ∷ None
       ∷ [];
   takers = 1 ∷ [];
 }
@@ -152,13 +164,15 @@ third_ask_goes = refl
 
 -- the same again changes nothing, and asks nobody
 no_more_asks : new_asks row 2 1 (record { channel = 1; count = 2 } ∷ [])
-    (None ∷ Some (record { count = 2; answer = Awaited }) ∷ Some (record { count = 2; answer = By_took }) ∷ None ∷ []) ≡ []
+    (None ∷ Some (record { count = 2; answer = Awaited }) ∷ Some (record { count = 2; answer = By_took }) ∷ None ∷ [])
+    ≡ []
 no_more_asks = refl
 
 -- a need on the own channel that is too great ends it, where node 2 puts on a channel from which node 1 gets
 abbrev ring : Network
 ring = record {
-  channels = record { producer = Process 1; consumer = Process 2 } ∷ record { producer = Process 2; consumer = Process 1 }
+  channels =
+      record { producer = Process 1; consumer = Process 2 } ∷ record { producer = Process 2; consumer = Process 1 }
       ∷ [];
   codes = code_on 0 ∷ code_on 1 ∷ code_on 2 ∷ [];
 }
@@ -177,7 +191,8 @@ gives_up = refl
 abbrev all_came : LiveView
 all_came = record {
   number = 1;
-  questions = None ∷ Some (record { count = 2; answer = By_took }) ∷ Some (record { count = 2; answer = By_took }) ∷ None
+  questions =
+      None ∷ Some (record { count = 2; answer = By_took }) ∷ Some (record { count = 2; answer = By_took }) ∷ None
       ∷ [];
   takers = 1 ∷ 0 ∷ [];
 }

@@ -1,6 +1,6 @@
 //! Laws of checkpoints that several nodes take together.
 ghost use Rattle.protocol.specs.Join.Promises.{OpeningHasRun, DeedsRun, InstallsRun, ReleasesRun, NetworkRuns};
-ghost use Rattle.protocol.specs.Join.Promises.{DeedsKeepTheLine, LinesAreSound};
+ghost use Rattle.protocol.specs.Join.Promises.{DeedsKeepTheLine, ReleasesKeepTheLine, LinesAreSound};
 ghost use Rattle.protocol.specs.Join.Promises.{OpeningIsJoined, DeedsStayJoined, OthersStayJoined};
 
 /// Every event of a world is steps of the abstract machine of recovery lines, for any number of nodes.
@@ -20,11 +20,12 @@ pub fn event_law()
 {}
 
 /// So the recovery line is sound and covers what has left, for any number of nodes and whatever came before: of the
-/// records that the nodes keep, and of those that a crash leaves in the midst of a deed. It isn't behind the one of
-/// before.
+/// records that the nodes keep, of those that a crash leaves in the midst of a deed, and while an item leaves. It isn't
+/// behind the one of before.
 pub fn line_law()
     ensures kept { LinesAreSound }
     ensures any_moment { DeedsKeepTheLine }
+    ensures released { ReleasesKeepTheLine }
 {}
 
 /// What a station keeps and collects may be said to other nodes, after every event: what `event_law` asks of a station.

@@ -1,5 +1,6 @@
 -- A node is asked to take part in another's checkpoint.
-use Rattle.std.specs.Prelude.{◌==◌, ℕ, nat_lt, nat_le, Bool, true, false, ◌&&◌, not, if◌then◌else◌, List, [], ◌∷◌, Option, Some}
+use Rattle.std.specs.Prelude.{◌==◌, ℕ, nat_lt, nat_le, Bool, true, false, ◌&&◌, not, if◌then◌else◌, List, [], ◌∷◌}
+use Rattle.std.specs.Prelude.{Option, Some}
 use Rattle.std.specs.Prelude.{None}
 use Rattle.datagram.specs.declared.packet.Body.TheVariants.{Took, Covered, Refused}
 use Rattle.datagram.specs.declared.packet.Packet.{Packet}
@@ -20,8 +21,8 @@ abbrev pub holds : ℕ → ℕ → Option Tentative → Bool
 holds initiator number None = false
 holds initiator number (Some held) = (held.initiator == initiator) && (held.number == number)
 
--- What it does: nothing; it says that its permanent image has put so many items; that it took part before; it takes part
--- now; or it takes none, for a reason.
+-- What it does: nothing; it says that its permanent image has put so many items; that it took part before; it takes
+-- part now; or it takes none, for a reason.
 pub data AskAnswer : Type 0 where
   Silent : AskAnswer
   CoveredBefore : AskAnswer
@@ -29,7 +30,8 @@ pub data AskAnswer : Type 0 where
   TakesNow : AskAnswer
   Declines : (reason : Reason) → AskAnswer
 
--- why a node that holds another image takes no part: it waits for the verdict since it came back, or has just taken that one
+-- why a node that holds another image takes no part: it waits for the verdict since it came back, or has just taken
+-- that one
 abbrev pub holding_reason : ModeView → Reason
 holding_reason Down = Busy
 holding_reason InDoubt = Recovering

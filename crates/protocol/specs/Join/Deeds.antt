@@ -2,7 +2,6 @@
 -- `World/Steps`, in which a node asks nobody yet.)
 use Rattle.std.specs.Prelude.{ℕ, not, false, List, Option, Some, None}
 use Rattle.kahn_net.specs.Syntax.{Network}
-use Rattle.record.specs.Moves.{with_epoch}
 use Rattle.protocol.specs.Join.Beginning.{begin_prospect}
 use Rattle.protocol.specs.Join.Hearing.{come_prospect}
 use Rattle.protocol.specs.Join.Telling.{turn_prospect}
@@ -17,7 +16,8 @@ use Rattle.protocol.specs.World.EventView as event
 use Rattle.protocol.specs.World.Replies.{delivery_reply}
 use Rattle.protocol.specs.World.ReplyView as reply
 use Rattle.protocol.specs.World.StationView.{StationView}
-use Rattle.protocol.specs.World.Steps.{Setting, StationPlan, plainly, noting, due_bytes, flight_at, grant_plan, crash_plan}
+use Rattle.protocol.specs.World.Steps.{Setting, StationPlan, plainly, noting, due_bytes, flight_at, grant_plan}
+use Rattle.protocol.specs.World.Steps.{crash_plan}
 use Rattle.protocol.specs.World.Steps.{recover_plan, arm_plan, idle_plan}
 use Rattle.protocol.specs.World.Turns.{turns_of, count_start, count_send}
 

@@ -1,5 +1,5 @@
--- What is true of a station where checkpoints are coordinated, beside what is true of every station: what it collects and
--- keeps may be said to other nodes.
+-- What is true of a station where checkpoints are coordinated, beside what is true of every station: what it collects
+-- and keeps may be said to other nodes.
 use Rattle.std.specs.Prelude.{◌≡◌, ◌≢◌, ℕ, ◌<◌, ◌≤◌, true, length, Some, slice_get}
 use Rattle.datagram.specs.PacketText.{IsPositive}
 use Rattle.kahn_net.specs.Nodes.{node_count}

@@ -1,5 +1,6 @@
 -- What an image needs of other nodes.
-use Rattle.std.specs.Prelude.{ℕ, zero, suc, nat_lt, Bool, true, false, ◌&&◌, List, [], ◌∷◌, length, map, Option, Some, None}
+use Rattle.std.specs.Prelude.{ℕ, zero, suc, nat_lt, Bool, true, false, ◌&&◌, List, [], ◌∷◌, length, map, Option, Some}
+use Rattle.std.specs.Prelude.{None}
 use Rattle.datagram.specs.declared.packet.Need.{Need}
 use Rattle.kahn_net.specs.Syntax.{Network}
 use Rattle.record.specs.Ends.{received_of}

@@ -61,8 +61,8 @@ DeedsRun =
     → ∥ HasRun setting.net (slice_set stations k new)
     (traffic_by setting.traffic k setting.round (deed_plan setting k deed old) answer) ∥₁
 
--- Whatever records a crash leaves in a deed, of each station the one of before or of this one the one that the deed puts,
--- the line that follows from them is in order.
+-- Whatever records a crash leaves in a deed, of each station the one of before or of this one the one that the deed
+-- puts, the line that follows from them is in order.
 abbrev pub DeedsKeepTheLine : Type 0
 DeedsKeepTheLine =
     (setting : Setting) (stations : List StationView) (k : ℕ) (old new : StationView) (deed : Deed)
@@ -81,8 +81,8 @@ InstallsRun =
     → IsInstalled net.channels done old answer new → ∥ HasRun net stations traffic ∥₁
     → ∥ HasRun net (slice_set stations k new) traffic ∥₁
 
--- An item that leaves is two steps, one in which it leaves and one in which the log lets go of it; where the outlet failed
--- it may be the second alone. The line is in order whatever leaves.
+-- An item that leaves is two steps, one in which it leaves and one in which the log lets go of it; where the outlet
+-- failed it may be the second alone. The line is in order whatever leaves.
 abbrev pub ReleasesRun : Type 0
 ReleasesRun =
     (net : Network) (inputs : List (List ℤ)) (stations : List StationView) (k : ℕ) (old new : StationView)
@@ -90,6 +90,16 @@ ReleasesRun =
     → AreSound net inputs stations → IsNumbered (slice_set stations k new)
     → AreSound net inputs (slice_set stations k new) → IsRelease round (next_release round old) old answer new
     → ∥ HasRun net stations traffic ∥₁ → ∥ HasRun net (slice_set stations k new) traffic ∥₁
+
+-- A release puts no record: the line of those that are kept is in order, with what had left and with what has left then.
+abbrev pub ReleasesKeepTheLine : Type 0
+ReleasesKeepTheLine =
+    (net : Network) (inputs : List (List ℤ)) (stations : List StationView) (k : ℕ) (old new : StationView)
+    (round : ℕ) (answer : ReplyView) (traffic : Traffic) (records : List RecordView) → slice_get stations k ≡ Some old
+    → IsNumbered stations → AreSound net inputs stations → IsNumbered (slice_set stations k new)
+    → AreSound net inputs (slice_set stations k new) → IsRelease round (next_release round old) old answer new
+    → AreEither (records_of stations) (records_of stations) records → ∥ HasRun net stations traffic ∥₁
+    → LineStays net stations (slice_set stations k new) records
 
 -- What the network does to a packet in flight is no step at all.
 abbrev pub NetworkRuns : Type 0
@@ -105,8 +115,8 @@ LinesAreSound =
 
 -- ---- what may be said
 
--- After each deed, however it comes out, what a station keeps and collects may be said to other nodes; and so it is after
--- a turn that comes back and an item that leaves, and of each station of an opening world.
+-- After each deed, however it comes out, what a station keeps and collects may be said to other nodes; and so it is
+-- after a turn that comes back and an item that leaves, and of each station of an opening world.
 abbrev pub DeedsStayJoined : Type 0
 DeedsStayJoined =
     (setting : Setting) (stations : List StationView) (k : ℕ) (old new : StationView) (deed : Deed)

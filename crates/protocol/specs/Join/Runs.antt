@@ -25,8 +25,8 @@ SaysWhatWasSent sent to bytes =
     (packet : Datagram) → IsPacketText packet bytes → (told : Packet) → packet_seen packet ≡ Some told
     → WasSent sent told
 
--- Whatever is in flight was sent. What was sent need not be in flight: it may be lost or have come, and may never really
--- have been sent, where a device failed in the event.
+-- Whatever is in flight was sent. What was sent need not be in flight: it may be lost or have come, and may never
+-- really have been sent, where a device failed in the event.
 abbrev pub Carries : Traffic → List Packet → Type 0
 Carries traffic sent = (to : ℕ) → All (λ (f : Flight). SaysWhatWasSent sent to f.packet) (flights_to traffic to)
 

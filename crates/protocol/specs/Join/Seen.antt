@@ -10,7 +10,7 @@ use Rattle.recovery_line.specs.Observers.{has_node, image_seen, record_seen}
 use Rattle.recovery_line.specs.Packets.{Packet, Kept, Ask, Took, Covered, Query, Commit, Ended, Settled}
 use Rattle.recovery_line.specs.Worlds.{World}
 use Rattle.protocol.specs.Node.LiveView.{QuestionView, LiveView}
-use Rattle.protocol.specs.Node.NodeView.{ModeView, RunningView}
+use Rattle.protocol.specs.Node.NodeView.{ModeView}
 use Rattle.protocol.specs.Node.NodeView as view
 use Rattle.protocol.specs.World.RecoveryLine.{records_of, records_seen, outlets_seen}
 use Rattle.protocol.specs.World.StationView.{StationView}
@@ -67,8 +67,8 @@ abbrev pub need_of : List Need → ℕ → Option ℕ
 need_of [] c = None
 need_of (need ∷ needs) c = if need.channel == c then Some need.count else need_of needs c
 
--- What is said of checkpoints by what one node tells another. Items and what is acknowledged say nothing of them, nor do
--- refusals, since nobody has to believe one, nor what is told of roll-backs.
+-- What is said of checkpoints by what one node tells another. Items and what is acknowledged say nothing of them, nor
+-- do refusals, since nobody has to believe one, nor what is told of roll-backs.
 abbrev pub body_seen : ℕ → ℕ → Body → Option Packet
 body_seen from to (says.Data channel position item) = None
 body_seen from to (says.Ack channel epoch next) = None

@@ -1,5 +1,6 @@
 -- What a node sends in its turn, where checkpoints are coordinated.
-use Rattle.std.specs.Prelude.{◌==◌, ◌++◌, ℕ, not, Bool, true, false, if◌then◌else◌, List, [], ◌∷◌, map, Option, Some, None}
+use Rattle.std.specs.Prelude.{◌==◌, ◌++◌, ℕ, not, Bool, true, false, if◌then◌else◌, List, [], ◌∷◌, map, Option, Some}
+use Rattle.std.specs.Prelude.{None}
 use Rattle.std.specs.List.{flat_map}
 use Rattle.datagram.specs.declared.packet.Body.TheVariants.{Kept, Query}
 use Rattle.datagram.specs.declared.packet.Packet.{Packet}
@@ -42,9 +43,9 @@ abbrev pub kept_packet : Network → ℕ → ImageView → ℕ → Packet
 kept_packet net home permanent c =
     record { from = home; to = producer_node net c; body = Kept c (received_of permanent c) }
 
--- A node that runs says of each channel from another node what comes next there and what it keeps for good; then what it
--- still asks, what it decided, and what it waits for; and then it sends items, unless it holds an image. One in doubt
--- says what it keeps, what it decided and what it waits for.
+-- A node that runs says of each channel from another node what comes next there and what it keeps for good; then what
+-- it still asks, what it decided, and what it waits for; and then it sends items, unless it holds an image. One in
+-- doubt says what it keeps, what it decided and what it waits for.
 abbrev pub turn_packets : Network → ℕ → RecordView → ModeView → List Packet
 turn_packets net home kept Down = []
 turn_packets net home kept InDoubt =

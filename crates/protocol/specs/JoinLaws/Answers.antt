@@ -1,5 +1,6 @@
 -- Whatever a node answers that is asked to take part is steps of the abstract machine.
-use Rattle.std.proofs.Common.{◌≡◌, ℕ, ◌<◌, ◌≤◌, ◌&&◌, Bool, true, false, cond, List, [], ◌∷◌, ◌++◌, length, Option, Some, None}
+use Rattle.std.proofs.Common.{◌≡◌, ℕ, ◌<◌, ◌≤◌, ◌&&◌, Bool, true, false, cond, List, [], ◌∷◌, ◌++◌, length, Option}
+use Rattle.std.proofs.Common.{Some, None}
 use Rattle.std.proofs.Common.{option_map, refl, sym, ap, subst, ◌∙◌}
 use Rattle.std.specs.Prelude.{◌≢◌, ◌==◌, nat_lt, nat_le, not, slice_get, slice_set}
 use Rattle.std.proofs.lemmas.Bool.{eqb-true}
@@ -19,9 +20,10 @@ use Rattle.recovery_line.specs.Nodes.{Mode}
 use Rattle.recovery_line.specs.Observers.{image_seen, record_seen}
 use Rattle.recovery_line.specs.Packets.{Packet, Ask, Took, Covered, AreNeeds, HearsAsk}
 use Rattle.recovery_line.specs.Records.{Record}
-use Rattle.recovery_line.specs.Worlds.{World, InFlight, MaySend, Step}
-use Rattle.protocol.specs.Join.Answering.{AskAnswer, Silent, CoveredBefore, TookBefore, TakesNow, Declines, holds, is_past}
-use Rattle.protocol.specs.Join.Answering.{holding_reason, answer_of_holder, answer_of_free, answer_above, answer_to_ask}
+use Rattle.recovery_line.specs.Worlds.{World, InFlight, MaySend}
+use Rattle.protocol.specs.Join.Answering.{AskAnswer, Silent, CoveredBefore, TookBefore, TakesNow, Declines, holds}
+use Rattle.protocol.specs.Join.Answering.{is_past}
+use Rattle.protocol.specs.Join.Answering.{answer_of_holder, answer_of_free, answer_above, answer_to_ask}
 use Rattle.protocol.specs.Join.Answering.{with_current_as, kept_then, took_packet, answer_packets}
 use Rattle.protocol.specs.Join.Needs.{held_needs}
 use Rattle.protocol.specs.Join.Runs.{Leads, WasSent}
@@ -233,7 +235,8 @@ module _ (net : Network) (valid : IsValid net) (stations : List StationView) (k 
   took meets =
       let new = Now (with_current_as x n old.node.mode old.node.kept) in
       leads_by (net_seen net) (world_seen stations sent) _
-      (hears stations k old new there (net_seen net) sent (outlets_same stations k old new there refl) (Ask x n c m) asked
+      (hears stations k old new there (net_seen net) sent (outlets_same stations k old new there refl) (Ask x n c m)
+      asked
       (takes_part net k x n c m q old.node.kept old.node.mode (outlets_seen stations) cross listed meets))
 
   pub answer_leads : (answer : AskAnswer) → Tells x n c m old.node.kept old.node.mode answer

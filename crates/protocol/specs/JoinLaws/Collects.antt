@@ -1,5 +1,5 @@
 -- What the node that began a checkpoint hears of it is steps of the abstract machine.
-use Rattle.std.proofs.Common.{◌≡◌, ◌⊎◌, inl, inr, ℕ, suc, ◌<◌, ◌≤◌, ◌&&◌, ◌||◌, Bool, true, false, cond, List, [], ◌∷◌, ◌++◌}
+use Rattle.std.proofs.Common.{◌≡◌, ◌⊎◌, inl, inr, ℕ, suc, ◌<◌, ◌≤◌, ◌||◌, Bool, true, false, cond, List, [], ◌∷◌, ◌++◌}
 use Rattle.std.proofs.Common.{length, Option, Some, None, option_map, refl, sym, ap, subst, ◌∙◌, arith}
 use Rattle.std.specs.Prelude.{◌≢◌, ◌==◌, nat_le, not, slice_get, slice_set}
 use Rattle.std.specs.List.{AllByRecursion, list_all}
@@ -18,7 +18,7 @@ use Rattle.recovery_line.specs.Moves.{Drops}
 use Rattle.recovery_line.specs.Nodes.{Answer, Awaited, By_took, By_covered, Mode, NodeStep, Give_up, live_of}
 use Rattle.recovery_line.specs.Observers.{image_seen, record_seen}
 use Rattle.recovery_line.specs.Packets.{Packet, Covered, Took, HearsCovered, HearsTook}
-use Rattle.recovery_line.specs.Worlds.{World, IsLive, MaySend, Step}
+use Rattle.recovery_line.specs.Worlds.{World, IsLive, MaySend}
 use Rattle.protocol.specs.Join.Beginning.{ask_on, collecting}
 use Rattle.protocol.specs.Join.Collecting.{was_asked, with_answer, is_open_at, awaits, with_covered, hearing_covered}
 use Rattle.protocol.specs.Join.Collecting.{needs_no_question, new_question, with_need, with_needs, new_ask, new_asks}
@@ -28,7 +28,8 @@ use Rattle.protocol.specs.Join.Seen.{need_of, question_seen, questions_seen, liv
 use Rattle.protocol.specs.Join.Seen.{node_seen, world_seen}
 use Rattle.protocol.specs.JoinLaws.Crossings.{both_true, cross_within, producer_is}
 use Rattle.protocol.specs.JoinLaws.Holding.{at_most, IsHeld, held_seen, named_so}
-use Rattle.protocol.specs.JoinLaws.Leading.{leads_here, leads_by, leads_on, acts, hears, outlets_same, mode_at, set_there}
+use Rattle.protocol.specs.JoinLaws.Leading.{leads_here, leads_by, leads_on, acts, hears, outlets_same, mode_at}
+use Rattle.protocol.specs.JoinLaws.Leading.{set_there}
 use Rattle.protocol.specs.JoinLaws.Leading.{unseen}
 use Rattle.protocol.specs.JoinLaws.Questions.{question_at, open_at, asked_within, set_question, answer_here}
 use Rattle.protocol.specs.JoinLaws.Questions.{answer_elsewhere, answer_length, need_length, needs_length, needs_stay}
@@ -257,7 +258,8 @@ module _ (net : Network) (stations : List StationView) (k : ℕ) (old : StationV
   still : (mode : ModeView) → mode_seen mode ≡ mode_seen old.node.mode
       → Leads (net_seen net) (world_seen stations sent) (world_seen (slice_set stations k (Now mode)) sent)
   still mode same =
-      leads_here (net_seen net) (world_seen stations sent) _ (unseen stations k old (Now mode) there sent refl refl same)
+      leads_here (net_seen net) (world_seen stations sent)
+      _ (unseen stations k old (Now mode) there sent refl refl same)
 
   pub covered_leads : (n c m : ℕ) → WasSent sent (Covered k n c m)
       → Leads (net_seen net) (world_seen stations sent)

@@ -1,5 +1,5 @@
 -- A decision of a checkpoint is a step of the abstract machine, and whom it names may be told.
-use Rattle.std.proofs.Common.{◌≡◌, ◌⊎◌, inl, inr, ℕ, zero, suc, ◌<◌, ◌≤◌, ◌&&◌, ◌||◌, Bool, true, false, List, [], ◌∷◌, ◌++◌}
+use Rattle.std.proofs.Common.{◌≡◌, inl, inr, ℕ, zero, suc, ◌<◌, ◌≤◌, ◌||◌, Bool, true, false, List, [], ◌∷◌, ◌++◌}
 use Rattle.std.proofs.Common.{length, map, Option, Some, None, option_map, refl, sym, ap, subst, ◌∙◌, arith}
 use Rattle.std.specs.Prelude.{◌≢◌, ◌==◌, not, slice_get, slice_set}
 use Rattle.std.specs.List.{AllByRecursion}
@@ -20,7 +20,7 @@ use Rattle.recovery_line.specs.Nodes.{Answer, Awaited, Mode, NodeStep, Conclude,
 use Rattle.recovery_line.specs.Observers.{has_node, image_seen, record_seen, decides}
 use Rattle.recovery_line.specs.Packets.{Packet}
 use Rattle.recovery_line.specs.Records.{Record, Holds}
-use Rattle.recovery_line.specs.Worlds.{World, MaySend, Reachable}
+use Rattle.recovery_line.specs.Worlds.{World, Reachable}
 use Rattle.protocol.specs.Join.Beginning.{collecting, live_in}
 use Rattle.protocol.specs.Join.Collecting.{is_awaited, is_open}
 use Rattle.protocol.specs.Join.Answering.{holds}
@@ -29,14 +29,12 @@ use Rattle.protocol.specs.Join.Seen.{question_seen, questions_seen, live_seen, m
 use Rattle.protocol.specs.Join.Verdicts.{all_answered, is_ready, participants_of, decision_on, decided_now, concluded}
 use Rattle.protocol.specs.Join.Verdicts.{commit_to, commit_packets}
 use Rattle.protocol.specs.JoinLaws.Crossings.{both_true}
-use Rattle.protocol.specs.JoinLaws.Holding.{IsHeld, held_where, held_seen, named_so, up_seen}
+use Rattle.protocol.specs.JoinLaws.Holding.{IsHeld, held_where, held_seen}
 use Rattle.protocol.specs.JoinLaws.Leading.{leads_by, leads_on, acts, outlets_same, record_at, mode_at, set_there}
 use Rattle.protocol.specs.JoinLaws.NeedLaws.{has_where, has_where_below}
 use Rattle.protocol.specs.JoinLaws.Sent.{MaySendAll, sends}
-use Rattle.protocol.specs.JoinLaws.Starts.{live_there}
 use Rattle.protocol.specs.Node.LiveView.{QuestionView, LiveView}
-use Rattle.protocol.specs.Node.Modes.{is_down}
-use Rattle.protocol.specs.Node.NodeView.{ModeView, Down, InDoubt, Runs, RunningView, on_mode}
+use Rattle.protocol.specs.Node.NodeView.{ModeView, Down, Runs, RunningView, on_mode}
 use Rattle.protocol.specs.World.RecoveryLine.{net_seen, record_or_new, records_of, records_seen, outlets_seen}
 use Rattle.protocol.specs.World.StationView.{StationView}
 use Rattle.protocol.specs.World.Steps.{moved_to}

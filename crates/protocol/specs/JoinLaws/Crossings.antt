@@ -2,8 +2,8 @@
 use Rattle.std.proofs.Common.{◌≡◌, ◌⊎◌, inl, inr, ℕ, ◌<◌, ◌≤◌, ◌&&◌, Bool, true, false, length, get_or, Option, Some}
 use Rattle.std.proofs.Common.{None}
 use Rattle.std.proofs.Common.{option_map, refl, sym, ap, subst, ◌∙◌, arith}
-use Rattle.std.specs.Prelude.{◌≢◌, ◌==◌, nat_lt, not, slice_get}
-use Rattle.std.proofs.lemmas.Bool.{eqb-true, eq-eqb, ne_eqb, lt-ltb}
+use Rattle.std.specs.Prelude.{◌≢◌, ◌==◌, not, slice_get}
+use Rattle.std.proofs.lemmas.Bool.{eqb-true, eq-eqb, ne_eqb}
 use Rattle.std.proofs.lemmas.Option.{slice_get_cases, slice_get_within}
 use Rattle.kahn_net.specs.Nodes.{node_count}
 use Rattle.kahn_net.specs.Syntax.{Code, Network}
@@ -13,7 +13,7 @@ use Rattle.kahn_net.specs.declared.program.Port.{Port}
 use Rattle.kahn_net.specs.declared.program.Port.TheVariants.{Outside, Process}
 use Rattle.recovery_line.proofs.Basics.{one_inside}
 use Rattle.recovery_line.specs.Images.{IsCross}
-use Rattle.protocol.specs.Node.Addresses.{address, producer_node, consumer_node, ends_run, runs_between}
+use Rattle.protocol.specs.Node.Addresses.{address, producer_node, ends_run, runs_between}
 use Rattle.protocol.specs.Node.Layout.{node_at, producer_of, consumer_of, is_node, port_on, port_away, comes_in}
 use Rattle.protocol.specs.Node.Layout.{goes_out}
 use Rattle.protocol.specs.Node.Layout.{is_incoming, is_outgoing}

@@ -1,5 +1,6 @@
 -- The events that begin and end a checkpoint, and those of which nothing is seen, are steps of the abstract machine.
-use Rattle.std.proofs.Common.{◌≡◌, ℕ, ◌<◌, Bool, true, false, List, length, Option, Some, None, refl, sym, ap, subst, ◌∙◌, arith}
+use Rattle.std.proofs.Common.{◌≡◌, ℕ, ◌<◌, Bool, true, false, List, length, Option, Some, None, refl, sym, ap, subst}
+use Rattle.std.proofs.Common.{◌∙◌, arith}
 use Rattle.std.proofs.Common.{[], ◌++◌}
 use Rattle.std.specs.Prelude.{nat_lt, slice_get, slice_set}
 use Rattle.std.proofs.lemmas.Option.{slice_get_within}
@@ -17,7 +18,7 @@ use Rattle.protocol.specs.Join.Runs.{Leads}
 use Rattle.protocol.specs.Join.Seen.{mode_seen, all_seen, world_seen}
 use Rattle.protocol.specs.Join.Verdicts.{is_ready, concluded, commit_packets, conclude_prospect}
 use Rattle.protocol.specs.JoinLaws.Concludes.{conclude_by}
-use Rattle.protocol.specs.JoinLaws.Hears.{IsUnseen, mode_unseen}
+use Rattle.protocol.specs.JoinLaws.Hears.{mode_unseen}
 use Rattle.protocol.specs.JoinLaws.Leading.{leads_here, unseen}
 use Rattle.protocol.specs.JoinLaws.Plans.{ProspectLeads}
 use Rattle.protocol.specs.JoinLaws.Starts.{begin_leads}
@@ -105,9 +106,9 @@ module _ (net : Network) (stations : List StationView) (k : ℕ) (old : StationV
           leads = λ failures turns.
               let at = runs old.node.mode live is in
               let enough : is_ready k old.node.kept (Some live) ≡ true =
-                  ap (is_ready k old.node.kept) (sym is) ∙ ready in
+              ap (is_ready k old.node.kept) (sym is) ∙ ready in
               let listed : length old.node.kept.highest ≡ length stations =
-                  (let one = joined.kept.listed in omega (arith, one, count)) in
+              (let one = joined.kept.listed in omega (arith, one, count)) in
               subst (λ (o : Option LiveView). Leads (net_seen net) (world_seen stations sent)
               (world_seen (slice_set stations k (moved_to (concluded old.node) failures turns old))
               (all_seen (commit_packets k (length old.node.kept.highest) o) ++ sent))) (sym is)

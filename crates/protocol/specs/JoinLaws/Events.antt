@@ -1,8 +1,7 @@
 -- Whatever event happens, a world goes on being one to which steps of the abstract machine have led.
-use Rattle.std.proofs.Common.{◌≡◌, ℕ, ◌<◌, ◌&&◌, Bool, true, false, cond, List, ℤ, [], ◌++◌, length, map, All, Option, Some, None}
+use Rattle.std.proofs.Common.{◌≡◌, ℕ, ◌<◌, ◌&&◌, Bool, true, false, cond, List, ℤ, length, Option, Some, None}
 use Rattle.std.proofs.Common.{option_map, refl, sym, ap, subst, ◌∙◌, arith}
-use Rattle.std.specs.Prelude.{◌==◌, nat_lt, not, slice_get, slice_set, IsTrue}
-use Rattle.std.proofs.Math.Logic.{∥∥₁_map, ∥∥₁_map₂}
+use Rattle.std.specs.Prelude.{◌==◌, nat_lt, not, slice_get, slice_set}
 use Rattle.std.proofs.lemmas.Bool.{eq-eqb, ltb-true}
 use Rattle.datagram.proofs.Exactness.{whole_again}
 use Rattle.datagram.specs.declared.packet.Packet.{Packet as Datagram}
@@ -10,11 +9,11 @@ use Rattle.kahn_net.specs.Nodes.{node_count}
 use Rattle.kahn_net.specs.Syntax.{Network}
 use Rattle.kahn_net.specs.Valid.{IsValid}
 use Rattle.record.specs.RecordView.{RecordView}
-use Rattle.recovery_line.specs.Nodes.{Mode, NodeStep}
+use Rattle.recovery_line.specs.Nodes.{NodeStep}
 use Rattle.recovery_line.specs.Observers.{record_seen}
 use Rattle.recovery_line.specs.Packets.{Packet}
 use Rattle.wire.proofs.Passing.{arrived_passes}
-use Rattle.wire.specs.Traffic.{Traffic, all_sent, flights_to, traffic_without, traffic_delayed, traffic_repeated}
+use Rattle.wire.specs.Traffic.{Traffic, all_sent, flights_to}
 use Rattle.wire.specs.declared.queue.Flight.{Flight}
 use Rattle.protocol.specs.Join.Beginning.{live_in}
 use Rattle.protocol.specs.Join.Deeds.{come_plan}
@@ -25,7 +24,7 @@ use Rattle.protocol.specs.Join.Runs.{Leads, SaysWhatWasSent, Carries, HasRun}
 use Rattle.protocol.specs.Join.Seen.{body_seen, live_seen, mode_seen, node_seen, world_seen}
 use Rattle.protocol.specs.JoinLaws.Crossings.{both_true, true_both}
 use Rattle.protocol.specs.JoinLaws.Hears.{hear_leads}
-use Rattle.protocol.specs.JoinLaws.Leading.{leads_by, leads_on, acts, outlets_same, set_itself}
+use Rattle.protocol.specs.JoinLaws.Leading.{leads_here, leads_by, leads_on, acts, outlets_same, set_itself}
 use Rattle.protocol.specs.JoinLaws.Leaves.{release_leads}
 use Rattle.protocol.specs.JoinLaws.Plans.{ProspectLeads, stays_run, made_run}
 use Rattle.protocol.specs.JoinLaws.Works.{turn_works}
@@ -35,9 +34,10 @@ use Rattle.protocol.specs.Node.Delivering.{if_right, packet_for}
 use Rattle.protocol.specs.Node.Installing.{turned, IsOut, IsInstall}
 use Rattle.protocol.specs.Node.LiveView.{LiveView}
 use Rattle.protocol.specs.Node.Modes.{is_down, is_running}
-use Rattle.protocol.specs.Node.NodeView.{NodeView, ModeView, Down, InDoubt, Runs, RunningView, running_node, running_in, running_of}
+use Rattle.protocol.specs.Node.NodeView.{NodeView, ModeView, Down, InDoubt, Runs, RunningView, running_node, running_in}
+use Rattle.protocol.specs.Node.NodeView.{running_of}
 use Rattle.protocol.specs.Node.NodeView.{on_mode}
-use Rattle.protocol.specs.Node.Plans.{Prospect, Undue, Exhausted, Planned, IsMade, packets_by, if_due}
+use Rattle.protocol.specs.Node.Plans.{Prospect, Undue, Exhausted, Planned, IsMade, if_due}
 use Rattle.protocol.specs.World.DoneView.{DoneView}
 use Rattle.protocol.specs.World.EventView.{NetworkAct}
 use Rattle.protocol.specs.World.EventView as event
@@ -48,12 +48,11 @@ use Rattle.protocol.specs.World.ReplyView.{ReplyView}
 use Rattle.protocol.specs.World.ReplyView as reply
 use Rattle.protocol.specs.World.StationView.{StationView}
 use Rattle.protocol.specs.World.Steps.{StationPlan, moved_to, turns_by, plan_sendings, traffic_left, traffic_acted}
-use Rattle.protocol.specs.World.Steps.{next_release, IsPlanned, IsInstalled, IsRelease, IsReleaseAt, first_waiting}
+use Rattle.protocol.specs.World.Steps.{next_release, IsPlanned, IsInstalled, IsRelease, first_waiting}
 use Rattle.protocol.specs.World.Traffic.{SpellsSound}
 use Rattle.protocol.specs.WorldLaws.FlightLaws.{gone_holds, delayed_holds, repeated_holds}
 use Rattle.protocol.specs.declared.outcome.Outcome.{Outcome}
 use Rattle.protocol.specs.declared.outcome.Outcome.TheVariants as outcome
-use Rattle.protocol.specs.declared.round_turns.RoundTurns.{RoundTurns}
 
 nothing_happened : (answer : ReplyView) → has_happened answer ≡ false → answer ≡ reply.NotDue
 nothing_happened reply.NotDue is = refl
@@ -109,7 +108,8 @@ module _ (net : Network) (stations : List StationView) (k : ℕ) (old : StationV
       by true happened =
           subst (λ (s : StationView). HasRun net (slice_set stations k s)
           (all_sent round (plan_sendings plan answer) (traffic_left traffic k plan.came))) (sym step.same)
-          (made_run net stations k old there traffic run (restart_after old.node.armed step.call round) round plan.prospect
+          (made_run net stations k old there traffic run (restart_after old.node.armed step.call round) round
+          plan.prospect
           (outcome_of answer) new.node new.failures
           (turns_by plan.turns old.turns (outcome_of answer)) (traffic_left traffic k plan.came) leads
           (left_carries traffic k plan.came run.sent run.carries) step.step step.allowed)
@@ -119,7 +119,8 @@ module _ (net : Network) (stations : List StationView) (k : ℕ) (old : StationV
           (stays_run net stations k old there traffic run new.node new.failures
           (turns_by plan.turns old.turns (outcome_of answer)) traffic
           (undue_stays (restart_after old.node.armed step.call round) plan.prospect old.node new.node
-          (subst (λ (o : Outcome). IsMade (restart_after old.node.armed step.call round) plan.prospect old.node o new.node) came step.step)) run.carries)
+          (subst (λ (o : Outcome). IsMade (restart_after old.node.armed step.call round) plan.prospect old.node o
+          new.node) came step.step)) run.carries)
 
   -- ---- a packet that comes
 
@@ -130,7 +131,8 @@ module _ (net : Network) (stations : List StationView) (k : ℕ) (old : StationV
         → SpellsSound net inputs k bytes
         → ProspectLeads net stations k old run.sent (come_plan net place (Some bytes) old).prospect
     come_leads inputs run place bytes came says =
-        subst (λ (o : Option Datagram). ProspectLeads net stations k old run.sent (come_prospect net old.number o old.node))
+        subst (λ (o : Option Datagram). ProspectLeads net stations k old run.sent
+        (come_prospect net old.number o old.node))
         (sym packet_is) (by (is_down old.node.mode) refl)
       where
         packet_is : packet_for net old.number bytes ≡ Some says.packet
@@ -146,9 +148,9 @@ module _ (net : Network) (stations : List StationView) (k : ℕ) (old : StationV
         node_listed : are_nodes net says.packet.from k ≡ true → says.packet.from < length old.node.kept.highest
         node_listed nodes =
             let both = both_true (not (says.packet.from == k))
-                (nat_lt says.packet.from (node_count net) && nat_lt k (node_count net)) nodes in
+            (nat_lt says.packet.from (node_count net) && nat_lt k (node_count net)) nodes in
             let below = ltb-true says.packet.from (node_count net)
-                (both_true (nat_lt says.packet.from (node_count net)) (nat_lt k (node_count net)) both.1).0 in
+            (both_true (nat_lt says.packet.from (node_count net)) (nat_lt k (node_count net)) both.1).0 in
             let listed = joined.kept.listed in
             omega (arith, below, listed)
 
@@ -160,8 +162,10 @@ module _ (net : Network) (stations : List StationView) (k : ℕ) (old : StationV
             → ProspectLeads net stations k old run.sent
             (hear_prospect net k says.packet.from says.packet.body old.node)
         hears_it up =
-            hear_leads net valid stations k old there run.sent says.packet.from up node_listed wide says.packet.body names
-            (λ told is. arrived_passes (SaysWhatWasSent run.sent k) (flights_to traffic k) place bytes (run.carries k) came
+            hear_leads net valid stations k old there run.sent says.packet.from up node_listed wide says.packet.body
+            names
+            (λ told is. arrived_passes (SaysWhatWasSent run.sent k) (flights_to traffic k) place bytes (run.carries k)
+            came
             says.packet says.text told
             (ap (λ (n : ℕ). body_seen says.packet.from n says.packet.body) says.here ∙ is))
 
@@ -186,7 +190,8 @@ module _ (net : Network) (stations : List StationView) (k : ℕ) (old : StationV
           → IsInstall net.channels done.job done.after done.taken done.sent old.node applied new.node
           → StationInvariant net inputs (moved_to new.node old.failures old.turns old)
           → HasRun net (slice_set stations k (moved_to new.node old.failures old.turns old)) traffic
-      by false is sound = stays_run net stations k old there traffic run new.node old.failures old.turns traffic is.1 run.carries
+      by false is sound =
+          stays_run net stations k old there traffic run new.node old.failures old.turns traffic is.1 run.carries
       by true is sound = record {
         sent = run.sent;
         reached = leads_on (net_seen net) _ _ _ run.reached
@@ -211,11 +216,12 @@ module _ (net : Network) (stations : List StationView) (k : ℕ) (old : StationV
           at InDoubt runs out = absurd out
           at (Runs running) runs out =
               let before = (inv.runs (running_node old.node.kept old.node.version running)
-                  (ap (running_in old.node.kept old.node.version) runs)).sound.kept in
+              (ap (running_in old.node.kept old.node.version) runs)).sound.kept in
               let after = (sound.runs (running_node old.node.kept old.node.version
-                  (turned net.channels done.job.process done.after done.taken done.sent running))
-                  (ap running_of is.1 ∙ ap (λ (m : ModeView). running_in old.node.kept old.node.version
-                  (on_mode (turned net.channels done.job.process done.after done.taken done.sent) m)) runs)).sound.kept in
+              (turned net.channels done.job.process done.after done.taken done.sent running))
+              (ap running_of is.1 ∙ ap (λ (m : ModeView). running_in old.node.kept old.node.version
+              (on_mode (turned net.channels done.job.process done.after done.taken done.sent) m))
+              runs)).sound.kept in
               subst (λ (n : ℕ). NodeStep (net_seen net) n
               (record {
                 disk = record_seen old.node.kept;
@@ -240,48 +246,46 @@ module _ (net : Network) (stations : List StationView) (k : ℕ) (old : StationV
 
   -- ---- an item that leaves
 
-  pub release_run : (inputs : List (List ℤ)) (run : HasRun net stations traffic) (round : ℕ) (answer : ReplyView)
-      (new : StationView) → IsNumbered stations → AreSound net inputs stations → IsNumbered (slice_set stations k new)
-      → AreSound net inputs (slice_set stations k new) → IsRelease round (next_release round old) old answer new
-      → HasRun net (slice_set stations k new) traffic
-  release_run inputs run round answer new numbered sound numbered_then sound_then step =
-      by (next_release round old) refl step
-    where
-      running_now : (mode : ModeView) → old.node.mode ≡ mode → (place : ℕ) → next_release round old ≡ Some place
-          → (running : RunningView) × (old.node.mode ≡ Runs running)
-      running_now Down is place next =
-          absurd (let none : next_release round old ≡ None =
-          ap (λ (m : ModeView). cond (is_running m) (first_waiting old.node.kept round 0 old.outlets) None) is in cc)
-      running_now InDoubt is place next =
-          absurd (let none : next_release round old ≡ None =
-          ap (λ (m : ModeView). cond (is_running m) (first_waiting old.node.kept round 0 old.outlets) None) is in cc)
-      running_now (Runs running) is place next = (running, is)
+  module _ (inputs : List (List ℤ)) (round : ℕ) (answer : ReplyView) (new : StationView)
+      (numbered : IsNumbered stations) (sound : AreSound net inputs stations)
+      (numbered_then : IsNumbered (slice_set stations k new)) (sound_then : AreSound net inputs (slice_set stations k new))
+      (step : IsRelease round (next_release round old) old answer new) where
+    pub release_steps : (sent : List Packet)
+        → Leads (net_seen net) (world_seen stations sent) (world_seen (slice_set stations k new) sent)
+    release_steps sent = by (next_release round old) refl step
+      where
+        running_now : (mode : ModeView) → old.node.mode ≡ mode → (place : ℕ) → next_release round old ≡ Some place
+            → (running : RunningView) × (old.node.mode ≡ Runs running)
+        running_now Down is place next =
+            absurd (let none : next_release round old ≡ None =
+            ap (λ (m : ModeView). cond (is_running m) (first_waiting old.node.kept round 0 old.outlets) None) is in cc)
+        running_now InDoubt is place next =
+            absurd (let none : next_release round old ≡ None =
+            ap (λ (m : ModeView). cond (is_running m) (first_waiting old.node.kept round 0 old.outlets) None) is in cc)
+        running_now (Runs running) is place next = (running, is)
 
-      by : (o : Option ℕ) → next_release round old ≡ o → IsRelease round o old answer new
-          → HasRun net (slice_set stations k new) traffic
-      by None next is =
-          subst (λ (s : StationView). HasRun net (slice_set stations k s) traffic) (sym is.1)
-          (subst (λ (xs : List StationView). HasRun net xs traffic) (sym (set_itself stations k old there)) run)
-      by (Some place) next is =
-          let runs = running_now old.node.mode refl place next in
-          record {
-            sent = run.sent;
-            reached = leads_on (net_seen net) _ _ _ run.reached
-                (release_leads net inputs stations k old new there run.sent numbered sound numbered_then sound_then round
-                place answer is next runs.0 runs.1);
-            carries = run.carries;
-          }
+        by : (o : Option ℕ) → next_release round old ≡ o → IsRelease round o old answer new
+            → Leads (net_seen net) (world_seen stations sent) (world_seen (slice_set stations k new) sent)
+        by None next is =
+            leads_here (net_seen net) (world_seen stations sent) _
+            (ap (λ (s : StationView). world_seen (slice_set stations k s) sent) is.1
+            ∙ ap (λ (xs : List StationView). world_seen xs sent) (set_itself stations k old there))
+        by (Some place) next is =
+            let runs = running_now old.node.mode refl place next in
+            release_leads net inputs stations k old new there sent numbered sound numbered_then sound_then round place
+            answer is next runs.0 runs.1
 
-  -- ---- an act of the network
+    -- no record is put in it
+    pub release_puts_none : new.node.kept ≡ old.node.kept
+    release_puts_none = by (next_release round old) step
+      where
+        by : (o : Option ℕ) → IsRelease round o old answer new → new.node.kept ≡ old.node.kept
+        by None is = ap (λ (s : StationView). s.node.kept) is.1
+        by (Some place) is = ap (λ (s : StationView). s.node.kept) is.same
 
-  pub act_run : (run : HasRun net stations traffic) (act : NetworkAct) (place : ℕ) (new : StationView) → new ≡ old
-      → HasRun net (slice_set stations k new) (traffic_acted act traffic k place)
-  act_run run act place new same =
-      subst (λ (s : StationView). HasRun net (slice_set stations k s) (traffic_acted act traffic k place)) (sym same)
-      (subst (λ (xs : List StationView). HasRun net xs (traffic_acted act traffic k place))
-      (sym (set_itself stations k old there))
-      (record {
-        sent = run.sent;
-        reached = run.reached;
-        carries = acted_carries act traffic k place run.sent run.carries;
-      }))
+    pub release_run : HasRun net stations traffic → HasRun net (slice_set stations k new) traffic
+    release_run run = record {
+      sent = run.sent;
+      reached = leads_on (net_seen net) _ _ _ run.reached (release_steps run.sent);
+      carries = run.carries;
+    }

@@ -15,20 +15,18 @@ use Rattle.record.specs.Changes.{trimmed_image}
 use Rattle.record.specs.Ends.{base_of, sent_of}
 use Rattle.record.specs.ImageView.{ImageView}
 use Rattle.record.specs.Moves.{with_permanent, without_tentative, with_confirmed}
-use Rattle.record.specs.RecordView.{RecordView}
 use Rattle.recovery_line.specs.Images.{Image}
 use Rattle.recovery_line.specs.Nodes.{Mode}
 use Rattle.recovery_line.specs.Observers.{image_seen, record_seen, names}
 use Rattle.recovery_line.specs.Packets.{Packet, Kept, Ask, Took, Covered, Query, Commit, Ended, Settled, HearsKept}
-use Rattle.recovery_line.specs.Worlds.{World}
-use Rattle.protocol.specs.Join.Answering.{holds, answer_to_ask, kept_then, takes_now, answer_packets, AskAnswer, Silent}
+use Rattle.protocol.specs.Join.Answering.{holds, answer_to_ask, kept_then, takes_now, AskAnswer, Silent}
 use Rattle.protocol.specs.Join.Answering.{CoveredBefore, TookBefore, TakesNow, Declines, answering}
 use Rattle.protocol.specs.Join.Beginning.{live_in, collecting}
-use Rattle.protocol.specs.Join.Collecting.{is_live, was_asked, are_met, TookAnswer, Ignores, Joins, GivesUp}
+use Rattle.protocol.specs.Join.Collecting.{is_live, was_asked, are_met, Ignores, Joins, GivesUp}
 use Rattle.protocol.specs.Join.Collecting.{answer_to_took}
 use Rattle.protocol.specs.Join.Collecting.{joining, joined_asks, joined_live, give_up_prospect, took_by, loses}
 use Rattle.protocol.specs.Join.Collecting.{hearing_covered, refused_prospect, took_prospect}
-use Rattle.protocol.specs.Join.Hearing.{remembering, hear_prospect, told_prospect, come_prospect}
+use Rattle.protocol.specs.Join.Hearing.{remembering, hear_prospect}
 use Rattle.protocol.specs.Join.Runs.{Leads, WasSent}
 use Rattle.protocol.specs.Join.Seen.{need_of, body_seen, live_seen, mode_seen, all_seen, world_seen}
 use Rattle.protocol.specs.Join.Verdicts.{after_verdict, settled_packets, verdict_packets, commit_prospect}
@@ -40,7 +38,7 @@ use Rattle.protocol.specs.JoinLaws.Crossings.{both_true, between_cross, channel_
 use Rattle.protocol.specs.JoinLaws.Cuts.{cut_trims, cut_unseen, within_or_out}
 use Rattle.protocol.specs.JoinLaws.Holding.{IsHeld, held_where}
 use Rattle.protocol.specs.JoinLaws.Leading.{leads_here, leads_by, leads_on, hears, outlets_same, unseen}
-use Rattle.protocol.specs.JoinLaws.Plans.{PlanLeads, ProspectLeads}
+use Rattle.protocol.specs.JoinLaws.Plans.{ProspectLeads}
 use Rattle.protocol.specs.JoinLaws.Settles.{commit_leads, confirm_leads, ended_leads, settled_leads, query_leads}
 use Rattle.protocol.specs.Node.Addresses.{are_nodes, runs_between, names_run}
 use Rattle.protocol.specs.Node.Delivering.{hearing}
@@ -48,7 +46,7 @@ use Rattle.protocol.specs.Node.Layout.{is_incoming, is_outgoing}
 use Rattle.protocol.specs.Node.LiveView.{LiveView}
 use Rattle.protocol.specs.Node.Modes.{is_down, with_kept}
 use Rattle.protocol.specs.Node.NodeView.{NodeView, ModeView, Down, InDoubt, Runs, RunningView, on_mode, on_running}
-use Rattle.protocol.specs.Node.Plans.{Prospect, Planned, becoming, putting, telling}
+use Rattle.protocol.specs.Node.Plans.{Planned, becoming, putting, telling}
 use Rattle.protocol.specs.Node.Trimming.{cut_at}
 use Rattle.protocol.specs.World.RecoveryLine.{net_seen, outlets_seen}
 use Rattle.protocol.specs.World.StationView.{StationView}
@@ -284,7 +282,8 @@ module _ (net : Network) (valid : IsValid net) (stations : List StationView) (k 
   asked n c m came nodes outgoing = record {
     leads = λ failures turns.
         let cross = goes_cross net k c valid outgoing in
-        answer_leads net valid stations k old there sent from n c m cross.0 cross.1 came up (listed nodes) failures turns
+        answer_leads net valid stations k old there sent from n c m cross.0 cross.1 came up (listed nodes) failures
+        turns
         (answer_to_ask from n c m old.node.kept old.node.mode) (answer_tells from n c m old.node.kept old.node.mode);
     silent = refl;
     keeps = unput (answer_to_ask from n c m old.node.kept old.node.mode);

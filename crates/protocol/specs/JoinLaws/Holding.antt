@@ -1,6 +1,6 @@
 -- That the image of an instance is held, as a node tells it and as the abstract machine does.
-use Rattle.std.proofs.Common.{◌≡◌, inl, inr, ℕ, suc, ◌<◌, ◌≤◌, ◌&&◌, Bool, true, false, Option, Some, None, refl, sym, ap, subst}
-use Rattle.std.proofs.Common.{◌∙◌, arith}
+use Rattle.std.proofs.Common.{◌≡◌, inl, inr, ℕ, suc, ◌<◌, ◌≤◌, true, false, Option, Some, None, refl, ap, subst}
+use Rattle.std.proofs.Common.{arith}
 use Rattle.std.specs.Prelude.{◌≢◌, ◌==◌, nat_le, nat_lt}
 use Rattle.std.proofs.lemmas.Bool.{eqb-true, eq-eqb}
 use Rattle.std.proofs.lemmas.Bool.Decides.{leb_tells}
@@ -63,7 +63,8 @@ pub held_seen : (x n : ℕ) (tentative : Option HeldImage) (at : IsHeld x n tent
     → tentative_seen tentative ≡ Some (record { initiator = x; number = n; image = image_seen at.held.image })
 held_seen x n tentative at =
     named_so x n tentative at
-    (λ (y m : ℕ). tentative_seen tentative ≡ Some (record { initiator = y; number = m; image = image_seen at.held.image }))
+    (λ (y m : ℕ). tentative_seen tentative
+    ≡ Some (record { initiator = y; number = m; image = image_seen at.held.image }))
     (ap tentative_seen at.is)
 
 -- and sees none where it isn't

@@ -1,12 +1,13 @@
 -- What a station collects and keeps may be said after each deed, and so may what is sent in it.
-use Rattle.std.proofs.Common.{◌≡◌, ◌⊎◌, inl, inr, ℕ, zero, suc, ◌+◌, ◌<◌, ◌≤◌, ◌&&◌, ◌||◌, Bool, true, false, cond, List, ℤ, []}
-use Rattle.std.proofs.Common.{◌∷◌, ◌++◌, length, map, All, Option, Some, None, option_map, refl, sym, ap, subst, ◌∙◌, arith}
-use Rattle.std.specs.Prelude.{◌≢◌, ◌==◌, nat_lt, nat_le, not, slice_get, slice_set, filter}
+use Rattle.std.proofs.Common.{◌≡◌, ◌⊎◌, inl, inr, ℕ, zero, suc, ◌+◌, ◌<◌, ◌&&◌, ◌||◌, Bool, true, false, cond, List, ℤ}
+use Rattle.std.proofs.Common.{[]}
+use Rattle.std.proofs.Common.{◌∷◌, ◌++◌, length, All, Option, Some, None, refl, sym, ap, subst, ◌∙◌, arith}
+use Rattle.std.specs.Prelude.{◌==◌, nat_lt, not, slice_get, filter}
 use Rattle.std.specs.List.{AllByRecursion, flat_map, list_all}
-use Rattle.std.proofs.lemmas.Bool.{eqb-true, eq-eqb, ltb-true}
+use Rattle.std.proofs.lemmas.Bool.{eqb-true, ltb-true}
 use Rattle.std.proofs.lemmas.List.{length-set}
-use Rattle.std.proofs.lemmas.List.Elements.{All-nil, All-cons, All-append, All-head, All-tail}
-use Rattle.datagram.specs.PacketText.{IsPositive, IsNeed, IsBody, AreNeeds}
+use Rattle.std.proofs.lemmas.List.Elements.{All-head, All-tail}
+use Rattle.datagram.specs.PacketText.{IsPositive, IsNeed}
 use Rattle.datagram.specs.declared.packet.Need.{Need}
 use Rattle.kahn_net.specs.Nodes.{node_count}
 use Rattle.kahn_net.specs.Syntax.{Network}
@@ -15,34 +16,32 @@ use Rattle.kahn_net.specs.declared.limits.TheConstants.{MAX_COUNT}
 use Rattle.record.specs.DecisionView.{DecisionView}
 use Rattle.record.specs.Ends.{received_of}
 use Rattle.record.specs.ImageView.{ImageView}
-use Rattle.record.specs.Moves.{highest_seen, with_tentative, with_permanent, without_tentative, with_decision}
-use Rattle.record.specs.Moves.{with_confirmed, with_epoch, without_own, decided_by, decided_below, decision_by, confirmed}
+use Rattle.record.specs.Moves.{highest_seen, with_tentative, with_permanent, without_tentative}
+use Rattle.record.specs.Moves.{with_confirmed, with_epoch, without_own, decided_by, decided_below, decision_by}
+use Rattle.record.specs.Moves.{confirmed}
 use Rattle.record.specs.Moves.{confirmed_one, without_node}
 use Rattle.record.specs.RecordView.{RecordView}
 use Rattle.record.specs.declared.record.Tentative.{Tentative}
-use Rattle.retained.specs.LogState.{log_end}
 use Rattle.recovery_line.proofs.Basics.{one_inside, same_or_other, some_not_none}
 use Rattle.recovery_line.specs.Nodes.{Answer, By_took, By_covered}
 use Rattle.recovery_line.specs.Observers.{has_node}
 use Rattle.protocol.specs.Join.Beginning.{live_begun}
 use Rattle.protocol.specs.Join.Collecting.{with_answer, with_taker, with_needs, joined_live, with_covered}
 use Rattle.protocol.specs.Join.Joined.{IsOther, IsQuestion, LiveIsSound, MayBeAskedFor, HeldIsSound, DecisionIsSound}
-use Rattle.protocol.specs.Join.Joined.{KeepsNodes, IsJoined}
-use Rattle.protocol.specs.Join.Needs.{question_on, questions_of}
+use Rattle.protocol.specs.Join.Joined.{KeepsNodes}
+use Rattle.protocol.specs.Join.Needs.{question_on}
 use Rattle.protocol.specs.Join.Seen.{need_of, question_seen, questions_seen}
 use Rattle.protocol.specs.Join.Verdicts.{participants_of, decision_on}
 use Rattle.protocol.specs.JoinLaws.Crossings.{both_true, comes_cross, cross_within, producer_is}
 use Rattle.protocol.specs.JoinLaws.Spelled.{question_of}
 use Rattle.protocol.specs.JoinLaws.NeedLaws.{asked_only, needed_above, needed_cross, each_length, has_where_below}
-use Rattle.protocol.specs.JoinLaws.Questions.{answer_length, answer_elsewhere, answer_here, question_at, needs_length}
+use Rattle.protocol.specs.JoinLaws.Questions.{answer_length, answer_elsewhere, answer_here, needs_length}
 use Rattle.protocol.specs.JoinLaws.Questions.{needs_new, asked_within, answered_none, answered_nothing}
-use Rattle.protocol.specs.Node.Addresses.{producer_node}
 use Rattle.protocol.specs.Node.Layout.{is_incoming}
 use Rattle.protocol.specs.Node.LiveView.{QuestionView, LiveView}
 use Rattle.protocol.specs.Node.NodeView.{RunningNode}
 use Rattle.protocol.specs.Node.Reached.{LinksAreLaidOut}
 use Rattle.protocol.specs.NodeLaws.NumberedLaws.{where_there}
-use Rattle.protocol.specs.World.RecoveryLine.{net_seen}
 use Rattle.protocol.specs.declared.links.Inbox.{Inbox}
 
 -- ---- lists
@@ -52,7 +51,8 @@ each_filter : {A : Type 0} (P : A → Type 0) (test : A → Bool) (xs : List A) 
 each_filter P test [] all = tt
 each_filter {A} P test (x ∷ xs) all = by (test x) (each_filter P test xs all.1)
   where
-    by : (b : Bool) → AllByRecursion P (filter test xs) → AllByRecursion P (cond b (x ∷ filter test xs) (filter test xs))
+    by : (b : Bool) → AllByRecursion P (filter test xs)
+        → AllByRecursion P (cond b (x ∷ filter test xs) (filter test xs))
     by true rest = (all.0, rest)
     by false rest = rest
 
@@ -239,14 +239,14 @@ module _ (net : Network) (home : ℕ) where
                 some_not_none none is)
             by (Some (Some q)) there =
                 let now = one_inside (ap (questions_seen (with_answer answer c questions)) (sym here) ∙ is)
-                    (answer_here questions c answer q there) in
-                (
+                (answer_here questions c answer q there) in (
                   q.answer,
                   ap (questions_seen questions) here ∙ (ap question_seen there
                       ∙ ap (λ (n : ℕ). Some (n, q.answer)) (sym (ap (λ (x : ℕ × Answer). x.0) now))),
                 )
 
-    pub covered_sound : (live : LiveView) (c : ℕ) → LiveIsSound net home live → LiveIsSound net home (with_covered c live)
+    pub covered_sound : (live : LiveView) (c : ℕ) → LiveIsSound net home live
+        → LiveIsSound net home (with_covered c live)
     covered_sound live c sound = record {
       wide = answer_length live.questions c By_covered ∙ sound.wide;
       number = sound.number;
@@ -262,7 +262,7 @@ module _ (net : Network) (home : ℕ) where
     need_there [] p d j is each all = absurd (cc)
     need_there (need ∷ needs) p d j is each all =
         let both = both_true (is_incoming net p need.channel)
-            (list_all (λ (n : Need). is_incoming net p n.channel) needs) all in
+        (list_all (λ (n : Need). is_incoming net p n.channel) needs) all in
         by (need.channel == d) refl is (All-head IsNeed need needs each) both.0
         (λ rest. need_there needs p d j rest (All-tail IsNeed need needs each) both.1)
       where
@@ -271,9 +271,10 @@ module _ (net : Network) (home : ℕ) where
             → (need_of needs d ≡ Some j → IsPositive j × (is_incoming net p d ≡ true))
             → IsPositive j × (is_incoming net p d ≡ true)
         by false apart found is incoming rest = rest found
-        by true here found is incoming rest =
-            (subst IsPositive (one_inside refl found) is.1,
-            ap (is_incoming net p) (sym (eqb-true need.channel d here)) ∙ incoming)
+        by true here found is incoming rest = (
+          subst IsPositive (one_inside refl found) is.1,
+          ap (is_incoming net p) (sym (eqb-true need.channel d here)) ∙ incoming,
+        )
 
     taker_was : (p q : ℕ) (takers : List ℕ) → has_node q (with_taker p takers) ≡ true
         → (has_node q takers ≡ true) ⊎ (p ≡ q)
@@ -316,7 +317,8 @@ module _ (net : Network) (home : ℕ) where
             → questions_seen (with_needs net home needs (with_answer By_took c live.questions)) d ≡ Some (m, answer)
             → IsQuestion net home d m
         questions d m answer is =
-            let later = asked_within (with_needs net home needs (with_answer By_took c live.questions)) d (m, answer) is in
+            let later =
+            asked_within (with_needs net home needs (with_answer By_took c live.questions)) d (m, answer) is in
             let same = needs_length net home needs (with_answer By_took c live.questions) in
             elim (needs_new net home needs (with_answer By_took c live.questions) d m answer
             (omega (arith, later, same)) is) [
@@ -332,12 +334,12 @@ module _ (net : Network) (home : ℕ) where
     pub current_counts : (node : RunningNode) → LinksAreLaidOut net home node → MayBeAskedFor net home node.current
     current_counts node links c incoming =
         let within : c < 0 + length net.channels =
-            (let cross = comes_cross net home c valid incoming in
-            let below = cross_within net c cross.0 home cross.1 in omega (arith, below)) in
+        (let cross = comes_cross net home c valid incoming in
+        let below = cross_within net c cross.0 home cross.1 in omega (arith, below)) in
         let found = where_there (λ (inbox : Inbox). inbox.channel) (is_incoming net home) 0 (length net.channels) c
-            node.inboxes links.incoming incoming (omega arith) within in
+        node.inboxes links.incoming incoming (omega arith) within in
         let sound = links.inboxes found.0 found.1 found.2 in
         let begins : found.1.log.base ≡ received_of node.current c =
-            sound.begins ∙ ap (received_of node.current) found.3 in
+        sound.begins ∙ ap (received_of node.current) found.3 in
         let last = sound.last in
         omega (arith, begins, last)

@@ -1,6 +1,6 @@
 -- What a station keeps and collects may be said at any time.
-use Rattle.std.proofs.Common.{◌≡◌, ◌⊎◌, inl, inr, ⊎_elim, ℕ, zero, suc, ◌<◌, ◌&&◌, Bool, true, false, cond, List, ℤ, [], ◌∷◌}
-use Rattle.std.proofs.Common.{length, Option, Some, None, option_map, refl, sym, ap, subst, ◌∙◌, arith}
+use Rattle.std.proofs.Common.{◌≡◌, ◌⊎◌, inl, inr, ⊎_elim, ℕ, zero, suc, ◌<◌, Bool, true, false, cond, List, ℤ, [], ◌∷◌}
+use Rattle.std.proofs.Common.{length, Option, Some, None, refl, sym, ap, subst, ◌∙◌, arith}
 use Rattle.std.specs.Prelude.{◌==◌, nat_lt, not, replicate, slice_get}
 use Rattle.std.proofs.Math.Bool.{Bool-set}
 use Rattle.std.proofs.Math.Bridge.{le_prop}
@@ -23,32 +23,31 @@ use Rattle.protocol.specs.Join.Deeds.{come_plan, deed_plan}
 use Rattle.protocol.specs.Join.Hearing.{hear_prospect, told_prospect, come_prospect}
 use Rattle.protocol.specs.Join.Joined.{LiveIsSound, MayBeAskedFor, KeepsNodes, IsJoined}
 use Rattle.protocol.specs.Join.Promises.{StandsIn, DeedsStayJoined, OthersStayJoined, OpeningIsJoined}
-use Rattle.protocol.specs.Join.Telling.{turn_packets, turn_prospect}
+use Rattle.protocol.specs.Join.Telling.{turn_packets}
 use Rattle.protocol.specs.Join.Verdicts.{conclude_prospect}
 use Rattle.protocol.specs.JoinLaws.Crossings.{true_both}
 use Rattle.protocol.specs.JoinLaws.Keeps.{epoch_keeps, current_counts}
 use Rattle.protocol.specs.JoinLaws.Sayable.{ProspectSays, begins_says, concludes_says, hears_says}
 use Rattle.protocol.specs.JoinLaws.Whole.{SpelledBytes, bytes_spelled}
 use Rattle.protocol.specs.Node.Addresses.{names_right, names_run}
-use Rattle.protocol.specs.Node.ArmedRestarts.{restart_after, round_later, with_armed}
+use Rattle.protocol.specs.Node.ArmedRestarts.{restart_after, round_later}
 use Rattle.protocol.specs.Node.Choosing.{granted, grant_prospect, node_job}
 use Rattle.protocol.specs.Node.Delivering.{if_right, packet_for}
 use Rattle.protocol.specs.Node.Installing.{turned, IsInstall}
 use Rattle.protocol.specs.Node.JobView.{JobView}
 use Rattle.protocol.specs.Node.LiveView.{LiveView}
 use Rattle.protocol.specs.Node.Modes.{is_down, crashed, with_kept}
-use Rattle.protocol.specs.Node.NodeView.{NodeView, ModeView, Down, InDoubt, Runs, RunningView, running_node, running_in, on_mode}
-use Rattle.protocol.specs.Node.Opening.{opening_record}
-use Rattle.protocol.specs.Node.Plans.{Plan, Prospect, Undue, Exhausted, Planned, HasFailedAt, IsCarriedOut, IsHeldUp, IsMade}
+use Rattle.protocol.specs.Node.NodeView.{NodeView, ModeView, Down, InDoubt, Runs, RunningView, running_node, running_in}
+use Rattle.protocol.specs.Node.NodeView.{on_mode}
+use Rattle.protocol.specs.Node.Plans.{Prospect, Undue, Exhausted, Planned, IsMade}
 use Rattle.protocol.specs.Node.Plans.{becoming, if_due, putting, telling, unless_spent}
-use Rattle.protocol.specs.Node.Recovering.{crash_prospect, recover_prospect, restored, restored_mode, restored_with}
+use Rattle.protocol.specs.Node.Recovering.{crash_prospect, recover_prospect, restored, restored_with}
 use Rattle.protocol.specs.Node.Trimming.{cut_at}
 use Rattle.protocol.specs.World.EventView.{Deed}
 use Rattle.protocol.specs.World.EventView as event
 use Rattle.protocol.specs.World.OpeningWorld.{stations_from}
 use Rattle.protocol.specs.World.Replies.{outcome_of}
-use Rattle.protocol.specs.World.ReplyView.{ReplyView}
-use Rattle.protocol.specs.World.StationView.{OutletView, StationView}
+use Rattle.protocol.specs.World.StationView.{StationView}
 use Rattle.protocol.specs.World.Steps.{Setting, due_bytes, flight_at, next_release, IsRelease, moved_to}
 use Rattle.protocol.specs.declared.outcome.Outcome.{Outcome}
 use Rattle.protocol.specs.declared.outcome.Outcome.TheVariants as outcome
@@ -101,7 +100,8 @@ module _ (net : Network) (home : ℕ) (old : NodeView) (joins : NodeJoins net ho
       (λ same. subst (NodeJoins net home) (sym same) (down_joins restart plan.node.kept then_joins.kept)) step.1
 
   -- a change that leaves what is collected
-  changed_joins : (change : RunningView → RunningView) → ((running : RunningView) → (change running).live ≡ running.live)
+  changed_joins : (change : RunningView → RunningView)
+      → ((running : RunningView) → (change running).live ≡ running.live)
       → NodeJoins net home (record old { mode = on_mode change old.mode })
   changed_joins change same = record {
     kept = joins.kept;
@@ -171,14 +171,16 @@ module _ (setting : Setting) (stations : List StationView) (k : ℕ) (old : Stat
       let links = (in_world.sound.runs node (ap (running_in old.node.kept old.node.version) runs)).sound.kept.links in
       subst (λ (n : ℕ). MayBeAskedFor setting.net n running.current) (in_world.node ∙ sym in_world.number)
       (current_counts setting.net old.node.kept.node setting.inputs in_world.valid
-      (let same = in_world.node ∙ sym in_world.number in subst (λ (n : ℕ). n < node_count setting.net) (sym same) here_below)
+      (let same = in_world.node ∙ sym in_world.number in
+      subst (λ (n : ℕ). n < node_count setting.net) (sym same) here_below)
       node links)
 
   came_joins : (place : ℕ) (o : Option (List ℕ)) → SpelledBytes setting k o
       → ProspectJoins setting.net old.number (come_plan setting.net place o old).prospect
   came_joins place None says = tt
   came_joins place (Some bytes) says =
-      subst (λ (o : Option Packet). ProspectJoins setting.net old.number (come_prospect setting.net old.number o old.node))
+      subst (λ (o : Option Packet). ProspectJoins setting.net old.number
+      (come_prospect setting.net old.number o old.node))
       (sym packet_is) (by (not (is_down old.node.mode)))
     where
       to_here : says.packet.to ≡ old.number
@@ -280,7 +282,7 @@ others_stay_joined net old new done round answer (inl step) joined =
         (record { kept = joined.kept; live = joined.live })
     by true is =
         let joins = changed_joins net old.number old.node (node_of_station net old joined)
-            (turned net.channels done.job.process done.after done.taken done.sent) (λ r. refl) in
+        (turned net.channels done.job.process done.after done.taken done.sent) (λ r. refl) in
         subst (λ (n : NodeView). IsJoined net (moved_to n old.failures old.turns old)) (sym is.1)
         (record { kept = joins.kept; live = joins.live })
 others_stay_joined net old new done round answer (inr step) joined = by (next_release round old) step
@@ -289,7 +291,7 @@ others_stay_joined net old new done round answer (inr step) joined = by (next_re
     by None is = subst (IsJoined net) (sym is.1) joined
     by (Some place) is =
         let joins = changed_joins net old.number old.node (node_of_station net old joined)
-            (cut_at is.outlet.channel (length is.later.taken)) (λ r. refl) in
+        (cut_at is.outlet.channel (length is.later.taken)) (λ r. refl) in
         subst (IsJoined net) (sym is.same) (record { kept = joins.kept; live = joins.live })
 
 pub opening_is_joined : OpeningIsJoined

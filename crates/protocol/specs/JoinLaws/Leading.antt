@@ -154,9 +154,11 @@ module _ (stations : List StationView) (k : ℕ) (x y : StationView) (there : sl
       later : slice_get (slice_set stations k y) k ≡ Some y
       later = set_there stations k x y there
 
-      each_record : (j : ℕ) → records_seen (records_of (slice_set stations k y)) j ≡ records_seen (records_of stations) j
+      each_record : (j : ℕ)
+          → records_seen (records_of (slice_set stations k y)) j ≡ records_seen (records_of stations) j
       each_record j = elim (same_or_other j k) [
-        | inl here ↦ rw here (record_at (slice_set stations k y) k y later ∙ (records ∙ sym (record_at stations k x there)))
+        | inl here ↦ rw here
+            (record_at (slice_set stations k y) k y later ∙ (records ∙ sym (record_at stations k x there)))
         | inr other ↦ (only_here sent).records j other
       ]
 

@@ -1,5 +1,6 @@
--- The recovery line of stations to which steps of the abstract machine lead is in order, also at a moment inside an event.
-use Rattle.std.proofs.Common.{◌≡◌, ◌⊎◌, inl, inr, ℕ, zero, suc, ◌≤◌, List, [], ◌∷◌, Some, refl, sym, ap, subst, ◌∙◌}
+-- The recovery line of stations to which steps of the abstract machine lead is in order, also at a moment inside an
+-- event.
+use Rattle.std.proofs.Common.{◌≡◌, ◌⊎◌, inl, inr, ℕ, zero, suc, ◌≤◌, List, [], ◌∷◌, Some, refl, sym, ap, ◌∙◌}
 use Rattle.std.specs.Prelude.{slice_get, slice_set}
 use Rattle.std.proofs.Math.Bridge.{le_prop}
 use Rattle.std.proofs.Math.Logic.{∥∥₁_elim}
@@ -159,13 +160,6 @@ module _ (net : Network) (before : List StationView) (sent : List Packet)
         records_are = ap records_seen (same ∙ sym are);
         outlets_are = refl;
       })
-
--- what follows of a run that there is, whichever it be: lines have one proof at most
-pub line_known : (net : Network) (stations before after : List StationView) (traffic : Traffic)
-    (records : List RecordView) → ∥ HasRun net stations traffic ∥₁
-    → (HasRun net stations traffic → LineStays net before after records) → LineStays net before after records
-line_known net stations before after traffic records known by =
-    ∥∥₁_elim known (hlevel (le_prop)) by
 
 -- the records that stations keep are in line with themselves
 pub line_now : (net : Network) (stations : List StationView) (sent : List Packet)

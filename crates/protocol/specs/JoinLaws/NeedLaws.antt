@@ -1,9 +1,9 @@
 -- What an image needs is what the abstract machine asks for it.
-use Rattle.std.proofs.Common.{◌≡◌, ◌⊎◌, inl, inr, ℕ, zero, suc, ◌+◌, ◌<◌, ◌≤◌, ◌||◌, Bool, true, false, cond, List, [], ◌∷◌}
-use Rattle.std.proofs.Common.{length, map, Option, Some, None, refl, sym, ap, subst, ◌∙◌, arith}
+use Rattle.std.proofs.Common.{◌≡◌, ◌⊎◌, inl, inr, ℕ, zero, suc, ◌+◌, ◌<◌, ◌≤◌, ◌||◌, Bool, true, false, cond, List, []}
+use Rattle.std.proofs.Common.{◌∷◌}
+use Rattle.std.proofs.Common.{length, map, Option, Some, None, refl, sym, ap, ◌∙◌, arith}
 use Rattle.std.specs.Prelude.{◌≢◌, ◌==◌, nat_lt, slice_get}
 use Rattle.std.proofs.lemmas.Bool.{eqb-true, eq-eqb, ne_eqb, ltb-true, lt-ltb}
-use Rattle.datagram.specs.declared.packet.Need.{Need}
 use Rattle.kahn_net.specs.Syntax.{Network}
 use Rattle.kahn_net.specs.Valid.{IsValid}
 use Rattle.record.specs.Ends.{received_of}
@@ -15,9 +15,8 @@ use Rattle.recovery_line.specs.Observers.{has_node, image_seen}
 use Rattle.recovery_line.specs.Packets.{AreNeeds}
 use Rattle.protocol.specs.Join.Needs.{is_needed, need_on, needs_of, each_from, question_if, question_on, questions_of}
 use Rattle.protocol.specs.Join.Seen.{need_of, question_seen, questions_seen}
-use Rattle.protocol.specs.JoinLaws.Crossings.{both_true, true_both, channel_within, comes_cross, cross_comes, cross_within}
+use Rattle.protocol.specs.JoinLaws.Crossings.{both_true, true_both, comes_cross, cross_comes, cross_within}
 use Rattle.protocol.specs.Node.Layout.{is_incoming, numbers_where}
-use Rattle.protocol.specs.Node.LiveView.{QuestionView}
 use Rattle.protocol.specs.World.RecoveryLine.{net_seen}
 
 -- ---- numbers that pass a test, and what stands at their places
@@ -142,7 +141,8 @@ module _ (net : Network) (home : ℕ) (valid : IsValid net) (permanent image : I
           let within : c < length net.channels = cross_within net c r home cross in
           need_at c
           ∙ ap (λ (b : Bool). on_if b (received_of image c))
-          (has_where (is_needed net home permanent image) c 0 (length net.channels) (omega arith) (omega (arith, within))
+          (has_where (is_needed net home permanent image) c 0 (length net.channels) (omega arith)
+          (omega (arith, within))
           ∙ needed_where c r cross above)
 
       only : (c m : ℕ) → need_of (needs_of net home permanent image) c ≡ Some m

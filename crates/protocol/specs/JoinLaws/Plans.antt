@@ -1,7 +1,8 @@
--- However what a node plans comes out, it is steps of the abstract machine, and whatever a crash leaves of it is in line.
-use Rattle.std.proofs.Common.{◌≡◌, inl, inr, ℕ, Bool, true, false, cond, List, [], ◌∷◌, ◌++◌, map, All, Some, refl, sym, ap, subst}
-use Rattle.std.specs.Prelude.{slice_get, slice_set, IsTrue}
-use Rattle.std.proofs.lemmas.List.Elements.{All-nil}
+-- However what a node plans comes out, it is steps of the abstract machine, and whatever a crash leaves of it is in
+-- line.
+use Rattle.std.proofs.Common.{◌≡◌, inl, inr, ℕ, Bool, true, false, cond, List, [], ◌++◌, map, All, Some, refl, sym, ap}
+use Rattle.std.proofs.Common.{subst}
+use Rattle.std.specs.Prelude.{slice_get, slice_set}
 use Rattle.datagram.specs.PacketText.{IsPacket}
 use Rattle.kahn_net.specs.Syntax.{Network}
 use Rattle.record.specs.RecordView.{RecordView}
@@ -19,8 +20,9 @@ use Rattle.protocol.specs.JoinLaws.Lines.{line_at_put}
 use Rattle.protocol.specs.JoinLaws.Sent.{carries_still, carries_all}
 use Rattle.protocol.specs.Node.Modes.{crashed, with_kept}
 use Rattle.protocol.specs.Node.NodeView.{NodeView}
-use Rattle.protocol.specs.Node.Plans.{Plan, Prospect, Undue, Exhausted, Planned, HasFailedAt, IsCarriedOut, IsHeldUp, IsMade}
-use Rattle.protocol.specs.Node.Plans.{plan_record, next_record, plan_packets, packets_by}
+use Rattle.protocol.specs.Node.Plans.{Plan, Prospect, Undue, Exhausted, Planned, HasFailedAt, IsCarriedOut, IsHeldUp}
+use Rattle.protocol.specs.Node.Plans.{IsMade}
+use Rattle.protocol.specs.Node.Plans.{next_record, plan_packets, packets_by}
 use Rattle.protocol.specs.World.RecoveryLine.{net_seen, records_of, outlets_seen}
 use Rattle.protocol.specs.World.StationView.{StationView}
 use Rattle.protocol.specs.World.Steps.{moved_to, sending_of}
@@ -67,9 +69,6 @@ falls_leads net stations k old there sent restart failures turns =
 
 module _ (net : Network) (stations : List StationView) (k : ℕ) (old : StationView)
     (there : slice_get stations k ≡ Some old) (traffic : Traffic) (run : HasRun net stations traffic) where
-  abbrev Then : NodeView → ℕ → RoundTurns → Traffic → Type 0
-  Then node failures turns flown = HasRun net (slice_set stations k (moved_to node failures turns old)) flown
-
   -- a station whose node is as it was
   pub stays_run : (node : NodeView) (failures : ℕ) (turns : RoundTurns) (flown : Traffic) → node ≡ old.node
       → Carries flown run.sent → HasRun net (slice_set stations k (moved_to node failures turns old)) flown

@@ -1,14 +1,15 @@
 -- Laws of the questions that a node has asked: one is answered, and the needs of those that took part make new ones.
-use Rattle.std.proofs.Common.{◌≡◌, ◌⊎◌, inl, inr, ℕ, zero, suc, ◌<◌, ◌||◌, Bool, true, false, cond, List, [], ◌∷◌, length, Option}
-use Rattle.std.proofs.Common.{Some, None, refl, sym, ap, subst, ◌∙◌, arith}
+use Rattle.std.proofs.Common.{◌≡◌, ◌⊎◌, inl, inr, ℕ, zero, suc, ◌<◌, ◌||◌, Bool, true, false, cond, List, [], ◌∷◌}
+use Rattle.std.proofs.Common.{length, Option}
+use Rattle.std.proofs.Common.{Some, None, refl, sym, ap, ◌∙◌, arith}
 use Rattle.std.specs.Prelude.{◌≢◌, ◌==◌, slice_get, slice_set}
 use Rattle.std.proofs.lemmas.Bool.{eqb-true, eq-eqb}
 use Rattle.std.proofs.lemmas.List.{length-set}
 use Rattle.datagram.specs.declared.packet.Need.{Need}
 use Rattle.kahn_net.specs.Syntax.{Network}
-use Rattle.recovery_line.proofs.Basics.{one_inside, same_or_other, some_not_none}
+use Rattle.recovery_line.proofs.Basics.{one_inside, same_or_other}
 use Rattle.recovery_line.specs.Nodes.{Answer, Awaited, By_took, By_covered}
-use Rattle.protocol.specs.Join.Collecting.{is_awaited, is_open, is_question, was_asked, answered_by, replaced_at, with_answer}
+use Rattle.protocol.specs.Join.Collecting.{is_awaited, is_question, was_asked, answered_by, replaced_at, with_answer}
 use Rattle.protocol.specs.Join.Collecting.{is_open_at, needs_no_question, new_question, with_need, with_needs}
 use Rattle.protocol.specs.Join.Seen.{need_of, question_seen, questions_seen}
 use Rattle.protocol.specs.JoinLaws.Leading.{set_there}

@@ -1,8 +1,8 @@
 -- A node that comes back, or goes back to its permanent image, makes a step of the abstract machine.
-use Rattle.std.proofs.Common.{◌≡◌, ℕ, Bool, true, false, cond, List, [], Option, Some, None, option_map, refl, sym, ap}
+use Rattle.std.proofs.Common.{◌≡◌, ℕ, Bool, true, false, cond, List, Option, Some, None, option_map, refl, sym, ap}
 use Rattle.std.proofs.Common.{subst}
 use Rattle.std.proofs.Common.{◌∙◌}
-use Rattle.std.specs.Prelude.{◌≢◌, ◌==◌, nat_lt, not, slice_get, slice_set}
+use Rattle.std.specs.Prelude.{◌≢◌, ◌==◌, nat_lt, not, slice_get}
 use Rattle.std.proofs.lemmas.Bool.{eqb-true, eq-eqb}
 use Rattle.kahn_net.specs.Syntax.{Network}
 use Rattle.kahn_net.specs.declared.limits.TheConstants.{MAX_COUNT}
@@ -15,18 +15,16 @@ use Rattle.recovery_line.specs.Images.{Net}
 use Rattle.recovery_line.specs.Nodes.{Mode, NodeStep, Restore, Forget, Doubt, Roll_back}
 use Rattle.recovery_line.specs.Observers.{image_seen, record_seen, tentative_seen}
 use Rattle.recovery_line.specs.Packets.{Packet}
-use Rattle.protocol.specs.Join.Runs.{Leads}
 use Rattle.protocol.specs.Join.Seen.{live_seen, mode_seen, node_seen, world_seen}
 use Rattle.protocol.specs.JoinLaws.Leading.{leads_by, acts, outlets_same}
 use Rattle.protocol.specs.JoinLaws.Plans.{falls_leads, ProspectLeads}
 use Rattle.protocol.specs.Node.Modes.{is_down, crashed}
-use Rattle.protocol.specs.Node.NodeView.{NodeView, ModeView, Down, InDoubt, Runs, RunningView}
-use Rattle.protocol.specs.Node.Plans.{Prospect, becoming, if_due, putting, unless_spent}
+use Rattle.protocol.specs.Node.NodeView.{ModeView, Down, InDoubt, Runs, RunningView}
+use Rattle.protocol.specs.Node.Plans.{becoming, if_due, putting, unless_spent}
 use Rattle.protocol.specs.Node.Recovering.{crash_prospect, recover_prospect, restored, restored_mode, restored_with}
 use Rattle.protocol.specs.World.RecoveryLine.{net_seen, outlets_seen}
 use Rattle.protocol.specs.World.StationView.{StationView}
 use Rattle.protocol.specs.World.Steps.{moved_to}
-use Rattle.protocol.specs.declared.round_turns.RoundTurns.{RoundTurns}
 
 module _ (net : Net) (k : ℕ) (kept : RecordView) (left : ℕ → ℕ) (home : kept.node ≡ k) where
   mode_back : (o : Option HeldImage) → kept.tentative ≡ o

@@ -1,11 +1,11 @@
 -- After each deed a station's record and what it collects may be said, and so may what is sent in the deed.
-use Rattle.std.proofs.Common.{◌≡◌, ℕ, suc, ◌+◌, ◌<◌, ◌≤◌, ◌&&◌, Bool, true, false, cond, List, ℤ, [], ◌∷◌, ◌++◌, length, All, Option}
+use Rattle.std.proofs.Common.{◌≡◌, ℕ, ◌+◌, ◌<◌, ◌&&◌, Bool, true, false, cond, List, ℤ, [], length, All, Option}
 use Rattle.std.proofs.Common.{Some, None, option_map, refl, sym, ap, subst, ◌∙◌, arith}
-use Rattle.std.specs.Prelude.{◌==◌, nat_lt, nat_le, not, is_some, slice_get}
+use Rattle.std.specs.Prelude.{nat_lt}
 use Rattle.std.specs.List.{list_all}
 use Rattle.std.proofs.lemmas.Bool.{ltb-true}
 use Rattle.std.proofs.lemmas.List.Elements.{All-nil}
-use Rattle.datagram.specs.PacketText.{IsPositive, IsNeed, IsBody}
+use Rattle.datagram.specs.PacketText.{IsPositive, IsBody}
 use Rattle.datagram.specs.declared.packet.Body.{Body}
 use Rattle.datagram.specs.declared.packet.Body.TheVariants as says
 use Rattle.datagram.specs.declared.packet.Need.{Need}
@@ -15,38 +15,39 @@ use Rattle.kahn_net.specs.Nodes.{node_count}
 use Rattle.kahn_net.specs.Syntax.{Network}
 use Rattle.kahn_net.specs.Valid.{IsValid}
 use Rattle.kahn_net.specs.declared.limits.TheConstants.{MAX_COUNT}
-use Rattle.record.specs.Moves.{highest_seen, with_tentative, with_permanent, without_tentative, with_confirmed, with_epoch}
+use Rattle.record.specs.Moves.{highest_seen, with_permanent, without_tentative, with_confirmed}
 use Rattle.record.specs.RecordView.{RecordView}
-use Rattle.record.specs.declared.record.Tentative.{Tentative}
 use Rattle.recovery_line.proofs.Basics.{one_inside}
 use Rattle.recovery_line.specs.Nodes.{By_took}
 use Rattle.recovery_line.specs.Observers.{has_node, names}
-use Rattle.protocol.specs.Join.Answering.{AskAnswer, Silent, CoveredBefore, TookBefore, TakesNow, Declines, holds, kept_then}
-use Rattle.protocol.specs.Join.Answering.{answer_to_ask, answer_packets, with_current_as, ask_prospect}
+use Rattle.protocol.specs.Join.Answering.{AskAnswer, Silent, CoveredBefore, TookBefore, TakesNow, Declines, holds}
+use Rattle.protocol.specs.Join.Answering.{kept_then}
+use Rattle.protocol.specs.Join.Answering.{answer_to_ask, with_current_as, ask_prospect}
 use Rattle.protocol.specs.Join.Beginning.{live_in, collecting, live_asks, may_begin, beginning, begun, begin_prospect}
-use Rattle.protocol.specs.Join.Collecting.{is_live, was_asked, are_met, TookAnswer, Ignores, Joins, GivesUp, answer_to_took}
-use Rattle.protocol.specs.Join.Collecting.{covered_live, awaits, with_covered, hearing_covered, joining, joined_asks}
-use Rattle.protocol.specs.Join.Collecting.{joined_live, given_up, give_up_prospect, took_by, took_prospect, loses}
+use Rattle.protocol.specs.Join.Collecting.{TookAnswer, Ignores, Joins, GivesUp, answer_to_took}
+use Rattle.protocol.specs.Join.Collecting.{awaits, with_covered, hearing_covered, joining, joined_asks}
+use Rattle.protocol.specs.Join.Collecting.{joined_live, give_up_prospect, took_by, took_prospect, loses}
 use Rattle.protocol.specs.Join.Collecting.{refused_prospect, with_answer}
 use Rattle.protocol.specs.Join.Hearing.{hear_prospect}
-use Rattle.protocol.specs.Join.Joined.{IsOther, LiveIsSound, MayBeAskedFor, KeepsNodes, IsJoined}
+use Rattle.protocol.specs.Join.Joined.{IsOther, LiveIsSound, MayBeAskedFor, KeepsNodes}
 use Rattle.protocol.specs.Join.Verdicts.{is_ready, concluded, decided_now, commit_packets, conclude_prospect, mode_then}
-use Rattle.protocol.specs.Join.Verdicts.{after_verdict, settled_packets, commit_prospect, ended_prospect, settled_prospect}
+use Rattle.protocol.specs.Join.Verdicts.{after_verdict, settled_packets, commit_prospect, ended_prospect}
+use Rattle.protocol.specs.Join.Verdicts.{settled_prospect}
 use Rattle.protocol.specs.Join.Verdicts.{participants_of, verdict_packets}
-use Rattle.protocol.specs.JoinLaws.Answers.{Tells, answer_tells}
 use Rattle.protocol.specs.JoinLaws.Crossings.{both_true}
 use Rattle.protocol.specs.JoinLaws.Keeps.{takes_keeps, drops_keeps, settles_keeps, decides_keeps, confirms_keeps}
 use Rattle.protocol.specs.JoinLaws.Keeps.{begun_sound, covered_sound, joined_sound}
 use Rattle.protocol.specs.JoinLaws.NeedLaws.{has_where_below}
-use Rattle.protocol.specs.JoinLaws.Spelled.{none_sendable, one_sendable, other_of, asks_sendable, new_sendable}
+use Rattle.protocol.specs.JoinLaws.Spelled.{one_sendable, other_of, asks_sendable, new_sendable}
 use Rattle.protocol.specs.JoinLaws.Spelled.{answers_sendable, declined_sendable, commits_sendable, settled_sendable}
 use Rattle.protocol.specs.JoinLaws.Spelled.{verdict_sendable}
 use Rattle.protocol.specs.Node.Addresses.{are_nodes, names_run}
 use Rattle.protocol.specs.Node.Delivering.{hearing}
 use Rattle.protocol.specs.Node.Layout.{is_incoming, is_outgoing}
 use Rattle.protocol.specs.Node.LiveView.{LiveView}
-use Rattle.protocol.specs.Node.Modes.{is_none, is_running, with_kept}
-use Rattle.protocol.specs.Node.NodeView.{NodeView, ModeView, Down, InDoubt, Runs, RunningView, on_mode, on_running, running_in}
+use Rattle.protocol.specs.Node.Modes.{with_kept}
+use Rattle.protocol.specs.Node.NodeView.{NodeView, ModeView, Down, InDoubt, Runs, RunningView, on_mode, on_running}
+use Rattle.protocol.specs.Node.NodeView.{running_in}
 use Rattle.protocol.specs.Node.Plans.{Plan, Prospect, Undue, Exhausted, Planned, becoming, putting, telling, if_due}
 use Rattle.protocol.specs.Node.Plans.{unless_spent}
 use Rattle.protocol.specs.Node.Starting.{own_at}
@@ -90,7 +91,8 @@ module _ (net : Network) (inputs : List (List ℤ)) (valid : IsValid net) (home 
       live_same InDoubt = refl
       live_same (Runs running) = same running
 
-  tells : (packets : List Packet) → All (IsSendable net inputs) packets → ProspectSays net inputs home (telling packets old)
+  tells : (packets : List Packet) → All (IsSendable net inputs) packets
+      → ProspectSays net inputs home (telling packets old)
   tells packets sendable = record { kept = kept; live = live; sendable = sendable; refusable = nothing }
 
   -- ---- it begins, and decides
@@ -241,7 +243,8 @@ module _ (net : Network) (inputs : List (List ℤ)) (valid : IsValid net) (home 
       of_live o sound false l is = sound l is
       of_live None sound true l is = absurd (cc)
       of_live (Some k) sound true l is =
-          subst (LiveIsSound net home) (one_inside refl is) (covered_sound net home inputs valid here k c (sound k refl))
+          subst (LiveIsSound net home) (one_inside refl is)
+          (covered_sound net home inputs valid here k c (sound k refl))
 
       by : (mode : ModeView) → old.mode ≡ mode → (l : LiveView)
           → live_in (on_mode (hearing_covered n c) mode) ≡ Some l → LiveIsSound net home l
@@ -305,7 +308,8 @@ module _ (net : Network) (inputs : List (List ℤ)) (valid : IsValid net) (home 
   verdict_live next InDoubt at l is = absurd (cc)
   verdict_live next (Runs running) at l is = live l (ap live_in at ∙ is)
 
-  commit_says : (x n : ℕ) → IsPositive n → IsOther net home x → ProspectSays net inputs home (commit_prospect home x n old)
+  commit_says : (x n : ℕ) → IsPositive n → IsOther net home x
+      → ProspectSays net inputs home (commit_prospect home x n old)
   commit_says x n positive other = by (holds x n old.kept.tentative)
     where
       by : (b : Bool) → ProspectSays net inputs home

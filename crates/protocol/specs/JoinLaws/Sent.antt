@@ -1,11 +1,12 @@
 -- Packets that nodes send, as the abstract machine sees them: they may be sent, and whatever is in flight was.
-use Rattle.std.proofs.Common.{◌≡◌, ◌⊎◌, inl, inr, ℕ, zero, suc, ◌<◌, List, [], ◌∷◌, ◌++◌, length, map, All, get_or, Option}
-use Rattle.std.proofs.Common.{Some, None, refl, sym, ap, subst, ◌∙◌, arith}
+use Rattle.std.proofs.Common.{◌≡◌, ◌⊎◌, inl, inr, ℕ, zero, suc, ◌<◌, List, [], ◌∷◌, ◌++◌, length, map, All, get_or}
+use Rattle.std.proofs.Common.{Option}
+use Rattle.std.proofs.Common.{Some, None, refl, ap, subst, ◌∙◌, arith}
 use Rattle.std.specs.Prelude.{slice_get}
 use Rattle.std.specs.List.{AllByRecursion, flat_map}
 use Rattle.std.proofs.lemmas.List.Elements.{All-map}
 use Rattle.datagram.proofs.Exactness.{one_packet}
-use Rattle.datagram.specs.PacketText.{IsPacket, IsPacketText, packet_text}
+use Rattle.datagram.specs.PacketText.{IsPacket, packet_text}
 use Rattle.datagram.specs.declared.packet.Packet.{Packet as Datagram}
 use Rattle.wire.specs.Traffic.{Traffic, all_sent}
 use Rattle.wire.specs.declared.sending.Sending.{Sending}

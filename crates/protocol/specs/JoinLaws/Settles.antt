@@ -1,10 +1,9 @@
 -- Verdicts that come, and questions for them, are steps of the abstract machine.
-use Rattle.std.proofs.Common.{◌≡◌, inl, inr, ℕ, ◌≤◌, ◌||◌, Bool, true, false, cond, List, [], ◌∷◌, ◌++◌, Option, Some, None}
+use Rattle.std.proofs.Common.{◌≡◌, inr, ℕ, ◌≤◌, ◌||◌, Bool, true, false, cond, List, [], ◌∷◌, ◌++◌, Option, Some, None}
 use Rattle.std.proofs.Common.{option_map, refl, sym, ap, subst, ◌∙◌}
 use Rattle.std.specs.Prelude.{◌≢◌, ◌==◌, nat_le, not, slice_get, slice_set}
 use Rattle.std.proofs.lemmas.Bool.{eq-eqb}
 use Rattle.datagram.specs.declared.packet.Body.TheVariants as says
-use Rattle.datagram.specs.declared.packet.Packet.{Packet as Datagram}
 use Rattle.kahn_net.specs.Syntax.{Network}
 use Rattle.record.specs.Moves.{highest_seen, with_permanent, without_tentative, with_confirmed}
 use Rattle.record.specs.RecordView.{RecordView}
@@ -187,7 +186,8 @@ module _ (net : Network) (stations : List StationView) (k : ℕ) (old : StationV
       let new = moved_to node failures turns old in
       leads_on (net_seen net) (world_seen stations sent) (world_seen (Later node) sent) _
       (leads_by (net_seen net) (world_seen stations sent) (world_seen (Later node) sent)
-      (hears stations k old new there (net_seen net) sent (outlets_same stations k old new there refl) (Commit x k n) came (
+      (hears stations k old new there (net_seen net) sent (outlets_same stations k old new there refl) (Commit x k n)
+      came (
         refl,
         hears_commit x n old.node.kept old.node.mode (outlets_seen stations) (up_seen old.node.mode up)
             (held_where x n old.node.kept.tentative held),
@@ -205,7 +205,8 @@ module _ (net : Network) (stations : List StationView) (k : ℕ) (old : StationV
   ended_leads x n came held =
       let new = moved_to (after_verdict (without_tentative old.node.kept) old.node) failures turns old in
       leads_by (net_seen net) (world_seen stations sent) _
-      (hears stations k old new there (net_seen net) sent (outlets_same stations k old new there refl) (Ended x k n) came (
+      (hears stations k old new there (net_seen net) sent (outlets_same stations k old new there refl) (Ended x k n)
+      came (
         refl,
         hears_ended x n old.node.kept old.node.mode (outlets_seen stations) (up_seen old.node.mode up)
             (held_where x n old.node.kept.tentative held),

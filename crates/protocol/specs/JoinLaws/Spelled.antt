@@ -1,12 +1,13 @@
 -- What a node says of checkpoints has a spelling, and names nodes and channels as they run.
-use Rattle.std.proofs.Common.{◌≡◌, ℕ, zero, suc, ◌+◌, ◌<◌, ◌≤◌, ◌&&◌, Bool, true, false, cond, List, ℤ, [], ◌∷◌, ◌++◌, length, map}
+use Rattle.std.proofs.Common.{◌≡◌, ℕ, zero, suc, ◌+◌, ◌<◌, ◌≤◌, ◌&&◌, Bool, true, false, cond, List, ℤ, [], ◌∷◌, length}
+use Rattle.std.proofs.Common.{map}
 use Rattle.std.proofs.Common.{All, Option, Some, None, refl, sym, ap, subst, ◌∙◌, arith}
-use Rattle.std.specs.Prelude.{◌≢◌, ◌==◌, ◌||◌, nat_le, nat_lt, not, slice_get, slice_index, IsTrue}
+use Rattle.std.specs.Prelude.{◌≢◌, ◌==◌, ◌||◌, nat_le, nat_lt, not, slice_get, slice_index}
 use Rattle.std.specs.List.{flat_map, list_all}
 use Rattle.std.specs.List.Sorted.{IsStrictlyIncreasing}
-use Rattle.std.proofs.lemmas.Bool.{eqb-true, eq-eqb, ne_eqb, ltb-true, lt-ltb}
+use Rattle.std.proofs.lemmas.Bool.{eq-eqb, ne_eqb, ltb-true, lt-ltb}
 use Rattle.std.proofs.lemmas.List.Elements.{All-nil, All-cons, All-append, All-head, All-tail}
-use Rattle.datagram.specs.PacketText.{IsPositive, IsNeed, IsBody, IsPacket, AreNeeds, channels}
+use Rattle.datagram.specs.PacketText.{IsPositive, IsNeed, IsBody, AreNeeds, channels}
 use Rattle.datagram.specs.declared.packet.Body.{Body}
 use Rattle.datagram.specs.declared.packet.Body.TheVariants as says
 use Rattle.datagram.specs.declared.packet.Need.{Need}
@@ -16,7 +17,6 @@ use Rattle.datagram.specs.declared.packet.TheConstants.{LAST_CHANNEL, LAST_NODE}
 use Rattle.kahn_net.specs.Nodes.{node_count}
 use Rattle.kahn_net.specs.Syntax.{Network}
 use Rattle.kahn_net.specs.Valid.{IsValid}
-use Rattle.kahn_net.specs.declared.limits.TheConstants.{MAX_COUNT}
 use Rattle.record.specs.DecisionView.{DecisionView}
 use Rattle.record.specs.Ends.{received_of}
 use Rattle.record.specs.ImageView.{ImageView}
@@ -26,12 +26,13 @@ use Rattle.record.specs.declared.record.Tentative.{Tentative}
 use Rattle.recovery_line.specs.Images.{IsCross}
 use Rattle.recovery_line.specs.Nodes.{Answer, Awaited, By_took, By_covered}
 use Rattle.recovery_line.specs.Observers.{decides, has_node}
-use Rattle.protocol.specs.Join.Answering.{AskAnswer, Silent, CoveredBefore, TookBefore, TakesNow, Declines, answer_packets}
+use Rattle.protocol.specs.Join.Answering.{AskAnswer, Silent, CoveredBefore, TookBefore, TakesNow, Declines}
+use Rattle.protocol.specs.Join.Answering.{answer_packets}
 use Rattle.protocol.specs.Join.Answering.{took_packet}
 use Rattle.protocol.specs.Join.Beginning.{if_awaited, ask_on, open_question, open_questions, live_asks}
 use Rattle.protocol.specs.Join.Collecting.{needs_no_question, with_need, new_ask, new_asks}
 use Rattle.protocol.specs.Join.Collecting.{is_live}
-use Rattle.protocol.specs.Join.Joined.{IsOther, IsQuestion, LiveIsSound, MayBeAskedFor, HeldIsSound, DecisionIsSound}
+use Rattle.protocol.specs.Join.Joined.{IsOther, IsQuestion, LiveIsSound, MayBeAskedFor, DecisionIsSound}
 use Rattle.protocol.specs.Join.Joined.{KeepsNodes}
 use Rattle.protocol.specs.Join.Needs.{is_needed, need_on, needs_of, held_needs}
 use Rattle.protocol.specs.Join.Seen.{questions_seen, in_front}
@@ -49,9 +50,6 @@ use Rattle.protocol.specs.World.Traffic.{PacketIsSound}
 use Rattle.protocol.specs.WorldLaws.SendLaws.{IsSendable}
 
 module _ (net : Network) (inputs : List (List ℤ)) (valid : IsValid net) (home : ℕ) (here : home < node_count net) where
-  abbrev pub Sendable : List Packet → Type 0
-  Sendable packets = All (IsSendable net inputs) packets
-
   pub none_sendable : All (IsSendable net inputs) []
   none_sendable = All-nil (IsSendable net inputs)
 
@@ -135,7 +133,8 @@ module _ (net : Network) (inputs : List (List ℤ)) (valid : IsValid net) (home 
       → ((packet : Packet) → o ≡ Some packet → IsSendable net inputs packet) → All (IsSendable net inputs) packets
       → All (IsSendable net inputs) (in_front o packets)
   in_front_sendable None packets one rest = rest
-  in_front_sendable (Some packet) packets one rest = All-cons (IsSendable net inputs) packet packets (one packet refl) rest
+  in_front_sendable (Some packet) packets one rest =
+      All-cons (IsSendable net inputs) packet packets (one packet refl) rest
 
   questions_sendable : (number : ℕ) → IsPositive number → (c : ℕ) (questions : List (Option QuestionView))
       → ((j m : ℕ) (answer : Answer) → questions_seen questions j ≡ Some (m, answer) → IsQuestion net home (c + j) m)
@@ -185,11 +184,12 @@ module _ (net : Network) (inputs : List (List ℤ)) (valid : IsValid net) (home 
   new_sendable number p positive [] questions each all = none_sendable
   new_sendable number p positive (need ∷ needs) questions each all =
       let both = both_true (is_incoming net p need.channel)
-          (list_all (λ (n : Need). is_incoming net p n.channel) needs) all in
+      (list_all (λ (n : Need). is_incoming net p n.channel) needs) all in
       in_front_sendable (new_ask net home number need questions)
       (new_asks net home number needs (with_need net home need questions))
       (by (needs_no_question net home need questions) refl (All-head IsNeed need needs each) both.0)
-      (new_sendable number p positive needs (with_need net home need questions) (All-tail IsNeed need needs each) both.1)
+      (new_sendable number p positive needs (with_need net home need questions) (All-tail IsNeed need needs each)
+      both.1)
     where
       by : (b : Bool) → needs_no_question net home need questions ≡ b → IsNeed need
           → is_incoming net p need.channel ≡ true → (packet : Packet)
@@ -203,7 +203,8 @@ module _ (net : Network) (inputs : List (List ℤ)) (valid : IsValid net) (home 
         where
           apart : needs_no_question net home need questions ≡ false → producer_node net need.channel ≢ home
           apart none same =
-              let own : (producer_node net need.channel == home) ≡ true = eq-eqb (producer_node net need.channel) home same in
+              let own : (producer_node net need.channel == home) ≡ true =
+              eq-eqb (producer_node net need.channel) home same in
               (let bad : needs_no_question net home need questions ≡ true = rw own refl in cc)
 
   -- ---- the needs of an image
@@ -220,7 +221,8 @@ module _ (net : Network) (inputs : List (List ℤ)) (valid : IsValid net) (home 
     first_from : (first count : ℕ)
         → 0 < length (channels (map (need_on image) (numbers_where (is_needed net home permanent image) first count)))
         → first
-        ≤ slice_index (channels (map (need_on image) (numbers_where (is_needed net home permanent image) first count))) 0
+        ≤ slice_index (channels (map (need_on image) (numbers_where (is_needed net home permanent image) first count)))
+        0
     first_from first zero some = absurd (omega (arith, some))
     first_from first (suc count) some =
         by (is_needed net home permanent image first) some (first_from (suc first) count)
@@ -262,7 +264,8 @@ module _ (net : Network) (inputs : List (List ℤ)) (valid : IsValid net) (home 
     many first (suc count) = by (is_needed net home permanent image first) (many (suc first) count)
       where
         by : (b : Bool)
-            → length (map (need_on image) (numbers_where (is_needed net home permanent image) (suc first) count)) ≤ count
+            → length (map (need_on image) (numbers_where (is_needed net home permanent image) (suc first) count))
+            ≤ count
             → length (map (need_on image)
             (cond b (first ∷ numbers_where (is_needed net home permanent image) (suc first) count)
             (numbers_where (is_needed net home permanent image) (suc first) count))) ≤ suc count
@@ -282,11 +285,12 @@ module _ (net : Network) (inputs : List (List ℤ)) (valid : IsValid net) (home 
         by false is rest = rest
         by true is rest =
             let incoming = (both_true (is_incoming net home first)
-                (nat_lt (received_of permanent first) (received_of image first)) is).0 in
+            (nat_lt (received_of permanent first) (received_of image first)) is).0 in
             let more = needed_above net home valid permanent image first is in
             All-cons IsNeed (need_on image first)
             (map (need_on image) (numbers_where (is_needed net home permanent image) (suc first) count))
-            (channel_fits first (channel_within net home first incoming), (omega (arith, more), few first incoming)) rest
+            (channel_fits first (channel_within net home first incoming), (omega (arith, more), few first incoming))
+            rest
 
     pub needs_written : AreNeeds (needs_of net home permanent image)
     needs_written = record {
@@ -358,7 +362,8 @@ module _ (net : Network) (inputs : List (List ℤ)) (valid : IsValid net) (home 
         (list_all (λ (need : Need). is_incoming net home need.channel)
         (held_needs net home kept.permanent kept.tentative)) parts.1 needs.1)) tt
 
-    pub declined_sendable : (reason : Reason) → IsSendable net inputs (record { from = home; to = x; body = says.Refused n c reason })
+    pub declined_sendable : (reason : Reason)
+        → IsSendable net inputs (record { from = home; to = x; body = says.Refused n c reason })
     declined_sendable reason =
         says_to x (says.Refused n c reason) other (asked.0, asked.1)
         (true_both (are_nodes net home x) (is_outgoing net home c) said parts.1) tt
@@ -400,7 +405,8 @@ module _ (net : Network) (inputs : List (List ℤ)) (valid : IsValid net) (home 
       → All (IsSendable net inputs) (settled_packets home x n kept)
   settled_sendable x n kept positive other = by (nat_le n (highest_seen x kept))
     where
-      by : (b : Bool) → All (IsSendable net inputs) (cond b (record { from = home; to = x; body = says.Settled n } ∷ []) [])
+      by : (b : Bool)
+          → All (IsSendable net inputs) (cond b (record { from = home; to = x; body = says.Settled n } ∷ []) [])
       by true = one_sendable (record { from = home; to = x; body = says.Settled n })
           (says_to x (says.Settled n) other positive (nodes_are x other) tt)
       by false = none_sendable

@@ -1,5 +1,5 @@
 -- A node that begins a checkpoint makes a step of the abstract machine, and may ask what it asks.
-use Rattle.std.proofs.Common.{◌≡◌, ℕ, suc, ◌+◌, ◌<◌, ◌&&◌, Bool, true, false, List, [], ◌∷◌, ◌++◌, length, Option, Some, None}
+use Rattle.std.proofs.Common.{◌≡◌, ℕ, suc, ◌+◌, ◌<◌, ◌&&◌, true, List, [], ◌∷◌, ◌++◌, length, Option, Some, None}
 use Rattle.std.proofs.Common.{option_map, refl, sym, ap, ◌∙◌, arith}
 use Rattle.std.specs.Prelude.{nat_lt, slice_get, slice_set}
 use Rattle.std.specs.List.{AllByRecursion}
@@ -17,7 +17,8 @@ use Rattle.recovery_line.specs.Observers.{image_seen, record_seen, tentative_see
 use Rattle.recovery_line.specs.Packets.{Packet}
 use Rattle.recovery_line.specs.Records.{Record}
 use Rattle.recovery_line.specs.Worlds.{World, IsLive, MaySend, Reachable}
-use Rattle.protocol.specs.Join.Beginning.{live_in, live_begun, if_awaited, ask_on, open_question, open_questions, live_asks}
+use Rattle.protocol.specs.Join.Beginning.{live_in, live_begun, if_awaited, ask_on, open_question, open_questions}
+use Rattle.protocol.specs.Join.Beginning.{live_asks}
 use Rattle.protocol.specs.Join.Beginning.{may_begin, beginning, begun}
 use Rattle.protocol.specs.Join.Runs.{Leads}
 use Rattle.protocol.specs.Join.Seen.{questions_seen, live_seen, mode_seen, in_front, all_seen, world_seen}

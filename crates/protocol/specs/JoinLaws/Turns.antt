@@ -10,19 +10,17 @@ use Rattle.kahn_net.specs.Syntax.{Network}
 use Rattle.kahn_net.specs.Valid.{IsValid}
 use Rattle.record.specs.DecisionView.{DecisionView}
 use Rattle.record.specs.Ends.{log_of}
-use Rattle.record.specs.ImageView.{ImageView}
 use Rattle.record.specs.RecordView.{RecordView}
 use Rattle.record.specs.declared.record.Tentative.{Tentative as HeldImage}
 use Rattle.retained.specs.LogState.{LogState}
-use Rattle.recovery_line.specs.Images.{Net, Image, IsCross}
+use Rattle.recovery_line.specs.Images.{Net}
 use Rattle.recovery_line.specs.Nodes.{Mode, live_of}
 use Rattle.recovery_line.specs.Observers.{has_node, image_seen, record_seen, tentative_seen, decides, names}
 use Rattle.recovery_line.specs.Packets.{Packet}
 use Rattle.recovery_line.specs.Records.{Record}
 use Rattle.recovery_line.specs.Worlds.{World}
 use Rattle.protocol.specs.Join.Beginning.{live_in, live_asks}
-use Rattle.protocol.specs.Join.Runs.{Leads}
-use Rattle.protocol.specs.Join.Seen.{mode_seen, all_seen, world_seen}
+use Rattle.protocol.specs.Join.Seen.{mode_seen, world_seen}
 use Rattle.protocol.specs.Join.Telling.{decision_packets, packet_if, query_packets, verdicts_told, kept_packet}
 use Rattle.protocol.specs.Join.Telling.{turn_packets}
 use Rattle.protocol.specs.Join.Telling.{turn_prospect}
@@ -46,7 +44,6 @@ use Rattle.protocol.specs.World.StationView.{StationView}
 use Rattle.protocol.specs.World.Steps.{moved_to}
 use Rattle.protocol.specs.declared.links.Inbox.{Inbox}
 use Rattle.protocol.specs.declared.links.Outbox.{Outbox}
-use Rattle.protocol.specs.declared.round_turns.RoundTurns.{RoundTurns}
 
 -- ---- items
 

@@ -1,27 +1,27 @@
 -- What is promised of checkpoints that several nodes take together holds.
-use Rattle.std.proofs.Common.{◌≡◌, ℕ, Bool, true, false, cond, List, ℤ, length, map, Option, Some, None, option_map, refl, sym, ap}
+use Rattle.std.proofs.Common.{◌≡◌, ℕ, Bool, true, false, List, length, Option, Some, None, option_map, refl, sym, ap}
 use Rattle.std.proofs.Common.{subst, ◌∙◌}
 use Rattle.std.specs.Prelude.{slice_get, slice_set}
 use Rattle.std.proofs.Math.Bridge.{le_prop}
+use Rattle.std.proofs.lemmas.List.{map-set}
+use Rattle.protocol.specs.World.RecoveryLine.{records_of}
+use Rattle.protocol.specs.WorldLaws.OutputLaws.{map_at}
 use Rattle.std.proofs.Math.Logic.{∥∥₁_elim, ∥∥₁_map, ∥∥₁_map₂}
 use Rattle.kahn_net.specs.Nodes.{node_count}
-use Rattle.kahn_net.specs.Syntax.{Network}
-use Rattle.record.specs.RecordView.{RecordView}
 use Rattle.wire.specs.Queue.{is_due}
-use Rattle.wire.specs.Traffic.{Traffic, flights_to}
 use Rattle.wire.specs.declared.queue.Flight.{Flight}
 use Rattle.protocol.specs.Join.Deeds.{come_plan, deed_plan}
-use Rattle.protocol.specs.Join.Line.{AreEither, LineStays}
 use Rattle.protocol.specs.Join.Promises.{StandsIn, OpeningHasRun, DeedsRun, DeedsKeepTheLine, InstallsRun, ReleasesRun}
-use Rattle.protocol.specs.Join.Promises.{NetworkRuns, LinesAreSound}
+use Rattle.protocol.specs.Join.Promises.{NetworkRuns, LinesAreSound, ReleasesKeepTheLine}
 use Rattle.protocol.specs.Join.Runs.{HasRun}
 use Rattle.protocol.specs.Join.Beginning.{begin_prospect}
 use Rattle.protocol.specs.Join.Telling.{turn_prospect}
 use Rattle.protocol.specs.Join.Verdicts.{conclude_prospect}
 use Rattle.protocol.specs.JoinLaws.Deeds.{same_leads, grant_leads, starts_lead, concludes_lead}
-use Rattle.protocol.specs.JoinLaws.Events.{planned_run, come_leads, install_run, release_run, acted_carries}
-use Rattle.protocol.specs.JoinLaws.Leading.{outlets_same}
-use Rattle.protocol.specs.JoinLaws.Lines.{line_now}
+use Rattle.protocol.specs.JoinLaws.Events.{planned_run, come_leads, install_run, release_run, release_steps, release_puts_none}
+use Rattle.protocol.specs.JoinLaws.Events.{acted_carries}
+use Rattle.protocol.specs.JoinLaws.Leading.{outlets_same, set_itself}
+use Rattle.protocol.specs.JoinLaws.Lines.{line_at_release, line_now}
 use Rattle.protocol.specs.JoinLaws.Opens.{run_opens}
 use Rattle.protocol.specs.JoinLaws.Plans.{ProspectLeads, prospect_line}
 use Rattle.protocol.specs.JoinLaws.Returns.{crash_leads, recover_leads}
@@ -35,7 +35,6 @@ use Rattle.protocol.specs.Node.Recovering.{crash_prospect, recover_prospect}
 use Rattle.protocol.specs.NodeLaws.NumberedLaws.{where_mark}
 use Rattle.protocol.specs.World.EventView.{Deed}
 use Rattle.protocol.specs.World.EventView as event
-use Rattle.protocol.specs.World.RecoveryLine.{records_of}
 use Rattle.protocol.specs.World.StationView.{StationView}
 use Rattle.protocol.specs.World.Steps.{Setting, bytes_when, due_bytes, flight_at}
 use Rattle.protocol.specs.World.Traffic.{SpellsSound}
@@ -114,9 +113,9 @@ module _ (setting : Setting) (stations : List StationView) (k : ℕ) (old : Stat
         → slice_get running.inboxes i ≡ Some inbox → is_incoming setting.net k inbox.channel ≡ true
     incoming running runs i inbox at =
         let links = (in_world.sound.runs (running_node old.node.kept old.node.version running)
-            (ap (running_in old.node.kept old.node.version) runs)).sound.kept.links in
+        (ap (running_in old.node.kept old.node.version) runs)).sound.kept.links in
         let mark = where_mark (λ (x : Inbox). x.channel) (is_incoming setting.net old.node.kept.node) 0
-            (length setting.net.channels) running.inboxes i inbox links.incoming at in
+        (length setting.net.channels) running.inboxes i inbox links.incoming at in
         ap (λ (n : ℕ). is_incoming setting.net n inbox.channel) (sym in_world.node) ∙ mark.0
 
     came : (place : ℕ) (o : Option (List ℕ)) → due_bytes setting.round (flight_at setting k place) ≡ o
@@ -177,8 +176,24 @@ pub releases_run : ReleasesRun
 releases_run net inputs stations k old new round answer traffic there numbered sound numbered_then sound_then step
     known =
     ∥∥₁_map known
-    (λ run. release_run net stations k old there traffic inputs run round answer new numbered sound numbered_then
-    sound_then step)
+    (release_run net stations k old there traffic inputs round answer new numbered sound numbered_then sound_then step)
+
+pub releases_keep_the_line : ReleasesKeepTheLine
+releases_keep_the_line net inputs stations k old new round answer traffic records there numbered sound numbered_then
+    sound_then step left known =
+    ∥∥₁_elim known (hlevel (le_prop))
+    (λ run. line_at_release net stations run.sent run.reached (slice_set stations k new) run.sent records
+    (release_steps net stations k old there traffic inputs round answer new numbered sound numbered_then sound_then step
+    run.sent) same left)
+  where
+    same : records_of (slice_set stations k new) ≡ records_of stations
+    same =
+        map-set (λ (s : StationView). s.node.kept) stations k new
+        ∙ (ap (slice_set (records_of stations) k)
+        (release_puts_none net stations k old there traffic inputs round answer new numbered sound numbered_then sound_then
+        step)
+        ∙ set_itself (records_of stations) k old.node.kept
+        (map_at (λ (s : StationView). s.node.kept) stations k old there))
 
 pub network_runs : NetworkRuns
 network_runs net stations k place act traffic known =
@@ -189,4 +204,5 @@ network_runs net stations k place act traffic known =
     })
 
 pub lines_are_sound : LinesAreSound
-lines_are_sound net stations traffic known = ∥∥₁_elim known (hlevel (le_prop)) (λ run. line_now net stations run.sent run.reached)
+lines_are_sound net stations traffic known =
+    ∥∥₁_elim known (hlevel (le_prop)) (λ run. line_now net stations run.sent run.reached)

@@ -31,7 +31,8 @@ restored node = with_mode (restored_mode (with_epoch node.kept)) (with_kept (wit
 -- the same where it is known whether a tentative image is held
 abbrev pub restored_from : ImageView → Bool → ModeView
 restored_from image true = InDoubt
-restored_from image false = Runs (record { current = image; out = None; last = None; inboxes = []; outboxes = []; live = None })
+restored_from image false =
+    Runs (record { current = image; out = None; last = None; inboxes = []; outboxes = []; live = None })
 
 -- a node that is down comes back, if there is a next epoch
 abbrev pub recover_prospect : NodeView → Prospect
