@@ -1,11 +1,10 @@
 -- An answer is noted in what is collected.
-use Rattle.std.proofs.Common.{◌≡◌, ℕ, ◌<◌, ◌≤◌, List, length, map, Option, Some, None, option_map, refl, sym, ap, ◌∙◌}
+use Rattle.std.proofs.Common.{◌≡◌, ℕ, List, map, Option, Some, option_map, sym, ap, ◌∙◌}
 use Rattle.std.specs.Prelude.{slice_get, slice_set}
 use Rattle.std.proofs.lemmas.List.{map-set}
 use Rattle.std.proofs.lemmas.Option.{slice_get-map}
 use Rattle.recovery_line.specs.Nodes.{Answer as Answered}
 use Rattle.protocol.specs.Join.Collecting.{answered_by, replaced_at, with_answer}
-use Rattle.protocol.specs.Node.LiveView.{QuestionView}
 use Rattle.decide_core.specs.InitiatorView.{question_view}
 use Rattle.decide_core.specs.declared.initiator.Asked.{Asked}
 
@@ -17,9 +16,3 @@ noted questions place answer question now there is =
     ∙ (ap (slice_set (map question_view questions) place) is
     ∙ sym (ap (replaced_at (answered_by answer) place (map question_view questions))
     (slice_get-map question_view questions place ∙ ap (option_map question_view) there)))
-
-pub not_noted : (questions : List (Option Asked)) (place : ℕ) (answer : Answered) → slice_get questions place ≡ None
-    → map question_view questions ≡ with_answer answer place (map question_view questions)
-not_noted questions place answer there =
-    sym (ap (replaced_at (answered_by answer) place (map question_view questions))
-    (slice_get-map question_view questions place ∙ ap (option_map question_view) there))

@@ -2,8 +2,6 @@
 -- event.
 use Rattle.std.proofs.Common.{◌≡◌, ◌⊎◌, inl, inr, ℕ, zero, suc, ◌≤◌, List, [], ◌∷◌, Some, refl, sym, ap, ◌∙◌}
 use Rattle.std.specs.Prelude.{slice_get, slice_set}
-use Rattle.std.proofs.Math.Bridge.{le_prop}
-use Rattle.std.proofs.Math.Logic.{∥∥₁_elim}
 use Rattle.std.proofs.lemmas.List.{map-set}
 use Rattle.kahn_net.specs.Syntax.{Network}
 use Rattle.record.specs.RecordView.{RecordView}
@@ -13,9 +11,8 @@ use Rattle.recovery_line.specs.Line.{Sound, Covers, NotBehind, AtMoment}
 use Rattle.recovery_line.specs.Packets.{Packet}
 use Rattle.recovery_line.specs.Records.{Record, effective}
 use Rattle.recovery_line.specs.Worlds.{World, Reachable}
-use Rattle.wire.specs.Traffic.{Traffic}
 use Rattle.protocol.specs.Join.Line.{AreEither, LineStays}
-use Rattle.protocol.specs.Join.Runs.{Leads, HasRun}
+use Rattle.protocol.specs.Join.Runs.{Leads}
 use Rattle.protocol.specs.Join.Seen.{world_seen}
 use Rattle.protocol.specs.JoinLaws.Leading.{leads_here, leads_on, outlets_same}
 use Rattle.protocol.specs.JoinLaws.Sent.{waits}
