@@ -14,7 +14,8 @@ answer_view answer.TookBefore = answered.TookBefore
 answer_view answer.TakesNow = answered.TakesNow
 answer_view (answer.Declines reason) = answered.Declines reason
 
--- the mode of a node that runs with this image, or is in doubt. (An answer depends on nothing else that a node has in memory.)
+-- the mode of a node that runs with this image, or is in doubt. (An answer depends on nothing else that a node has in
+-- memory.)
 abbrev pub mode_with : Option ImageView → ModeView
 mode_with None = InDoubt
 mode_with (Some image) =

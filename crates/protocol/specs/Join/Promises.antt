@@ -91,7 +91,8 @@ ReleasesRun =
     → AreSound net inputs (slice_set stations k new) → IsRelease round (next_release round old) old answer new
     → ∥ HasRun net stations traffic ∥₁ → ∥ HasRun net (slice_set stations k new) traffic ∥₁
 
--- A release puts no record: the line of those that are kept is in order, with what had left and with what has left then.
+-- A release puts no record: the line of those that are kept is in order, with what had left and with what has left
+-- then.
 abbrev pub ReleasesKeepTheLine : Type 0
 ReleasesKeepTheLine =
     (net : Network) (inputs : List (List ℤ)) (stations : List StationView) (k : ℕ) (old new : StationView)

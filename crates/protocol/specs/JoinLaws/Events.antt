@@ -248,7 +248,8 @@ module _ (net : Network) (stations : List StationView) (k : ℕ) (old : StationV
 
   module _ (inputs : List (List ℤ)) (round : ℕ) (answer : ReplyView) (new : StationView)
       (numbered : IsNumbered stations) (sound : AreSound net inputs stations)
-      (numbered_then : IsNumbered (slice_set stations k new)) (sound_then : AreSound net inputs (slice_set stations k new))
+      (numbered_then : IsNumbered (slice_set stations k new))
+      (sound_then : AreSound net inputs (slice_set stations k new))
       (step : IsRelease round (next_release round old) old answer new) where
     pub release_steps : (sent : List Packet)
         → Leads (net_seen net) (world_seen stations sent) (world_seen (slice_set stations k new) sent)

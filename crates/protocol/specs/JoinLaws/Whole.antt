@@ -18,7 +18,8 @@ use Rattle.protocol.specs.Join.Beginning.{begin_prospect}
 use Rattle.protocol.specs.Join.Telling.{turn_prospect}
 use Rattle.protocol.specs.Join.Verdicts.{conclude_prospect}
 use Rattle.protocol.specs.JoinLaws.Deeds.{same_leads, grant_leads, starts_lead, concludes_lead}
-use Rattle.protocol.specs.JoinLaws.Events.{planned_run, come_leads, install_run, release_run, release_steps, release_puts_none}
+use Rattle.protocol.specs.JoinLaws.Events.{planned_run, come_leads, install_run, release_run, release_steps}
+use Rattle.protocol.specs.JoinLaws.Events.{release_puts_none}
 use Rattle.protocol.specs.JoinLaws.Events.{acted_carries}
 use Rattle.protocol.specs.JoinLaws.Leading.{outlets_same, set_itself}
 use Rattle.protocol.specs.JoinLaws.Lines.{line_at_release, line_now}
@@ -190,7 +191,8 @@ releases_keep_the_line net inputs stations k old new round answer traffic record
     same =
         map-set (λ (s : StationView). s.node.kept) stations k new
         ∙ (ap (slice_set (records_of stations) k)
-        (release_puts_none net stations k old there traffic inputs round answer new numbered sound numbered_then sound_then
+        (release_puts_none net stations k old there traffic inputs round answer new numbered sound numbered_then
+        sound_then
         step)
         ∙ set_itself (records_of stations) k old.node.kept
         (map_at (λ (s : StationView). s.node.kept) stations k old there))
