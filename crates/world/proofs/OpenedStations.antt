@@ -1,7 +1,7 @@
 -- The stations of a world that opens: what is true of each, as it is said of all.
 use Rattle.std.proofs.Common.{◌≡◌, ◌≢◌, ◌⊎◌, inl, inr, ℕ, zero, suc, ◌+◌, ◌<◌, ◌≤◌, Bool, true, false, cond, List, ℤ}
 use Rattle.std.proofs.Common.{[], ◌∷◌, ◌++◌, map, length, refl, sym, ap, subst, ◌∙◌, arith}
-use Rattle.std.specs.Prelude.{not, filter}
+use Rattle.std.specs.Prelude.{◌↔◌, not, filter, Result, Ok, Err, IfErr, OnOk}
 use Rattle.std.specs.List.{AllByRecursion, AllZip}
 use Rattle.std.proofs.lemmas.List.{length-map, map-append}
 use Rattle.std.proofs.lemmas.List.Filters.{length-filter_both}
@@ -356,6 +356,39 @@ pub not_for_version : (net : Network) (sectors : List ℕ) (fault : StoreFault) 
     → ¬ (fault ≡ Version)
 not_for_version net sectors fault refused same =
     no_version net 0 sectors (subst (IsWorldRefusal net 0 sectors) same refused)
+
+module _ {W E : Type 0} (fault : E → StoreFault) (net : Network) (sectors : List ℕ) (r : Result W E)
+    (refused : IfErr r (λ e. IsWorldRefusal net 0 sectors (fault e))) where
+  -- so where the versions are right, none is
+  pub never_versions : {Are : Type 0} → Are → IfErr r (λ e. (fault e ≡ Version) ↔ (¬ Are))
+  never_versions {Are} are = at r refused
+    where
+      at : (r : Result W E) → IfErr r (λ e. IsWorldRefusal net 0 sectors (fault e))
+          → IfErr r (λ e. (fault e ≡ Version) ↔ (¬ Are))
+      at (Ok w) refused = tt
+      at (Err e) refused =
+          (λ same. absurd (not_for_version net sectors (fault e) refused same), λ none. absurd (none are))
+
+  pub never_untouched : {P : E → Type 0} → IfErr r (λ e. fault e ≡ Version → P e)
+  never_untouched {P} = at r refused
+    where
+      at : (r : Result W E) → IfErr r (λ e. IsWorldRefusal net 0 sectors (fault e))
+          → IfErr r (λ e. fault e ≡ Version → P e)
+      at (Ok w) refused = tt
+      at (Err e) refused = λ same. absurd (not_for_version net sectors (fault e) refused same)
+
+  pub otherwise_refused : IfErr r (λ e. (fault e ≡ Version) ⊎ IsWorldRefusal net 0 sectors (fault e))
+  otherwise_refused = at r refused
+    where
+      at : (r : Result W E) → IfErr r (λ e. IsWorldRefusal net 0 sectors (fault e))
+          → IfErr r (λ e. (fault e ≡ Version) ⊎ IsWorldRefusal net 0 sectors (fault e))
+      at (Ok w) refused = tt
+      at (Err e) refused = inr refused
+
+-- versions that were found right
+pub for_all_versions : {W E : Type 0} {Are : Type 0} (r : Result W E) → Are → OnOk r Are
+for_all_versions (Ok w) are = are
+for_all_versions (Err e) are = tt
 
 -- want of memory
 pub world_refused : (net : Network) (number : ℕ) (sectors : List ℕ) → IsWorldRefusal net number sectors NoMemory

@@ -95,6 +95,13 @@ fn are_versions(versions: &[u8]) -> bool
     *version >= FIRST_VERSION && *version <= VERSION && are_versions(behind)
 }
 
+// Whether there is a version for each of so many disks.
+fn are_versions_for(disks: usize, versions: &[u8]) -> bool
+    ensures { IsTrue result ↔ AreVersionsFor disks versions.now }
+{
+    versions.len() == disks && are_versions(versions)
+}
+
 // The version in which the disk of a node is formatted: the one given for it, or else the one in which records are written.
 fn version_for(versions: &[u8], number: u8) -> u8
     ensures { result ≡ version_for versions.now number }
@@ -525,7 +532,7 @@ impl<D: Disk, O: Outlet> World<SplitCell<D>, O> {
             disks.items refused.disks.items refused.fault) }
         ensures same_outputs { IfErr result (λ refused. refused.outputs.items ≡ outputs.items) }
     {
-        if versions.len() != disks.len() || !are_versions(versions) {
+        if !are_versions_for(disks.len(), versions) {
             return Err(OpeningRefused {
                 disks,
                 outputs,
