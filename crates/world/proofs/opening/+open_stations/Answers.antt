@@ -36,7 +36,7 @@ open_node-requires-clause-few g t c =
 
 pub open_node-requires-clause-version : goal.open_node-requires-clause-version
 open_node-requires-clause-version g t c =
-    subst IsVersion (sym c.version_for.ensures)
+    subst IsVersion (sym c.version_for-version.ensures)
     (version_valid c.args.versions.now c.len-number.result c.requires.versions)
 
 pub returns-in-Err-clause-handed_back : goal.returns-in-Err-clause-handed_back
@@ -65,9 +65,9 @@ returns-in-Ok-open_stations-clause-opened g t c =
     c.len-number.result c.in-Some.ensures.items place c.push_reserved-in-Ok-open_stations.ensures.items
     c.in-Ok-open_stations.ensures.opened
     (station_opened g.O.Outlet.taken g.O.Outlet.failures net c.args.versions.now c.args.outputs.now.items c.args.nodes
-    c.len-number.result c.version_for.result c.in-Some.disk
+    c.len-number.result c.version_for-version.result c.in-Some.disk
     c.replace-given.result.items c.forget_failures.new.outputs.items c.in-Ok.node c.new.result c.requires.nodes
-    c.version_for.ensures c.in-Ok.ensures.opened
+    c.version_for-version.ensures c.in-Ok.ensures.opened
     (ap (λ given. own_outputs net c.len-number.result given.items) c.replace-given.ensures.value
     ∙ c.in-Ok-open_stations.ensures.rest c.len-number.result (omega (arith, c.len-number.ensures)))
     (c.forget_failures.ensures
