@@ -369,8 +369,8 @@ module _ {W E : Type 0} (fault : E → StoreFault) (net : Network) (sectors : Li
       at (Err e) refused =
           (λ same. absurd (not_for_version net sectors (fault e) refused same), λ none. absurd (none are))
 
-  pub never_untouched : {P : E → Type 0} → IfErr r (λ e. fault e ≡ Version → P e)
-  never_untouched {P} = at r refused
+  pub never_untouched : (P : E → Type 0) → IfErr r (λ e. fault e ≡ Version → P e)
+  never_untouched P = at r refused
     where
       at : (r : Result W E) → IfErr r (λ e. IsWorldRefusal net 0 sectors (fault e))
           → IfErr r (λ e. fault e ≡ Version → P e)

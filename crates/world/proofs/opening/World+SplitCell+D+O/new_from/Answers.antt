@@ -20,3 +20,4 @@ pub returns-clause-untouched : goal.returns-clause-untouched
 returns-clause-untouched g c =
     never_untouched (λ refused. refused.fault) (network_of c.args.net.value.program)
     (map (λ disk. g.D.Disk.sector_count disk) c.args.disks.items) c.open_world.result c.open_world.ensures.refused
+    (λ refused. refused.disks.items ≡ c.args.disks.items)
