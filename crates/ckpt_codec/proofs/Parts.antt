@@ -14,7 +14,7 @@ use Rattle.byteorder.specs.Numbers.{big_from-lt}
 use Rattle.kahn_net.specs.Statements.{Point, point_at}
 use Rattle.kahn_net.specs.Processes.{Standing}
 use Rattle.kahn_net.specs.Processes.Standing.{NotBegun, At, Done}
-use Rattle.kahn_net.specs.declared.limits.TheConstants.{MAX_COUNT, MAX_NODES, MAX_PROCESSES, MAX_CHANNELS}
+use Rattle.kahn_net.specs.declared.limits.TheConstants.{MAX_COUNT, MAX_NODES, MAX_PROCESSES, MAX_CHANNELS, MAX_TIMES, MAX_REPEATS}
 use Rattle.kahn_net.specs.declared.limits.TheConstants.{MAX_VARIABLES}
 use Rattle.retained.specs.LogState.{LogState}
 use Rattle.retained.specs.declared.log.TheConstants.{MAX_LOG_ITEMS}
@@ -35,7 +35,9 @@ use Rattle.ckpt_codec.specs.declared.fault.CodecFault.TheVariants.{Truncated}
 use Rattle.ckpt_codec.specs.Reading.{◌>>=◌, Found, Reader, number_at, if_passes, field_at, wanted_test, item_at}
 use Rattle.ckpt_codec.specs.Reading.{count_at, flag_at, optional, each_as, unchanged, entries_at, nodes_at, highest_at}
 use Rattle.ckpt_codec.specs.Reading.{participant_at, past_participant, participants_at, participant_count_at}
-use Rattle.ckpt_codec.specs.Reading.{participant_list_at, decided_at, decided_so_many, decisions_at, decision_count_at, past_decision, items_at, depth_at, passes_at}
+use Rattle.ckpt_codec.specs.Reading.{participant_list_at, decided_at, decided_so_many, decisions_at, decision_count_at, past_decision, items_at, depth_at, pass_at, passes_at}
+use Rattle.ckpt_codec.specs.Reading.{so_many_passes_at}
+use Rattle.ckpt_codec.specs.RecordText.{remaining}
 use Rattle.ckpt_codec.specs.Reading.{place_at, Footing, standing_on, footing_in, footing_at, mode_at, variable_count_at}
 use Rattle.ckpt_codec.specs.Reading.{variables_at, state_at, process_at, nth, number_wanted, variables_wanted}
 use Rattle.ckpt_codec.specs.Reading.{process_like, past_process, processes_at, process_count_at, process_list_at}
@@ -279,37 +281,24 @@ variables_lawful like =
     unchanged (variable_count like) (variable_count_at like) tt
     (wanting like 1 (λ v. nat_le v MAX_VARIABLES)) (λ s. item_lawful) (λ s. refl) (λ s x xs. refl)
 
-depth_lawful : Lawful Each (λ n. exactly 1 0 n ∷ []) depth_at
-depth_lawful = plain (exactly 1 0) 1 (λ v. nat_eq v 0) (λ n. refl)
+abbrev place_fields : Point → List Field
+place_fields p = any 4 p.site ∷ at_most 1 MAX_REPEATS (length p.left) ∷ map remaining p.left
 
-no_depth : Lawful (λ n. n ≡ 0) (λ n. exactly 1 0 n ∷ []) depth_at
-no_depth = field_lawful (λ n. n ≡ 0) (exactly 1 0) 1 (λ v. nat_eq v 0) (λ n. refl) (λ n lt e. eqb-true n 0 e) 0 refl
-
-passes_lawful : Lawful Each (λ (left : List ℕ). exactly 1 0 (length left) ∷ []) passes_at
-unfolding passes_at
+passes_lawful : Lawful Each (λ (left : List ℕ). at_most 1 MAX_REPEATS (length left) ∷ map remaining left) passes_at
+unfolding passes_at so_many_passes_at
 passes_lawful =
-    of_each (mapped (λ (left : List ℕ). left ≡ []) (λ (left : List ℕ). exactly 1 0 (length left) ∷ []) (λ n. [])
-    (λ left. length left) no_depth
-    (λ left none. (ap (λ (l : List ℕ). length l) none, sym none, refl)) (λ n zero. (refl, sym zero)))
-    (λ left bytes. none_read left bytes (scan (exactly 1 0 (length left) ∷ []) bytes)
-    (depth_lawful.reads (length left) tt bytes))
-  where
-    none_read : (left : List ℕ) (bytes : List ℕ) (o : Outcome) → Agrees (length left) (depth_at bytes) o
-        → Agrees left (depth_at bytes >>= λ depth. Ok ([], depth.1)) o
-    none_read left bytes (Passed rest) e =
-        let zero_is : length left ≡ 0 =
-        eqb-true (length left) 0 (one_took (λ v. nat_eq v 0) 1 (number_at 1 bytes) (length left, rest) e).0 in
-        ap (λ (r : Found ℕ). r >>= λ depth. Ok ([], depth.1)) e
-        ∙ ap (λ (l : List ℕ). Ok (l, rest)) (sym (nil_from_length left zero_is))
-    none_read left bytes (Stuck fault) e = ap (λ (r : Found ℕ). r >>= λ depth. Ok ([], depth.1)) e
-    none_read left bytes Differs e = tt
+    same_values Each
+    (counted {IsX = Each} 1 tt (λ s n. remaining n ∷ []) (λ s ns. map remaining ns) (each_as pass_at) unchanged
+    (at_most 1 MAX_REPEATS) depth_at tt (plain (at_most 1 MAX_REPEATS) 1 (λ v. nat_le v MAX_REPEATS) (λ n. refl))
+    (λ s. plain remaining 2 (λ v. nat_le 1 v && nat_lt v (suc MAX_TIMES)) (λ n. refl)) (λ s. refl) (λ s x xs. refl))
+    (λ left is. all_each left) (λ left are. tt)
 
-place_lawful : Lawful Each (λ (p : Point). any 4 p.site ∷ exactly 1 0 (length p.left) ∷ []) place_at
+place_lawful : Lawful Each place_fields place_at
 unfolding place_at
 place_lawful =
     same_values Each
     (built point_at (λ (p : Point). p.site) (λ (p : Point). p.left)
-    (λ (p : Point). any 4 p.site ∷ exactly 1 0 (length p.left) ∷ [])
+    place_fields
     (any_lawful 4) (λ site is. passes_lawful) (λ site is. ([], tt)) (λ p. (refl, refl)) (λ site left. (refl, refl)))
     (λ p is. (tt, tt)) (λ p is. tt)
 
@@ -320,7 +309,7 @@ mode_number PastAll = 2
 
 abbrev behind_mode : Footing → List Field
 behind_mode BeforeAll = []
-behind_mode (AtPoint point) = any 4 point.site ∷ exactly 1 0 (length point.left) ∷ []
+behind_mode (AtPoint point) = place_fields point
 behind_mode PastAll = []
 
 first_mode : (f : Footing) → Each f × (mode_number f ≡ 0) → f ≡ BeforeAll
@@ -340,7 +329,7 @@ point_in PastAll = point_at 0 []
 
 middle_mode : (f : Footing) → Each f × (mode_number f ≡ 1)
     → Unit {0} × (AtPoint (point_in f) ≡ f)
-    × (behind_mode f ≡ any 4 (point_in f).site ∷ exactly 1 0 (length (point_in f).left) ∷ [])
+    × (behind_mode f ≡ place_fields (point_in f))
 middle_mode BeforeAll h = absurd (omega (arith, h.1))
 middle_mode (AtPoint point) h = (tt, refl, refl)
 middle_mode PastAll h = absurd (omega (arith, h.1))

@@ -20,7 +20,7 @@ use Rattle.record.specs.declared.image.End.TheVariants.{Receives, Sends, Both}
 use Rattle.record.specs.declared.record.Tentative.{Tentative}
 use Rattle.ckpt_codec.specs.Fields.{number_text}
 use Rattle.ckpt_codec.specs.RecordText.{variables_of, role_of, record_text}
-use Rattle.ckpt_codec.specs.Spelling.{item_text, items_text, mode_text, state_text, process_text, log_text, end_text}
+use Rattle.ckpt_codec.specs.Spelling.{passes_text, item_text, items_text, mode_text, state_text, process_text, log_text, end_text}
 use Rattle.ckpt_codec.specs.Spelling.{saved_end_text, process_list_text, end_list_text, image_text, participants_text}
 use Rattle.ckpt_codec.specs.Spelling.{decision_text, decisions_text, tentative_text, highest_text, head_text}
 use Rattle.ckpt_codec.specs.declared.version.TheConstants.{VERSION}
@@ -63,9 +63,12 @@ length-items zs = length-even item_text 8 (λ z. length-number 8 _) zs
 length-mode : (standing : Standing) → length (mode_text standing) ≡ mode_length standing
 length-mode (NotBegun vars) = length-number 1 0
 length-mode (At point vars) =
-    length-two (number_text 1 1) _ 1 5 (length-number 1 1)
-    (length-two (number_text 4 point.site) (number_text 1 (length point.left)) 4 1 (length-number 4 point.site)
-    (length-number 1 (length point.left)))
+    let n = length point.left in
+    length-two (number_text 1 1) _ 1 (4 + (1 + 2 * n)) (length-number 1 1)
+    (length-two (number_text 4 point.site) _ 4 (1 + 2 * n) (length-number 4 point.site)
+    (length-two (number_text 1 n) (passes_text point.left) 1 (2 * n) (length-number 1 n)
+    (length-even (number_text 2) 2 (λ k. length-number 2 k) point.left)))
+    ∙ (let same : 1 + (4 + (1 + 2 * n)) ≡ 6 + 2 * n = omega arith in same)
 length-mode (Done vars) = length-number 1 2
 
 length-process : (p : SavedProcessView) → length (process_text p) ≡ process_length p

@@ -10,7 +10,7 @@ use Rattle.std.proofs.lemmas.List.Elements.{All-from_recursion, recursion_from_A
 use Rattle.std.proofs.lemmas.List.Concat.{flat_map-cons}
 use Rattle.kahn_net.specs.Processes.{Standing}
 use Rattle.kahn_net.specs.Processes.Standing.{NotBegun, At, Done}
-use Rattle.kahn_net.specs.declared.limits.TheConstants.{MAX_COUNT, MAX_PROCESSES, MAX_CHANNELS, MAX_VARIABLES}
+use Rattle.kahn_net.specs.declared.limits.TheConstants.{MAX_COUNT, MAX_PROCESSES, MAX_CHANNELS, MAX_VARIABLES, MAX_REPEATS}
 use Rattle.retained.specs.LogState.{LogState}
 use Rattle.record.specs.DecisionView.{DecisionView}
 use Rattle.record.specs.ProcessView.{SavedProcessView}
@@ -28,12 +28,14 @@ use Rattle.ckpt_codec.specs.RecordText.{saved_end_fields, ends_fields, processes
 use Rattle.ckpt_codec.specs.RecordText.{tentative_fields, head_fields, record_text, IsRecord}
 use Rattle.ckpt_codec.specs.RecordText.{items_of_end, IsTextIn}
 use Rattle.ckpt_codec.specs.HeaderText.{header_of, instance_of, slot_field, held_fields, header_fields, header_text}
-use Rattle.ckpt_codec.specs.HeaderText.{IsHeaderTextIn, IsImageText, IsImageSpelled}
+use Rattle.ckpt_codec.specs.HeaderText.{IsImageText, IsImageSpelled}
 use Rattle.ckpt_codec.specs.declared.version.TheConstants.{VERSION}
 use Rattle.ckpt_codec.specs.Spelling.{item_text, items_text, mode_text, state_text, process_text, HasShortMode}
 use Rattle.ckpt_codec.specs.Spelling.{IsShortProcess, HasItems, log_text, end_text, saved_end_text, EndHasItems}
 use Rattle.ckpt_codec.specs.Spelling.{process_list_text, end_list_text, image_text, IsShortImage, ImageHasItems}
 use Rattle.ckpt_codec.specs.Spelling.{participants_text, decision_text, decisions_text, IsShortDecision, tentative_text}
+use Rattle.ckpt_codec.specs.RecordText.{remaining}
+use Rattle.ckpt_codec.specs.Spelling.{passes_text}
 use Rattle.ckpt_codec.specs.Spelling.{IsShortTentative, TentativeHasItems, highest_text, spelling, IsShortRecord}
 use Rattle.ckpt_codec.specs.Spelling.{RecordHasItems, head_text, held_text, slots_text, header_spelling, IsShortFront}
 use Rattle.ckpt_codec.proofs.Text.{AllAllowed}
@@ -120,13 +122,21 @@ decisions-spelled most node nodes own ds =
     behind_one (at_most 1 most (length ds)) (each_decision_fields node nodes own 1 ds) (flat_map decision_text ds)
     (each_decision-spelled node nodes own 1 ds)
 
+passes-spelled : (left : List ℕ) → text_of (map remaining left) ≡ passes_text left
+passes-spelled [] = refl
+passes-spelled (k ∷ left) =
+    behind_one (remaining k) (map remaining left) (passes_text left) (passes-spelled left)
+    ∙ sym (flat_map-cons (number_text 2) k left)
+
 mode-spelled : (standing : Standing) → text_of (mode_fields standing) ≡ mode_text standing
 mode-spelled (NotBegun vars) = text-one (at_most 1 2 0)
 mode-spelled (At point vars) =
-    behind_one (at_most 1 2 1) (any 4 point.site ∷ exactly 1 0 (length point.left) ∷ [])
-    (number_text 4 point.site ++ number_text 1 (length point.left))
-    (behind_one (any 4 point.site) (exactly 1 0 (length point.left) ∷ []) (number_text 1 (length point.left))
-    (text-one (exactly 1 0 (length point.left))))
+    let depth = at_most 1 MAX_REPEATS (length point.left) in
+    behind_one (at_most 1 2 1) (any 4 point.site ∷ depth ∷ map remaining point.left)
+    (number_text 4 point.site ++ (number_text 1 (length point.left) ++ passes_text point.left))
+    (behind_one (any 4 point.site) (depth ∷ map remaining point.left)
+    (number_text 1 (length point.left) ++ passes_text point.left)
+    (behind_one depth (map remaining point.left) (passes_text point.left) (passes-spelled point.left)))
 mode-spelled (Done vars) = text-one (at_most 1 2 2)
 
 process-spelled : (like : Option SavedProcessView) (least : ℕ) (p : SavedProcessView)
@@ -429,11 +439,6 @@ header_allowed slot kept le is =
       decisions = parts.decisions;
       behind = (slot_allowed slot le, held_allowed kept.highest kept.permanent kept.tentative images.1);
     })
-
-pub is_header : (slot : ℕ) (kept : RecordView) (bytes : List ℕ) → slot ≤ 1 → IsRecord kept
-    → bytes ≡ header_spelling VERSION slot kept → IsHeaderTextIn VERSION (header_of slot kept) bytes
-is_header slot kept bytes le is e =
-    record { allowed = header_allowed slot kept le is; spelled = e ∙ sym (header-spelled VERSION slot kept) }
 
 -- ---- items
 

@@ -5,7 +5,7 @@ use Rattle.std.specs.Prelude.{◌↔◌, IsTrue, slice_index}
 use Rattle.std.proofs.lemmas.Bool.{false≢true}
 use Rattle.std.proofs.lemmas.List.Elements.{All-nil, All-cons, All-head, All-tail, All-append}
 use Rattle.kahn_net.specs.States.{standing_in}
-use Rattle.kahn_net.specs.declared.limits.TheConstants.{MAX_PROCESSES, MAX_CHANNELS, MAX_VARIABLES}
+use Rattle.kahn_net.specs.declared.limits.TheConstants.{MAX_PROCESSES, MAX_CHANNELS, MAX_VARIABLES, MAX_REPEATS}
 use Rattle.kahn_net.specs.declared.state.Place.{Place}
 use Rattle.kahn_net.specs.declared.state.Mode.{Mode}
 use Rattle.kahn_net.specs.declared.state.Mode.TheVariants.{NotBegun, At, Finished}
@@ -19,7 +19,7 @@ use Rattle.record.specs.declared.image.SavedEnd.{SavedEnd}
 use Rattle.ckpt_codec.specs.Fields.{Field, IsAllowed, AreAllowed}
 use Rattle.ckpt_codec.specs.ItemLaws.{wrapped_fits}
 use Rattle.ckpt_codec.specs.RecordText.{any, at_most, exactly, between, retained_count, count, flag, item, variables_of}
-use Rattle.ckpt_codec.specs.RecordText.{role_of, wanted, participants, wanted_or, first_of, rest_of, mode_fields}
+use Rattle.ckpt_codec.specs.RecordText.{role_of, wanted, participants, wanted_or, first_of, rest_of, mode_fields, remaining}
 use Rattle.ckpt_codec.specs.RecordText.{process_fields, processes_fields, end_fields, saved_end_fields, ends_fields}
 use Rattle.ckpt_codec.specs.RecordText.{decision_fields, each_decision_fields, decisions_fields, version_field, image_fields, tentative_fields, head_fields, record_fields}
 use Rattle.record.specs.declared.record.TheConstants.{MAX_DECISIONS}
@@ -281,23 +281,52 @@ module _ (like : Option SavedEnd) (least : ℕ) (e : SavedEnd) (a b : Bool)
       field_then channel_field (role_field ∷ end_fields e.end) a d channel numbered
       (field_then role_field (end_fields e.end) b d role is end)
 
+module _ (left : List ℕ) (default : ℕ) (a : Bool) (some : 1 ≤ length left)
+    (test : IsTrue a ↔ IsAllowed (remaining (get_or left 0 default))) where
+  pub passes_not : a ≡ false → Tests false (map remaining left)
+  passes_not is = at left some test
+    where
+      at : (xs : List ℕ) → 1 ≤ length xs → (IsTrue a ↔ IsAllowed (remaining (get_or xs 0 default)))
+          → Tests false (map remaining xs)
+      at [] some test = absurd (omega (arith, some))
+      at (x ∷ xs) some test = field_not (remaining x) (map remaining xs) a test is
+
+  pub passes_then : (b : Bool) → a ≡ true → Tests b (map remaining (drop 1 left)) → Tests b (map remaining left)
+  passes_then b is behind = at left some test behind
+    where
+      at : (xs : List ℕ) → 1 ≤ length xs → (IsTrue a ↔ IsAllowed (remaining (get_or xs 0 default)))
+          → Tests b (map remaining (drop 1 xs)) → Tests b (map remaining xs)
+      at [] some test behind = absurd (omega (arith, some))
+      at (x ∷ xs) some test behind = field_then (remaining x) (map remaining xs) a b test is behind
+
 module _ (place : Place) (a : Bool) (site : IsTrue a ↔ IsAllowed (any 4 place.site)) where
   abbrev depth_field : Field
-  depth_field = exactly 1 0 (length place.left.items)
+  depth_field = at_most 1 MAX_REPEATS (length place.left.items)
+
+  abbrev passes_fields : List Field
+  passes_fields = map remaining place.left.items
 
   at_site : IsAllowed (at_most 1 2 1)
   at_site = (omega arith, refl)
 
   pub mode_not : a ≡ false → Tests false (mode_fields (standing_in (At place) []))
   mode_not is =
-      field_stands (at_most 1 2 1) (any 4 place.site ∷ depth_field ∷ []) false at_site
-      (field_not (any 4 place.site) (depth_field ∷ []) a site is)
+      field_stands (at_most 1 2 1) (any 4 place.site ∷ depth_field ∷ passes_fields) false at_site
+      (field_not (any 4 place.site) (depth_field ∷ passes_fields) a site is)
 
-  pub mode_then : (b : Bool) → a ≡ true → (IsTrue b ↔ IsAllowed depth_field)
-      → Tests b (mode_fields (standing_in (At place) []))
-  mode_then b is depth =
-      field_stands (at_most 1 2 1) (any 4 place.site ∷ depth_field ∷ []) b at_site
-      (field_then (any 4 place.site) (depth_field ∷ []) a b site is (single depth_field b depth))
+  pub mode_deep : (b : Bool) → a ≡ true → (IsTrue b ↔ IsAllowed depth_field) → b ≡ false
+      → Tests false (mode_fields (standing_in (At place) []))
+  mode_deep b is depth deep =
+      field_stands (at_most 1 2 1) (any 4 place.site ∷ depth_field ∷ passes_fields) false at_site
+      (field_then (any 4 place.site) (depth_field ∷ passes_fields) a false site is
+      (field_not depth_field passes_fields b depth deep))
+
+  pub mode_then : (b d : Bool) → a ≡ true → (IsTrue b ↔ IsAllowed depth_field) → b ≡ true → Tests d passes_fields
+      → Tests d (mode_fields (standing_in (At place) []))
+  mode_then b d is depth shallow passes =
+      field_stands (at_most 1 2 1) (any 4 place.site ∷ depth_field ∷ passes_fields) d at_site
+      (field_then (any 4 place.site) (depth_field ∷ passes_fields) a d site is
+      (field_then depth_field passes_fields b d depth shallow passes))
 
 flag_stands : IsAllowed (flag 1)
 flag_stands = (omega arith, refl)

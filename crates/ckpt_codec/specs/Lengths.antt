@@ -15,7 +15,7 @@ use Rattle.ckpt_codec.specs.declared.version.TheConstants.{VERSION}
 
 abbrev pub mode_length : Standing → ℕ
 mode_length (NotBegun vars) = 1
-mode_length (At point vars) = 6
+mode_length (At point vars) = 6 + 2 * length point.left
 mode_length (Done vars) = 1
 
 abbrev pub process_length : SavedProcessView → ℕ

@@ -6,7 +6,7 @@ use Rattle.byteorder.specs.Endian.{big_number}
 use Rattle.kahn_net.specs.Statements.{Point, point_at}
 use Rattle.kahn_net.specs.Processes.{Standing}
 use Rattle.kahn_net.specs.Processes.Standing.{NotBegun, At, Done}
-use Rattle.kahn_net.specs.declared.limits.TheConstants.{MAX_COUNT, MAX_NODES, MAX_PROCESSES, MAX_CHANNELS}
+use Rattle.kahn_net.specs.declared.limits.TheConstants.{MAX_COUNT, MAX_NODES, MAX_PROCESSES, MAX_CHANNELS, MAX_TIMES, MAX_REPEATS}
 use Rattle.kahn_net.specs.declared.limits.TheConstants.{MAX_VARIABLES}
 use Rattle.retained.specs.LogState.{LogState}
 use Rattle.retained.specs.declared.log.TheConstants.{MAX_LOG_ITEMS}
@@ -142,11 +142,17 @@ unfoldable pub items_at : ℕ → Reader (List ℤ)
 items_at n = so_many (each_as item_at) unchanged n tt
 
 abbrev pub depth_at : Reader ℕ
-depth_at = field_at 1 (λ v. v == 0)
+depth_at = field_at 1 (λ v. nat_le v MAX_REPEATS)
 
--- the passes that remain of the repetitions round a site: none
+abbrev pub pass_at : Reader ℕ
+pass_at = field_at 2 (λ v. nat_le 1 v && nat_lt v (suc MAX_TIMES))
+
+unfoldable pub so_many_passes_at : ℕ → Reader (List ℕ)
+so_many_passes_at n = so_many (each_as pass_at) unchanged n tt
+
+-- the passes that remain of the repetitions round a site
 unfoldable pub passes_at : Reader (List ℕ)
-passes_at bytes = depth_at bytes >>= λ depth. Ok ([], depth.1)
+passes_at bytes = depth_at bytes >>= λ depth. so_many_passes_at depth.0 depth.1
 
 -- a process's site, and the passes that remain there
 unfoldable pub place_at : Reader Point

@@ -6,7 +6,7 @@ use Rattle.std.specs.List.{flat_map}
 use Rattle.std.specs.Int.{w64, cast_unsigned, int_wrap}
 use Rattle.kahn_net.specs.Processes.{Standing}
 use Rattle.kahn_net.specs.Processes.Standing.{NotBegun, At, Done}
-use Rattle.kahn_net.specs.declared.limits.TheConstants.{MAX_COUNT, MAX_NODES, MAX_PROCESSES, MAX_CHANNELS}
+use Rattle.kahn_net.specs.declared.limits.TheConstants.{MAX_COUNT, MAX_NODES, MAX_PROCESSES, MAX_CHANNELS, MAX_TIMES, MAX_REPEATS}
 use Rattle.kahn_net.specs.declared.limits.TheConstants.{MAX_VARIABLES}
 use Rattle.retained.specs.declared.log.TheConstants.{MAX_LOG_ITEMS}
 use Rattle.record.specs.declared.record.TheConstants.{MAX_DECISIONS}
@@ -112,10 +112,16 @@ variables_of (NotBegun vars) = vars
 variables_of (At point vars) = vars
 variables_of (Done vars) = vars
 
--- the mode, and the place of one that is at a site; nothing is repeated yet, so no passes remain
+-- the passes that remain of a repetition
+abbrev pub remaining : ℕ → Field
+remaining passes = between 2 1 (suc MAX_TIMES) passes
+
+-- the mode, and the place of one that is at a site: how many repetitions stand round it, and the passes that remain of
+-- each
 abbrev pub mode_fields : Standing → List Field
 mode_fields (NotBegun vars) = at_most 1 2 0 ∷ []
-mode_fields (At point vars) = at_most 1 2 1 ∷ any 4 point.site ∷ exactly 1 0 (length point.left) ∷ []
+mode_fields (At point vars) = at_most 1 2 1 ∷ any 4 point.site ∷ at_most 1 MAX_REPEATS (length point.left)
+    ∷ map remaining point.left
 mode_fields (Done vars) = at_most 1 2 2 ∷ []
 
 -- a process, which has at least this number, as this one of the first image

@@ -9,7 +9,7 @@ use Rattle.std.proofs.lemmas.List.Concat.{flat_map-cons}
 use Rattle.std.proofs.lemmas.List.Sums.{sum_by-cons, length-filter, count_by-le-length}
 use Rattle.kahn_net.specs.Processes.{Standing}
 use Rattle.kahn_net.specs.Processes.Standing.{NotBegun, At, Done}
-use Rattle.kahn_net.specs.declared.limits.TheConstants.{MAX_NODES, MAX_PROCESSES, MAX_CHANNELS, MAX_VARIABLES}
+use Rattle.kahn_net.specs.declared.limits.TheConstants.{MAX_NODES, MAX_PROCESSES, MAX_CHANNELS, MAX_VARIABLES, MAX_REPEATS}
 use Rattle.record.specs.DecisionView.{DecisionView}
 use Rattle.record.specs.ProcessView.{SavedProcessView}
 use Rattle.record.specs.ImageView.{ImageView}
@@ -36,12 +36,20 @@ items_at saved = length (items_of_end saved.end)
 abbrev pub items_in : ImageView → ℕ
 items_in image = sum_by items_at image.ends
 
--- an image of no more processes, variables of each, and channels than a network has, and with at most so many items in
--- all its logs
+-- the passes that remain where a process stands
+abbrev pub left_of : Standing → List ℕ
+left_of (NotBegun vars) = []
+left_of (At point vars) = point.left
+left_of (Done vars) = []
+
+-- an image of no more processes, variables and repetitions of each, and channels than a network has, and with at most so
+-- many items in all its logs
 pub record IsImageWithin (most : ℕ) (image : ImageView) : Type 0 where
   pub processes : length image.processes ≤ MAX_PROCESSES
   pub variables : (k : ℕ) (saved : SavedProcessView) → slice_get image.processes k ≡ Some saved
       → length (variables_of saved.standing) ≤ MAX_VARIABLES
+  pub passes : (k : ℕ) (saved : SavedProcessView) → slice_get image.processes k ≡ Some saved
+      → length (left_of saved.standing) ≤ MAX_REPEATS
   pub ends : length image.ends ≤ MAX_CHANNELS
   pub items : items_in image ≤ most
 
@@ -67,14 +75,15 @@ sum_by_at_most f m (x ∷ xs) few =
 -- Lengths
 
 process_fits : (saved : SavedProcessView) → length (variables_of saved.standing) ≤ MAX_VARIABLES
-    → process_length saved ≤ 520
-process_fits saved few = at saved.standing few
+    → length (left_of saved.standing) ≤ MAX_REPEATS → process_length saved ≤ 648
+process_fits saved few shallow = at saved.standing few shallow
   where
     at : (standing : Standing) → length (variables_of standing) ≤ MAX_VARIABLES
-        → 2 + mode_length standing + 8 * length (variables_of standing) ≤ 520
-    at (NotBegun vars) few = omega (arith, few)
-    at (At point vars) few = omega (arith, few)
-    at (Done vars) few = omega (arith, few)
+        → length (left_of standing) ≤ MAX_REPEATS
+        → 2 + mode_length standing + 8 * length (variables_of standing) ≤ 648
+    at (NotBegun vars) few shallow = omega (arith, few)
+    at (At point vars) few shallow = omega (arith, few, shallow)
+    at (Done vars) few shallow = omega (arith, few)
 
 end_fits : (end : End) → end_length end ≤ 20 + 8 * length (items_of_end end)
 end_fits (Receives received) = omega arith
@@ -92,12 +101,12 @@ ends_fit (saved ∷ ends) =
     sum_by-cons items_at saved ends in
     omega (arith, one, rest, long, many)
 
--- an image without items is at most 39,171 bytes long, and each item is 8
-pub image_fits : (most : ℕ) (image : ImageView) → IsImageWithin most image → image_length image ≤ 39171 + 8 * most
+-- an image without items is at most 47,363 bytes long, and each item is 8
+pub image_fits : (most : ℕ) (image : ImageView) → IsImageWithin most image → image_length image ≤ 47363 + 8 * most
 image_fits most image within =
-    let all : sum_by process_length image.processes ≤ length image.processes * 520 =
-    sum_by_at_most process_length 520 image.processes
-    (λ k saved is. process_fits saved (within.variables k saved is)) in
+    let all : sum_by process_length image.processes ≤ length image.processes * 648 =
+    sum_by_at_most process_length 648 image.processes
+    (λ k saved is. process_fits saved (within.variables k saved is) (within.passes k saved is)) in
     let ends : sum_by saved_end_length image.ends ≤ 23 * length image.ends + 8 * sum_by items_at image.ends =
     ends_fit image.ends in
     let processes = within.processes in
@@ -115,7 +124,7 @@ decisions_fit ds few nodes =
 
 tentative_fits : (most : ℕ) (tentative : Option Tentative)
     → ((t : Tentative) → tentative ≡ Some t → IsImageWithin most t.image)
-    → tentative_length tentative ≤ 39181 + 8 * most
+    → tentative_length tentative ≤ 47373 + 8 * most
 tentative_fits most None within = omega arith
 tentative_fits most (Some t) within = let image = image_fits most t.image (within t refl) in omega (arith, image)
 

@@ -27,9 +27,14 @@ AreItems zs = All (FitsSigned w64) zs
 
 -- ---- processes
 
+-- the passes that remain of the repetitions round a site
+abbrev pub passes_text : List ℕ → List ℕ
+passes_text left = flat_map (number_text 2) left
+
 abbrev pub mode_text : Standing → List ℕ
 mode_text (NotBegun vars) = number_text 1 0
-mode_text (At point vars) = number_text 1 1 ++ (number_text 4 point.site ++ number_text 1 (length point.left))
+mode_text (At point vars) =
+    number_text 1 1 ++ (number_text 4 point.site ++ (number_text 1 (length point.left) ++ passes_text point.left))
 mode_text (Done vars) = number_text 1 2
 
 abbrev pub state_text : Standing → List ℕ

@@ -1,19 +1,21 @@
 // Which images and records may be written: each field is tested in its turn.
 ghost use Rattle.std.specs.Prelude.{◌≡◌, ◌↔◌, ◌<◌, [], length, suc, IsTrue, Some, None, option_copied, slice_index, map};
 ghost use Rattle.kahn_net.specs.States.{standing_in};
-ghost use Rattle.kahn_net.specs.declared.limits.TheConstants.{MAX_PROCESSES, MAX_VARIABLES, MAX_CHANNELS};
+ghost use Rattle.kahn_net.specs.declared.limits.TheConstants.{MAX_PROCESSES, MAX_VARIABLES, MAX_CHANNELS, MAX_REPEATS};
 ghost use Rattle.record.specs.ProcessView.{SavedProcessView};
 ghost use Rattle.record.specs.declared.record.TheConstants.{MAX_DECISIONS};
 ghost use Rattle.ckpt_codec.specs.declared.version.TheConstants.{VERSION};
 ghost use Rattle.record.specs.declared.image.SavedEnd.{SavedEnd};
 ghost use Rattle.ckpt_codec.specs.Fields.{IsAllowed, AreAllowed};
-ghost use Rattle.ckpt_codec.specs.RecordText.{any, at_most, exactly, between, retained_count, wanted, wanted_or, count, variables_of, role_of, first_of, rest_of, processes_in, ends_in, mode_fields, participants as participant_fields, decision_fields, each_decision_fields, decisions_fields, process_fields, processes_fields, end_fields, saved_end_fields, ends_fields, image_fields, tentative_fields, head_fields, IsRecord};
+ghost use Rattle.ckpt_codec.specs.RecordText.{any, at_most, between, remaining, retained_count, wanted, wanted_or, count, variables_of, role_of, first_of, rest_of, processes_in, ends_in, mode_fields, participants as participant_fields, decision_fields, each_decision_fields, decisions_fields, process_fields, processes_fields, end_fields, saved_end_fields, ends_fields, image_fields, tentative_fields, head_fields, IsRecord};
 ghost use Rattle.ckpt_codec.specs.Testing.{listed, log_fields, process_list_fields, end_list_fields, participant_field, participant_count_field, initiator_field, held_number_field, nodes_field};
 
 use crate::ends::role_number;
 use crate::images::{wanted_ends, wanted_processes};
 use crate::reading::entry_of;
-use kahn_net::{MAX_CHANNELS, MAX_COUNT, MAX_NODES, MAX_PROCESSES, MAX_VARIABLES, Mode};
+use kahn_net::{
+    MAX_CHANNELS, MAX_COUNT, MAX_NODES, MAX_PROCESSES, MAX_REPEATS, MAX_TIMES, MAX_VARIABLES, Mode,
+};
 use record::{Decision, End, Image, MAX_DECISIONS, Record, SavedEnd, SavedProcess, Tentative};
 use retained::{Log, MAX_LOG_ITEMS};
 
@@ -77,11 +79,30 @@ fn site_stands(site: usize) -> bool
     site <= u32::MAX as usize
 }
 
-// How many repetitions are round a site: none.
+// How many repetitions are round a site.
 fn depth_stands(depth: usize) -> bool
-    ensures { IsTrue result ↔ IsAllowed (exactly 1 0 depth) }
+    ensures { IsTrue result ↔ IsAllowed (at_most 1 MAX_REPEATS depth) }
 {
-    depth == 0
+    depth <= MAX_REPEATS
+}
+
+// The passes that remain of a repetition.
+fn passes_stand(passes: u16) -> bool
+    ensures { IsTrue result ↔ IsAllowed (remaining passes) }
+{
+    passes >= 1 && passes <= MAX_TIMES
+}
+
+fn are_passes(left: &[u16]) -> bool
+    ensures { IsTrue result ↔ AreAllowed (map remaining left.now) }
+{
+    let [passes, behind @ ..] = left else {
+        return true;
+    };
+    if !passes_stand(*passes) {
+        return false;
+    }
+    are_passes(behind)
 }
 
 fn is_mode(mode: &Mode) -> bool
@@ -93,7 +114,10 @@ fn is_mode(mode: &Mode) -> bool
             if !site_stands(place.site) {
                 return false;
             }
-            depth_stands(place.left.len())
+            if !depth_stands(place.left.len()) {
+                return false;
+            }
+            are_passes(place.left.as_slice())
         }
         Mode::Finished => true,
     }

@@ -1,10 +1,12 @@
 // The fields of a record, read from the front of bytes: what was read, and what is left.
 ghost use Rattle.std.specs.Prelude.{◌≡◌, ◌≤◌, IfOk, IfSome, None};
-ghost use Rattle.ckpt_codec.specs.Reading.{Reads, number_at, item_at, count_at, flag_at, nodes_at, participant_at, decided_number_at, decision_count_at, participant_count_at, mode_number_at, depth_at, process_number_at, variable_count_at, process_count_at, base_at, retained_at, role_at, channel_at, end_count_at, initiator_at, tentative_number_at, slot_at};
+ghost use Rattle.ckpt_codec.specs.Reading.{Reads, number_at, item_at, count_at, flag_at, nodes_at, participant_at, decided_number_at, decision_count_at, participant_count_at, mode_number_at, depth_at, pass_at, process_number_at, variable_count_at, process_count_at, base_at, retained_at, role_at, channel_at, end_count_at, initiator_at, tentative_number_at, slot_at};
 
 use crate::fault::CodecFault;
 use byteorder::{BigEndian, ByteOrder};
-use kahn_net::{MAX_CHANNELS, MAX_COUNT, MAX_NODES, MAX_PROCESSES, MAX_VARIABLES};
+use kahn_net::{
+    MAX_CHANNELS, MAX_COUNT, MAX_NODES, MAX_PROCESSES, MAX_REPEATS, MAX_TIMES, MAX_VARIABLES,
+};
 use retained::MAX_LOG_ITEMS;
 
 #[tactic(auto, unfolding(crate::specs::Reading::number_at))]
@@ -158,15 +160,26 @@ pub(crate) fn mode_number_of(bytes: &[u8]) -> Result<(u8, &[u8]), CodecFault>
     Ok((mode, rest))
 }
 
-// How many repetitions are round a site: none.
+// How many repetitions are round a site.
 pub(crate) fn depth_of(bytes: &[u8]) -> Result<(u8, &[u8]), CodecFault>
     ensures { Reads (λ x. (x.0, x.1.now)) result (depth_at bytes.now) }
 {
     let (depth, rest) = u8_of(bytes)?;
-    if depth != 0 {
+    if depth as usize > MAX_REPEATS {
         return Err(CodecFault::Malformed);
     }
     Ok((depth, rest))
+}
+
+// The passes that remain of a repetition, the one at hand included.
+pub(crate) fn pass_of(bytes: &[u8]) -> Result<(u16, &[u8]), CodecFault>
+    ensures { Reads (λ x. (x.0, x.1.now)) result (pass_at bytes.now) }
+{
+    let (passes, rest) = u16_of(bytes)?;
+    if passes < 1 || passes > MAX_TIMES {
+        return Err(CodecFault::Malformed);
+    }
+    Ok((passes, rest))
 }
 
 // A process's number: the one that is wanted, or from the least on.

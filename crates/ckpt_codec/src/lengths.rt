@@ -5,19 +5,20 @@ ghost use Rattle.record.specs.DecisionView.{DecisionView};
 ghost use Rattle.record.specs.Moves.{last_image, with_permanent};
 ghost use Rattle.ckpt_codec.specs.RecordText.{IsRecord};
 ghost use Rattle.ckpt_codec.specs.HeaderText.{IsImageSpelled};
-ghost use Rattle.ckpt_codec.specs.Spelling.{IsShortProcess, IsShortImage, AreShortDecisions, IsShortTentative, IsShortRecord};
+ghost use Rattle.ckpt_codec.specs.Spelling.{HasShortMode, IsShortProcess, IsShortImage, AreShortDecisions, IsShortTentative, IsShortRecord};
 ghost use Rattle.ckpt_codec.specs.Lengths.{mode_length, process_length, end_length, saved_end_length, image_length, decisions_length, tentative_length, undecided_length, record_length, spelled_length, with_decided};
 
 use kahn_net::Mode;
 use record::{Decision, End, Image, Record, SavedEnd, SavedProcess, Tentative};
 
 fn length_of_mode(mode: &Mode) -> usize
+    requires { HasShortMode (standing_in mode.now []) }
     ensures value { result ≡ mode_length (standing_in mode.now []) }
-    ensures bound { result ≤ 6 }
+    ensures bound { result ≤ 516 }
 {
     match mode {
         Mode::NotBegun => 1,
-        Mode::At(_) => 6,
+        Mode::At(place) => 6 + 2 * place.left.len(),
         Mode::Finished => 1,
     }
 }
@@ -25,7 +26,7 @@ fn length_of_mode(mode: &Mode) -> usize
 fn length_of_process(process: &SavedProcess) -> usize
     requires { IsShortProcess process.now }
     ensures value { result ≡ process_length process.now }
-    ensures bound { result ≤ 2048 }
+    ensures bound { result ≤ 4096 }
 {
     2 + length_of_mode(&process.state.mode) + 8 * process.state.variables.len()
 }
@@ -34,7 +35,7 @@ fn length_of_processes(processes: &[SavedProcess]) -> usize
     requires few { length processes.now < 256 }
     requires each { All IsShortProcess processes.now }
     ensures value { result ≡ sum_by process_length processes.now }
-    ensures bound { result ≤ 524288 }
+    ensures bound { result ≤ 1048576 }
 {
     let mut total = 0;
     for process in processes {
@@ -76,7 +77,7 @@ fn length_of_ends(ends: &[SavedEnd]) -> usize
 pub(crate) fn length_of_image(image: &Image) -> usize
     requires { IsShortImage image.now }
     ensures value { result ≡ image_length image.now }
-    ensures bound { result ≤ 34361769987 }
+    ensures bound { result ≤ 34362294275 }
 {
     let processes = length_of_processes(image.processes.as_slice());
     let ends = length_of_ends(image.ends.as_slice());
@@ -98,7 +99,7 @@ fn length_of_decisions(decisions: &[Decision]) -> usize
 fn length_of_tentative(tentative: &Option<Tentative>) -> usize
     requires { IsShortTentative tentative.now }
     ensures value { result ≡ tentative_length tentative.now }
-    ensures bound { result ≤ 34361769997 }
+    ensures bound { result ≤ 34362294285 }
 {
     match tentative {
         None => 1,
@@ -110,7 +111,7 @@ fn length_of_tentative(tentative: &Option<Tentative>) -> usize
 fn length_of_last_image(kept: &Record) -> usize
     requires { IsShortRecord kept.now }
     ensures value { result ≡ image_length (last_image kept.now.permanent kept.now.tentative) }
-    ensures bound { result ≤ 34361769987 }
+    ensures bound { result ≤ 34362294275 }
 {
     match &kept.tentative {
         None => length_of_image(&kept.permanent),

@@ -3,7 +3,7 @@ ghost use Rattle.std.specs.Prelude.{◌≡◌, ◌++◌, OnOk, FitsSigned};
 ghost use Rattle.std.specs.Int.{w64};
 ghost use Rattle.std.specs.Option.{option_to_list};
 ghost use Rattle.ckpt_codec.specs.Fields.{number_text};
-ghost use Rattle.ckpt_codec.specs.Spelling.{item_text, items_text, AreItems, highest_text, participants_text};
+ghost use Rattle.ckpt_codec.specs.Spelling.{item_text, items_text, AreItems, highest_text, participants_text, passes_text};
 
 use byteorder::{BigEndian, ByteOrder};
 use retained::Log;
@@ -94,6 +94,16 @@ pub(crate) fn put_highest(out: &mut Vec<u8>, highest: &[u64]) -> Result<(), Allo
 {
     for entry in highest {
         put_u64(out, *entry)?;
+    }
+    Ok(())
+}
+
+// The passes that remain of the repetitions round a site.
+pub(crate) fn put_passes(out: &mut Vec<u8>, left: &[u16]) -> Result<(), AllocError>
+    ensures { OnOk result (out.new.items ≡ out.old.items ++ passes_text left.now) }
+{
+    for passes in left {
+        put_u16(out, *passes)?;
     }
     Ok(())
 }

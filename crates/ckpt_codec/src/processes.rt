@@ -1,12 +1,12 @@
 // Processes, read from the front of bytes.
 ghost use Rattle.std.specs.Prelude.{◌≡◌, ◌+◌, option_copied};
 ghost use Rattle.kahn_net.specs.States.{point_of, standing_in, standing_of};
-ghost use Rattle.ckpt_codec.specs.Reading.{Reads, items_at, passes_at, place_at, mode_at, variables_at, state_at, process_at, number_wanted, variables_wanted, processes_at};
+ghost use Rattle.ckpt_codec.specs.Reading.{Reads, items_at, so_many_passes_at, passes_at, place_at, mode_at, variables_at, state_at, process_at, number_wanted, variables_wanted, processes_at};
 ghost use Rattle.ckpt_codec.specs.RecordText.{processes_in};
 
 use crate::fault::CodecFault;
 use crate::fields::{
-    depth_of, item_of, mode_number_of, process_number_of, u32_of, variable_count_of,
+    depth_of, item_of, mode_number_of, pass_of, process_number_of, u32_of, variable_count_of,
 };
 use kahn_net::{Mode, Place, ProcState};
 use record::{Image, SavedProcess};
@@ -30,13 +30,27 @@ pub(crate) fn items_of(
     Ok((items, rest))
 }
 
-// The passes that remain of the repetitions round a site: none.
+// So many counts of passes, outermost first.
+fn each_pass_of(alloc: Global, count: u8, bytes: &[u8]) -> Result<(Vec<u16>, &[u8]), CodecFault>
+    ensures { Reads (λ x. (x.0.items, x.1.now)) result (so_many_passes_at count bytes.now) }
+{
+    let mut left = Vec::new(alloc);
+    let mut rest = bytes;
+    for _ in 0..count {
+        let (passes, after) = pass_of(rest)?;
+        left.push(passes)?;
+        rest = after;
+    }
+    Ok((left, rest))
+}
+
+// The passes that remain of the repetitions round a site.
 #[tactic(auto, unfolding(crate::specs::Reading::passes_at))]
 fn passes_of(alloc: Global, bytes: &[u8]) -> Result<(Vec<u16>, &[u8]), CodecFault>
     ensures { Reads (λ x. (x.0.items, x.1.now)) result (passes_at bytes.now) }
 {
-    let (_, rest) = depth_of(bytes)?;
-    Ok((Vec::new(alloc), rest))
+    let (depth, rest) = depth_of(bytes)?;
+    each_pass_of(alloc, depth, rest)
 }
 
 // A process's site, and the passes that remain there.

@@ -8,7 +8,7 @@ ghost use Rattle.ckpt_codec.specs.Spelling.{mode_text, state_text, process_text,
 
 use crate::ends::role_number;
 use crate::numbers::{
-    put_items, put_log_items, put_participants, put_u8, put_u16, put_u32, put_u64,
+    put_items, put_log_items, put_participants, put_passes, put_u8, put_u16, put_u32, put_u64,
 };
 use kahn_net::{Mode, ProcState};
 use record::{Decision, End, Image, SavedEnd, SavedProcess, Tentative};
@@ -24,7 +24,8 @@ fn put_mode(out: &mut Vec<u8>, mode: &Mode) -> Result<(), AllocError>
         Mode::At(place) => {
             put_u8(out, 1)?;
             put_u32(out, place.site as u32)?;
-            put_u8(out, place.left.len() as u8)
+            put_u8(out, place.left.len() as u8)?;
+            put_passes(out, place.left.as_slice())
         }
         Mode::Finished => put_u8(out, 2),
     }

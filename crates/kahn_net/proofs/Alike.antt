@@ -2,14 +2,13 @@
 use Rattle.std.proofs.Common.{◌≡◌, ◌↔◌, ◌∙◌, ℕ, suc, ◌+◌, ◌<◌, List, [], ◌∷◌, length, drop, get_or, refl, sym, ap, Box}
 use Rattle.std.proofs.Common.{Vec, Global}
 use Rattle.kahn_net.specs.declared.program.Link.{Link}
-use Rattle.kahn_net.specs.declared.program.Statement.{Statement}
-use Rattle.kahn_net.specs.declared.program.Statement.{Get, Assign, Put, Stop, If'}
+use Rattle.kahn_net.specs.declared.program.Statement.{Statement, Get, Assign, Put, Stop, If', Repeat'}
 use Rattle.kahn_net.specs.declared.program.Expr.{Expr}
 use Rattle.kahn_net.specs.declared.program.Expr.TheViews as view
 use Rattle.kahn_net.specs.declared.program.Statement.TheViews as statement
-use Rattle.kahn_net.specs.Laws.Syntax.{chain_of, if_of, block_at}
+use Rattle.kahn_net.specs.Laws.Syntax.{chain_of, if_of, repeat_of, block_at}
 use Rattle.kahn_net.specs.Syntax.{Tree, Chain, Links, NoLinks, LinkThen, links_of, tree_of, then_of, Block, Nothing}
-use Rattle.kahn_net.specs.Syntax.{GetThen, AssignThen, PutThen, StopThen, IfThen, block_of}
+use Rattle.kahn_net.specs.Syntax.{GetThen, AssignThen, PutThen, StopThen, IfThen, RepeatThen, block_of}
 
 -- as many statements
 count : Block → ℕ
@@ -19,6 +18,7 @@ count (AssignThen x e rest) = suc (count rest)
 count (PutThen e c rest) = suc (count rest)
 count (StopThen rest) = suc (count rest)
 count (IfThen test first second rest) = suc (count rest)
+count (RepeatThen times body rest) = suc (count rest)
 
 count_is : (ss : List Statement) → count (block_of ss) ≡ length ss
 unfolding count
@@ -28,6 +28,7 @@ count_is (Assign x e ∷ ss) = ap suc (count_is ss)
 count_is (Put e c ∷ ss) = ap suc (count_is ss)
 count_is (Stop ∷ ss) = ap suc (count_is ss)
 count_is (If' test p first q second ∷ ss) = ap suc (count_is ss)
+count_is (Repeat' times p body ∷ ss) = ap suc (count_is ss)
 
 pub as_many : (xs ys : List Statement) → block_of xs ≡ block_of ys → length xs ≡ length ys
 as_many xs ys e = sym (count_is xs) ∙ ap count e ∙ count_is ys
@@ -94,6 +95,25 @@ ifs_same a b test test' first second first' second' ha hb =
           ≡ IfThen (tree_of test') (block_of first'.items) (block_of second'.items) Nothing = cc in joined) ∙ sym at_b,
     )
 
+-- repetitions
+repeat_split : (m n : ℕ) (a b : Block) → RepeatThen m a Nothing ≡ RepeatThen n b Nothing → (m ≡ n) × (a ≡ b)
+repeat_split m n a b e = (cc, cc)
+
+pub repeats_same : (a b : Statement) (times times' : ℕ) (body body' : Vec Statement Global)
+    → a ≡ statement.Repeat times body → b ≡ statement.Repeat times' body'
+    → (then_of a Nothing ≡ then_of b Nothing) ↔ ((times ≡ times') × (block_of body.items ≡ block_of body'.items))
+repeats_same a b times times' body body' ha hb =
+    let at_a : then_of a Nothing ≡ RepeatThen times (block_of body.items) Nothing =
+    ap (λ (s : Statement). then_of s Nothing) ha ∙ repeat_of times body Nothing in
+    let at_b : then_of b Nothing ≡ RepeatThen times' (block_of body'.items) Nothing =
+    ap (λ (s : Statement). then_of s Nothing) hb ∙ repeat_of times' body' Nothing in (
+      λ e. repeat_split times times' (block_of body.items) (block_of body'.items) (sym at_a ∙ e ∙ at_b),
+      λ p. at_a
+          ∙ (let one = p.0 in let two = p.1 in
+          let joined : RepeatThen times (block_of body.items) Nothing
+          ≡ RepeatThen times' (block_of body'.items) Nothing = cc in joined) ∙ sym at_b,
+    )
+
 -- a statement alone, what comes after it, and the two put together
 alone : Block → Block
 alone Nothing = Nothing
@@ -102,6 +122,7 @@ alone (AssignThen x e rest) = AssignThen x e Nothing
 alone (PutThen e c rest) = PutThen e c Nothing
 alone (StopThen rest) = StopThen Nothing
 alone (IfThen test first second rest) = IfThen test first second Nothing
+alone (RepeatThen times body rest) = RepeatThen times body Nothing
 
 after : Block → Block
 after Nothing = Nothing
@@ -110,6 +131,7 @@ after (AssignThen x e rest) = rest
 after (PutThen e c rest) = rest
 after (StopThen rest) = rest
 after (IfThen test first second rest) = rest
+after (RepeatThen times body rest) = rest
 
 followed_by : Block → Block → Block
 followed_by Nothing more = more
@@ -118,6 +140,7 @@ followed_by (AssignThen x e rest) more = AssignThen x e more
 followed_by (PutThen e c rest) more = PutThen e c more
 followed_by (StopThen rest) more = StopThen more
 followed_by (IfThen test first second rest) more = IfThen test first second more
+followed_by (RepeatThen times body rest) more = RepeatThen times body more
 
 alone_is : (s : Statement) (rest : Block) → alone (then_of s rest) ≡ then_of s Nothing
 unfolding alone
@@ -126,6 +149,7 @@ alone_is (Assign x e) rest = refl
 alone_is (Put e c) rest = refl
 alone_is Stop rest = refl
 alone_is (If' test p first q second) rest = refl
+alone_is (Repeat' times p body) rest = refl
 
 after_is : (s : Statement) (rest : Block) → after (then_of s rest) ≡ rest
 unfolding after
@@ -134,6 +158,7 @@ after_is (Assign x e) rest = refl
 after_is (Put e c) rest = refl
 after_is Stop rest = refl
 after_is (If' test p first q second) rest = refl
+after_is (Repeat' times p body) rest = refl
 
 followed_is : (s : Statement) (rest : Block) → followed_by (then_of s Nothing) rest ≡ then_of s rest
 unfolding followed_by
@@ -142,6 +167,7 @@ followed_is (Assign x e) rest = refl
 followed_is (Put e c) rest = refl
 followed_is Stop rest = refl
 followed_is (If' test p first q second) rest = refl
+followed_is (Repeat' times p body) rest = refl
 
 -- statements with those after them are the same where they and those after them are
 pub thens_same : (s t : Statement) (rest more : Block)

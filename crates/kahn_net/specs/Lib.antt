@@ -10,4 +10,5 @@ pub mod Puts
 pub mod Resuming
 pub mod States
 pub mod NextActs
+pub mod Repeats
 pub mod Laws

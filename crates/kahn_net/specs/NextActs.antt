@@ -1,6 +1,6 @@
 -- What a process does next from where it stands.
 use Rattle.std.specs.Prelude.{◌≡◌, ℕ, ◌+◌, ◌==◌, nat_lt, cond, Option, Some, None}
-use Rattle.kahn_net.specs.Syntax.{Block, Nothing, GetThen, AssignThen, PutThen, StopThen, IfThen, Code}
+use Rattle.kahn_net.specs.Syntax.{Block, Nothing, GetThen, AssignThen, PutThen, StopThen, IfThen, RepeatThen, Code}
 use Rattle.kahn_net.specs.Statements.{Act, Got, Sent, sites_of}
 use Rattle.kahn_net.specs.Processes.{Standing, NotBegun, At, Done}
 
@@ -22,6 +22,8 @@ next_on number (IfThen test first second rest) site =
     cond (nat_lt site (number + sites_of first)) (next_on number first site)
     (cond (nat_lt site (number + sites_of first + sites_of second)) (next_on (number + sites_of first) second site)
     (next_on (number + sites_of first + sites_of second) rest site))
+next_on number (RepeatThen times body rest) site =
+    cond (nat_lt site (number + sites_of body)) (next_on number body site) (next_on (number + sites_of body) rest site)
 
 abbrev pub next_in_body : ℕ → Option Block → ℕ → Next
 next_in_body number None site = NoNext

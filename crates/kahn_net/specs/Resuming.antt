@@ -1,13 +1,23 @@
 -- What a process does from where it stands, on what is then unread.
-use Rattle.std.specs.Prelude.{ℕ, ◌+◌, ℤ, List, [], ◌∷◌, drop, slice_set, Option, Some, None, ◌==◌, nat_lt, cond}
+use Rattle.std.specs.Prelude.{ℕ, ◌+◌, ◌-◌, ℤ, List, [], ◌∷◌, ◌++◌, drop, slice_set, Option, Some, None, ◌==◌, nat_lt}
+use Rattle.std.specs.Prelude.{cond}
 use Rattle.kahn_net.specs.Streams.{history_of}
-use Rattle.kahn_net.specs.Syntax.{Block, Nothing, GetThen, AssignThen, PutThen, StopThen, IfThen, Code}
-use Rattle.kahn_net.specs.Statements.{Act, Got, Sent, Point, Step, Ended, Trace, no_steps, trace_of, then_do, sites_of}
+use Rattle.kahn_net.specs.Syntax.{Block, Nothing, GetThen, AssignThen, PutThen, StopThen, IfThen, RepeatThen, Code}
+use Rattle.kahn_net.specs.Statements.{Act, Got, Sent, Point, Step, Ended, Trace, no_steps, trace_of, then_do, rounds}
+use Rattle.kahn_net.specs.Statements.{sites_of}
 use Rattle.kahn_net.specs.Processes.{Standing, NotBegun, At, Done, loop_trace}
+
+-- how many passes of the outermost repetition remain, the one at hand included: one where none are told, as of no point
+-- at which a process stands
+abbrev pub passes_left : List ℕ → ℕ
+passes_left [] = 1
+passes_left (k ∷ deeper) = k
 
 -- What statements do from a site on, where the first of them has the site `number` and so many passes of the
 -- repetitions round them remain; `inner` are the passes that remain of those among them that stand round the site, the
--- outermost first. Inside a block of an if it is the rest of that block, and then what stands behind the if.
+-- outermost first. Inside a block of an if it is the rest of that block, and then what stands behind the if; inside the
+-- block of a repetition it is the rest of the pass at hand, the passes that remain past it, and then what stands behind
+-- the repetition.
 abbrev pub trace_on : ℕ → List ℕ → Block → ℕ → List ℕ → List ℤ → List (List ℤ) → Trace
 trace_on number left Nothing site inner vars unread = no_steps (Ended vars unread)
 trace_on number left (GetThen x channel rest) site inner vars unread =
@@ -26,6 +36,13 @@ trace_on number left (IfThen test first second rest) site inner vars unread =
     (then_do (trace_on (number + sites_of first) left second site inner vars unread)
     (trace_of (number + sites_of first + sites_of second) left rest))
     (trace_on (number + sites_of first + sites_of second) left rest site inner vars unread))
+trace_on number left (RepeatThen times body rest) site inner vars unread =
+    cond (nat_lt site (number + sites_of body))
+    (then_do
+    (then_do (trace_on number (left ++ passes_left inner ∷ []) body site (drop 1 inner) vars unread)
+    (rounds (passes_left inner - 1) (λ k. trace_of number (left ++ k ∷ []) body)))
+    (trace_of (number + sites_of body) left rest))
+    (trace_on (number + sites_of body) left rest site inner vars unread)
 
 -- the same of a loop's body, whose first get or put has this number
 abbrev pub body_on : ℕ → Option Block → Point → List ℤ → List (List ℤ) → Trace

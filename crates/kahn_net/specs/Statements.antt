@@ -1,24 +1,27 @@
 -- What statements do, on what is unread of each input channel: the acts made, in order, and how it ends.
-use Rattle.std.specs.Prelude.{ℕ, ◌+◌, ℤ, pos, Bool, cond, not, int_lt, int_le, List, [], ◌∷◌, ◌++◌, slice_index_or}
-use Rattle.std.specs.Prelude.{slice_set}
-use Rattle.std.specs.Int.{int_wrapping_add, int_wrapping_sub, int_wrapping_mul, int_wrapping_neg, w64}
+use Rattle.std.specs.Prelude.{ℕ, zero, suc, ◌+◌, ℤ, pos, Bool, cond, not, int_lt, int_le, int_rem, List, [], ◌∷◌, ◌++◌}
+use Rattle.std.specs.Prelude.{slice_index_or, slice_set}
+use Rattle.std.specs.Int.{int_wrapping_add, int_wrapping_sub, int_wrapping_mul, int_wrapping_div, int_wrapping_neg, w64}
 use Rattle.std.specs.Ordering.{int_eq}
 use Rattle.kahn_net.specs.declared.program.Operator.{Operator}
-use Rattle.kahn_net.specs.declared.program.Operator.TheVariants.{Add, Subtract, Multiply, Equal, NotEqual, Less}
-use Rattle.kahn_net.specs.declared.program.Operator.TheVariants.{LessOrEqual, Greater, GreaterOrEqual}
+use Rattle.kahn_net.specs.declared.program.Operator.TheVariants.{Add, Subtract, Multiply, Divide, Remainder, Equal}
+use Rattle.kahn_net.specs.declared.program.Operator.TheVariants.{NotEqual, Less, LessOrEqual, Greater, GreaterOrEqual}
 use Rattle.kahn_net.specs.Streams.{history_of}
 use Rattle.kahn_net.specs.Syntax.{Tree, Number, Name, Minus, Chain, Links, NoLinks, LinkThen, Block, Nothing, GetThen}
-use Rattle.kahn_net.specs.Syntax.{AssignThen, PutThen, StopThen, IfThen}
+use Rattle.kahn_net.specs.Syntax.{AssignThen, PutThen, StopThen, IfThen, RepeatThen}
 
 -- a comparison gives 1 or 0
 abbrev pub one_if_so : Bool → ℤ
 one_if_so holds = cond holds (pos 1) (pos 0)
 
--- an operator's value: signed numbers of 64 bits, where a sum, a difference and a product wrap modulo 2 ^ 64
+-- An operator's value: signed numbers of 64 bits, where a sum, a difference and a product wrap modulo 2 ^ 64. A
+-- quotient truncates toward zero and wraps, a remainder is what it leaves, and both are 0 where the right value is.
 abbrev pub apply : Operator → ℤ → ℤ → ℤ
 apply Add a b = int_wrapping_add w64 a b
 apply Subtract a b = int_wrapping_sub w64 a b
 apply Multiply a b = int_wrapping_mul w64 a b
+apply Divide a b = cond (int_eq b (pos 0)) (pos 0) (int_wrapping_div w64 a b)
+apply Remainder a b = cond (int_eq b (pos 0)) (pos 0) (int_rem a b)
 apply Equal a b = one_if_so (int_eq a b)
 apply NotEqual a b = one_if_so (not (int_eq a b))
 apply Less a b = one_if_so (int_lt a b)
@@ -102,10 +105,16 @@ sites_of (AssignThen x e rest) = sites_of rest
 sites_of (PutThen e channel rest) = sites_of rest + 1
 sites_of (StopThen rest) = sites_of rest
 sites_of (IfThen test first second rest) = sites_of first + (sites_of second + sites_of rest)
+sites_of (RepeatThen times body rest) = sites_of body + sites_of rest
 
 -- an if takes its first block where the value isn't 0, and else the second
 abbrev pub choose : ℤ → Trace → Trace → Trace
 choose value first second = cond (int_eq value (pos 0)) second first
+
+-- so many passes one after the other, each of which is told how many remain, itself included
+abbrev pub rounds : ℕ → (ℕ → List ℤ → List (List ℤ) → Trace) → List ℤ → List (List ℤ) → Trace
+rounds zero pass vars unread = no_steps (Ended vars unread)
+rounds (suc k) pass vars unread = then_do (pass (suc k) vars unread) (rounds k pass)
 
 -- what statements do whose first get or put has this site, where so many passes of the repetitions round them remain,
 -- with these variables, where this is unread on each channel
@@ -124,3 +133,6 @@ trace_of site left (IfThen test first second rest) vars unread =
     then_do (choose (value_of test vars) (trace_of site left first vars unread)
     (trace_of (site + sites_of first) left second vars unread))
     (trace_of (site + sites_of first + sites_of second) left rest)
+trace_of site left (RepeatThen times body rest) vars unread =
+    then_do (rounds times (λ k. trace_of site (left ++ k ∷ []) body) vars unread)
+    (trace_of (site + sites_of body) left rest)

@@ -4,7 +4,7 @@ use Rattle.kahn_net.specs.declared.program.Operator.{Operator}
 use Rattle.kahn_net.specs.declared.program.Expr.{Expr, Literal, Variable, Negate', Chain', Row_of-Link, end_of-Link}
 use Rattle.kahn_net.specs.declared.program.Expr.{more_of-Link}
 use Rattle.kahn_net.specs.declared.program.Link.{Link}
-use Rattle.kahn_net.specs.declared.program.Statement.{Statement, Get, Assign, Put, Stop, If', Row_of-Statement}
+use Rattle.kahn_net.specs.declared.program.Statement.{Statement, Get, Assign, Put, Stop, If', Repeat', Row_of-Statement}
 use Rattle.kahn_net.specs.declared.program.Statement.{end_of-Statement, more_of-Statement}
 use Rattle.kahn_net.specs.declared.program.Process.{Process}
 use Rattle.kahn_net.specs.declared.program.Channel.{Channel}
@@ -30,6 +30,7 @@ pub data Block : Type 0 where
   PutThen : (value : Tree) (channel : ℕ) (rest : Block) → Block
   StopThen : (rest : Block) → Block
   IfThen : (test : Tree) (first second rest : Block) → Block
+  RepeatThen : (times : ℕ) (body rest : Block) → Block
 
 -- a process: its node, its variables' first values, its prelude and the body of its loop
 pub record Code : Type 0 where
@@ -65,6 +66,7 @@ abbrev mutual
   then_of (Put e channel) rest = PutThen (tree_of e) channel rest
   then_of Stop rest = StopThen rest
   then_of (If' test shape first shape' second) rest = IfThen (tree_of test) (row_block first) (row_block second) rest
+  then_of (Repeat' times shape body) rest = RepeatThen times (row_block body) rest
 
   pub row_block : {m : _} → Row_of-Statement m → Block
   row_block end_of-Statement = Nothing

@@ -2,14 +2,15 @@
 use Rattle.std.specs.Prelude.{◌≡◌, ◌≢◌, ◌↔◌, ℕ, suc, ◌+◌, ◌<◌, ◌≤◌, Bool, true, false, ◌&&◌, ◌||◌, ◌==◌, nat_lt, length}
 use Rattle.std.specs.Prelude.{slice_get, Option, Some, None, IsTrue}
 use Rattle.kahn_net.specs.Syntax.{Tree, Number, Name, Minus, Chain, Links, NoLinks, LinkThen, Block, Nothing, GetThen}
-use Rattle.kahn_net.specs.Syntax.{AssignThen, PutThen, StopThen, IfThen, Code, Network}
+use Rattle.kahn_net.specs.Syntax.{AssignThen, PutThen, StopThen, IfThen, RepeatThen, Code, Network}
 use Rattle.kahn_net.specs.declared.program.Channel.{Channel}
 use Rattle.kahn_net.specs.declared.program.Port.TheVariants.{Outside, Process}
 use Rattle.kahn_net.specs.declared.limits.TheConstants.{MAX_CHANNELS, MAX_NODES, MAX_PROCESSES, MAX_UNITS}
 use Rattle.kahn_net.specs.declared.limits.TheConstants.{MAX_VARIABLES}
+use Rattle.kahn_net.specs.Repeats.{code_repeats_within}
 
--- Statements pass where one of them passes: a get and a stop do, and an if both of whose blocks do. A loop whose body
--- passes can't go round without end on what is at hand.
+-- Statements pass where one of them passes: a get and a stop do, an if both of whose blocks do, and a repetition that
+-- is made at all and whose block does. A loop whose body passes can't go round without end on what is at hand.
 abbrev pub is_passing : Block → Bool
 is_passing Nothing = false
 is_passing (GetThen x c rest) = true
@@ -17,6 +18,7 @@ is_passing (AssignThen x e rest) = is_passing rest
 is_passing (PutThen e c rest) = is_passing rest
 is_passing (StopThen rest) = true
 is_passing (IfThen test first second rest) = (is_passing first && is_passing second) || is_passing rest
+is_passing (RepeatThen times body rest) = (nat_lt 0 times && is_passing body) || is_passing rest
 
 -- each literal, each variable in an expression and each operator is one unit
 abbrev mutual
@@ -30,7 +32,7 @@ abbrev mutual
   links_units NoLinks = 0
   links_units (LinkThen operator value rest) = suc (expr_units value + links_units rest)
 
--- and so is each statement
+-- and so is each statement; a repetition's number is one too
 abbrev pub block_units : Block → ℕ
 block_units Nothing = 0
 block_units (GetThen x c rest) = suc (block_units rest)
@@ -39,6 +41,7 @@ block_units (PutThen e c rest) = suc (expr_units e + block_units rest)
 block_units (StopThen rest) = suc (block_units rest)
 block_units (IfThen test first second rest) =
     suc (expr_units test + (block_units first + (block_units second + block_units rest)))
+block_units (RepeatThen times body rest) = suc (suc (block_units body + block_units rest))
 
 abbrev pub body_units : Option Block → ℕ
 body_units None = 0
@@ -70,6 +73,8 @@ block_within variables channels (IfThen test first second rest) =
     expr_within variables test &&
     (block_within variables channels first &&
     (block_within variables channels second && block_within variables channels rest))
+block_within variables channels (RepeatThen times body rest) =
+    block_within variables channels body && block_within variables channels rest
 
 abbrev pub body_within : ℕ → ℕ → Option Block → Bool
 body_within variables channels None = true
@@ -84,6 +89,7 @@ block_gets channel (PutThen e c rest) = block_gets channel rest
 block_gets channel (StopThen rest) = block_gets channel rest
 block_gets channel (IfThen test first second rest) =
     block_gets channel first || (block_gets channel second || block_gets channel rest)
+block_gets channel (RepeatThen times body rest) = block_gets channel body || block_gets channel rest
 
 -- some statement puts on this channel
 abbrev pub block_puts : ℕ → Block → Bool
@@ -94,6 +100,7 @@ block_puts channel (PutThen e c rest) = (c == channel) || block_puts channel res
 block_puts channel (StopThen rest) = block_puts channel rest
 block_puts channel (IfThen test first second rest) =
     block_puts channel first || (block_puts channel second || block_puts channel rest)
+block_puts channel (RepeatThen times body rest) = block_puts channel body || block_puts channel rest
 
 abbrev pub body_gets : ℕ → Option Block → Bool
 body_gets channel None = false
@@ -116,6 +123,7 @@ pub record IsValidCode (channels : ℕ) (code : Code) : Type 0 where
   pub prelude_within : IsTrue (block_within (length code.vars) channels code.prelude)
   pub body_within : IsTrue (body_within (length code.vars) channels code.body)
   pub units : block_units code.prelude + body_units code.body ≤ MAX_UNITS
+  pub repeats : IsTrue (code_repeats_within code)
   pub passes : (body : Block) → code.body ≡ Some body → IsTrue (is_passing body)
 
 pub record IsValid (net : Network) : Type 0 where

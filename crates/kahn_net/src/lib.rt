@@ -12,7 +12,8 @@ mod state;
 
 pub use history::History;
 pub use limits::{
-    MAX_CHANNELS, MAX_COUNT, MAX_HISTORY_ITEMS, MAX_NODES, MAX_PROCESSES, MAX_UNITS, MAX_VARIABLES,
+    MAX_CHANNELS, MAX_COUNT, MAX_HISTORY_ITEMS, MAX_NESTED_TIMES, MAX_NODES, MAX_PROCESSES,
+    MAX_REPEATS, MAX_TIMES, MAX_UNITS, MAX_VARIABLES,
 };
 pub use program::{Channel, Expr, Link, Operator, Port, Process, Program, Statement};
 pub use same::is_same_process;

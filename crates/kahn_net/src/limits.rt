@@ -20,3 +20,12 @@ pub const MAX_HISTORY_ITEMS: usize = 1_048_576;
 
 /// The greatest count of items: no position, number, epoch or round passes it either.
 pub const MAX_COUNT: u64 = (1 << 63) - 1;
+
+/// The most times that a repetition makes its block.
+pub const MAX_TIMES: u16 = 1_000;
+
+/// The most times that a repetition makes its block for each time that the outermost one round it is begun.
+pub const MAX_NESTED_TIMES: u32 = 1_000_000;
+
+/// The most repetitions round a statement.
+pub const MAX_REPEATS: usize = 64;

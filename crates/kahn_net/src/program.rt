@@ -1,12 +1,15 @@
 //! A network with its channels and variables by number, in order of declaration, from 0.
 
-/// What joins two values in an expression. Sums, differences and products wrap modulo 2^64; a
-/// comparison gives 1 or 0.
+/// What joins two values in an expression. Sums, differences and products wrap modulo 2^64. A
+/// quotient truncates toward zero, and a remainder is what it leaves, `a - b * (a div b)`: both
+/// wrap, and both are 0 where the right value is 0. A comparison gives 1 or 0.
 #[derive(Clone, Copy, Debug, PartialEq, Eq)]
 pub enum Operator {
     Add,
     Subtract,
     Multiply,
+    Divide,
+    Remainder,
     Equal,
     NotEqual,
     Less,
@@ -57,6 +60,11 @@ pub enum Statement {
         test: Expr,
         first: Vec<Statement>,
         second: Vec<Statement>,
+    },
+    /// Does its statements so many times.
+    Repeat {
+        times: u16,
+        body: Vec<Statement>,
     },
 }
 

@@ -97,6 +97,13 @@ fn is_same_statement(a: &Statement, b: &Statement) -> bool
             }
             _ => false,
         },
+        Statement::Repeat { times, body } => match b {
+            Statement::Repeat {
+                times: n,
+                body: other,
+            } => times == n && is_same_statements(body, other),
+            _ => false,
+        },
     }
 }
 

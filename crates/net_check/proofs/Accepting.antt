@@ -1,13 +1,13 @@
 -- A text with a fault has no valid resolution, and lines with a fault don't bind.
 use Rattle.std.proofs.Common.{◌≡◌, ◌∙◌, sym, ap, subst, refl, ℕ, ℤ, zero, suc, ◌<◌, List, [], ◌∷◌, length, slice_get}
-use Rattle.std.proofs.Common.{Option, Some, None, Result, Ok, Err, IfErr, IsOkUnless, arith, inl, inr, ◌⊎◌, IsTrue}
+use Rattle.std.proofs.Common.{Option, Some, None, Result, Ok, Err, IfErr, IsOkUnless, false, true, arith, inl, inr, ◌⊎◌, IsTrue}
 use Rattle.std.proofs.lemmas.Bool.{false≢true}
 use Rattle.std.proofs.lemmas.Option.{slice_get_within}
 use Rattle.std.proofs.lemmas.List.{length-map}
 use Rattle.net_text.specs.Names.{NameTree}
 use Rattle.net_text.specs.Trees.{ExprTree, LiteralTree, VariableTree, MinusTree, ChainTree, LinksTree, NoLinksTree}
 use Rattle.net_text.specs.Trees.{LinkThenTree, BlockTree, NothingTree, GetTree, AssignTree, PutTree, StopTree, IfTree}
-use Rattle.net_text.specs.Trees.{LoopTree, DeclarationTree, InputTree, ProcessTree}
+use Rattle.net_text.specs.Trees.{RepeatTree, LoopTree, DeclarationTree, InputTree, ProcessTree}
 use Rattle.net_text.specs.declared.tree.ChannelText.{ChannelText}
 use Rattle.net_text.specs.declared.tree.VariableText.{VariableText}
 use Rattle.net_text.specs.declared.tree.Role.TheVariants.{Input, Output}
@@ -19,10 +19,10 @@ use Rattle.kahn_net.specs.declared.program.Channel.{Channel}
 use Rattle.kahn_net.specs.declared.program.Port.{Port}
 use Rattle.kahn_net.specs.declared.program.Port.TheVariants.{Outside, Process}
 use Rattle.kahn_net.specs.Syntax.{Tree, Number, Name, Minus, Chain, Links, NoLinks, LinkThen, Block, Nothing, GetThen}
-use Rattle.kahn_net.specs.Syntax.{AssignThen, PutThen, StopThen, IfThen, Code, Network}
+use Rattle.kahn_net.specs.Syntax.{AssignThen, PutThen, StopThen, IfThen, RepeatThen, Code, Network}
 use Rattle.kahn_net.specs.Valid.{IsValid, code_gets, code_puts}
 use Rattle.net_check.specs.NetFaults.{HasFault, HasLoopWithoutGet, HasNoUser, HasPastLimit, HasTwiceNamed, HasTwoUsers}
-use Rattle.net_check.specs.NetFaults.{HasUnknownName, SecondUse, another_too, many_channels, many_processes, many_units}
+use Rattle.net_check.specs.NetFaults.{HasUnknownName, SecondUse, another_too, many_channels, many_processes, many_units, many_times}
 use Rattle.net_check.specs.NetFaults.{many_variables, name_of, high_node, outside_too, space_of, two_channels}
 use Rattle.net_check.specs.NetFaults.{two_processes, two_variables}
 use Rattle.net_check.specs.Uses.{Use, GetFrom, PutOn, Has, block_uses, expr_uses, links_uses, loop_uses, process_uses}
@@ -31,7 +31,7 @@ use Rattle.net_check.specs.Resolution.{AllDifferent, Reads, Resolves, ResolvesBl
 use Rattle.net_check.specs.Resolution.{ResolvesLoop, ResolvesProcess, channel_names, channels_of, processes_of}
 use Rattle.net_check.specs.Resolution.{variable_names}
 use Rattle.net_check.specs.ResolutionLaws.{put_named, get_named, put_numbered, get_numbered, units_kept}
-use Rattle.net_check.specs.ResolutionLaws.{passes_kept_text}
+use Rattle.net_check.specs.ResolutionLaws.{passes_kept_text, is_none, repeats_kept}
 use Rattle.net_check.specs.Binding.{Binds, HasInputFault, line_names}
 use Rattle.net_check.proofs.Places.{name_reads_from, read_of, reads_from}
 use Rattle.net_check.proofs.Claiming.{reads_same}
@@ -102,6 +102,11 @@ block_declared cs vs (IfTree e first second rest) (IfThen t one other b) u r h =
       | by_first k ↦ block_declared cs vs first one u r.1 k
       | by_second k ↦ block_declared cs vs second other u r.2 k
       | by_rest k ↦ block_declared cs vs rest b u r.3 k
+    ]
+block_declared cs vs (RepeatTree times line body rest) (RepeatThen n one b) u r h =
+    elim (has_cases (block_uses body) (block_uses rest) u h) [
+      | inl k ↦ block_declared cs vs body one u r.1 k
+      | inr k ↦ block_declared cs vs rest b u r.2 k
     ]
 block_declared cs vs _ _ u r h = absurd r
 
@@ -255,6 +260,10 @@ module _ (text : List DeclarationTree) (cs ps : List NameTree) (net : Network) (
       let low = (v.codes p x.0 x.1).node in absurd (omega arith)
   no_limit line (many_units p process hp above at) = let x = code_of_process p process hp in let n =
       units_kept cs process x.0 x.2 in let few = (v.codes p x.0 x.1).units in absurd (omega arith)
+  no_limit line (many_times p process hp past) =
+      let x = code_of_process p process hp in
+      let none : false ≡ true =
+      sym (ap is_none past) ∙ (repeats_kept cs process x.0 x.2 ∙ (v.codes p x.0 x.1).repeats) in absurd (false≢true none)
 
   no_missing_producer : (line : ℕ) → HasNoUser Input PutOn text line → ⊥
   no_missing_producer line h =

@@ -23,7 +23,7 @@ use Rattle.net_check.specs.Uses.{Use, GetFrom, PutOn, Has, process_uses}
 use Rattle.net_check.specs.Resolution.{AllDifferent, Resolves, ResolvesProcess, channel_names, channels_of}
 use Rattle.net_check.specs.Resolution.{processes_of, process_names, variable_names}
 use Rattle.net_check.specs.ResolutionLaws.{Numbered, put_numbered, get_numbered, units_kept, passes_kept}
-use Rattle.net_check.specs.ResolutionLaws.{block_kept_within, loop_kept_within}
+use Rattle.net_check.specs.ResolutionLaws.{block_kept_within, loop_kept_within, is_none, repeats_kept}
 use Rattle.net_check.proofs.Places.{reads_from, same_got}
 use Rattle.net_check.proofs.Joining.{process_there}
 
@@ -83,6 +83,8 @@ module _ (channels : List ChannelText) (ps : List ProcessTree) (codes : List Cod
             (subst (λ (x : ℕ). IsTrue (body_within (length vs) x code.body)) m
             (loop_kept_within (channel_names channels) vs t.0.repeated code.body rp.body));
         units = let e = units_kept (channel_names channels) t.0 code rp in let few = f.units in omega arith;
+        repeats =
+            sym (repeats_kept (channel_names channels) t.0 code rp) ∙ ap is_none f.repeats;
         passes = λ body e. let k = passes_kept (channel_names channels) vs t.0.repeated code.body body rp.body e in
             k.2 ∙ f.passes k.0 k.1;
       }

@@ -6,7 +6,7 @@ use Rattle.std.proofs.lemmas.List.{take_more}
 use Rattle.net_text.specs.Names.{NameTree}
 use Rattle.net_text.specs.Trees.{NothingTree, block_tree, then_tree, expr_tree, link_tree, links_tree}
 use Rattle.net_text.specs.declared.tree.ChannelText.{ChannelText}
-use Rattle.net_text.specs.declared.tree.StatementText.{StatementText, Get, Assign, Put, Stop, If'}
+use Rattle.net_text.specs.declared.tree.StatementText.{StatementText, Get, Assign, Put, Stop, If', Repeat'}
 use Rattle.net_text.specs.declared.tree.LinkText.{LinkText}
 use Rattle.net_text.specs.declared.tree.Role.{Role}
 use Rattle.net_text.specs.declared.tree.Role.TheVariants.{Input, Output}
@@ -16,7 +16,7 @@ use Rattle.kahn_net.specs.declared.program.Port.{Port}
 use Rattle.kahn_net.specs.declared.program.Port.TheVariants.{Process}
 use Rattle.kahn_net.specs.declared.program.Link.{Link}
 use Rattle.kahn_net.specs.declared.program.Statement.{Statement, Get as Gets, Assign as Assigns, Put as Puts}
-use Rattle.kahn_net.specs.declared.program.Statement.{Stop as Stops, If' as Ifs}
+use Rattle.kahn_net.specs.declared.program.Statement.{Stop as Stops, If' as Ifs, Repeat' as Repeats}
 use Rattle.kahn_net.specs.Syntax.{Nothing, block_of, links_of, row_block, then_of, tree_of}
 use Rattle.kahn_net.specs.Valid.{block_gets, block_puts}
 use Rattle.net_check.specs.Claims.{IsTaken, Claims, IsRefused, stands_outside, is_taken, UseFault}
@@ -37,6 +37,8 @@ resolves_push cs vs (Put e c ∷ ts) (Puts f d ∷ ss) t s h k = (h.0, h.1, reso
 resolves_push cs vs (Stop ∷ ts) (Stops ∷ ss) t s h k = resolves_push cs vs ts ss t s h k
 resolves_push cs vs (If' e p first q second ∷ ts) (Ifs f p' one q' other ∷ ss) t s h k =
     (h.0, h.1, h.2, resolves_push cs vs ts ss t s h.3 k)
+resolves_push cs vs (Repeat' n line p body ∷ ts) (Repeats m q one ∷ ss) t s h k =
+    (h.0, h.1, resolves_push cs vs ts ss t s h.2 k)
 resolves_push cs vs _ _ t s h k = absurd h
 
 -- a link more
@@ -77,6 +79,9 @@ puts_push c (Stops ∷ ss) s = puts_push c ss s
 puts_push c (Ifs e p one q other ∷ ss) s =
     ap (λ (b : Bool). block_puts c (row_block one) || (block_puts c (row_block other) || b)) (puts_push c ss s)
     ∙ or_assoc_last (block_puts c (row_block one)) (block_puts c (row_block other)) _ _
+puts_push c (Repeats n p one ∷ ss) s =
+    ap (λ (b : Bool). block_puts c (row_block one) || b) (puts_push c ss s)
+    ∙ or_assoc (block_puts c (row_block one)) _ _
 
 pub gets_push : (c : ℕ) (ss : List Statement) (s : Statement)
     → block_gets c (block_of (ss ++ s ∷ [])) ≡ block_gets c (block_of ss) || block_gets c (then_of s Nothing)
@@ -88,6 +93,9 @@ gets_push c (Stops ∷ ss) s = gets_push c ss s
 gets_push c (Ifs e p one q other ∷ ss) s =
     ap (λ (b : Bool). block_gets c (row_block one) || (block_gets c (row_block other) || b)) (gets_push c ss s)
     ∙ or_assoc_last (block_gets c (row_block one)) (block_gets c (row_block other)) _ _
+gets_push c (Repeats n p one ∷ ss) s =
+    ap (λ (b : Bool). block_gets c (row_block one) || b) (gets_push c ss s)
+    ∙ or_assoc (block_gets c (row_block one)) _ _
 
 pub bool_cases : (b : Bool) → (b ≡ true) ⊎ (b ≡ false)
 bool_cases true = inl refl

@@ -4,7 +4,7 @@ use Rattle.net_text.specs.Names.{NameTree}
 use Rattle.net_text.specs.Trees.{BlockTree, NothingTree, block_tree, row_block, then_tree, expr_tree, link_tree}
 use Rattle.net_text.specs.Trees.{links_tree}
 use Rattle.net_text.specs.declared.tree.ChannelText.{ChannelText}
-use Rattle.net_text.specs.declared.tree.StatementText.{StatementText, Get, Assign, Put, Stop, If'}
+use Rattle.net_text.specs.declared.tree.StatementText.{StatementText, Get, Assign, Put, Stop, If', Repeat'}
 use Rattle.net_text.specs.declared.tree.LinkText.{LinkText}
 use Rattle.net_text.specs.declared.tree.Role.{Role}
 use Rattle.net_check.specs.declared.fault.NetFault.{NetFault}
@@ -107,6 +107,8 @@ within_statement_first (If' test p first q second) rest =
     within_under (expr_uses (expr_tree test))
     _ _ (within_under (block_uses (row_block first))
     _ _ (within_under (block_uses (row_block second)) [] (block_uses rest) (within_none (block_uses rest))))
+within_statement_first (Repeat' times line p body) rest =
+    within_under (block_uses (row_block body)) [] (block_uses rest) (within_none (block_uses rest))
 
 within_statement_after : (t : StatementText) (rest : BlockTree)
     → Within (block_uses rest) (block_uses (then_tree t rest))
@@ -122,6 +124,7 @@ within_statement_after (If' test p first q second) rest =
           has_after (expr_uses (expr_tree test)) (block_uses (row_block first)) (block_uses (row_block second))
           (block_uses rest);
     }
+within_statement_after (Repeat' times line p body) rest = within_right (block_uses (row_block body)) (block_uses rest)
 
 -- what a statement uses, its block uses
 pub within_statement : (ts : List StatementText) (i : ℕ) (t : StatementText) → i < length ts → t ≡ get_or ts i t

@@ -12,7 +12,7 @@ use Rattle.net_check.specs.declared.fault.NetFault.TheVariants.{TwoConsumers, Lo
 use Rattle.net_check.specs.declared.fault.NetFault.TheVariants.{NoConsumer, MissingInput}
 use Rattle.net_check.specs.Uses.{Use, OfVariable, GetFrom, PutOn, process_uses, Has}
 use Rattle.net_check.specs.Resolution.{channels_of, processes_of, channel_names, process_names, variable_names, Reads}
-use Rattle.net_check.specs.Texts.{is_passing_text, process_units_text}
+use Rattle.net_check.specs.Texts.{is_passing_text, process_units_text, process_past_line}
 use Rattle.kahn_net.specs.declared.limits.TheConstants.{MAX_CHANNELS, MAX_NODES, MAX_PROCESSES, MAX_UNITS}
 use Rattle.kahn_net.specs.declared.limits.TheConstants.{MAX_VARIABLES}
 
@@ -83,7 +83,8 @@ pub record HasLoopWithoutGet (text : List DeclarationTree) (line : ℕ) : Type 0
   pub idle : is_passing_text repeated.body ≡ false
   pub at : repeated.line ≡ line
 
--- 15: a channel, a process or a variable of a process past their limits, a node above 15, a process of too many units
+-- 15: a channel, a process or a variable of a process past their limits, a node above 15, a process of too many units, a
+-- repetition past its limits
 pub data HasPastLimit : List DeclarationTree → ℕ → Type 0 where
   many_channels : {text : List DeclarationTree} {line : ℕ} (channel : ChannelText)
       → slice_get (channels_of text) MAX_CHANNELS ≡ Some channel → channel.line ≡ line → HasPastLimit text line
@@ -97,6 +98,9 @@ pub data HasPastLimit : List DeclarationTree → ℕ → Type 0 where
       → HasPastLimit text line
   many_units : {text : List DeclarationTree} {line : ℕ} (p : ℕ) (process : ProcessTree)
       → slice_get (processes_of text) p ≡ Some process → MAX_UNITS < process_units_text process → process.line ≡ line
+      → HasPastLimit text line
+  many_times : {text : List DeclarationTree} {line : ℕ} (p : ℕ) (process : ProcessTree)
+      → slice_get (processes_of text) p ≡ Some process → process_past_line process ≡ Some line
       → HasPastLimit text line
 
 -- 16, with puts and inputs, and 17, with gets and outputs: a channel whose end stands inside, and that no process uses

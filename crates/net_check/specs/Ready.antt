@@ -1,7 +1,7 @@
 -- What a process has to keep to before its statements are looked at, and how far a text has been read.
-use Rattle.std.specs.Prelude.{◌≡◌, ℕ, ◌<◌, ◌≤◌, length, List, ◌∷◌, ◌++◌, slice_get, Some, true}
+use Rattle.std.specs.Prelude.{◌≡◌, ℕ, ◌<◌, ◌≤◌, length, List, ◌∷◌, ◌++◌, slice_get, Some, None, true}
 use Rattle.net_text.specs.Trees.{LoopTree, ProcessTree, DeclarationTree}
-use Rattle.net_check.specs.Texts.{is_passing_text, process_units_text}
+use Rattle.net_check.specs.Texts.{is_passing_text, process_units_text, process_past_line}
 use Rattle.net_text.specs.declared.tree.ChannelText.{ChannelText}
 use Rattle.net_check.specs.declared.fault.NetFault.{NetFault}
 use Rattle.net_check.specs.Resolution.{AllDifferent, channels_of, processes_of, channel_names, process_names}
@@ -16,9 +16,10 @@ pub record IsReady (process : ProcessTree) : Type 0 where
   pub few : length process.variables ≤ MAX_VARIABLES
   pub different : AllDifferent (variable_names process.variables)
 
--- a process of at most 4,096 units whose loop passes
+-- a process of at most 4,096 units, whose repetitions are within their limits, and whose loop passes
 pub record IsFit (process : ProcessTree) : Type 0 where
   pub units : process_units_text process ≤ MAX_UNITS
+  pub repeats : process_past_line process ≡ None
   pub passes : (repeated : LoopTree) → process.repeated ≡ Some repeated → is_passing_text repeated.body ≡ true
 
 -- the channels and processes of a text, as far as it has been read

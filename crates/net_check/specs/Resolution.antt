@@ -3,14 +3,14 @@ use Rattle.std.specs.Prelude.{◌≡◌, ◌↔◌, ℕ, ℤ, List, [], ◌∷�
 use Rattle.net_text.specs.Names.{NameTree}
 use Rattle.net_text.specs.Trees.{ExprTree, LiteralTree, VariableTree, MinusTree, ChainTree, LinksTree, NoLinksTree}
 use Rattle.net_text.specs.Trees.{LinkThenTree, BlockTree, NothingTree, GetTree, AssignTree, PutTree, StopTree, IfTree}
-use Rattle.net_text.specs.Trees.{LoopTree, ProcessTree, DeclarationTree, ChannelTree, ProcessDeclared}
+use Rattle.net_text.specs.Trees.{RepeatTree, LoopTree, ProcessTree, DeclarationTree, ChannelTree, ProcessDeclared}
 use Rattle.net_text.specs.declared.tree.ChannelText.{ChannelText}
 use Rattle.net_text.specs.declared.tree.VariableText.{VariableText}
 use Rattle.net_text.specs.declared.tree.Role.TheVariants.{Input, Output}
 use Rattle.kahn_net.specs.declared.program.Channel.{Channel}
 use Rattle.kahn_net.specs.declared.program.Port.TheVariants.{Outside}
 use Rattle.kahn_net.specs.Syntax.{Tree, Number, Name, Minus, Chain, Links, NoLinks, LinkThen, Block, Nothing, GetThen}
-use Rattle.kahn_net.specs.Syntax.{AssignThen, PutThen, StopThen, IfThen, Code, Network}
+use Rattle.kahn_net.specs.Syntax.{AssignThen, PutThen, StopThen, IfThen, RepeatThen, Code, Network}
 
 -- the channels that a text declares, in order
 abbrev pub channels_of : List DeclarationTree → List ChannelText
@@ -61,7 +61,7 @@ abbrev mutual
       (o ≡ p) × ResolvesExpr variables a b × ResolvesLinks variables rest more
   ResolvesLinks variables _ _ = ⊥
 
--- statement by statement, and in an if block by block; a channel stands for the name that its number has among the
+-- statement by statement, and in an if or a repetition block by block; a channel stands for the name that its number has among the
 -- channels
 abbrev pub ResolvesBlock : List NameTree → List NameTree → BlockTree → Block → Type 0
 ResolvesBlock channels variables NothingTree Nothing = Unit {0}
@@ -75,6 +75,8 @@ ResolvesBlock channels variables (StopTree rest) (StopThen more) = ResolvesBlock
 ResolvesBlock channels variables (IfTree e first second rest) (IfThen t one other more) =
     ResolvesExpr variables e t × ResolvesBlock channels variables first one
     × ResolvesBlock channels variables second other × ResolvesBlock channels variables rest more
+ResolvesBlock channels variables (RepeatTree times line body rest) (RepeatThen n one more) =
+    (times ≡ n) × ResolvesBlock channels variables body one × ResolvesBlock channels variables rest more
 ResolvesBlock channels variables _ _ = ⊥
 
 abbrev pub ResolvesLoop : List NameTree → List NameTree → Option LoopTree → Option Block → Type 0

@@ -1,24 +1,27 @@
 -- Laws of resolution: what the statements of a text use, the statements of its network use, by number, and the other
 -- way.
 use Rattle.std.proofs.Common.{◌≡◌, ◌∙◌, ap, subst, ℕ, List, [], ◌∷◌, ◌⊎◌, inl, inr, refl, Bool, true, false, ◌||◌, ◌&&◌}
-use Rattle.std.proofs.Common.{eqb, IsTrue, ◌+◌, ◌<◌, suc, zero, length, nat_lt, Option, Some, None, arith}
+use Rattle.std.proofs.Common.{cond, ◌-◌, ◌*◌, eqb, IsTrue, ◌+◌, ◌<◌, suc, zero, length, nat_lt, Option, Some, None, arith}
 use Rattle.std.proofs.lemmas.Bool.{false≢true, eq-eqb}
 use Rattle.std.proofs.lemmas.Bool.Decides.{nat_tests}
 use Rattle.net_text.specs.Names.{NameTree}
 use Rattle.net_text.specs.Trees.{ExprTree, LiteralTree, VariableTree, MinusTree, ChainTree, LinksTree, NoLinksTree}
 use Rattle.net_text.specs.Trees.{LinkThenTree, BlockTree, NothingTree, GetTree, AssignTree, PutTree, StopTree, IfTree}
-use Rattle.net_text.specs.Trees.{LoopTree, DeclarationTree, ProcessTree}
+use Rattle.net_text.specs.Trees.{RepeatTree, LoopTree, DeclarationTree, ProcessTree}
 use Rattle.net_text.specs.declared.tree.ChannelText.{ChannelText}
 use Rattle.std.proofs.lemmas.List.{length-map}
 use Rattle.kahn_net.specs.Syntax.{Tree, Number, Name, Minus, Chain, Links, NoLinks, LinkThen, Block, Nothing, GetThen}
-use Rattle.kahn_net.specs.Syntax.{AssignThen, PutThen, StopThen, IfThen, Code, Network}
+use Rattle.kahn_net.specs.Syntax.{AssignThen, PutThen, StopThen, IfThen, RepeatThen, Code, Network}
 use Rattle.net_check.specs.Resolution.{Reads, Resolves, channels_of, processes_of, ResolvesExpr, ResolvesLinks}
 use Rattle.net_check.specs.Resolution.{ResolvesBlock, ResolvesLoop, ResolvesProcess}
 use Rattle.kahn_net.specs.Valid.{block_gets, block_puts, body_gets, body_puts, code_gets, code_puts, expr_units}
 use Rattle.kahn_net.specs.Valid.{links_units, block_units, body_units, is_passing, expr_within, links_within}
 use Rattle.kahn_net.specs.Valid.{block_within, body_within}
 use Rattle.net_check.specs.Texts.{expr_units_text, links_units_text, block_units_text, loop_units_text}
-use Rattle.net_check.specs.Texts.{process_units_text, is_passing_text}
+use Rattle.net_check.specs.Texts.{process_units_text, is_passing_text, or_line, past_line, loop_past_line, process_past_line}
+use Rattle.kahn_net.specs.Repeats.{is_repeat_within, repeats_within, body_repeats_within, code_repeats_within}
+use Rattle.kahn_net.specs.declared.limits.TheConstants.{MAX_REPEATS}
+use Rattle.net_check.specs.Resolution.{variable_names}
 use Rattle.net_check.specs.Uses.{Use, GetFrom, PutOn, expr_uses, block_uses, loop_uses, process_uses, Has}
 use Rattle.net_check.specs.UseLaws.{has_left, has_right, has_cases, has_first, has_second, has_after, by_test, by_first}
 use Rattle.net_check.specs.UseLaws.{by_second, by_rest, if_cases, expr_no_put, expr_no_get}
@@ -94,6 +97,13 @@ block_put_named cs vs (IfTree e first second rest) (IfThen t one other b) c r h 
             (block_put_named cs vs rest b c r.3 m)
       ]
     ]
+block_put_named cs vs (RepeatTree times line body rest) (RepeatThen n one b) c r h =
+    elim (or_cases (block_puts c one) (block_puts c b) h) [
+      | inl k ↦ named_more cs (block_uses body) _ PutOn c (has_left (block_uses body) (block_uses rest))
+          (block_put_named cs vs body one c r.1 k)
+      | inr k ↦ named_more cs (block_uses rest) _ PutOn c (has_right (block_uses body) (block_uses rest))
+          (block_put_named cs vs rest b c r.2 k)
+    ]
 block_put_named cs vs _ _ c r h = absurd r
 
 -- what is got from by number is got from by name
@@ -125,6 +135,13 @@ block_get_named cs vs (IfTree e first second rest) (IfThen t one other b) c r h 
             (has_after (expr_uses e) (block_uses first) (block_uses second) (block_uses rest))
             (block_get_named cs vs rest b c r.3 m)
       ]
+    ]
+block_get_named cs vs (RepeatTree times line body rest) (RepeatThen n one b) c r h =
+    elim (or_cases (block_gets c one) (block_gets c b) h) [
+      | inl k ↦ named_more cs (block_uses body) _ GetFrom c (has_left (block_uses body) (block_uses rest))
+          (block_get_named cs vs body one c r.1 k)
+      | inr k ↦ named_more cs (block_uses rest) _ GetFrom c (has_right (block_uses body) (block_uses rest))
+          (block_get_named cs vs rest b c r.2 k)
     ]
 block_get_named cs vs _ _ c r h = absurd r
 
@@ -175,6 +192,13 @@ block_put_numbered cs vs (IfTree e first second rest) (IfThen t one other b) nam
           _ (λ c u. or_right (block_puts c one) _ (or_right (block_puts c other) _ u))
           (block_put_numbered cs vs rest b name r.3 k)
     ]
+block_put_numbered cs vs (RepeatTree times line body rest) (RepeatThen n one b) name r h =
+    elim (has_cases (block_uses body) (block_uses rest) (PutOn name) h) [
+      | inl k ↦ numbered_more cs name (λ c. block_puts c one) _ (λ c u. or_left (block_puts c one) _ u)
+          (block_put_numbered cs vs body one name r.1 k)
+      | inr k ↦ numbered_more cs name (λ c. block_puts c b) _ (λ c u. or_right (block_puts c one) _ u)
+          (block_put_numbered cs vs rest b name r.2 k)
+    ]
 block_put_numbered cs vs _ _ name r h = absurd r
 
 -- what is got from by name is got from by number
@@ -224,6 +248,13 @@ block_get_numbered cs vs (IfTree e first second rest) (IfThen t one other b) nam
       | by_rest k ↦ numbered_more cs name (λ c. block_gets c b)
           _ (λ c u. or_right (block_gets c one) _ (or_right (block_gets c other) _ u))
           (block_get_numbered cs vs rest b name r.3 k)
+    ]
+block_get_numbered cs vs (RepeatTree times line body rest) (RepeatThen n one b) name r h =
+    elim (has_cases (block_uses body) (block_uses rest) (GetFrom name) h) [
+      | inl k ↦ numbered_more cs name (λ c. block_gets c one) _ (λ c u. or_left (block_gets c one) _ u)
+          (block_get_numbered cs vs body one name r.1 k)
+      | inr k ↦ numbered_more cs name (λ c. block_gets c b) _ (λ c u. or_right (block_gets c one) _ u)
+          (block_get_numbered cs vs rest b name r.2 k)
     ]
 block_get_numbered cs vs _ _ name r h = absurd r
 
@@ -375,6 +406,14 @@ block_units_kept cs vs (IfTree e first second rest) (IfThen t one other b) r =
     let k'' = k.1 in
     let l'' = l.1 in
     let m'' = m.1 in (cc, cc)
+block_units_kept cs vs (RepeatTree times line body rest) (RepeatThen n one b) r =
+    let k = block_units_kept cs vs body one r.1 in
+    let m = block_units_kept cs vs rest b r.2 in
+    let k' = k.0 in
+    let m' = m.0 in
+    let k'' = k.1 in
+    let m'' = m.1 in
+    let same = r.0 in (cc, cc)
 block_units_kept cs vs _ _ r = absurd r
 
 loop_units_kept : (cs vs : List NameTree) (repeated : Option LoopTree) (body : Option Block)
@@ -407,6 +446,64 @@ passes_kept_text cs vs None (Some b) l r e = absurd r
 passes_kept_text cs vs (Some m) None l r e = absurd r
 passes_kept_text cs vs (Some m) (Some b) l r e = let k : m ≡ l = cc in
     (b, refl, (block_units_kept cs vs m.body b r).1 ∙ ap (λ (z : LoopTree). is_passing_text z.body) k)
+
+-- where no repetition of the text is past its limits, those of the network are within them, and the other way
+abbrev pub is_none : Option ℕ → Bool
+is_none None = true
+is_none (Some line) = false
+
+none_of_both : (a b : Option ℕ) → is_none (or_line a b) ≡ is_none a && is_none b
+none_of_both None b = refl
+none_of_both (Some line) b = refl
+
+none_if : (test : Bool) (a : Option ℕ) (line : ℕ) → is_none (cond test a (Some line)) ≡ test && is_none a
+none_if true a line = refl
+none_if false a line = refl
+
+pub block_repeats_kept : (cs vs : List NameTree) (tree : BlockTree) (block : Block) (open_yet round : ℕ)
+    → ResolvesBlock cs vs tree block → is_none (past_line open_yet round tree) ≡ repeats_within open_yet round block
+block_repeats_kept cs vs NothingTree Nothing o m r = refl
+block_repeats_kept cs vs (GetTree v n rest) (GetThen x d b) o m r = block_repeats_kept cs vs rest b o m r.2
+block_repeats_kept cs vs (AssignTree v e rest) (AssignThen x t b) o m r = block_repeats_kept cs vs rest b o m r.2
+block_repeats_kept cs vs (PutTree e n rest) (PutThen t d b) o m r = block_repeats_kept cs vs rest b o m r.2
+block_repeats_kept cs vs (StopTree rest) (StopThen b) o m r = block_repeats_kept cs vs rest b o m r
+block_repeats_kept cs vs (IfTree e first second rest) (IfThen t one other b) o m r =
+    let h = block_repeats_kept cs vs first one o m r.1 in
+    let k = block_repeats_kept cs vs second other o m r.2 in
+    let l = block_repeats_kept cs vs rest b o m r.3 in
+    none_of_both (past_line o m first) (or_line (past_line o m second) (past_line o m rest))
+    ∙ (ap (λ (x : Bool). is_none (past_line o m first) && x) (none_of_both (past_line o m second) (past_line o m rest))
+    ∙ (ap (λ (x : Bool). x && (is_none (past_line o m second) && is_none (past_line o m rest))) h
+    ∙ (ap (λ (x : Bool). repeats_within o m one && (x && is_none (past_line o m rest))) k
+    ∙ ap (λ (x : Bool). repeats_within o m one && (repeats_within o m other && x)) l)))
+block_repeats_kept cs vs (RepeatTree times line body rest) (RepeatThen n one b) o m r =
+    let h = block_repeats_kept cs vs body one (o - 1) (m * times) r.1 in
+    let l = block_repeats_kept cs vs rest b o m r.2 in
+    let inside = past_line (o - 1) (m * times) body in
+    let test = is_repeat_within o m times in
+    none_if test (or_line inside (past_line o m rest)) line
+    ∙ (ap (λ (x : Bool). test && x) (none_of_both inside (past_line o m rest))
+    ∙ (ap (λ (x : Bool). test && (x && is_none (past_line o m rest))) h
+    ∙ (ap (λ (x : Bool). test && (repeats_within (o - 1) (m * times) one && x)) l
+    ∙ ap (λ (x : ℕ). is_repeat_within o m x && (repeats_within (o - 1) (m * x) one && repeats_within o m b)) r.0)))
+block_repeats_kept cs vs _ _ o m r = absurd r
+
+loop_repeats_kept : (cs vs : List NameTree) (repeated : Option LoopTree) (body : Option Block)
+    → ResolvesLoop cs vs repeated body → is_none (loop_past_line repeated) ≡ body_repeats_within body
+loop_repeats_kept cs vs None None r = refl
+loop_repeats_kept cs vs None (Some b) r = absurd r
+loop_repeats_kept cs vs (Some l) None r = absurd r
+loop_repeats_kept cs vs (Some l) (Some b) r = block_repeats_kept cs vs l.body b MAX_REPEATS 1 r
+
+pub repeats_kept : (cs : List NameTree) (process : ProcessTree) (code : Code) → ResolvesProcess cs process code
+    → is_none (process_past_line process) ≡ code_repeats_within code
+repeats_kept cs process code r =
+    let vs = variable_names process.variables in
+    none_of_both (past_line MAX_REPEATS 1 process.prelude) (loop_past_line process.repeated)
+    ∙ (ap (λ (x : Bool). x && is_none (loop_past_line process.repeated))
+    (block_repeats_kept cs vs process.prelude code.prelude MAX_REPEATS 1 r.prelude)
+    ∙ ap (λ (x : Bool). repeats_within MAX_REPEATS 1 code.prelude && x)
+    (loop_repeats_kept cs vs process.repeated code.body r.body))
 
 -- numbers stay within the names
 pub reads_below : (names : List NameTree) (i : ℕ) (t : List ℕ) → Reads names i t → i < length names
@@ -460,6 +557,9 @@ block_kept_within cs vs (IfTree e first second rest) (IfThen t one other b) r =
     (and_true (block_within (length vs) (length cs) one) _ (block_kept_within cs vs first one r.1)
     (and_true (block_within (length vs) (length cs) other) _ (block_kept_within cs vs second other r.2)
     (block_kept_within cs vs rest b r.3)))
+block_kept_within cs vs (RepeatTree times line body rest) (RepeatThen n one b) r =
+    and_true (block_within (length vs) (length cs) one) _ (block_kept_within cs vs body one r.1)
+    (block_kept_within cs vs rest b r.2)
 block_kept_within cs vs _ _ r = absurd r
 
 pub loop_kept_within : (cs vs : List NameTree) (repeated : Option LoopTree) (body : Option Block)

@@ -3,7 +3,7 @@ use Rattle.std.specs.Prelude.{◌≡◌, List, [], ◌∷◌, ◌++◌, Option, 
 use Rattle.net_text.specs.Names.{NameTree}
 use Rattle.net_text.specs.Trees.{ExprTree, LiteralTree, VariableTree, MinusTree, ChainTree, LinksTree, NoLinksTree}
 use Rattle.net_text.specs.Trees.{LinkThenTree, BlockTree, NothingTree, GetTree, AssignTree, PutTree, StopTree, IfTree}
-use Rattle.net_text.specs.Trees.{LoopTree, ProcessTree}
+use Rattle.net_text.specs.Trees.{RepeatTree, LoopTree, ProcessTree}
 
 -- a variable that is read or written, a channel from which an item is got, a channel on which one is put
 pub data Use : Type 0 where
@@ -30,6 +30,7 @@ block_uses (PutTree value channel rest) = expr_uses value ++ (PutOn channel ∷ 
 block_uses (StopTree rest) = block_uses rest
 block_uses (IfTree test first second rest) =
     expr_uses test ++ (block_uses first ++ (block_uses second ++ block_uses rest))
+block_uses (RepeatTree times line body rest) = block_uses body ++ block_uses rest
 
 abbrev pub loop_uses : Option LoopTree → List Use
 loop_uses None = []

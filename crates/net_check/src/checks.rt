@@ -23,7 +23,7 @@ use std::alloc::Global;
 /// The network of a text: valid, by its type.
 ///
 /// The first fault counts, in this order: 10 and 15 over the declarations, in order of the text; 11, 12 and 13 over
-/// the uses, in order of the text; 15 and 14 process by process; 16 and 17 channel by channel.
+/// the uses, in order of the text; 15 and 14 process by process, its units before its repetitions; 16 and 17 channel by channel.
 pub fn check(alloc: Global, text: NetText) -> Result<Net, NetFault>
     // The network is the resolution of the text.
     ensures resolved { IfOk result

@@ -1,14 +1,15 @@
-//! What each process has to keep to: at most 4,096 units, and a loop each pass of which gets an item or stops.
-//! Each statement is one unit, and so is each literal, each variable in an expression, each operator and each minus of
-//! one value.
+//! What each process has to keep to: at most 4,096 units, repetitions that are within their limits, and a loop each pass
+//! of which gets an item or stops. Each statement is one unit, and so is each literal, each variable in an expression,
+//! each operator and each minus of one value; a repetition's number is a literal.
 
 ghost use Rattle.std.specs.Prelude.{◌≡◌, ◌+◌, ◌<◌, ◌≤◌, ◌↔◌, ℕ, map, slice_get, Some, IsTrue, IfErr, MatchOption, OnOk, true};
 ghost use Rattle.net_text.specs.Trees.{NothingTree, ProcessTree, block_tree, expr_tree, process_tree, repeated_tree, then_tree};
 ghost use Rattle.net_check.specs.Ready.{FaultOfProcess, FaultOfProcesses, IsFit};
-ghost use Rattle.net_check.specs.Texts.{block_units_text, expr_units_text, is_passing_text, loop_units_text, process_units_text};
+ghost use Rattle.net_check.specs.Texts.{block_units_text, expr_units_text, is_passing_text, loop_past_line, loop_units_text, past_line, process_past_line, process_units_text};
+ghost use Rattle.kahn_net.specs.Repeats.{is_repeat_within};
 
 use crate::fault::NetFault;
-use kahn_net::MAX_UNITS;
+use kahn_net::{MAX_NESTED_TIMES, MAX_REPEATS, MAX_TIMES, MAX_UNITS};
 use net_text::{ExprText, LoopText, ProcessText, StatementText};
 
 /// What is left of so many units after an expression.
@@ -58,6 +59,10 @@ fn units_after_statement(statement: &StatementText, left: usize) -> Option<usize
             let rest = units_after_expr(test, left - 1)?;
             let rest = units_after(first, rest)?;
             units_after(second, rest)
+        }
+        StatementText::Repeat { body, .. } => {
+            let rest = (left - 1).checked_sub(1)?;
+            units_after(body, rest)
         }
     }
 }
@@ -112,6 +117,12 @@ fn is_passing_statement(statement: &StatementText) -> bool
             }
             is_passing(second)
         }
+        StatementText::Repeat { times, body, .. } => {
+            if *times == 0 {
+                return false;
+            }
+            is_passing(body)
+        }
     }
 }
 
@@ -128,6 +139,73 @@ fn is_passing(statements: &[StatementText]) -> bool
     false
 }
 
+/// Whether a repetition of this number is within its limits, where so many more may be opened and those round it are made
+/// so often in all.
+fn is_repeat_within(open_yet: usize, round: u32, times: u16) -> bool
+    requires { round ≤ MAX_NESTED_TIMES }
+    ensures { result ≡ is_repeat_within open_yet round times }
+{
+    open_yet > 0
+        && times > 0
+        && times <= MAX_TIMES
+        && round as u64 * times as u64 <= MAX_NESTED_TIMES as u64
+}
+
+/// The line of the first repetition in a statement that is past its limits.
+#[cycle(past)]
+fn past_line_of(statement: &StatementText, open_yet: usize, round: u32) -> Option<usize>
+    requires { round ≤ MAX_NESTED_TIMES }
+    ensures { result ≡ past_line open_yet round (then_tree statement.now NothingTree) }
+{
+    match statement {
+        StatementText::If { first, second, .. } => match past_line(first, open_yet, round) {
+            Some(line) => Some(line),
+            None => past_line(second, open_yet, round),
+        },
+        StatementText::Repeat { times, line, body } => {
+            if !is_repeat_within(open_yet, round, *times) {
+                return Some(*line);
+            }
+            past_line(body, open_yet - 1, round * *times as u32)
+        }
+        _ => None,
+    }
+}
+
+/// The line of the first repetition in these statements that is past its limits, where so many more may be opened and
+/// those round them are made so often in all.
+#[cycle(past)]
+fn past_line(statements: &[StatementText], open_yet: usize, round: u32) -> Option<usize>
+    requires { round ≤ MAX_NESTED_TIMES }
+    ensures { result ≡ past_line open_yet round (block_tree statements.now) }
+{
+    for statement in statements {
+        if let Some(line) = past_line_of(statement, open_yet, round) {
+            return Some(line);
+        }
+    }
+    None
+}
+
+fn loop_past_line(repeated: &Option<LoopText>) -> Option<usize>
+    ensures { result ≡ loop_past_line (repeated_tree repeated.now) }
+{
+    match repeated {
+        Some(repeated) => past_line(&repeated.body, MAX_REPEATS, 1),
+        None => None,
+    }
+}
+
+/// The line of the first repetition of a process that is past its limits.
+fn process_past_line(process: &ProcessText) -> Option<usize>
+    ensures { result ≡ process_past_line (process_tree process.now) }
+{
+    match past_line(&process.prelude, MAX_REPEATS, 1) {
+        Some(line) => Some(line),
+        None => loop_past_line(&process.repeated),
+    }
+}
+
 /// 15, then 14.
 fn check_limits(process: &ProcessText) -> Result<(), NetFault>
     ensures ok { OnOk result (IsFit (process_tree process.now)) }
@@ -135,6 +213,9 @@ fn check_limits(process: &ProcessText) -> Result<(), NetFault>
 {
     if !has_few_units(process) {
         return Err(NetFault::Limit { line: process.line });
+    }
+    if let Some(line) = process_past_line(process) {
+        return Err(NetFault::Limit { line });
     }
     if let Some(repeated) = &process.repeated
         && !is_passing(&repeated.body)

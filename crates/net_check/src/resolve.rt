@@ -110,6 +110,13 @@ fn resolve_statement(
                 second,
             })
         }
+        StatementText::Repeat { times, body, .. } => {
+            let body = resolve_statements(alloc, scope, ends, body)?;
+            Ok(Statement::Repeat {
+                times: *times,
+                body,
+            })
+        }
     }
 }
 

@@ -1,19 +1,25 @@
 -- What each rule of the grammar calls a beginning is one.
-use Rattle.std.proofs.Common.{◌≡◌, ℕ, zero, suc, inl, inr, List, [], ◌∷◌, None, pos, neg_ℤ, refl, ap}
+use Rattle.std.proofs.Common.{◌≡◌, ℕ, zero, suc, true, inl, inr, List, [], ◌∷◌, None, pos, neg_ℤ, refl, ap}
 use Rattle.net_text.specs.Names.{NameTree}
 use Rattle.net_text.specs.Trees.{ExprTree, LiteralTree, VariableTree, MinusTree, BlockTree, NothingTree, ChannelTree}
 use Rattle.net_text.specs.Trees.{ProcessDeclared}
 use Rattle.net_text.specs.Tokens.{Lexeme}
 use Rattle.net_text.specs.Grammar.{Whole, Begun, Rule, ◌>>◌, IsWhere, IsAtMostOne, IsWordOn, IsWord, IsSymbol, IsName}
-use Rattle.net_text.specs.Grammar.{IsNumberOn, IsNumber, operator_symbol, level_of, IsOperator, chain_of, IsLink}
+use Rattle.net_text.specs.Grammar.{IsNumberOn, IsNumber, operator_kind, level_of, IsOperator, chain_of, IsLink}
 use Rattle.net_text.specs.Grammar.{IsChain, IsExprOf, IsAtom, IsParenthesised, IsMinus, IsFactor, IsExpr, IsStop}
-use Rattle.net_text.specs.Grammar.{IsElse, IsStatements, IsBlock, IsNegative, IsInitial, IsVariable, IsLoop, IsHead}
+use Rattle.net_text.specs.Grammar.{IsElse, IsCount, IsStatements, IsBlock, IsNegative, IsInitial, IsVariable, IsLoop}
+use Rattle.net_text.specs.Grammar.{IsHead}
 use Rattle.net_text.specs.Grammar.{IsProcess, first_word, IsChannel, IsDeclaration, IsEdition, IsText, Begins, IsFront}
 use Rattle.net_text.specs.Reading.{joined, named_tree, variable_tree, loop_text, HeadTree, head_made, process_made}
 use Rattle.net_text.specs.Reading.{channel_made}
+use Rattle.net_text.specs.Editions.{edition_number, has_this, Counts, Ranged, Unranged, is_count}
+use Rattle.net_text.specs.declared.edition.Edition.{Edition}
+use Rattle.net_text.specs.declared.edition.Edition.TheVariants.{First, Second}
 use Rattle.net_text.proofs.Laws.{IsImage, seen_by}
 use Rattle.net_text.proofs.Rules.{some_operator, single_whole, single_back, IsGiven, given_there, given_back, IsNamed}
 use Rattle.net_text.proofs.Rules.{named_there, named_back, PutParts, put_made, stop_made, IfParts, if_parts, IsSingle}
+use Rattle.net_text.proofs.Rules.{IsNested}
+use Rattle.net_text.proofs.Rules.{repeat_parts}
 use Rattle.net_text.proofs.Rules.{single_there, single_from, singles_of, singles_there, singles_back, singles_joined}
 use Rattle.net_text.proofs.Rules.{loop_there, loop_back, channel_parts, declaration_there, declaration_back}
 use Rattle.net_text.proofs.Rules.{text_goes_on}
@@ -64,10 +70,17 @@ level_kept Product = refl
 level_kept Sum = refl
 level_kept Comparison = refl
 
-operator_grows : (level : Level) → Grows (λ o. IsOperator level o) (λ o. IsOperator level o)
-operator_grows level =
-    one_grows (λ o t. (t.kind ≡ kind.Symbol (operator_symbol o)) × (level_of o ≡ level)) (some_operator level)
-    (token (kind.Symbol (operator_symbol (some_operator level)))) (refl, level_kept level)
+some_known : (edition : Edition) (level : Level) → has_this (some_operator level) edition ≡ true
+some_known edition Product = refl
+some_known edition Sum = refl
+some_known edition Comparison = refl
+
+operator_grows : (edition : Edition) (level : Level)
+    → Grows (λ o. IsOperator edition level o) (λ o. IsOperator edition level o)
+operator_grows edition level =
+    one_grows (λ o t. (t.kind ≡ operator_kind o) × (level_of o ≡ level) × (has_this o edition ≡ true))
+    (some_operator level) (token (operator_kind (some_operator level)))
+    (refl, level_kept level, some_known edition level)
 
 image_grows : {A B : Type 0} {P P' : A → Rule} (view : A → B) → Grows P P' → Grows (IsImage view P) (IsImage view P')
 image_grows {A} {B} {P} view h =
@@ -82,17 +95,17 @@ image_grows {A} {B} {P} view h =
 
 -- ---- expressions
 
-link_grows : {P P' : ExprTree → Rule} (level : Level) → Grows P P'
-    → Grows (λ link. IsLink level P link) (λ link. IsLink level P' link)
-link_grows level h =
-    as_grows (pair_grows (operator_grows level) h)
+link_grows : {P P' : ExprTree → Rule} (edition : Edition) (level : Level) → Grows P P'
+    → Grows (λ link. IsLink edition level P link) (λ link. IsLink edition level P' link)
+link_grows edition level h =
+    as_grows (pair_grows (operator_grows edition level) h)
     (seen_by (λ x. record { operator = x.0; value = x.1 }) (λ z. (z.operator, z.value)) (λ x extent l is. is)
     (λ z extent l is. is) (λ z. refl)) (λ x l is. is)
 
-chain_grows : {P P' : ExprTree → Rule} (level : Level) → Grows P P'
-    → Grows (λ e. IsChain level P e) (λ e. IsChain level P' e)
-chain_grows level h =
-    as_grows (pair_grows h (each_grows (link_grows level h)))
+chain_grows : {P P' : ExprTree → Rule} (edition : Edition) (level : Level) → Grows P P'
+    → Grows (λ e. IsChain edition level P e) (λ e. IsChain edition level P' e)
+chain_grows edition level h =
+    as_grows (pair_grows h (each_grows (link_grows edition level h)))
     (record {
       whole = λ x l is. (x.0, x.1, refl, is);
       begun = λ x l is. (chain_of x.0 x.1, (x.0, x.1, refl, is));
@@ -108,11 +121,11 @@ at_most_one_grows {A} {P} {P'} h =
     (seen_by (λ xs. xs) (λ xs. xs) (single_whole P) (single_back P) (λ xs. refl))
     (λ x l is. single_whole P' x Whole l is)
 
-expr_of_grows : {P P' : ExprTree → Rule} (edition : ℕ) → Grows P P'
+expr_of_grows : {P P' : ExprTree → Rule} (edition : Edition) → Grows P P'
     → Grows (λ e. IsExprOf edition P e) (λ e. IsExprOf edition P' e)
 expr_of_grows edition h =
-    let sums = chain_grows Sum (chain_grows Product h) in
-    as_grows (pair_grows sums (at_most_one_grows (link_grows Comparison sums)))
+    let sums = chain_grows edition Sum (chain_grows edition Product h) in
+    as_grows (pair_grows sums (at_most_one_grows (link_grows edition Comparison sums)))
     (record {
       whole = λ x l is. (x.0, x.1, refl, is);
       begun = λ x l is. (chain_of x.0 x.1, (x.0, x.1, refl, is));
@@ -126,7 +139,7 @@ atom_grows =
     either_grows (image_grows (λ n. LiteralTree (pos n)) number_grows)
     (image_grows (λ name. VariableTree name) name_grows)
 
-parenthesised_grows : {P P' : ExprTree → Rule} (edition : ℕ) → Grows P P'
+parenthesised_grows : {P P' : ExprTree → Rule} (edition : Edition) → Grows P P'
     → Grows (λ e. IsParenthesised edition P e) (λ e. IsParenthesised edition P' e)
 parenthesised_grows edition h =
     as_grows
@@ -145,7 +158,8 @@ minus_grows h =
     })
     (λ x l is. (x.1, refl, is))
 
-factor_grows : (edition left : ℕ) → Grows (λ e. IsFactor edition left e) (λ e. IsFactor edition (suc left) e)
+factor_grows : (edition : Edition) (left : ℕ)
+    → Grows (λ e. IsFactor edition left e) (λ e. IsFactor edition (suc left) e)
 unfolding IsFactor
 factor_grows edition zero =
     as_grows atom_grows (seen_by (λ e. e) (λ e. e) (λ x extent l is. is) (λ z extent l is. is) (λ z. refl))
@@ -153,7 +167,7 @@ factor_grows edition zero =
 factor_grows edition (suc left) = let inner = factor_grows edition left in
     either_grows (parenthesised_grows edition inner) (either_grows (minus_grows inner) atom_grows)
 
-expr_grows : (edition left : ℕ) → Grows (λ e. IsExpr edition left e) (λ e. IsExpr edition (suc left) e)
+expr_grows : (edition : Edition) (left : ℕ) → Grows (λ e. IsExpr edition left e) (λ e. IsExpr edition (suc left) e)
 expr_grows edition left = expr_of_grows edition (factor_grows edition left)
 
 -- ---- statements
@@ -165,20 +179,20 @@ got_grows =
     (seen_by (λ x. x.1.0) (λ z. (tt, (z, tt))) (λ x extent l is. is) (λ z extent l is. is) (λ z. refl))
     (λ x l is. is)
 
-assigned_grows : (edition left : ℕ)
+assigned_grows : (edition : Edition) (left : ℕ)
     → Grows (λ e. IsExpr edition left e >> IsSymbol symbol.Semicolon)
     (λ e. IsExpr edition (suc left) e >> IsSymbol symbol.Semicolon)
 assigned_grows edition left =
     as_grows (pair_grows (expr_grows edition left) (symbol_grows symbol.Semicolon))
     (seen_by (λ x. x.0) (λ z. (z, tt)) (λ x extent l is. is) (λ z extent l is. is) (λ z. refl)) (λ x l is. is)
 
-given_grows : (edition left : ℕ) → Grows (λ g. IsGiven edition left g) (λ g. IsGiven edition (suc left) g)
+given_grows : (edition : Edition) (left : ℕ) → Grows (λ g. IsGiven edition left g) (λ g. IsGiven edition (suc left) g)
 given_grows edition left =
     as_grows (either_grows (image_grows inl got_grows) (image_grows inr (assigned_grows edition left)))
     (seen_by (λ g. g) (λ g. g) (given_there edition left) (given_back edition left) (λ g. refl))
     (λ x l is. given_there edition (suc left) x Whole l is)
 
-named_grows : (edition left : ℕ) → Grows (λ z. IsNamed edition left z) (λ z. IsNamed edition (suc left) z)
+named_grows : (edition : Edition) (left : ℕ) → Grows (λ z. IsNamed edition left z) (λ z. IsNamed edition (suc left) z)
 named_grows edition left =
     as_grows (pair_grows name_grows (pair_grows (symbol_grows symbol.Assign) (given_grows edition left)))
     (record {
@@ -189,7 +203,7 @@ named_grows edition left =
     })
     (λ x l is. named_there edition (suc left) x.0 x.1.1 Whole l is)
 
-put_grows : (edition left : ℕ)
+put_grows : (edition : Edition) (left : ℕ)
     → Grows (IsImage put_made (PutParts edition left)) (IsImage put_made (PutParts edition (suc left)))
 put_grows edition left =
     image_grows put_made
@@ -207,33 +221,53 @@ else_grows h =
     (seen_by (λ x. x.1) (λ z. (tt, z)) (λ x extent l is. is) (λ z extent l is. is) (λ z. refl)) (λ x l is. is))
     (nothing_grows NothingTree)
 
-if_grows : {P P' : BlockTree → Rule} (edition left : ℕ) → Grows P P'
+if_grows : {P P' : BlockTree → Rule} (edition : Edition) (left : ℕ) → Grows P P'
     → Grows (IsImage if_parts (IfParts edition left P)) (IsImage if_parts (IfParts edition (suc left) P'))
 if_grows edition left h =
     image_grows if_parts
     (pair_grows (word_grows keyword.If) (pair_grows (expr_grows edition left) (pair_grows h (else_grows h))))
 
-single_grows : (edition left : ℕ) → Grows (λ b. IsBlock edition left b) (λ b. IsBlock edition (suc left) b)
-    → Grows (λ z. IsSingle edition left z) (λ z. IsSingle edition (suc left) z)
-single_grows edition left h =
+count_one : (counts : Counts) → is_count counts 1 ≡ true
+count_one Ranged = refl
+count_one Unranged = refl
+
+count_grows : (counts : Counts) → Grows (λ n. IsCount counts n) (λ n. IsCount counts n)
+count_grows counts =
+    one_grows (λ n t. (t.kind ≡ kind.Number n) × (is_count counts n ≡ true)) 1 (token (kind.Number 1))
+    (refl, count_one counts)
+
+nested_grows : {P P' : BlockTree → Rule} (edition : Edition) (counts : Counts) (left : ℕ) → Grows P P'
+    → Grows (λ z. IsNested edition counts left P z) (λ z. IsNested edition counts (suc left) P' z)
+nested_grows First counts left h = if_grows First left h
+nested_grows Second counts left h =
+    either_grows
+    (image_grows repeat_parts
+    (pair_grows (word_on_grows keyword.Repeat) (pair_grows (count_grows counts) h)))
+    (if_grows Second left h)
+
+single_grows : (edition : Edition) (counts : Counts) (left : ℕ)
+    → Grows (λ b. IsBlock edition counts left b) (λ b. IsBlock edition counts (suc left) b)
+    → Grows (λ z. IsSingle edition counts left z) (λ z. IsSingle edition counts (suc left) z)
+single_grows edition counts left h =
     as_grows
     (either_grows (named_grows edition left)
-    (either_grows (put_grows edition left) (either_grows stop_grows (if_grows edition left h))))
-    (seen_by (λ z. z) (λ z. z) (single_there edition left) (single_from edition left) (λ z. refl))
-    (λ x l is. single_there edition (suc left) x Whole l is)
+    (either_grows (put_grows edition left) (either_grows stop_grows (nested_grows edition counts left h))))
+    (seen_by (λ z. z) (λ z. z) (single_there edition counts left) (single_from edition counts left) (λ z. refl))
+    (λ x l is. single_there edition counts (suc left) x Whole l is)
 
-statements_grows : (edition left : ℕ) → Grows (λ b. IsBlock edition left b) (λ b. IsBlock edition (suc left) b)
-    → Grows (λ z. IsStatements edition left z) (λ z. IsStatements edition (suc left) z)
-statements_grows edition left h =
-    as_grows (each_grows (single_grows edition left h))
-    (seen_by joined singles_of (singles_there edition left) (singles_back edition left) singles_joined)
-    (λ x l is. singles_there edition (suc left) x Whole l is)
+statements_grows : (edition : Edition) (counts : Counts) (left : ℕ)
+    → Grows (λ b. IsBlock edition counts left b) (λ b. IsBlock edition counts (suc left) b)
+    → Grows (λ z. IsStatements edition counts left z) (λ z. IsStatements edition counts (suc left) z)
+statements_grows edition counts left h =
+    as_grows (each_grows (single_grows edition counts left h))
+    (seen_by joined singles_of (singles_there edition counts left) (singles_back edition counts left) singles_joined)
+    (λ x l is. singles_there edition counts (suc left) x Whole l is)
 
-empty_block : (edition : ℕ)
-    → IsBlock edition (suc zero) NothingTree Whole
+empty_block : (edition : Edition) (counts : Counts)
+    → IsBlock edition counts (suc zero) NothingTree Whole
     (token (kind.Symbol symbol.LeftBrace) ∷ token (kind.Symbol symbol.RightBrace) ∷ [])
 unfolding IsStatements
-empty_block edition = (
+empty_block edition counts = (
   token (kind.Symbol symbol.LeftBrace) ∷ [],
   token (kind.Symbol symbol.RightBrace) ∷ [],
   refl,
@@ -241,14 +275,16 @@ empty_block edition = (
   ([], token (kind.Symbol symbol.RightBrace) ∷ [], refl, refl, (token (kind.Symbol symbol.RightBrace), refl, refl)),
 )
 
-block_grows : (edition left : ℕ) → Grows (λ b. IsBlock edition left b) (λ b. IsBlock edition (suc left) b)
-block_grows edition zero =
+block_grows : (edition : Edition) (counts : Counts) (left : ℕ)
+    → Grows (λ b. IsBlock edition counts left b) (λ b. IsBlock edition counts (suc left) b)
+block_grows edition counts zero =
     awaited_grows NothingTree (token (kind.Symbol symbol.LeftBrace) ∷ token (kind.Symbol symbol.RightBrace) ∷ [])
-    (empty_block edition)
-block_grows edition (suc left) =
+    (empty_block edition counts)
+block_grows edition counts (suc left) =
     as_grows
     (pair_grows (symbol_grows symbol.LeftBrace)
-    (pair_grows (statements_grows edition left (block_grows edition left)) (symbol_grows symbol.RightBrace)))
+    (pair_grows (statements_grows edition counts left (block_grows edition counts left))
+    (symbol_grows symbol.RightBrace)))
     (seen_by (λ x. x.1.0) (λ z. (tt, (z, tt))) (λ x extent l is. is) (λ z extent l is. is) (λ z. refl)) (λ x l is. is)
 
 -- ---- declarations
@@ -279,13 +315,14 @@ variable_grows =
     (seen_by variable_tree (λ v. (v.line, (v.name, (v.initial, tt)))) (λ x extent l is. is) (λ z extent l is. is)
     (λ z. refl)) (λ x l is. is)
 
-loop_grows : (edition left : ℕ) → Grows (λ o. IsLoop edition left o) (λ o. IsLoop edition (suc left) o)
-loop_grows edition left =
+loop_grows : (edition : Edition) (counts : Counts) (left : ℕ)
+    → Grows (λ o. IsLoop edition counts left o) (λ o. IsLoop edition counts (suc left) o)
+loop_grows edition counts left =
     as_grows
-    (either_grows (image_grows loop_text (pair_grows (word_on_grows keyword.Loop) (block_grows edition left)))
+    (either_grows (image_grows loop_text (pair_grows (word_on_grows keyword.Loop) (block_grows edition counts left)))
     (nothing_grows None))
-    (seen_by (λ o. o) (λ o. o) (loop_there edition left) (loop_back edition left) (λ o. refl))
-    (λ x l is. loop_there edition (suc left) x Whole l is)
+    (seen_by (λ o. o) (λ o. o) (loop_there edition counts left) (loop_back edition counts left) (λ o. refl))
+    (λ x l is. loop_there edition counts (suc left) x Whole l is)
 
 head_grows : Grows (λ (h : HeadTree). IsHead h.line h.name h.node) (λ (h : HeadTree). IsHead h.line h.name h.node)
 head_grows =
@@ -296,13 +333,14 @@ head_grows =
     (seen_by head_made (λ h. (h.line, (h.name, (tt, (h.node, tt))))) (λ x extent l is. is) (λ z extent l is. is)
     (λ z. refl)) (λ x l is. is)
 
-process_grows : (edition left : ℕ) → Grows (λ p. IsProcess edition left p) (λ p. IsProcess edition (suc left) p)
-process_grows edition left =
+process_grows : (edition : Edition) (counts : Counts) (left : ℕ)
+    → Grows (λ p. IsProcess edition counts left p) (λ p. IsProcess edition counts (suc left) p)
+process_grows edition counts left =
     as_grows
     (pair_grows head_grows
     (pair_grows (each_grows variable_grows)
-    (pair_grows (statements_grows edition left (block_grows edition left))
-    (pair_grows (loop_grows edition left) (symbol_grows symbol.RightBrace)))))
+    (pair_grows (statements_grows edition counts left (block_grows edition counts left))
+    (pair_grows (loop_grows edition counts left) (symbol_grows symbol.RightBrace)))))
     (seen_by process_made
     (λ p. (record { line = p.line; name = p.name; node = p.node }, (p.variables, (p.prelude, (p.repeated, tt)))))
     (λ x extent l is. is) (λ z extent l is. is) (λ z. refl)) (λ x l is. is)
@@ -326,43 +364,49 @@ channel_grows role =
     })
     (λ x l is. (refl, is))
 
-declaration_grows : (edition left : ℕ)
-    → Grows (λ d. IsDeclaration edition left d) (λ d. IsDeclaration edition (suc left) d)
-declaration_grows edition left =
+declaration_grows : (edition : Edition) (counts : Counts) (left : ℕ)
+    → Grows (λ d. IsDeclaration edition counts left d) (λ d. IsDeclaration edition counts (suc left) d)
+declaration_grows edition counts left =
     as_grows
-    (either_grows (image_grows ProcessDeclared (process_grows edition left))
+    (either_grows (image_grows ProcessDeclared (process_grows edition counts left))
     (either_grows (image_grows ChannelTree (channel_grows Input))
     (either_grows (image_grows ChannelTree (channel_grows Output))
     (image_grows ChannelTree (channel_grows Inner)))))
-    (seen_by (λ d. d) (λ d. d) (declaration_there edition left) (declaration_back edition left) (λ d. refl))
-    (λ x l is. declaration_there edition (suc left) x Whole l is)
+    (seen_by (λ d. d) (λ d. d) (declaration_there edition counts left) (declaration_back edition counts left)
+    (λ d. refl))
+    (λ x l is. declaration_there edition counts (suc left) x Whole l is)
 
-edition_grows : (edition : ℕ) → Grows (λ (u : Unit {0}). IsEdition edition) (λ (u : Unit {0}). IsEdition edition)
-edition_grows edition =
+edition_grows : (edition : Edition) (counts : Counts) (left : ℕ)
+    → Grows (λ ds. IsEdition counts left ds edition) (λ ds. IsEdition counts (suc left) ds edition)
+edition_grows edition counts left =
+    as_grows
+    (pair_grows
+    (one_grows (λ (u : Unit {0}) t. t.kind ≡ kind.Number (edition_number edition)) tt
+    (token (kind.Number (edition_number edition))) refl)
+    (pair_grows (symbol_grows symbol.Semicolon) (each_grows (declaration_grows edition counts left))))
+    (seen_by (λ x. x.1.1) (λ z. (tt, (tt, z))) (λ x extent l is. is) (λ z extent l is. is) (λ z. refl)) (λ x l is. is)
+
+text_grows : (counts : Counts) (left : ℕ) → Grows (λ ds. IsText counts left ds) (λ ds. IsText counts (suc left) ds)
+unfolding IsText
+text_grows counts left =
     as_grows
     (pair_grows (word_grows keyword.Kahn)
-    (pair_grows
-    (one_grows (λ (u : Unit {0}) t. t.kind ≡ kind.Number edition) tt (token (kind.Number edition)) refl)
-    (symbol_grows symbol.Semicolon)))
-    (seen_by (λ x. tt) (λ u. (tt, (tt, tt))) (λ x extent l is. is) (λ z extent l is. is) (λ z. refl)) (λ x l is. is)
-
-text_grows : (edition left : ℕ) → Grows (λ ds. IsText edition left ds) (λ ds. IsText edition (suc left) ds)
-unfolding IsText
-text_grows edition left =
-    as_grows (pair_grows (edition_grows edition) (each_grows (declaration_grows edition left)))
+    (either_grows (edition_grows First counts left) (edition_grows Second counts left)))
     (seen_by (λ x. x.1) (λ z. (tt, z)) (λ x extent l is. is) (λ z extent l is. is) (λ z. refl)) (λ x l is. is)
 
 -- what begins a text is the front of one where one more may be open
-pub begins_front : (left : ℕ) (ts : List Lexeme) → Begins 1 left ts → IsFront 1 (suc left) ts
-begins_front left ts begins = let c = (text_grows 1 left).completes begins.declarations ts begins.begun in
+pub begins_front : (counts : Counts) (left : ℕ) (ts : List Lexeme) → Begins counts left ts
+    → IsFront counts (suc left) ts
+begins_front counts left ts begins =
+    let c = (text_grows counts left).completes begins.declarations ts begins.begun in
     record { declarations = c.0; more = c.1; whole = c.2 }
 
 -- the front of a text begins one
-pub front_begins : (left : ℕ) (ts : List Lexeme) → IsFront 1 left ts → Begins 1 left ts
-front_begins left ts front =
-    elim ((text_grows 1 left).prefix front.declarations ts front.more front.whole) as (λ _. Begins 1 left ts) [
+pub front_begins : (counts : Counts) (left : ℕ) (ts : List Lexeme) → IsFront counts left ts → Begins counts left ts
+front_begins counts left ts front =
+    elim ((text_grows counts left).prefix front.declarations ts front.more front.whole) as (λ _. Begins counts left ts) [
       | inl begun ↦ record { declarations = begun.0; begun = begun.1 }
       | inr whole ↦
-          (let longer = text_goes_on left front.declarations ts whole.0 in
+          (let longer = text_goes_on counts left front.declarations ts whole.0 in
           record { declarations = longer.0; begun = longer.1 })
     ]

@@ -4,10 +4,12 @@ use Rattle.std.proofs.Common.{◌++◌, length, Result, Ok, Err, refl, sym, ap, 
 use Rattle.std.proofs.Common.{length-append}
 use Rattle.net_text.specs.Tokens.{Lexeme}
 use Rattle.net_text.specs.Grammar.{Extent, Whole, Begun, Rule, ◌>>◌, ◌or◌, IsWhere, IsNothing, IsAwaited, IsOne, IsEach}
+use Rattle.net_text.specs.Grammar.{IsCount}
+use Rattle.net_text.specs.Editions.{Counts, Unranged, is_count}
 use Rattle.net_text.specs.Reading.{Read, Reader, has_symbol, begins, pair_at, as_at, either_at, nothing_at, many}
-use Rattle.net_text.specs.Reading.{each_at, unopened_at}
+use Rattle.net_text.specs.Reading.{each_at, unopened_at, count_in, count_at}
 use Rattle.net_text.specs.declared.parser.Stuck.{Stuck}
-use Rattle.net_text.specs.declared.parser.Stuck.TheVariants.{At, TooDeep, AtEnd}
+use Rattle.net_text.specs.declared.parser.Stuck.TheVariants.{At, TooDeep, OutOfRange, AtEnd}
 use Rattle.net_text.specs.declared.token.Keyword.{Keyword}
 use Rattle.net_text.specs.declared.token.Symbol.{Symbol}
 use Rattle.net_text.specs.declared.token.TokenKind.{TokenKind}
@@ -22,12 +24,14 @@ pub data Class : Type 0 where
   ASymbol : (s : Symbol) → Class
   AName : Class
   ANumber : Class
+  AValue : (n : ℕ) → Class
 
 abbrev pub IsClass : Class → TokenKind → Type 0
 IsClass (AWord w) k = k ≡ kind.Word w
 IsClass (ASymbol s) k = k ≡ kind.Symbol s
 IsClass AName k = k ≡ kind.Name
 IsClass ANumber k = (n : ℕ) × (k ≡ kind.Number n)
+IsClass (AValue n) k = k ≡ kind.Number n
 
 abbrev pub IsOf : List Class → TokenKind → Type 0
 IsOf [] k = ⊥
@@ -39,6 +43,7 @@ TestsClass test b (AWord w) = test (kind.Word w) ≡ b
 TestsClass test b (ASymbol s) = test (kind.Symbol s) ≡ b
 TestsClass test b AName = test kind.Name ≡ b
 TestsClass test b ANumber = (n : ℕ) → test (kind.Number n) ≡ b
+TestsClass test b (AValue n) = test (kind.Number n) ≡ b
 
 abbrev pub Tests : (TokenKind → Bool) → Bool → List Class → Type 0
 Tests test b [] = Unit {0}
@@ -50,6 +55,7 @@ tests_class test b (AWord w) k h is = ap test is ∙ h
 tests_class test b (ASymbol s) k h is = ap test is ∙ h
 tests_class test b AName k h is = ap test is ∙ h
 tests_class test b ANumber k h is = ap test is.1 ∙ h is.0
+tests_class test b (AValue n) k h is = ap test is ∙ h
 
 pub tests_of : (test : TokenKind → Bool) (b : Bool) (cs : List Class) (k : TokenKind) → Tests test b cs → IsOf cs k
     → test k ≡ b
@@ -106,19 +112,31 @@ begins_next test a b e = begins_of_next test a ∙ ap (begins test) e ∙ sym (b
 
 -- ---- the law
 
--- what stops a reader where one more may be open
+-- what stops a reader where one more may be open and repetitions may have any number
 abbrev pub raised : Stuck → Stuck
 raised AtEnd = AtEnd
 raised (At line) = At line
 raised (TooDeep line) = AtEnd
+raised (OutOfRange line) = AtEnd
 
 abbrev pub IsOnLine : ℕ → List Lexeme → Type 0
 IsOnLine line rest = (t : Lexeme) × (more : List Lexeme) × (rest ≡ t ∷ more) × (line ≡ t.line)
 
+-- what may not be opened is no number, and what is outside the limits is one
+abbrev pub IsNoNumber : TokenKind → Type 0
+IsNoNumber k = (n : ℕ) → k ≡ kind.Number n → ⊥
+
+abbrev pub IsSomeNumber : TokenKind → Type 0
+IsSomeNumber k = (n : ℕ) × (k ≡ kind.Number n)
+
+abbrev pub IsOnLineAs : (TokenKind → Type 0) → ℕ → List Lexeme → Type 0
+IsOnLineAs Is line rest = (t : Lexeme) × (more : List Lexeme) × (rest ≡ t ∷ more) × (line ≡ t.line) × Is t.kind
+
 abbrev pub IsStopAt : Stuck → List Lexeme → Type 0
 IsStopAt AtEnd rest = rest ≡ []
 IsStopAt (At line) rest = IsOnLine line rest
-IsStopAt (TooDeep line) rest = IsOnLine line rest
+IsStopAt (TooDeep line) rest = IsOnLineAs IsNoNumber line rest
+IsStopAt (OutOfRange line) rest = IsOnLineAs IsSomeNumber line rest
 
 -- a part was read, and would be before all tokens that begin as those behind it do
 pub record Took {A : Type 0} (P : A → Rule) (read : Reader A) (ts : List Lexeme) (x : A × List Lexeme) : Type 0 where
@@ -149,6 +167,7 @@ GoesOn (Ok x) = x.1 ≡ []
 GoesOn (Err AtEnd) = Unit {0}
 GoesOn (Err (At line)) = ⊥
 GoesOn (Err (TooDeep line)) = ⊥
+GoesOn (Err (OutOfRange line)) = ⊥
 
 -- A reader of a rule, and the same where one more may be open. A part begins with tokens of some classes; a token that
 -- passes a test may go on with it.
@@ -383,6 +402,7 @@ goes_seen view (Ok x) h = h
 goes_seen view (Err AtEnd) h = tt
 goes_seen view (Err (At line)) h = absurd h
 goes_seen view (Err (TooDeep line)) h = absurd h
+goes_seen view (Err (OutOfRange line)) h = absurd h
 
 goes_first : {A B : Type 0} (r' : Reader B) (o : Read A) → GoesOn (r' []) → GoesOn o
     → GoesOn {A = A × B} (o >>= λ a. r' a.1 >>= λ b. Ok ((a.0, b.0), b.1))
@@ -390,6 +410,7 @@ goes_first r' (Ok x) h k = goes_seen (λ b. (x.0, b.0)) (r' x.1) (subst (λ (l :
 goes_first r' (Err AtEnd) h k = tt
 goes_first r' (Err (At line)) h k = absurd k
 goes_first r' (Err (TooDeep line)) h k = absurd k
+goes_first r' (Err (OutOfRange line)) h k = absurd k
 
 pair_goes : {A B : Type 0} (P : A → Rule) (Q : B → Rule) (s s' : List Class) (e e' : Bool) (c c' : TokenKind → Bool)
     (r d : Reader A) (r' d' : Reader B) → Reads P s e c r d → Reads Q s' e' c' r' d' → Tests c false s'
@@ -751,7 +772,7 @@ unopened_ends {A} some s deeper opening (t ∷ ts) = at_token (has_symbol s t.ki
       parts = refl;
       tree = some;
       begun = refl;
-      at = (t, ts, refl, refl);
+      at = (t, ts, refl, refl, λ n k. let both : true ≡ false = sym e ∙ ap (has_symbol s) k in cc);
       same = λ mid
           n. (let m = next_token mid t n in
           ap (unopened_at s) m.1 ∙ cond_true (has_symbol s t.kind) (Err (TooDeep t.line)) (Err (At t.line)) e);
@@ -1093,6 +1114,7 @@ goes_turn {A} test item n (Ok x) h =
 goes_turn test item n (Err AtEnd) h = tt
 goes_turn test item n (Err (At line)) h = absurd h
 goes_turn test item n (Err (TooDeep line)) h = absurd h
+goes_turn test item n (Err (OutOfRange line)) h = absurd h
 
 each_goes : {A : Type 0} {P : A → Rule} {s : List Class} {c : TokenKind → Bool} {item deeper : Reader A}
     (test : TokenKind → Bool) → Reads P s false c item deeper → Tests test true s → Tests c false s
@@ -1135,4 +1157,172 @@ each_reads {A} {P} {s} {c} {item} {deeper} test h starts apart = record {
       (omega arith);
   first = each_first P s h.first;
   goes = λ xs front is. each_goes test h starts apart xs front is (length front) (omega arith);
+}
+
+-- ---- a number within limits, and a part behind it
+
+count_ended : (counts : Counts) → count_at counts [] ≡ Err AtEnd
+unfolding count_at
+count_ended counts = refl
+
+count_token : (counts : Counts) (t : Lexeme) (n : ℕ) (b : Bool) → t.kind ≡ kind.Number n → is_count counts n ≡ b
+    → (ts : List Lexeme) → count_at counts (t ∷ ts) ≡ cond b (Ok (n, ts)) (Err (OutOfRange t.line))
+unfolding count_at
+count_token counts t n b is e ts =
+    ap (λ (k : TokenKind). count_in counts k t.line ts) is
+    ∙ ap (λ (c : Bool). cond {A = Read ℕ} c (Ok (n, ts)) (Err (OutOfRange t.line))) e
+
+abbrev AlwaysFails : Lexeme → Type 0
+AlwaysFails t = (counts : Counts) (ts : List Lexeme) → count_at counts (t ∷ ts) ≡ Err (At t.line)
+
+-- a number, or a token that is none
+count_kinds : (t : Lexeme) (k : TokenKind) → t.kind ≡ k → IsSomeNumber t.kind ⊎ AlwaysFails t
+unfolding count_at
+count_kinds t (kind.Number n) e = inl (n, e)
+count_kinds t (kind.Word w) e = inr (λ counts ts. ap (λ (k : TokenKind). count_in counts k t.line ts) e)
+count_kinds t (kind.Symbol s) e = inr (λ counts ts. ap (λ (k : TokenKind). count_in counts k t.line ts) e)
+count_kinds t kind.Name e = inr (λ counts ts. ap (λ (k : TokenKind). count_in counts k t.line ts) e)
+
+count_in_kept : (counts : Counts) (k : TokenKind) (line : ℕ) (ts : List Lexeme) (x : ℕ × List Lexeme)
+    → count_in counts k line ts ≡ Ok x → count_in Unranged k line ts ≡ Ok x
+count_in_kept counts (kind.Number n) line ts x e =
+    elim (cond_at (is_count counts n) (Ok (n, ts)) (Err (OutOfRange line)) (Ok x) e) as
+    (λ _. count_in Unranged (kind.Number n) line ts ≡ Ok x)
+    [ inl one ↦ one.1 | inr two ↦ absurd (no_number two.1) ]
+  where
+    no_number : (let o : Read ℕ = Err (OutOfRange line) in o ≡ Ok x) → ⊥
+    no_number h = cc
+count_in_kept counts (kind.Word w) line ts x e = absurd cc
+count_in_kept counts (kind.Symbol s) line ts x e = absurd cc
+count_in_kept counts kind.Name line ts x e = absurd cc
+
+count_kept : (counts : Counts) (ts : List Lexeme) (x : ℕ × List Lexeme) → count_at counts ts ≡ Ok x
+    → count_at Unranged ts ≡ Ok x
+unfolding count_at
+count_kept counts [] x e = absurd cc
+count_kept counts (t ∷ ts) x e = count_in_kept counts t.kind t.line ts x e
+
+count_front : (counts : Counts) (n : ℕ) (front rest : List Lexeme) → IsCount counts n Whole front
+    → count_at counts (front ++ rest) ≡ Ok (n, rest)
+count_front counts n front rest (t, one, is) =
+    ap (λ (l : List Lexeme). count_at counts (l ++ rest)) one ∙ count_token counts t n true is.0 is.1 rest
+
+abbrev CountedRule : {B : Type 0} → Counts → (B → Rule) → ℕ × B → Rule
+CountedRule counts Q x = IsCount counts x.0 >> Q x.1
+
+counted_ends : {B : Type 0} (counts : Counts) (Q : B → Rule) (r d : Reader B) → B → d [] ≡ Err AtEnd
+    → ((ts : List Lexeme) → Ends Q r d ts (r ts)) → (ts : List Lexeme)
+    → Ends (CountedRule counts Q) (pair_at (count_at counts) r) (pair_at (count_at Unranged) d) ts
+    (pair_at (count_at counts) r ts)
+counted_ends {B} counts Q r d some ended ends [] =
+    subst
+    (λ (o : Read (ℕ × B)). Ends (CountedRule counts Q) (pair_at (count_at counts) r) (pair_at (count_at Unranged) d) []
+    o)
+    (sym (pair_stops (count_at counts) r [] AtEnd (count_ended counts)))
+    (record {
+      front = [];
+      rest = [];
+      parts = refl;
+      tree = (1, some);
+      begun = inl refl;
+      at = refl;
+      same = λ mid e. pair_stops (count_at counts) r mid AtEnd
+          (ap (count_at counts) (next_empty mid e) ∙ count_ended counts);
+      higher = pair_stops (count_at Unranged) d [] AtEnd (count_ended Unranged);
+    })
+counted_ends {B} counts Q r d some ended ends (t ∷ ts) =
+    elim (count_kinds t t.kind refl) as
+    (λ _. Ends (CountedRule counts Q) (pair_at (count_at counts) r) (pair_at (count_at Unranged) d) (t ∷ ts)
+    (pair_at (count_at counts) r (t ∷ ts)))
+    [ inl number ↦ at_test number.0 number.1 (is_count counts number.0) refl | inr fails ↦ at_other fails ]
+  where
+    at_test : (n : ℕ) → t.kind ≡ kind.Number n → (b : Bool) → is_count counts n ≡ b
+        → Ends (CountedRule counts Q) (pair_at (count_at counts) r) (pair_at (count_at Unranged) d) (t ∷ ts)
+        (pair_at (count_at counts) r (t ∷ ts))
+    at_test n is true e =
+        subst
+        (λ (o : Read (ℕ × B)). Ends (CountedRule counts Q) (pair_at (count_at counts) r)
+        (pair_at (count_at Unranged) d) (t ∷ ts) o)
+        (sym (pair_runs (count_at counts) r (t ∷ ts) ts n (r ts) (count_token counts t n true is e ts) refl))
+        (second_ends (IsCount counts) Q (count_at counts) (count_at Unranged) r d (count_kept counts) (t ∷ ts) (n, ts)
+        (record {
+          front = t ∷ [];
+          parts = refl;
+          is = (t, refl, (is, e));
+          ahead = λ mid near. count_token counts t n true is e mid;
+        })
+        (r ts) (ends ts))
+    at_test n is false e =
+        subst
+        (λ (o : Read (ℕ × B)). Ends (CountedRule counts Q) (pair_at (count_at counts) r)
+        (pair_at (count_at Unranged) d) (t ∷ ts) o)
+        (sym (pair_stops (count_at counts) r (t ∷ ts) (OutOfRange t.line) (count_token counts t n false is e ts)))
+        (record {
+          front = [];
+          rest = t ∷ ts;
+          parts = refl;
+          tree = (1, some);
+          begun = inl refl;
+          at = (t, ts, refl, refl, (n, is));
+          same = λ mid near. (let m = next_token mid t near in
+              ap (pair_at (count_at counts) r) m.1
+              ∙ pair_stops (count_at counts) r (t ∷ m.0) (OutOfRange t.line) (count_token counts t n false is e m.0));
+          higher = pair_runs (count_at Unranged) d (t ∷ []) [] n (Err AtEnd) (count_token Unranged t n true is refl [])
+              ended;
+        })
+
+    at_other : AlwaysFails t
+        → Ends (CountedRule counts Q) (pair_at (count_at counts) r) (pair_at (count_at Unranged) d) (t ∷ ts)
+        (pair_at (count_at counts) r (t ∷ ts))
+    at_other fails =
+        subst
+        (λ (o : Read (ℕ × B)). Ends (CountedRule counts Q) (pair_at (count_at counts) r)
+        (pair_at (count_at Unranged) d) (t ∷ ts) o)
+        (sym (pair_stops (count_at counts) r (t ∷ ts) (At t.line) (fails counts ts)))
+        (record {
+          front = [];
+          rest = t ∷ ts;
+          parts = refl;
+          tree = (1, some);
+          begun = inl refl;
+          at = (t, ts, refl, refl);
+          same = λ mid near. (let m = next_token mid t near in
+              ap (pair_at (count_at counts) r) m.1
+              ∙ pair_stops (count_at counts) r (t ∷ m.0) (At t.line) (fails counts m.0));
+          higher = pair_stops (count_at Unranged) d (t ∷ []) (At t.line) (fails Unranged []);
+        })
+
+counted_goes : {B : Type 0} (counts : Counts) (Q : B → Rule) (r : Reader B)
+    → ((x : B) (front : List Lexeme) → Q x Begun front → GoesOn (r front)) → (x : ℕ × B) (front : List Lexeme)
+    → CountedRule counts Q x Begun front → GoesOn (pair_at (count_at counts) r front)
+counted_goes counts Q r goes x front (inl none) =
+    goes_along
+    (ap (pair_at (count_at counts) r) none ∙ pair_stops (count_at counts) r [] AtEnd (count_ended counts)) tt
+counted_goes counts Q r goes x front (inr (a, b, parts, p, q)) =
+    goes_along
+    (ap (pair_at (count_at counts) r) parts
+    ∙ pair_runs (count_at counts) r (a ++ b) b x.0 (r b) (count_front counts x.0 a b p) refl)
+    (goes_seen (λ y. (x.0, y.0)) (r b) (goes x.1 b q))
+
+pub counted_reads : {B : Type 0} {Q : B → Rule} {s' : List Class} {r d : Reader B} (counts : Counts)
+    → d [] ≡ Err AtEnd → Reads Q s' false never r d
+    → Reads (λ (x : ℕ × B). IsCount counts x.0 >> Q x.1) (ANumber ∷ []) false never (pair_at (count_at counts) r)
+    (pair_at (count_at Unranged) d)
+counted_reads {B} {Q} {s'} {r} {d} counts ended k = record {
+  some = (1, k.some);
+  from_nothing = inl refl;
+  ends = counted_ends counts Q r d k.some ended k.ends;
+  kept = λ ts x was.
+      let one = went_on (count_at counts ts) (λ a. r a.1 >>= λ b. Ok ((a.0, b.0), b.1)) x was in
+      let two = went_on (r one.0.1) (λ b. Ok ((one.0.0, b.0), b.1)) x one.2 in
+      pair_runs (count_at Unranged) d ts one.0.1 one.0.0 (Ok two.0) (count_kept counts ts one.0 one.1)
+      (k.kept one.0.1 two.0 two.1) ∙ two.2;
+  again = λ x front rest is stop.
+      ap (pair_at (count_at counts) r) (split_rest front is.0 is.1 rest is.2)
+      ∙ pair_runs (count_at counts) r (is.0 ++ (is.1 ++ rest)) (is.1 ++ rest) x.0 (Ok (x.1, rest))
+      (count_front counts x.0 is.0 (is.1 ++ rest) is.3) (k.again x.1 is.1 rest is.4 stop);
+  first = then_first (IsCount counts) Q (ANumber ∷ []) s' false false
+      (one_first (λ n t. (t.kind ≡ kind.Number n) × (is_count counts n ≡ true)) (ANumber ∷ [])
+      (λ n t is. inl (n, is.0))) k.first;
+  goes = counted_goes counts Q r k.goes;
 }

@@ -6,7 +6,9 @@ use Rattle.net_text.specs.Numbers.{is_numeral}
 use Rattle.net_text.specs.Spellings.{IsLexeme, IsLongest, is_word}
 use Rattle.net_text.specs.Tokens.{Lexeme, AreTokensTo, IsTokenFrom, EndsAt, IsBadAt, IsBadFrom}
 use Rattle.net_text.specs.Grammar.{Whole, IsText, IsTextOf, Begins}
-use Rattle.net_text.specs.Texts.{BeginsTo, IsStrayToken, IsOneTooDeep, IsCutShort, IsParseFault}
+use Rattle.net_text.specs.Texts.{BeginsTo, IsStrayToken, IsOneTooDeep, IsCountPastLimits, IsCutShort, IsParseFault}
+use Rattle.net_text.specs.Editions.{Ranged, Unranged}
+use Rattle.net_text.specs.declared.token.TokenKind.TheVariants as kind
 use Rattle.net_text.proofs.Readings.{one_token, token_no_end, token_no_bad, bad_no_end, one_place, one_longest_front}
 use Rattle.net_text.proofs.Readings.{longest_within, word_no_numeral}
 use Rattle.net_text.proofs.Rules.{text_goes_on}
@@ -21,25 +23,29 @@ use Rattle.net_text.specs.declared.limits.TheConstants.{MAX_TEXT_BYTES, MAX_NEST
 IsStopBy : List ℕ → List Lexeme → ℕ → TextFault → Type 0
 IsStopBy text ts place NoMemory = ⊥
 IsStopBy text ts place (BadToken line) = IsBadFrom text place (BadToken line)
-IsStopBy text ts place (NumberRange line) = IsBadFrom text place (NumberRange line)
+IsStopBy text ts place (NumberRange line) =
+    IsBadFrom text place (NumberRange line) ⊎ IsCountPastLimits text ts place line
 IsStopBy text ts place (TooLong line) = IsBadFrom text place (TooLong line) ⊎ IsOneTooDeep text ts place line
 IsStopBy text ts place (Unexpected line) = IsStrayToken text ts place line ⊎ IsCutShort text ts place line
 
 -- a text cut before a token that is refused begins no further
-no_further : (ts : List Lexeme) (t u : Lexeme) (more : List Lexeme) → t ≡ u → (Begins 1 MAX_NESTING (ts ++ t ∷ []) → ⊥)
-    → Begins 1 MAX_NESTING (ts ++ u ∷ more) → ⊥
+no_further : (ts : List Lexeme) (t u : Lexeme) (more : List Lexeme) → t ≡ u
+    → (Begins Ranged MAX_NESTING (ts ++ t ∷ []) → ⊥)
+    → Begins Ranged MAX_NESTING (ts ++ u ∷ more) → ⊥
 no_further ts t u more same none begins =
-    none (begins_cut MAX_NESTING (ts ++ t ∷ []) more
-    (subst (λ (l : List Lexeme). Begins 1 MAX_NESTING l)
+    none (begins_cut Ranged MAX_NESTING (ts ++ t ∷ []) more
+    (subst (λ (l : List Lexeme). Begins Ranged MAX_NESTING l)
     (ap (λ (v : Lexeme). ts ++ v ∷ more) (sym same) ∙ sym (append_assoc ts (t ∷ []) more)) begins))
 
 stops_here : (text : List ℕ) (ts : List Lexeme) (place : ℕ) (f : TextFault) → IsStopBy text ts place f
-    → (t : Lexeme) (more : List Lexeme) → IsTokenFrom text place t → Begins 1 MAX_NESTING (ts ++ t ∷ more) → ⊥
+    → (t : Lexeme) (more : List Lexeme) → IsTokenFrom text place t → Begins Ranged MAX_NESTING (ts ++ t ∷ more) → ⊥
 unfolding IsStopBy
 stops_here text ts place NoMemory stop t more token begins = stop
 stops_here text ts place (BadToken line) stop t more token begins = token_no_bad text place t (BadToken line) token stop
-stops_here text ts place (NumberRange line) stop t more token begins =
-    token_no_bad text place t (NumberRange line) token stop
+stops_here text ts place (NumberRange line) (inl bad) t more token begins =
+    token_no_bad text place t (NumberRange line) token bad
+stops_here text ts place (NumberRange line) (inr past) t more token begins =
+    no_further ts past.token t more (one_token text place past.token t past.next token) past.none begins
 stops_here text ts place (TooLong line) (inl bad) t more token begins =
     token_no_bad text place t (TooLong line) token bad
 stops_here text ts place (TooLong line) (inr deep) t more token begins =
@@ -98,7 +104,20 @@ deep_not_stray : (text : List ℕ) (ts : List Lexeme) (place n m : ℕ) → IsOn
     → IsStrayToken text ts place m → ⊥
 deep_not_stray text ts place n m deep stray =
     let same = one_token text place deep.token stray.token deep.next stray.next in
-    stray.none_deeper (subst (λ (t : Lexeme). Begins 1 (suc MAX_NESTING) (ts ++ t ∷ [])) same deep.deeper)
+    stray.none_deeper (subst (λ (t : Lexeme). Begins Unranged (suc MAX_NESTING) (ts ++ t ∷ [])) same deep.deeper)
+
+past_not_stray : (text : List ℕ) (ts : List Lexeme) (place n m : ℕ) → IsCountPastLimits text ts place n
+    → IsStrayToken text ts place m → ⊥
+past_not_stray text ts place n m past stray =
+    let same = one_token text place past.token stray.token past.next stray.next in
+    stray.none_deeper (subst (λ (t : Lexeme). Begins Unranged (suc MAX_NESTING) (ts ++ t ∷ [])) same past.unranged)
+
+past_not_deep : (text : List ℕ) (ts : List Lexeme) (place n m : ℕ) → IsCountPastLimits text ts place n
+    → IsOneTooDeep text ts place m → ⊥
+past_not_deep text ts place n m past deep =
+    let same = one_token text place past.token deep.token past.next deep.next in
+    deep.no_number past.number
+    (subst (λ (t : Lexeme). t.kind ≡ kind.Number past.number) same past.number_is)
 
 one_stop : (text : List ℕ) (ts : List Lexeme) (place : ℕ) (f g : TextFault) → IsStopBy text ts place f
     → IsStopBy text ts place g → f ≡ g
@@ -106,7 +125,9 @@ unfolding IsStopBy
 one_stop text ts place NoMemory g a b = absurd a
 one_stop text ts place (BadToken n) NoMemory a b = absurd b
 one_stop text ts place (BadToken n) (BadToken m) a b = one_bad text place (BadToken n) (BadToken m) a b
-one_stop text ts place (BadToken n) (NumberRange m) a b = one_bad text place (BadToken n) (NumberRange m) a b
+one_stop text ts place (BadToken n) (NumberRange m) a (inl b) = one_bad text place (BadToken n) (NumberRange m) a b
+one_stop text ts place (BadToken n) (NumberRange m) a (inr b) =
+    absurd (token_no_bad text place b.token (BadToken n) b.next a)
 one_stop text ts place (BadToken n) (TooLong m) a (inl b) = one_bad text place (BadToken n) (TooLong m) a b
 one_stop text ts place (BadToken n) (TooLong m) a (inr b) =
     absurd (token_no_bad text place b.token (BadToken n) b.next a)
@@ -114,22 +135,43 @@ one_stop text ts place (BadToken n) (Unexpected m) a (inl b) =
     absurd (token_no_bad text place b.token (BadToken n) b.next a)
 one_stop text ts place (BadToken n) (Unexpected m) a (inr b) = absurd (bad_no_end text place (BadToken n) a b.ends)
 one_stop text ts place (NumberRange n) NoMemory a b = absurd b
-one_stop text ts place (NumberRange n) (BadToken m) a b = one_bad text place (NumberRange n) (BadToken m) a b
-one_stop text ts place (NumberRange n) (NumberRange m) a b = one_bad text place (NumberRange n) (NumberRange m) a b
-one_stop text ts place (NumberRange n) (TooLong m) a (inl b) = one_bad text place (NumberRange n) (TooLong m) a b
-one_stop text ts place (NumberRange n) (TooLong m) a (inr b) =
+one_stop text ts place (NumberRange n) (BadToken m) (inl a) b = one_bad text place (NumberRange n) (BadToken m) a b
+one_stop text ts place (NumberRange n) (BadToken m) (inr a) b =
+    absurd (token_no_bad text place a.token (BadToken m) a.next b)
+one_stop text ts place (NumberRange n) (NumberRange m) (inl a) (inl b) =
+    one_bad text place (NumberRange n) (NumberRange m) a b
+one_stop text ts place (NumberRange n) (NumberRange m) (inl a) (inr b) =
     absurd (token_no_bad text place b.token (NumberRange n) b.next a)
-one_stop text ts place (NumberRange n) (Unexpected m) a (inl b) =
+one_stop text ts place (NumberRange n) (NumberRange m) (inr a) (inl b) =
+    absurd (token_no_bad text place a.token (NumberRange m) a.next b)
+one_stop text ts place (NumberRange n) (NumberRange m) (inr a) (inr b) =
+    ap NumberRange
+    (one_line a.token b.token n m (one_token text place a.token b.token a.next b.next) a.line_is b.line_is)
+one_stop text ts place (NumberRange n) (TooLong m) (inl a) (inl b) =
+    one_bad text place (NumberRange n) (TooLong m) a b
+one_stop text ts place (NumberRange n) (TooLong m) (inl a) (inr b) =
     absurd (token_no_bad text place b.token (NumberRange n) b.next a)
-one_stop text ts place (NumberRange n) (Unexpected m) a (inr b) =
+one_stop text ts place (NumberRange n) (TooLong m) (inr a) (inl b) =
+    absurd (token_no_bad text place a.token (TooLong m) a.next b)
+one_stop text ts place (NumberRange n) (TooLong m) (inr a) (inr b) = absurd (past_not_deep text ts place n m a b)
+one_stop text ts place (NumberRange n) (Unexpected m) (inl a) (inl b) =
+    absurd (token_no_bad text place b.token (NumberRange n) b.next a)
+one_stop text ts place (NumberRange n) (Unexpected m) (inl a) (inr b) =
     absurd (bad_no_end text place (NumberRange n) a b.ends)
+one_stop text ts place (NumberRange n) (Unexpected m) (inr a) (inl b) = absurd (past_not_stray text ts place n m a b)
+one_stop text ts place (NumberRange n) (Unexpected m) (inr a) (inr b) =
+    absurd (token_no_end text place a.token a.next b.ends)
 one_stop text ts place (TooLong n) NoMemory a b = absurd b
 one_stop text ts place (TooLong n) (BadToken m) (inl a) b = one_bad text place (TooLong n) (BadToken m) a b
 one_stop text ts place (TooLong n) (BadToken m) (inr a) b =
     absurd (token_no_bad text place a.token (BadToken m) a.next b)
-one_stop text ts place (TooLong n) (NumberRange m) (inl a) b = one_bad text place (TooLong n) (NumberRange m) a b
-one_stop text ts place (TooLong n) (NumberRange m) (inr a) b =
+one_stop text ts place (TooLong n) (NumberRange m) (inl a) (inl b) =
+    one_bad text place (TooLong n) (NumberRange m) a b
+one_stop text ts place (TooLong n) (NumberRange m) (inl a) (inr b) =
+    absurd (token_no_bad text place b.token (TooLong n) b.next a)
+one_stop text ts place (TooLong n) (NumberRange m) (inr a) (inl b) =
     absurd (token_no_bad text place a.token (NumberRange m) a.next b)
+one_stop text ts place (TooLong n) (NumberRange m) (inr a) (inr b) = absurd (past_not_deep text ts place m n b a)
 one_stop text ts place (TooLong n) (TooLong m) (inl a) (inl b) = one_bad text place (TooLong n) (TooLong m) a b
 one_stop text ts place (TooLong n) (TooLong m) (inl a) (inr b) =
     absurd (token_no_bad text place b.token (TooLong n) b.next a)
@@ -147,10 +189,13 @@ one_stop text ts place (Unexpected n) NoMemory a b = absurd b
 one_stop text ts place (Unexpected n) (BadToken m) (inl a) b =
     absurd (token_no_bad text place a.token (BadToken m) a.next b)
 one_stop text ts place (Unexpected n) (BadToken m) (inr a) b = absurd (bad_no_end text place (BadToken m) b a.ends)
-one_stop text ts place (Unexpected n) (NumberRange m) (inl a) b =
+one_stop text ts place (Unexpected n) (NumberRange m) (inl a) (inl b) =
     absurd (token_no_bad text place a.token (NumberRange m) a.next b)
-one_stop text ts place (Unexpected n) (NumberRange m) (inr a) b =
+one_stop text ts place (Unexpected n) (NumberRange m) (inl a) (inr b) = absurd (past_not_stray text ts place m n b a)
+one_stop text ts place (Unexpected n) (NumberRange m) (inr a) (inl b) =
     absurd (bad_no_end text place (NumberRange m) b a.ends)
+one_stop text ts place (Unexpected n) (NumberRange m) (inr a) (inr b) =
+    absurd (token_no_end text place b.token b.next a.ends)
 one_stop text ts place (Unexpected n) (TooLong m) (inl a) (inl b) =
     absurd (token_no_bad text place a.token (TooLong m) a.next b)
 one_stop text ts place (Unexpected n) (TooLong m) (inl a) (inr b) = absurd (deep_not_stray text ts place m n b a)
@@ -219,10 +264,10 @@ same_stop text f g a b =
       | inr apart ↦ elim apart as (λ _. f ≡ g) [
         | inl further ↦ absurd
             (stops_here text a.ts a.place f a.stop further.token further.more further.next
-            (subst (λ (l : List Lexeme). Begins 1 MAX_NESTING l) further.parts b.to.begins))
+            (subst (λ (l : List Lexeme). Begins Ranged MAX_NESTING l) further.parts b.to.begins))
         | inr further ↦ absurd
             (stops_here text b.ts b.place g b.stop further.token further.more further.next
-            (subst (λ (l : List Lexeme). Begins 1 MAX_NESTING l) further.parts a.to.begins))
+            (subst (λ (l : List Lexeme). Begins Ranged MAX_NESTING l) further.parts a.to.begins))
       ]
     ]
 
@@ -234,7 +279,10 @@ said : (text : List ℕ) (f : TextFault) → IsParseFault text f → Said text f
 unfolding Said IsStopBy
 said text NoMemory h = inl refl
 said text (BadToken n) h = inr (inr (record { small = h.0; ts = h.1.0; place = h.1.1; to = h.1.2; stop = h.1.3 }))
-said text (NumberRange n) h = inr (inr (record { small = h.0; ts = h.1.0; place = h.1.1; to = h.1.2; stop = h.1.3 }))
+said text (NumberRange n) (inl h) =
+    inr (inr (record { small = h.0; ts = h.1.0; place = h.1.1; to = h.1.2; stop = inl h.1.3 }))
+said text (NumberRange n) (inr h) =
+    inr (inr (record { small = h.0; ts = h.1.0; place = h.1.1; to = h.1.2; stop = inr h.1.3 }))
 said text (TooLong n) (inl over) = inr (inl (over.0, ap TooLong over.1))
 said text (TooLong n) (inr (inl h)) =
     inr (inr (record { small = h.0; ts = h.1.0; place = h.1.1; to = h.1.2; stop = inl h.1.3 }))
@@ -260,20 +308,22 @@ one_parse_fault text g b f a = both_said text f g (said text f a) (said text g b
 
 -- nothing stops a text where it ends
 no_stop_at_end : (text : List ℕ) (ts : List Lexeme) (place : ℕ) (tree : List DeclarationTree) (f : TextFault)
-    → IsText 1 MAX_NESTING tree Whole ts → EndsAt text place → IsStopBy text ts place f → ⊥
+    → IsText Ranged MAX_NESTING tree Whole ts → EndsAt text place → IsStopBy text ts place f → ⊥
 unfolding IsStopBy
 no_stop_at_end text ts place tree NoMemory is ends stop = stop
 no_stop_at_end text ts place tree (BadToken n) is ends stop = bad_no_end text place (BadToken n) stop ends
-no_stop_at_end text ts place tree (NumberRange n) is ends stop = bad_no_end text place (NumberRange n) stop ends
+no_stop_at_end text ts place tree (NumberRange n) is ends (inl bad) = bad_no_end text place (NumberRange n) bad ends
+no_stop_at_end text ts place tree (NumberRange n) is ends (inr past) =
+    token_no_end text place past.token past.next ends
 no_stop_at_end text ts place tree (TooLong n) is ends (inl bad) = bad_no_end text place (TooLong n) bad ends
 no_stop_at_end text ts place tree (TooLong n) is ends (inr deep) = token_no_end text place deep.token deep.next ends
 no_stop_at_end text ts place tree (Unexpected n) is ends (inl stray) =
     token_no_end text place stray.token stray.next ends
 no_stop_at_end text ts place tree (Unexpected n) is ends (inr short) = short.none tree is
 
-whole_begins : (ts : List Lexeme) (tree : List DeclarationTree) → IsText 1 MAX_NESTING tree Whole ts
-    → Begins 1 MAX_NESTING ts
-whole_begins ts tree is = let longer = text_goes_on MAX_NESTING tree ts is in
+whole_begins : (ts : List Lexeme) (tree : List DeclarationTree) → IsText Ranged MAX_NESTING tree Whole ts
+    → Begins Ranged MAX_NESTING ts
+whole_begins ts tree is = let longer = text_goes_on Ranged MAX_NESTING tree ts is in
     record { declarations = longer.0; begun = longer.1 }
 
 no_stop : (text : List ℕ) (tree : List DeclarationTree) (f : TextFault) → IsTextOf tree text → StopsBy text f → ⊥
@@ -282,11 +332,12 @@ no_stop text tree f is a =
     elim (compared text 0 a.ts is.tokens a.place is.read.place a.to.read is.read.read) as (λ _. ⊥) [
       | inl same ↦
           no_stop_at_end text a.ts a.place tree f
-          (subst (λ (l : List Lexeme). IsText 1 MAX_NESTING tree Whole l) (sym same.0) is.grammar)
+          (subst (λ (l : List Lexeme). IsText Ranged MAX_NESTING tree Whole l) (sym same.0) is.grammar)
           (subst (EndsAt text) (sym same.1) is.read.ends) a.stop
       | inr apart ↦ elim apart as (λ _. ⊥) [
         | inl further ↦ stops_here text a.ts a.place f a.stop further.token further.more further.next
-            (subst (λ (l : List Lexeme). Begins 1 MAX_NESTING l) further.parts (whole_begins is.tokens tree is.grammar))
+            (subst (λ (l : List Lexeme). Begins Ranged MAX_NESTING l) further.parts
+            (whole_begins is.tokens tree is.grammar))
         | inr further ↦ token_no_end text is.read.place further.token further.next is.read.ends
       ]
     ]

@@ -6,6 +6,8 @@ use Rattle.net_text.specs.Tokens.{Lexeme}
 use Rattle.net_text.specs.Reading.{Read, Reader, has_symbol, begins, pair_at, as_at, symbol_at, unopened_at, opening_at}
 use Rattle.net_text.specs.Reading.{atom_at, expr_of, factor_of, factor_at, parenthesised_at, minus_at, expr_at}
 use Rattle.net_text.specs.Reading.{statement_at, statements_at, block_at}
+use Rattle.net_text.specs.Editions.{Counts}
+use Rattle.net_text.specs.declared.edition.Edition.{Edition}
 use Rattle.net_text.proofs.Laws.{cond_true, cond_false}
 use Rattle.net_text.specs.declared.parser.Stuck.TheVariants.{At, TooDeep}
 use Rattle.net_text.specs.declared.token.Symbol.{Symbol}
@@ -44,49 +46,57 @@ pub unopened_steps : {A B : Type 0} (s : Symbol) (view : Unit {0} × A → B) (v
 unopened_steps {A} {B} s view value ts =
     unopened_same B s (behind view value) ts ∙ sym (seen_assoc view value (unopened_at s ts))
 
-pub parenthesised_steps : (left : ℕ) (ts : List Lexeme)
-    → parenthesised_at left ts
+pub parenthesised_steps : (edition : Edition) (left : ℕ) (ts : List Lexeme)
+    → parenthesised_at edition left ts
     ≡ as_at (λ x. x.1.0)
     (pair_at (opening_at symbol.LeftParenthesis left)
-    (pair_at (expr_at (left - 1)) (symbol_at symbol.RightParenthesis))) ts
+    (pair_at (expr_at edition (left - 1)) (symbol_at symbol.RightParenthesis))) ts
 unfolding parenthesised_at expr_at
-parenthesised_steps zero ts =
+parenthesised_steps edition zero ts =
     unopened_steps symbol.LeftParenthesis (λ x. x.1.0)
-    (pair_at (expr_of (factor_at (0 - 1))) (symbol_at symbol.RightParenthesis)) ts
-parenthesised_steps (suc left) ts = rw sub-one refl
+    (pair_at (expr_of edition (factor_at edition (0 - 1))) (symbol_at symbol.RightParenthesis)) ts
+parenthesised_steps edition (suc left) ts = rw sub-one refl
 
-pub minus_steps : (left : ℕ) (ts : List Lexeme)
-    → minus_at left ts ≡ as_at (λ x. MinusTree x.1) (pair_at (opening_at symbol.Minus left) (factor_at (left - 1))) ts
+pub minus_steps : (edition : Edition) (left : ℕ) (ts : List Lexeme)
+    → minus_at edition left ts
+    ≡ as_at (λ x. MinusTree x.1) (pair_at (opening_at symbol.Minus left) (factor_at edition (left - 1))) ts
 unfolding minus_at
-minus_steps zero ts = unopened_steps symbol.Minus (λ x. MinusTree x.1) (factor_at (0 - 1)) ts
-minus_steps (suc left) ts = rw sub-one refl
+minus_steps edition zero ts = unopened_steps symbol.Minus (λ x. MinusTree x.1) (factor_at edition (0 - 1)) ts
+minus_steps edition (suc left) ts = rw sub-one refl
 
-pub block_steps : (left : ℕ) (ts : List Lexeme)
-    → block_at left ts
+pub block_steps : (edition : Edition) (counts : Counts) (left : ℕ) (ts : List Lexeme)
+    → block_at edition counts left ts
     ≡ as_at (λ x. x.1.0)
-    (pair_at (opening_at symbol.LeftBrace left) (pair_at (statements_at (left - 1)) (symbol_at symbol.RightBrace))) ts
+    (pair_at (opening_at symbol.LeftBrace left)
+    (pair_at (statements_at edition counts (left - 1)) (symbol_at symbol.RightBrace))) ts
 unfolding block_at statements_at statement_at
-block_steps zero ts =
-    unopened_steps symbol.LeftBrace (λ x. x.1.0) (pair_at (statements_at (0 - 1)) (symbol_at symbol.RightBrace)) ts
-block_steps (suc left) ts = rw sub-one refl
+block_steps edition counts zero ts =
+    unopened_steps symbol.LeftBrace (λ x. x.1.0)
+    (pair_at (statements_at edition counts (0 - 1)) (symbol_at symbol.RightBrace)) ts
+block_steps edition counts (suc left) ts = rw sub-one refl
 
-factor_is : (left : ℕ) (ts : List Lexeme) → factor_at left ts ≡ factor_of (parenthesised_at left) (minus_at left) ts
+factor_is : (edition : Edition) (left : ℕ) (ts : List Lexeme)
+    → factor_at edition left ts ≡ factor_of (parenthesised_at edition left) (minus_at edition left) ts
 unfolding factor_at parenthesised_at minus_at
-factor_is zero ts = refl
-factor_is (suc left) ts = refl
+factor_is edition zero ts = refl
+factor_is edition (suc left) ts = refl
 
-pub factor_parenthesised : (left : ℕ) (ts : List Lexeme) → begins (has_symbol symbol.LeftParenthesis) ts ≡ true
-    → factor_at left ts ≡ parenthesised_at left ts
-factor_parenthesised left ts h = factor_is left ts ∙ cond_true (begins (has_symbol symbol.LeftParenthesis) ts) _ _ h
+pub factor_parenthesised : (edition : Edition) (left : ℕ) (ts : List Lexeme)
+    → begins (has_symbol symbol.LeftParenthesis) ts ≡ true
+    → factor_at edition left ts ≡ parenthesised_at edition left ts
+factor_parenthesised edition left ts h =
+    factor_is edition left ts ∙ cond_true (begins (has_symbol symbol.LeftParenthesis) ts) _ _ h
 
-pub factor_minus : (left : ℕ) (ts : List Lexeme) → begins (has_symbol symbol.LeftParenthesis) ts ≡ false
-    → begins (has_symbol symbol.Minus) ts ≡ true → factor_at left ts ≡ minus_at left ts
-factor_minus left ts h k =
-    factor_is left ts ∙ cond_false (begins (has_symbol symbol.LeftParenthesis) ts) _ _ h
+pub factor_minus : (edition : Edition) (left : ℕ) (ts : List Lexeme)
+    → begins (has_symbol symbol.LeftParenthesis) ts ≡ false
+    → begins (has_symbol symbol.Minus) ts ≡ true → factor_at edition left ts ≡ minus_at edition left ts
+factor_minus edition left ts h k =
+    factor_is edition left ts ∙ cond_false (begins (has_symbol symbol.LeftParenthesis) ts) _ _ h
     ∙ cond_true (begins (has_symbol symbol.Minus) ts) _ _ k
 
-pub factor_atom : (left : ℕ) (ts : List Lexeme) → begins (has_symbol symbol.LeftParenthesis) ts ≡ false
-    → begins (has_symbol symbol.Minus) ts ≡ false → factor_at left ts ≡ atom_at ts
-factor_atom left ts h k =
-    factor_is left ts ∙ cond_false (begins (has_symbol symbol.LeftParenthesis) ts) _ _ h
+pub factor_atom : (edition : Edition) (left : ℕ) (ts : List Lexeme)
+    → begins (has_symbol symbol.LeftParenthesis) ts ≡ false
+    → begins (has_symbol symbol.Minus) ts ≡ false → factor_at edition left ts ≡ atom_at ts
+factor_atom edition left ts h k =
+    factor_is edition left ts ∙ cond_false (begins (has_symbol symbol.LeftParenthesis) ts) _ _ h
     ∙ cond_false (begins (has_symbol symbol.Minus) ts) _ _ k

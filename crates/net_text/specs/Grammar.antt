@@ -1,36 +1,46 @@
 -- The grammar of a network's text, on tokens. What is written P >> Q is P's tokens and then Q's.
 --
---     text    = "kahn" "1" ";" { decl }
+--     text    = "kahn" ( "1" | "2" ) ";" { decl }
 --     decl    = "input" NAME ";" | "chan" NAME ";" | "output" NAME ";" | process
 --     process = "process" NAME "on" NUMBER "{" { var } { stmt } [ "loop" block ] "}"
 --     var     = "var" NAME [ "=" [ "-" ] NUMBER ] ";"
 --     block   = "{" { stmt } "}"
 --     stmt    = NAME "=" "get" NAME ";" | NAME "=" expr ";" | "put" expr "to" NAME ";"
---             | "stop" ";" | "if" expr block [ "else" block ]
+--             | "stop" ";" | "if" expr block [ "else" block ] | "repeat" NUMBER block
 --     expr    = sum [ ( "==" | "!=" | "<" | "<=" | ">" | ">=" ) sum ]
 --     sum     = term { ( "+" | "-" ) term }
---     term    = factor { "*" factor }
+--     term    = factor { ( "*" | "div" | "mod" ) factor }
 --     factor  = "-" factor | NUMBER | NAME | "(" expr ")"
 --
+-- The number is that of the edition. Repetitions, div and mod are the second edition's: a text of the first may use
+-- none of the three words. A repetition's number is from 1 to 1000.
+--
 -- A rule says which tokens are a part of the text, whole, and which are the beginning of one: those that stand so far,
--- whatever may follow. A rule that another edition may change takes the edition, and one in which something may nest
--- how many more may be opened: blocks, parentheses and minus signs. The braces of a process and the minus of a
--- variable's first value are none of these. A minus is open through its factor.
+-- whatever may follow. A rule on which the editions differ takes the edition, one in which a repetition may stand takes
+-- which numbers that may have, and one in which something may nest how many more may be opened: blocks, parentheses
+-- and minus signs. The braces of a process and the minus of a variable's first value are none of these. A minus is open
+-- through its factor.
 use Rattle.std.specs.Prelude.{◌≡◌, ◌⊎◌, ℕ, zero, suc, ◌≤◌, List, [], ◌∷◌, ◌++◌, length, Option, Some, None, ℤ, pos}
+use Rattle.std.specs.Prelude.{true}
 use Rattle.std.specs.Prelude.{neg_ℤ}
 use Rattle.net_text.specs.Names.{NameTree}
 use Rattle.net_text.specs.Trees.{ExprTree, LiteralTree, VariableTree, MinusTree, ChainTree, LinkTree, links_tree}
-use Rattle.net_text.specs.Trees.{BlockTree, NothingTree, GetTree, AssignTree, PutTree, StopTree, IfTree, LoopTree}
+use Rattle.net_text.specs.Trees.{BlockTree, NothingTree, GetTree, AssignTree, PutTree, StopTree, IfTree, RepeatTree}
+use Rattle.net_text.specs.Trees.{LoopTree}
 use Rattle.net_text.specs.Trees.{ProcessTree, DeclarationTree, ChannelTree, ProcessDeclared}
 use Rattle.net_text.specs.Tokens.{Lexeme, AreTokens}
+use Rattle.net_text.specs.Editions.{edition_number, has_this, Counts, Ranged, is_count}
+use Rattle.net_text.specs.declared.edition.Edition.{Edition}
+use Rattle.net_text.specs.declared.edition.Edition.TheVariants.{First, Second}
+use Rattle.net_text.specs.declared.token.TokenKind.{TokenKind}
 use Rattle.net_text.specs.declared.token.Keyword.{Keyword}
 use Rattle.net_text.specs.declared.token.Keyword.TheVariants as keyword
 use Rattle.net_text.specs.declared.token.Symbol.{Symbol}
 use Rattle.net_text.specs.declared.token.Symbol.TheVariants as symbol
 use Rattle.net_text.specs.declared.token.TokenKind.TheVariants as kind
 use Rattle.kahn_net.specs.declared.program.Operator.{Operator}
-use Rattle.kahn_net.specs.declared.program.Operator.TheVariants.{Add, Subtract, Multiply, Equal, NotEqual, Less}
-use Rattle.kahn_net.specs.declared.program.Operator.TheVariants.{LessOrEqual, Greater, GreaterOrEqual}
+use Rattle.kahn_net.specs.declared.program.Operator.TheVariants.{Add, Subtract, Multiply, Divide, Remainder, Equal}
+use Rattle.kahn_net.specs.declared.program.Operator.TheVariants.{NotEqual, Less, LessOrEqual, Greater, GreaterOrEqual}
 use Rattle.net_text.specs.declared.parser.Level.{Level}
 use Rattle.net_text.specs.declared.parser.Level.TheVariants.{Product, Sum, Comparison}
 use Rattle.net_text.specs.declared.tree.Role.{Role}
@@ -115,20 +125,24 @@ IsNumber n = IsOne (λ t. t.kind ≡ kind.Number n)
 -- ---- operators
 
 -- how an operator is written
-abbrev pub operator_symbol : Operator → Symbol
-operator_symbol Add = symbol.Plus
-operator_symbol Subtract = symbol.Minus
-operator_symbol Multiply = symbol.Star
-operator_symbol Equal = symbol.Equal
-operator_symbol NotEqual = symbol.NotEqual
-operator_symbol Less = symbol.Less
-operator_symbol LessOrEqual = symbol.LessOrEqual
-operator_symbol Greater = symbol.Greater
-operator_symbol GreaterOrEqual = symbol.GreaterOrEqual
+abbrev pub operator_kind : Operator → TokenKind
+operator_kind Add = kind.Symbol symbol.Plus
+operator_kind Subtract = kind.Symbol symbol.Minus
+operator_kind Multiply = kind.Symbol symbol.Star
+operator_kind Divide = kind.Word keyword.Div
+operator_kind Remainder = kind.Word keyword.Mod
+operator_kind Equal = kind.Symbol symbol.Equal
+operator_kind NotEqual = kind.Symbol symbol.NotEqual
+operator_kind Less = kind.Symbol symbol.Less
+operator_kind LessOrEqual = kind.Symbol symbol.LessOrEqual
+operator_kind Greater = kind.Symbol symbol.Greater
+operator_kind GreaterOrEqual = kind.Symbol symbol.GreaterOrEqual
 
 -- how tightly an operator binds
 abbrev pub level_of : Operator → Level
 level_of Multiply = Product
+level_of Divide = Product
+level_of Remainder = Product
 level_of Add = Sum
 level_of Subtract = Sum
 level_of Equal = Comparison
@@ -138,8 +152,11 @@ level_of LessOrEqual = Comparison
 level_of Greater = Comparison
 level_of GreaterOrEqual = Comparison
 
-abbrev pub IsOperator : Level → Operator → Rule
-IsOperator level operator = IsOne (λ t. (t.kind ≡ kind.Symbol (operator_symbol operator)) × (level_of operator ≡ level))
+-- an operator of this level that the edition has
+abbrev pub IsOperator : Edition → Level → Operator → Rule
+IsOperator edition level operator =
+    IsOne
+    (λ t. (t.kind ≡ operator_kind operator) × (level_of operator ≡ level) × (has_this operator edition ≡ true))
 
 -- ---- expressions
 
@@ -149,28 +166,29 @@ chain_of first [] = first
 chain_of first (link ∷ links) = ChainTree first (links_tree (link ∷ links))
 
 -- an operator and the value to its right
-abbrev pub IsLink : Level → (ExprTree → Rule) → LinkTree → Rule
-IsLink level P link = IsOperator level link.operator >> P link.value
+abbrev pub IsLink : Edition → Level → (ExprTree → Rule) → LinkTree → Rule
+IsLink edition level P link = IsOperator edition level link.operator >> P link.value
 
 -- values and operators of one level between them
-abbrev pub IsChain : Level → (ExprTree → Rule) → ExprTree → Rule
-IsChain level P e extent ts =
+abbrev pub IsChain : Edition → Level → (ExprTree → Rule) → ExprTree → Rule
+IsChain edition level P e extent ts =
     (first : ExprTree) × (links : List LinkTree) × (e ≡ chain_of first links)
-    × (P first >> IsEach (IsLink level P) links) extent ts
+    × (P first >> IsEach (IsLink edition level P) links) extent ts
 
--- term = factor { "*" factor }
-abbrev pub IsTermOf : ℕ → (ExprTree → Rule) → ExprTree → Rule
-IsTermOf edition IsFactor = IsChain Product IsFactor
+-- term = factor { ( "*" | "div" | "mod" ) factor }
+abbrev pub IsTermOf : Edition → (ExprTree → Rule) → ExprTree → Rule
+IsTermOf edition IsFactor = IsChain edition Product IsFactor
 
 -- sum = term { ( "+" | "-" ) term }
-abbrev pub IsSumOf : ℕ → (ExprTree → Rule) → ExprTree → Rule
-IsSumOf edition IsFactor = IsChain Sum (IsTermOf edition IsFactor)
+abbrev pub IsSumOf : Edition → (ExprTree → Rule) → ExprTree → Rule
+IsSumOf edition IsFactor = IsChain edition Sum (IsTermOf edition IsFactor)
 
 -- expr = sum [ ( "==" | "!=" | "<" | "<=" | ">" | ">=" ) sum ]
-abbrev pub IsExprOf : ℕ → (ExprTree → Rule) → ExprTree → Rule
+abbrev pub IsExprOf : Edition → (ExprTree → Rule) → ExprTree → Rule
 IsExprOf edition IsFactor e extent ts =
     (first : ExprTree) × (links : List LinkTree) × (e ≡ chain_of first links)
-    × (IsSumOf edition IsFactor first >> IsAtMostOne (IsLink Comparison (IsSumOf edition IsFactor)) links) extent ts
+    × (IsSumOf edition IsFactor first >> IsAtMostOne (IsLink edition Comparison (IsSumOf edition IsFactor)) links)
+    extent ts
 
 -- NUMBER | NAME
 abbrev pub IsLiteral : ExprTree → Rule
@@ -183,7 +201,7 @@ abbrev pub IsAtom : ExprTree → Rule
 IsAtom e = IsLiteral e or IsUse e
 
 -- "(" expr ")", in which the factors are these
-abbrev pub IsParenthesised : ℕ → (ExprTree → Rule) → ExprTree → Rule
+abbrev pub IsParenthesised : Edition → (ExprTree → Rule) → ExprTree → Rule
 IsParenthesised edition IsFactor e =
     IsSymbol symbol.LeftParenthesis >> IsExprOf edition IsFactor e >> IsSymbol symbol.RightParenthesis
 
@@ -193,12 +211,12 @@ IsMinus IsFactor e extent ts =
     (value : ExprTree) × (e ≡ MinusTree value) × (IsSymbol symbol.Minus >> IsFactor value) extent ts
 
 -- factor = "-" factor | NUMBER | NAME | "(" expr ")"
-unfoldable pub IsFactor : ℕ → ℕ → ExprTree → Rule
+unfoldable pub IsFactor : Edition → ℕ → ExprTree → Rule
 IsFactor edition zero e = IsAtom e
 IsFactor edition (suc left) e =
     IsParenthesised edition (IsFactor edition left) e or IsMinus (IsFactor edition left) e or IsAtom e
 
-abbrev pub IsExpr : ℕ → ℕ → ExprTree → Rule
+abbrev pub IsExpr : Edition → ℕ → ExprTree → Rule
 IsExpr edition left = IsExprOf edition (IsFactor edition left)
 
 -- ---- statements
@@ -214,12 +232,12 @@ IsGet variable channel =
     IsName variable >> IsSymbol symbol.Assign >> IsWord keyword.Get >> IsName channel >> IsSymbol symbol.Semicolon
 
 -- NAME "=" expr ";"
-abbrev pub IsAssign : ℕ → ℕ → NameTree → ExprTree → Rule
+abbrev pub IsAssign : Edition → ℕ → NameTree → ExprTree → Rule
 IsAssign edition left variable value =
     IsName variable >> IsSymbol symbol.Assign >> IsExpr edition left value >> IsSymbol symbol.Semicolon
 
 -- "put" expr "to" NAME ";"
-abbrev pub IsPut : ℕ → ℕ → ExprTree → NameTree → Rule
+abbrev pub IsPut : Edition → ℕ → ExprTree → NameTree → Rule
 IsPut edition left value channel =
     IsWord keyword.Put >> IsExpr edition left value >> IsWord keyword.To >> IsName channel >> IsSymbol symbol.Semicolon
 
@@ -232,26 +250,39 @@ abbrev pub IsElse : BlockTree → Rule → Rule
 IsElse second IsSecond = IsWord keyword.Else >> IsSecond or IsWhere (second ≡ NothingTree) IsNothing
 
 -- "if" expr block [ "else" block ]
-abbrev pub IsIf : ℕ → ℕ → ExprTree → Rule → BlockTree → Rule → Rule
+abbrev pub IsIf : Edition → ℕ → ExprTree → Rule → BlockTree → Rule → Rule
 IsIf edition left test IsFirst second IsSecond =
     IsWord keyword.If >> IsExpr edition left test >> IsFirst >> IsElse second IsSecond
 
--- { stmt }
-unfoldable pub IsStatements : ℕ → ℕ → BlockTree → Rule
-IsStatements edition left NothingTree = IsNothing
-IsStatements edition left (GetTree variable channel rest) = IsGet variable channel >> IsStatements edition left rest
-IsStatements edition left (AssignTree variable value rest) =
-    IsAssign edition left variable value >> IsStatements edition left rest
-IsStatements edition left (PutTree value channel rest) =
-    IsPut edition left value channel >> IsStatements edition left rest
-IsStatements edition left (StopTree rest) = IsStop >> IsStatements edition left rest
-IsStatements edition left (IfTree test first second rest) =
-    IsIf edition left test (IsBlockOf left (λ inside. IsStatements edition inside first)) second
-    (IsBlockOf left (λ inside. IsStatements edition inside second))
-    >> IsStatements edition left rest
+-- a repetition's number
+abbrev pub IsCount : Counts → ℕ → Rule
+IsCount counts n = IsOne (λ t. (t.kind ≡ kind.Number n) × (is_count counts n ≡ true))
 
-abbrev pub IsBlock : ℕ → ℕ → BlockTree → Rule
-IsBlock edition left block = IsBlockOf left (λ inside. IsStatements edition inside block)
+-- "repeat" NUMBER block
+abbrev pub IsRepeat : Edition → Counts → ℕ → ℕ → Rule → Rule
+IsRepeat edition counts times line IsBody =
+    IsWhere (edition ≡ Second) (IsWordOn keyword.Repeat line >> IsCount counts times >> IsBody)
+
+-- { stmt }
+unfoldable pub IsStatements : Edition → Counts → ℕ → BlockTree → Rule
+IsStatements edition counts left NothingTree = IsNothing
+IsStatements edition counts left (GetTree variable channel rest) =
+    IsGet variable channel >> IsStatements edition counts left rest
+IsStatements edition counts left (AssignTree variable value rest) =
+    IsAssign edition left variable value >> IsStatements edition counts left rest
+IsStatements edition counts left (PutTree value channel rest) =
+    IsPut edition left value channel >> IsStatements edition counts left rest
+IsStatements edition counts left (StopTree rest) = IsStop >> IsStatements edition counts left rest
+IsStatements edition counts left (IfTree test first second rest) =
+    IsIf edition left test (IsBlockOf left (λ inside. IsStatements edition counts inside first)) second
+    (IsBlockOf left (λ inside. IsStatements edition counts inside second))
+    >> IsStatements edition counts left rest
+IsStatements edition counts left (RepeatTree times line body rest) =
+    IsRepeat edition counts times line (IsBlockOf left (λ inside. IsStatements edition counts inside body)) >>
+    IsStatements edition counts left rest
+
+abbrev pub IsBlock : Edition → Counts → ℕ → BlockTree → Rule
+IsBlock edition counts left block = IsBlockOf left (λ inside. IsStatements edition counts inside block)
 
 -- ---- declarations
 
@@ -271,9 +302,9 @@ abbrev pub IsVariable : VariableText → Rule
 IsVariable v = IsWordOn keyword.Var v.line >> IsName v.name >> IsInitial v.initial >> IsSymbol symbol.Semicolon
 
 -- [ "loop" block ]
-abbrev pub IsLoop : ℕ → ℕ → Option LoopTree → Rule
-IsLoop edition left None = IsNothing
-IsLoop edition left (Some l) = IsWordOn keyword.Loop l.line >> IsBlock edition left l.body
+abbrev pub IsLoop : Edition → Counts → ℕ → Option LoopTree → Rule
+IsLoop edition counts left None = IsNothing
+IsLoop edition counts left (Some l) = IsWordOn keyword.Loop l.line >> IsBlock edition counts left l.body
 
 -- "process" NAME "on" NUMBER "{"
 abbrev pub IsHead : ℕ → NameTree → NodeText → Rule
@@ -282,10 +313,11 @@ IsHead line name node =
     symbol.LeftBrace
 
 -- process = "process" NAME "on" NUMBER "{" { var } { stmt } [ "loop" block ] "}"
-abbrev pub IsProcess : ℕ → ℕ → ProcessTree → Rule
-IsProcess edition left p =
+abbrev pub IsProcess : Edition → Counts → ℕ → ProcessTree → Rule
+IsProcess edition counts left p =
     IsHead p.line p.name p.node
-    >> IsEach IsVariable p.variables >> IsStatements edition left p.prelude >> IsLoop edition left p.repeated >>
+    >> IsEach IsVariable p.variables >> IsStatements edition counts left p.prelude >> IsLoop edition counts left
+    p.repeated >>
     IsSymbol symbol.RightBrace
 
 -- the declaration of a channel, by its first word
@@ -298,32 +330,37 @@ abbrev pub IsChannel : ChannelText → Rule
 IsChannel c = IsWordOn (first_word c.role) c.line >> IsName c.name >> IsSymbol symbol.Semicolon
 
 -- decl = "input" NAME ";" | "chan" NAME ";" | "output" NAME ";" | process
-abbrev pub IsDeclaration : ℕ → ℕ → DeclarationTree → Rule
-IsDeclaration edition left (ChannelTree c) = IsChannel c
-IsDeclaration edition left (ProcessDeclared p) = IsProcess edition left p
+abbrev pub IsDeclaration : Edition → Counts → ℕ → DeclarationTree → Rule
+IsDeclaration edition counts left (ChannelTree c) = IsChannel c
+IsDeclaration edition counts left (ProcessDeclared p) = IsProcess edition counts left p
 
--- "kahn" "1" ";", where the number is the edition's
-abbrev pub IsEdition : ℕ → Rule
-IsEdition edition = IsWord keyword.Kahn >> IsNumber edition >> IsSymbol symbol.Semicolon
+-- NUMBER ";" { decl }, where the number is the edition's
+abbrev pub IsEdition : Counts → ℕ → List DeclarationTree → Edition → Rule
+IsEdition counts left declarations edition =
+    IsNumber (edition_number edition) >> IsSymbol symbol.Semicolon >> IsEach (IsDeclaration edition counts left)
+    declarations
 
--- text = "kahn" "1" ";" { decl }
-unfoldable pub IsText : ℕ → ℕ → List DeclarationTree → Rule
-IsText edition left declarations = IsEdition edition >> IsEach (IsDeclaration edition left) declarations
+-- text = "kahn" ( "1" | "2" ) ";" { decl }
+unfoldable pub IsText : Counts → ℕ → List DeclarationTree → Rule
+IsText counts left declarations =
+    IsWord keyword.Kahn
+    >> (IsEdition counts left declarations First or IsEdition counts left declarations Second)
 
 -- a text of this tree, in which no more may be open than the limit says
 pub record IsTextOf (declarations : List DeclarationTree) (text : List ℕ) : Type 0 where
   pub small : length text ≤ MAX_TEXT_BYTES
   pub tokens : List Lexeme
   pub read : AreTokens text tokens
-  pub grammar : IsText 1 MAX_NESTING declarations Whole tokens
+  pub grammar : IsText Ranged MAX_NESTING declarations Whole tokens
 
--- with these tokens some text begins, in which no more are open so far than the limit says
-pub record Begins (edition limit : ℕ) (ts : List Lexeme) : Type 0 where
+-- with these tokens some text begins, whose repetitions have such numbers and in which no more are open so far than the
+-- limit says
+pub record Begins (counts : Counts) (limit : ℕ) (ts : List Lexeme) : Type 0 where
   pub declarations : List DeclarationTree
-  pub begun : IsText edition limit declarations Begun ts
+  pub begun : IsText counts limit declarations Begun ts
 
--- these tokens stand at the front of a whole text, in which no more are open than the limit says
-pub record IsFront (edition limit : ℕ) (ts : List Lexeme) : Type 0 where
+-- these tokens stand at the front of a whole text like that
+pub record IsFront (counts : Counts) (limit : ℕ) (ts : List Lexeme) : Type 0 where
   pub declarations : List DeclarationTree
   pub more : List Lexeme
-  pub whole : IsText edition limit declarations Whole (ts ++ more)
+  pub whole : IsText counts limit declarations Whole (ts ++ more)

@@ -1,3 +1,4 @@
+pub mod Editions
 pub mod Faults
 pub mod Grammar
 pub mod InputLines

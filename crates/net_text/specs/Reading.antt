@@ -8,19 +8,22 @@ use Rattle.std.specs.Str.{bytes_eq}
 use Rattle.net_text.specs.Names.{NameTree}
 use Rattle.net_text.specs.Spellings.{keyword_spelling, symbol_spelling}
 use Rattle.net_text.specs.Trees.{ExprTree, LiteralTree, VariableTree, MinusTree, LinkTree, BlockTree, NothingTree}
-use Rattle.net_text.specs.Trees.{GetTree, AssignTree, PutTree, StopTree, IfTree, LoopTree, ProcessTree, DeclarationTree}
-use Rattle.net_text.specs.Trees.{ChannelTree, ProcessDeclared}
+use Rattle.net_text.specs.Trees.{GetTree, AssignTree, PutTree, StopTree, IfTree, RepeatTree, LoopTree, ProcessTree}
+use Rattle.net_text.specs.Trees.{DeclarationTree, ChannelTree, ProcessDeclared}
 use Rattle.net_text.specs.Tokens.{Lexeme}
 use Rattle.net_text.specs.Grammar.{chain_of, first_word, level_of}
+use Rattle.net_text.specs.Editions.{edition_number, if_second, Counts, is_count}
+use Rattle.net_text.specs.declared.edition.Edition.{Edition}
+use Rattle.net_text.specs.declared.edition.Edition.TheVariants.{First, Second}
 use Rattle.net_text.specs.declared.parser.Head.{Head}
 use Rattle.net_text.specs.declared.parser.Level.{Level}
 use Rattle.net_text.specs.declared.parser.Level.TheVariants.{Product, Sum, Comparison}
 use Rattle.net_text.specs.declared.parser.Stuck.{Stuck}
-use Rattle.net_text.specs.declared.parser.Stuck.TheVariants.{At, TooDeep, AtEnd}
+use Rattle.net_text.specs.declared.parser.Stuck.TheVariants.{At, TooDeep, OutOfRange, AtEnd}
 use Rattle.net_text.specs.declared.parser.ParseError.{ParseError}
 use Rattle.net_text.specs.declared.parser.ParseError.TheVariants as error
 use Rattle.net_text.specs.declared.fault.TextFault.{TextFault}
-use Rattle.net_text.specs.declared.fault.TextFault.TheVariants.{Unexpected, TooLong}
+use Rattle.net_text.specs.declared.fault.TextFault.TheVariants.{Unexpected, NumberRange, TooLong}
 use Rattle.net_text.specs.declared.lexer.End.{End}
 use Rattle.net_text.specs.declared.lexer.End.TheVariants as end
 use Rattle.net_text.specs.declared.token.Keyword.{Keyword}
@@ -30,8 +33,8 @@ use Rattle.net_text.specs.declared.token.Symbol.TheVariants as symbol
 use Rattle.net_text.specs.declared.token.TokenKind.{TokenKind}
 use Rattle.net_text.specs.declared.token.TokenKind.TheVariants as kind
 use Rattle.kahn_net.specs.declared.program.Operator.{Operator}
-use Rattle.kahn_net.specs.declared.program.Operator.TheVariants.{Add, Subtract, Multiply, Equal, NotEqual, Less}
-use Rattle.kahn_net.specs.declared.program.Operator.TheVariants.{LessOrEqual, Greater, GreaterOrEqual}
+use Rattle.kahn_net.specs.declared.program.Operator.TheVariants.{Add, Subtract, Multiply, Divide, Remainder, Equal}
+use Rattle.kahn_net.specs.declared.program.Operator.TheVariants.{NotEqual, Less, LessOrEqual, Greater, GreaterOrEqual}
 use Rattle.net_text.specs.declared.tree.Role.{Role}
 use Rattle.net_text.specs.declared.tree.Role.TheVariants.{Input, Inner, Output}
 use Rattle.net_text.specs.declared.tree.ChannelText.{ChannelText}
@@ -92,6 +95,33 @@ operator_of symbol.LeftParenthesis = None
 operator_of symbol.RightParenthesis = None
 operator_of symbol.Assign = None
 
+-- the operator that a word is
+abbrev pub word_operator : Keyword → Edition → Option Operator
+word_operator keyword.Div edition = if_second edition Divide
+word_operator keyword.Mod edition = if_second edition Remainder
+word_operator keyword.Kahn edition = None
+word_operator keyword.Input edition = None
+word_operator keyword.Chan edition = None
+word_operator keyword.Output edition = None
+word_operator keyword.Process edition = None
+word_operator keyword.On edition = None
+word_operator keyword.Var edition = None
+word_operator keyword.Loop edition = None
+word_operator keyword.Get edition = None
+word_operator keyword.Put edition = None
+word_operator keyword.To edition = None
+word_operator keyword.If edition = None
+word_operator keyword.Else edition = None
+word_operator keyword.Stop edition = None
+word_operator keyword.Repeat edition = None
+
+-- the operator that a token is
+abbrev pub any_operator : Edition → TokenKind → Option Operator
+any_operator edition (kind.Symbol s) = operator_of s
+any_operator edition (kind.Word w) = word_operator w edition
+any_operator edition (kind.Number n) = None
+any_operator edition kind.Name = None
+
 abbrev pub is_level : Level → Level → Bool
 is_level Product Product = true
 is_level Product Sum = false
@@ -108,18 +138,22 @@ if_level level None = None
 if_level level (Some operator) = if is_level (level_of operator) level then Some operator else None
 
 -- the operator of this level that a token is
-abbrev pub operator_in : Level → TokenKind → Option Operator
-operator_in level (kind.Symbol s) = if_level level (operator_of s)
-operator_in level (kind.Word w) = None
-operator_in level (kind.Number n) = None
-operator_in level kind.Name = None
+abbrev pub operator_in : Edition → Level → TokenKind → Option Operator
+operator_in edition level k = if_level level (any_operator edition k)
 
 abbrev pub is_operator : Option Operator → Bool
 is_operator None = false
 is_operator (Some operator) = true
 
-abbrev pub has_operator : Level → TokenKind → Bool
-has_operator level k = is_operator (operator_in level k)
+abbrev pub has_operator : Edition → Level → TokenKind → Bool
+has_operator edition level k = is_operator (operator_in edition level k)
+
+-- this number
+abbrev pub has_number : ℕ → TokenKind → Bool
+has_number n (kind.Number m) = m == n
+has_number n (kind.Word w) = false
+has_number n (kind.Symbol s) = false
+has_number n kind.Name = false
 
 -- the first token passes a test
 abbrev pub begins : (TokenKind → Bool) → List Lexeme → Bool
@@ -191,9 +225,20 @@ picked (Some operator) line ts = Ok (operator, ts)
 picked None line ts = Err (At line)
 
 -- an operator of this level
-unfoldable pub operator_at : Level → Reader Operator
-operator_at level [] = Err AtEnd
-operator_at level (t ∷ ts) = picked (operator_in level t.kind) t.line ts
+unfoldable pub operator_at : Edition → Level → Reader Operator
+operator_at edition level [] = Err AtEnd
+operator_at edition level (t ∷ ts) = picked (operator_in edition level t.kind) t.line ts
+
+-- the number of a repetition
+abbrev pub count_in : Counts → TokenKind → ℕ → Reader ℕ
+count_in counts (kind.Number n) line ts = if is_count counts n then Ok (n, ts) else Err (OutOfRange line)
+count_in counts (kind.Word w) line ts = Err (At line)
+count_in counts (kind.Symbol s) line ts = Err (At line)
+count_in counts kind.Name line ts = Err (At line)
+
+unfoldable pub count_at : Counts → Reader ℕ
+count_at counts [] = Err AtEnd
+count_at counts (t ∷ ts) = count_in counts t.kind t.line ts
 
 -- a symbol that opens what may not be opened any more
 unfoldable pub unopened_at : {A : Type 0} → Symbol → Reader A
@@ -219,33 +264,35 @@ atom_at [] = Err AtEnd
 atom_at (t ∷ ts) = atom_in t.kind t ts
 
 -- an operator and the value to its right
-abbrev pub link_of : Level → Reader ExprTree → Reader LinkTree
-link_of level value = as_at (λ x. record { operator = x.0; value = x.1 }) (pair_at (operator_at level) value)
+abbrev pub link_of : Edition → Level → Reader ExprTree → Reader LinkTree
+link_of edition level value =
+    as_at (λ x. record { operator = x.0; value = x.1 }) (pair_at (operator_at edition level) value)
 
-abbrev pub links_of : Level → Reader ExprTree → Reader (List LinkTree)
-links_of level value = each_at (has_operator level) (link_of level value)
+abbrev pub links_of : Edition → Level → Reader ExprTree → Reader (List LinkTree)
+links_of edition level value = each_at (has_operator edition level) (link_of edition level value)
 
 -- values and operators of one level between them
-abbrev pub chain_at : Level → Reader ExprTree → Reader ExprTree
-chain_at level value = as_at (λ x. chain_of x.0 x.1) (pair_at value (links_of level value))
+abbrev pub chain_at : Edition → Level → Reader ExprTree → Reader ExprTree
+chain_at edition level value = as_at (λ x. chain_of x.0 x.1) (pair_at value (links_of edition level value))
 
 -- the values that operators of a level join, by the factors that they are made of
-abbrev pub operand_of : Reader ExprTree → Level → Reader ExprTree
-operand_of factor Product = factor
-operand_of factor Sum = chain_at Product factor
-operand_of factor Comparison = chain_at Sum (chain_at Product factor)
+abbrev pub operand_of : Edition → Reader ExprTree → Level → Reader ExprTree
+operand_of edition factor Product = factor
+operand_of edition factor Sum = chain_at edition Product factor
+operand_of edition factor Comparison = chain_at edition Sum (chain_at edition Product factor)
 
 -- an expression, by its factors
-abbrev pub expr_of : Reader ExprTree → Reader ExprTree
-expr_of factor =
+abbrev pub expr_of : Edition → Reader ExprTree → Reader ExprTree
+expr_of edition factor =
     as_at (λ x. chain_of x.0 x.1)
-    (pair_at (operand_of factor Comparison)
-    (at_most_one_at (has_operator Comparison) (link_of Comparison (operand_of factor Comparison))))
+    (pair_at (operand_of edition factor Comparison)
+    (at_most_one_at (has_operator edition Comparison)
+    (link_of edition Comparison (operand_of edition factor Comparison))))
 
-abbrev pub parenthesised_of : Reader ExprTree → Reader ExprTree
-parenthesised_of factor =
+abbrev pub parenthesised_of : Edition → Reader ExprTree → Reader ExprTree
+parenthesised_of edition factor =
     as_at (λ x. x.1.0)
-    (pair_at (symbol_at symbol.LeftParenthesis) (pair_at (expr_of factor) (symbol_at symbol.RightParenthesis)))
+    (pair_at (symbol_at symbol.LeftParenthesis) (pair_at (expr_of edition factor) (symbol_at symbol.RightParenthesis)))
 
 abbrev pub minus_of : Reader ExprTree → Reader ExprTree
 minus_of factor = as_at (λ x. MinusTree x.1) (pair_at (symbol_at symbol.Minus) factor)
@@ -255,29 +302,30 @@ abbrev pub factor_of : Reader ExprTree → Reader ExprTree → Reader ExprTree
 factor_of parenthesised minus =
     either_at (has_symbol symbol.LeftParenthesis) parenthesised (either_at (has_symbol symbol.Minus) minus atom_at)
 
-unfoldable pub factor_at : ℕ → Reader ExprTree
-factor_at zero = factor_of (unopened_at symbol.LeftParenthesis) (unopened_at symbol.Minus)
-factor_at (suc left) = factor_of (parenthesised_of (factor_at left)) (minus_of (factor_at left))
+unfoldable pub factor_at : Edition → ℕ → Reader ExprTree
+factor_at edition zero = factor_of (unopened_at symbol.LeftParenthesis) (unopened_at symbol.Minus)
+factor_at edition (suc left) =
+    factor_of (parenthesised_of edition (factor_at edition left)) (minus_of (factor_at edition left))
 
-unfoldable pub parenthesised_at : ℕ → Reader ExprTree
-parenthesised_at zero = unopened_at symbol.LeftParenthesis
-parenthesised_at (suc left) = parenthesised_of (factor_at left)
+unfoldable pub parenthesised_at : Edition → ℕ → Reader ExprTree
+parenthesised_at edition zero = unopened_at symbol.LeftParenthesis
+parenthesised_at edition (suc left) = parenthesised_of edition (factor_at edition left)
 
-unfoldable pub minus_at : ℕ → Reader ExprTree
-minus_at zero = unopened_at symbol.Minus
-minus_at (suc left) = minus_of (factor_at left)
+unfoldable pub minus_at : Edition → ℕ → Reader ExprTree
+minus_at edition zero = unopened_at symbol.Minus
+minus_at edition (suc left) = minus_of (factor_at edition left)
 
-unfoldable pub link_at : Level → ℕ → Reader LinkTree
-link_at level left = link_of level (operand_of (factor_at left) level)
+unfoldable pub link_at : Edition → Level → ℕ → Reader LinkTree
+link_at edition level left = link_of edition level (operand_of edition (factor_at edition left) level)
 
-unfoldable pub links_at : Level → ℕ → Reader (List LinkTree)
-links_at level left = each_at (has_operator level) (link_at level left)
+unfoldable pub links_at : Edition → Level → ℕ → Reader (List LinkTree)
+links_at edition level left = each_at (has_operator edition level) (link_at edition level left)
 
-unfoldable pub operand_at : Level → ℕ → Reader ExprTree
-operand_at level left = operand_of (factor_at left) level
+unfoldable pub operand_at : Edition → Level → ℕ → Reader ExprTree
+operand_at edition level left = operand_of edition (factor_at edition left) level
 
-unfoldable pub expr_at : ℕ → Reader ExprTree
-expr_at left = expr_of (factor_at left)
+unfoldable pub expr_at : Edition → ℕ → Reader ExprTree
+expr_at edition left = expr_of edition (factor_at edition left)
 
 -- ---- statements, each as a block of one
 
@@ -286,26 +334,26 @@ unfoldable pub got_at : Reader NameTree
 got_at = as_at (λ x. x.1.0) (pair_at (word_at keyword.Get) (pair_at name_at (symbol_at symbol.Semicolon)))
 
 -- the value of an assignment, past the =
-unfoldable pub assigned_at : ℕ → Reader ExprTree
-assigned_at left = as_at (λ x. x.0) (pair_at (expr_at left) (symbol_at symbol.Semicolon))
+unfoldable pub assigned_at : Edition → ℕ → Reader ExprTree
+assigned_at edition left = as_at (λ x. x.0) (pair_at (expr_at edition left) (symbol_at symbol.Semicolon))
 
 abbrev pub named_tree : NameTree → NameTree ⊎ ExprTree → BlockTree
 named_tree variable (inl channel) = GetTree variable channel NothingTree
 named_tree variable (inr value) = AssignTree variable value NothingTree
 
 -- a statement that begins with a name
-unfoldable pub named_at : ℕ → Reader BlockTree
-named_at left =
+unfoldable pub named_at : Edition → ℕ → Reader BlockTree
+named_at edition left =
     as_at (λ x. named_tree x.0 x.1.1)
     (pair_at name_at
     (pair_at (symbol_at symbol.Assign)
-    (either_at (has_word keyword.Get) (as_at inl got_at) (as_at inr (assigned_at left)))))
+    (either_at (has_word keyword.Get) (as_at inl got_at) (as_at inr (assigned_at edition left)))))
 
-unfoldable pub put_at : ℕ → Reader BlockTree
-put_at left =
+unfoldable pub put_at : Edition → ℕ → Reader BlockTree
+put_at edition left =
     as_at (λ x. PutTree x.1.0 x.1.1.1.0 NothingTree)
     (pair_at (word_at keyword.Put)
-    (pair_at (expr_at left) (pair_at (word_at keyword.To) (pair_at name_at (symbol_at symbol.Semicolon)))))
+    (pair_at (expr_at edition left) (pair_at (word_at keyword.To) (pair_at name_at (symbol_at symbol.Semicolon)))))
 
 unfoldable pub stop_at : Reader BlockTree
 stop_at = as_at (λ x. StopTree NothingTree) (pair_at (word_at keyword.Stop) (symbol_at symbol.Semicolon))
@@ -320,15 +368,32 @@ if_of test block =
     as_at (λ x. IfTree x.1.0 x.1.1.0 x.1.1.1 NothingTree)
     (pair_at (word_at keyword.If) (pair_at test (pair_at block (else_of block))))
 
--- a statement, by the reader of a block, where so many more may be opened
-abbrev pub statement_of : ℕ → Reader BlockTree → Reader BlockTree
-statement_of left block =
-    either_at is_name (named_at left)
-    (either_at (has_word keyword.Put) (put_at left)
-    (either_at (has_word keyword.Stop) stop_at (if_of (expr_at left) block)))
+-- a repetition, by the reader of a block
+abbrev pub repeat_of : Counts → Reader BlockTree → Reader BlockTree
+repeat_of counts block =
+    as_at (λ x. RepeatTree x.1.0 x.0 x.1.1 NothingTree)
+    (pair_at (word_on_at keyword.Repeat) (pair_at (count_at counts) block))
 
-abbrev pub starts_statement : TokenKind → Bool
-starts_statement k = is_name k || (has_word keyword.Put k || (has_word keyword.Stop k || has_word keyword.If k))
+-- a statement with blocks, by what it is behind if and behind repeat
+abbrev pub nested_of : Edition → Reader BlockTree → Reader BlockTree → Reader BlockTree
+nested_of First repeated conditional = conditional
+nested_of Second repeated conditional = either_at (has_word keyword.Repeat) repeated conditional
+
+-- a statement, by the reader of a block, where so many more may be opened
+abbrev pub statement_of : Edition → Counts → ℕ → Reader BlockTree → Reader BlockTree
+statement_of edition counts left block =
+    either_at is_name (named_at edition left)
+    (either_at (has_word keyword.Put) (put_at edition left)
+    (either_at (has_word keyword.Stop) stop_at
+    (nested_of edition (repeat_of counts block) (if_of (expr_at edition left) block))))
+
+abbrev pub starts_nested : Edition → TokenKind → Bool
+starts_nested First k = has_word keyword.If k
+starts_nested Second k = has_word keyword.Repeat k || has_word keyword.If k
+
+abbrev pub starts_statement : Edition → TokenKind → Bool
+starts_statement edition k =
+    is_name k || (has_word keyword.Put k || (has_word keyword.Stop k || starts_nested edition k))
 
 -- these statements, and then those
 abbrev pub append_block : BlockTree → BlockTree → BlockTree
@@ -338,33 +403,41 @@ append_block (AssignTree variable value rest) more = AssignTree variable value (
 append_block (PutTree value channel rest) more = PutTree value channel (append_block rest more)
 append_block (StopTree rest) more = StopTree (append_block rest more)
 append_block (IfTree test first second rest) more = IfTree test first second (append_block rest more)
+append_block (RepeatTree times line body rest) more = RepeatTree times line body (append_block rest more)
 
 abbrev pub joined : List BlockTree → BlockTree
 joined [] = NothingTree
 joined (block ∷ blocks) = append_block block (joined blocks)
 
-abbrev pub statements_of : Reader BlockTree → Reader BlockTree
-statements_of statement = as_at joined (each_at starts_statement statement)
+abbrev pub statements_of : Edition → Reader BlockTree → Reader BlockTree
+statements_of edition statement = as_at joined (each_at (starts_statement edition) statement)
 
 abbrev pub braced_of : Reader BlockTree → Reader BlockTree
 braced_of statements =
     as_at (λ x. x.1.0) (pair_at (symbol_at symbol.LeftBrace) (pair_at statements (symbol_at symbol.RightBrace)))
 
-unfoldable pub block_at : ℕ → Reader BlockTree
-block_at zero = unopened_at symbol.LeftBrace
-block_at (suc left) = braced_of (statements_of (statement_of left (block_at left)))
+unfoldable pub block_at : Edition → Counts → ℕ → Reader BlockTree
+block_at edition counts zero = unopened_at symbol.LeftBrace
+block_at edition counts (suc left) =
+    braced_of (statements_of edition (statement_of edition counts left (block_at edition counts left)))
 
-unfoldable pub else_at : ℕ → Reader BlockTree
-else_at left = else_of (block_at left)
+unfoldable pub else_at : Edition → Counts → ℕ → Reader BlockTree
+else_at edition counts left = else_of (block_at edition counts left)
 
-unfoldable pub if_at : ℕ → Reader BlockTree
-if_at left = if_of (expr_at left) (block_at left)
+unfoldable pub if_at : Edition → Counts → ℕ → Reader BlockTree
+if_at edition counts left = if_of (expr_at edition left) (block_at edition counts left)
 
-unfoldable pub statement_at : ℕ → Reader BlockTree
-statement_at left = statement_of left (block_at left)
+unfoldable pub repeat_at : Edition → Counts → ℕ → Reader BlockTree
+repeat_at edition counts left = repeat_of counts (block_at edition counts left)
 
-unfoldable pub statements_at : ℕ → Reader BlockTree
-statements_at left = statements_of (statement_at left)
+unfoldable pub nested_at : Edition → Counts → ℕ → Reader BlockTree
+nested_at edition counts left = nested_of edition (repeat_at edition counts left) (if_at edition counts left)
+
+unfoldable pub statement_at : Edition → Counts → ℕ → Reader BlockTree
+statement_at edition counts left = statement_of edition counts left (block_at edition counts left)
+
+unfoldable pub statements_at : Edition → Counts → ℕ → Reader BlockTree
+statements_at edition counts left = statements_of edition (statement_at edition counts left)
 
 -- ---- declarations
 
@@ -397,9 +470,10 @@ variables_at = each_at (has_word keyword.Var) variable_at
 abbrev pub loop_text : ℕ × BlockTree → Option LoopTree
 loop_text x = Some (record { body = x.1; line = x.0 })
 
-unfoldable pub loop_at : ℕ → Reader (Option LoopTree)
-loop_at left =
-    either_at (has_word keyword.Loop) (as_at loop_text (pair_at (word_on_at keyword.Loop) (block_at left)))
+unfoldable pub loop_at : Edition → Counts → ℕ → Reader (Option LoopTree)
+loop_at edition counts left =
+    either_at (has_word keyword.Loop)
+    (as_at loop_text (pair_at (word_on_at keyword.Loop) (block_at edition counts left)))
     (nothing_at None)
 
 -- the head of a process: its line, its name and its node, up to the brace
@@ -432,11 +506,13 @@ process_made x =
           x.0.line;
     }
 
-unfoldable pub process_at : ℕ → Reader ProcessTree
-process_at left =
+unfoldable pub process_at : Edition → Counts → ℕ → Reader ProcessTree
+process_at edition counts left =
     as_at process_made
     (pair_at head_at
-    (pair_at variables_at (pair_at (statements_at left) (pair_at (loop_at left) (symbol_at symbol.RightBrace)))))
+    (pair_at variables_at
+    (pair_at (statements_at edition counts left)
+    (pair_at (loop_at edition counts left) (symbol_at symbol.RightBrace)))))
 
 abbrev pub channel_made : Role → ℕ × (NameTree × Unit {0}) → ChannelText
 channel_made role x = record { role = role; name = x.1.0; line = x.0 }
@@ -445,9 +521,9 @@ unfoldable pub channel_at : Role → Reader ChannelText
 channel_at role =
     as_at (channel_made role) (pair_at (word_on_at (first_word role)) (pair_at name_at (symbol_at symbol.Semicolon)))
 
-unfoldable pub declaration_at : ℕ → Reader DeclarationTree
-declaration_at left =
-    either_at (has_word keyword.Process) (as_at ProcessDeclared (process_at left))
+unfoldable pub declaration_at : Edition → Counts → ℕ → Reader DeclarationTree
+declaration_at edition counts left =
+    either_at (has_word keyword.Process) (as_at ProcessDeclared (process_at edition counts left))
     (either_at (has_word keyword.Input) (as_at ChannelTree (channel_at Input))
     (either_at (has_word keyword.Output) (as_at ChannelTree (channel_at Output))
     (as_at ChannelTree (channel_at Inner))))
@@ -456,8 +532,8 @@ abbrev pub starts_declaration : TokenKind → Bool
 starts_declaration k =
     has_word keyword.Process k || (has_word keyword.Input k || (has_word keyword.Output k || has_word keyword.Chan k))
 
-unfoldable pub declarations_at : ℕ → Reader (List DeclarationTree)
-declarations_at left = each_at starts_declaration (declaration_at left)
+unfoldable pub declarations_at : Edition → Counts → ℕ → Reader (List DeclarationTree)
+declarations_at edition counts left = each_at starts_declaration (declaration_at edition counts left)
 
 -- the number of an edition: a number of this value
 abbrev pub if_edition : ℕ → NodeText → Reader (Unit {0})
@@ -466,24 +542,32 @@ if_edition edition number ts = if number.number == edition then Ok (tt, ts) else
 unfoldable pub edition_number_at : ℕ → Reader (Unit {0})
 edition_number_at edition ts = number_at ts >>= λ number. if_edition edition number.0 number.1
 
-unfoldable pub edition_at : ℕ → Reader (Unit {0})
-edition_at edition =
-    as_at (λ x. tt) (pair_at (word_at keyword.Kahn) (pair_at (edition_number_at edition) (symbol_at symbol.Semicolon)))
+-- what stands behind the first word of a text
+unfoldable pub edition_at : Edition → Counts → ℕ → Reader (List DeclarationTree)
+edition_at edition counts left =
+    as_at (λ x. x.1.1)
+    (pair_at (edition_number_at (edition_number edition))
+    (pair_at (symbol_at symbol.Semicolon) (declarations_at edition counts left)))
 
-unfoldable pub text_at : ℕ → Reader (List DeclarationTree)
-text_at left = as_at (λ x. x.1) (pair_at (edition_at 1) (declarations_at left))
+-- the first edition where its number stands there, and else the second
+unfoldable pub text_at : Counts → ℕ → Reader (List DeclarationTree)
+text_at counts left =
+    as_at (λ x. x.1)
+    (pair_at (word_at keyword.Kahn)
+    (either_at (has_number (edition_number First)) (edition_at First counts left) (edition_at Second counts left)))
 
 -- all of the tokens
 abbrev pub no_more : List DeclarationTree → List Lexeme → Result (List DeclarationTree) Stuck
 no_more tree [] = Ok tree
 no_more tree (t ∷ ts) = Err (At t.line)
 
-unfoldable pub whole_text : ℕ → List Lexeme → Result (List DeclarationTree) Stuck
-whole_text left ts = text_at left ts >>= λ text. no_more text.0 text.1
+unfoldable pub whole_text : Counts → ℕ → List Lexeme → Result (List DeclarationTree) Stuck
+whole_text counts left ts = text_at counts left ts >>= λ text. no_more text.0 text.1
 
 -- the fault of a text whose tokens, which end so, are stuck there
 abbrev pub fault_at : Stuck → End → TextFault
 fault_at (At line) stop = Unexpected line
 fault_at (TooDeep line) stop = TooLong line
+fault_at (OutOfRange line) stop = NumberRange line
 fault_at AtEnd (end.Text line) = Unexpected line
 fault_at AtEnd (end.Bad fault) = fault

@@ -3,6 +3,8 @@ use Rattle.std.specs.Prelude.{◌≡◌, ◌⊎◌, ◌<◌, ◌≤◌, ℕ, suc
 use Rattle.net_text.specs.Tokens.{Lexeme, line_at, AreTokensTo, IsTokenFrom, EndsAt, IsBadFrom}
 use Rattle.net_text.specs.Trees.{DeclarationTree}
 use Rattle.net_text.specs.Grammar.{Whole, IsText, IsTextOf, Begins, IsFront}
+use Rattle.net_text.specs.Editions.{Ranged, Unranged}
+use Rattle.net_text.specs.declared.token.TokenKind.TheVariants as kind
 use Rattle.net_text.specs.declared.fault.TextFault.{TextFault}
 use Rattle.net_text.specs.declared.fault.TextFault.TheVariants.{NoMemory, BadToken, Unexpected, NumberRange, TooLong}
 use Rattle.net_text.specs.declared.limits.TheConstants.{MAX_TEXT_BYTES, MAX_NESTING}
@@ -21,32 +23,45 @@ IsRefusedBy fault (Err other) = (fault ≡ NoMemory) ⊎ ((other ≡ NoMemory) �
 -- that is one too many.
 pub record BeginsTo (text : List ℕ) (ts : List Lexeme) (place : ℕ) : Type 0 where
   pub read : AreTokensTo text 0 ts place
-  pub begins : Begins 1 MAX_NESTING ts
-  pub front : IsFront 1 (suc MAX_NESTING) ts
+  pub begins : Begins Ranged MAX_NESTING ts
+  pub front : IsFront Ranged (suc MAX_NESTING) ts
 
--- on this line comes the token with which no text begins any more, and none would if one more might be open
+-- on this line comes the token with which no text begins any more, and none would if one more might be open and
+-- repetitions might have any number
 pub record IsStrayToken (text : List ℕ) (ts : List Lexeme) (place line : ℕ) : Type 0 where
   pub token : Lexeme
   pub next : IsTokenFrom text place token
   pub line_is : line ≡ token.line
-  pub none : Begins 1 MAX_NESTING (ts ++ token ∷ []) → ⊥
-  pub none_deeper : Begins 1 (suc MAX_NESTING) (ts ++ token ∷ []) → ⊥
-  pub no_front : IsFront 1 (suc MAX_NESTING) (ts ++ token ∷ []) → ⊥
+  pub none : Begins Ranged MAX_NESTING (ts ++ token ∷ []) → ⊥
+  pub none_deeper : Begins Unranged (suc MAX_NESTING) (ts ++ token ∷ []) → ⊥
+  pub no_front : IsFront Unranged (suc MAX_NESTING) (ts ++ token ∷ []) → ⊥
 
 -- on this line comes the token with which no text begins any more, but one would if one more might be open
 pub record IsOneTooDeep (text : List ℕ) (ts : List Lexeme) (place line : ℕ) : Type 0 where
   pub token : Lexeme
   pub next : IsTokenFrom text place token
   pub line_is : line ≡ token.line
-  pub none : Begins 1 MAX_NESTING (ts ++ token ∷ []) → ⊥
-  pub no_front : IsFront 1 MAX_NESTING (ts ++ token ∷ []) → ⊥
-  pub deeper : Begins 1 (suc MAX_NESTING) (ts ++ token ∷ [])
+  pub none : Begins Ranged MAX_NESTING (ts ++ token ∷ []) → ⊥
+  pub no_front : IsFront Ranged MAX_NESTING (ts ++ token ∷ []) → ⊥
+  pub deeper : Begins Unranged (suc MAX_NESTING) (ts ++ token ∷ [])
+  pub no_number : (n : ℕ) → token.kind ≡ kind.Number n → ⊥
+
+-- on this line comes a number with which no text begins any more, but one would if repetitions might have any number
+pub record IsCountPastLimits (text : List ℕ) (ts : List Lexeme) (place line : ℕ) : Type 0 where
+  pub token : Lexeme
+  pub next : IsTokenFrom text place token
+  pub line_is : line ≡ token.line
+  pub none : Begins Ranged MAX_NESTING (ts ++ token ∷ []) → ⊥
+  pub no_front : IsFront Ranged MAX_NESTING (ts ++ token ∷ []) → ⊥
+  pub unranged : Begins Unranged (suc MAX_NESTING) (ts ++ token ∷ [])
+  pub number : ℕ
+  pub number_is : token.kind ≡ kind.Number number
 
 -- the text ends too early: there, on this line
 pub record IsCutShort (text : List ℕ) (ts : List Lexeme) (place line : ℕ) : Type 0 where
   pub ends : EndsAt text place
   pub line_is : line ≡ line_at text (length text)
-  pub none : (tree : List DeclarationTree) → IsText 1 MAX_NESTING tree Whole ts → ⊥
+  pub none : (tree : List DeclarationTree) → IsText Ranged MAX_NESTING tree Whole ts → ⊥
 
 -- some text within the limits begins with the tokens up to a place, where this comes next
 abbrev pub BeginsBefore : List ℕ → (List Lexeme → ℕ → Type 0) → Type 0
@@ -56,11 +71,12 @@ BeginsBefore text Comes =
 abbrev pub IsBadNext : List ℕ → TextFault → Type 0
 IsBadNext text fault = BeginsBefore text (λ ts place. IsBadFrom text place fault)
 
--- Why a text isn't read: the first token at which no text can go on is bad, or opens one more than may be open, or
--- stands where it can't; or the text is over-long.
+-- Why a text isn't read: the first token at which no text can go on is bad, or opens one more than may be open, or is
+-- the number of a repetition and outside its limits, or stands where it can't; or the text is over-long.
 abbrev pub IsParseFault : List ℕ → TextFault → Type 0
 IsParseFault text (BadToken line) = IsBadNext text (BadToken line)
-IsParseFault text (NumberRange line) = IsBadNext text (NumberRange line)
+IsParseFault text (NumberRange line) =
+    IsBadNext text (NumberRange line) ⊎ BeginsBefore text (λ ts place. IsCountPastLimits text ts place line)
 IsParseFault text (TooLong line) =
     ((MAX_TEXT_BYTES < length text) × (line ≡ 1))
     ⊎ (IsBadNext text (TooLong line) ⊎ BeginsBefore text (λ ts place. IsOneTooDeep text ts place line))

@@ -1,7 +1,8 @@
 -- Trees of the text, as code finds them: a chain, a negation and an if are those of their parts.
-use Rattle.std.proofs.Common.{◌≡◌, map, ap, refl, Box, Vec, Global, rules}
+use Rattle.std.proofs.Common.{◌≡◌, ℕ, map, ap, refl, Box, Vec, Global, rules}
 use mathlib.Core.Former.{Count}
-use Rattle.net_text.specs.Trees.{MinusTree, ChainTree, LinkThenTree, BlockTree, IfTree, expr_tree, row_tree, link_tree}
+use Rattle.net_text.specs.Trees.{MinusTree, ChainTree, LinkThenTree, BlockTree, IfTree, RepeatTree, expr_tree, row_tree}
+use Rattle.net_text.specs.Trees.{link_tree}
 use Rattle.net_text.specs.Trees.{links_tree, then_tree, row_block, block_tree}
 use Rattle.net_text.specs.declared.tree.LinkText.{LinkText}
 use Rattle.net_text.specs.declared.tree.ExprText.{ExprText, Row_of-LinkText, end_of-LinkText, more_of-LinkText}
@@ -33,3 +34,7 @@ pub if_tree : (test : ExprText) (first second : Vec StatementText Global) (rest 
     → then_tree (statement.If test first second) rest
     ≡ IfTree (expr_tree test) (block_tree first.items) (block_tree second.items) rest
 if_tree test first second rest = search (rules, the_statement_lemmas, row_statements)
+
+pub repeat_tree : (times line : ℕ) (body : Vec StatementText Global) (rest : BlockTree)
+    → then_tree (statement.Repeat times line body) rest ≡ RepeatTree times line (block_tree body.items) rest
+repeat_tree times line body rest = search (rules, the_statement_lemmas, row_statements)

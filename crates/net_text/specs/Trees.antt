@@ -6,8 +6,9 @@ use Rattle.kahn_net.specs.declared.program.Operator.{Operator}
 use Rattle.net_text.specs.declared.tree.ExprText.{ExprText, Literal, Variable, Negate', Chain', Row_of-LinkText}
 use Rattle.net_text.specs.declared.tree.ExprText.{end_of-LinkText, more_of-LinkText}
 use Rattle.net_text.specs.declared.tree.LinkText.{LinkText}
-use Rattle.net_text.specs.declared.tree.StatementText.{StatementText, Get, Assign, Put, Stop, If', Row_of-StatementText}
-use Rattle.net_text.specs.declared.tree.StatementText.{end_of-StatementText, more_of-StatementText}
+use Rattle.net_text.specs.declared.tree.StatementText.{StatementText, Get, Assign, Put, Stop, If', Repeat'}
+use Rattle.net_text.specs.declared.tree.StatementText.{Row_of-StatementText, end_of-StatementText}
+use Rattle.net_text.specs.declared.tree.StatementText.{more_of-StatementText}
 use Rattle.net_text.specs.declared.tree.ChannelText.{ChannelText}
 use Rattle.net_text.specs.declared.tree.VariableText.{VariableText}
 use Rattle.net_text.specs.declared.tree.NodeText.{NodeText}
@@ -44,6 +45,7 @@ pub data BlockTree : Type 0 where
   PutTree : (value : ExprTree) (channel : NameTree) (rest : BlockTree) → BlockTree
   StopTree : (rest : BlockTree) → BlockTree
   IfTree : (test : ExprTree) (first second rest : BlockTree) → BlockTree
+  RepeatTree : (times line : ℕ) (body rest : BlockTree) → BlockTree
 
 pub record LoopTree : Type 0 where
   pub body : BlockTree
@@ -88,6 +90,7 @@ abbrev mutual
   then_tree Stop rest = StopTree rest
   then_tree (If' test shape first shape' second) rest =
       IfTree (expr_tree test) (row_block first) (row_block second) rest
+  then_tree (Repeat' times line shape body) rest = RepeatTree times line (row_block body) rest
 
   pub row_block : {m : _} → Row_of-StatementText m → BlockTree
   row_block end_of-StatementText = NothingTree

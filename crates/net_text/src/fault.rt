@@ -19,7 +19,7 @@ pub enum TextFault {
     /// Refusal 3: a token, or the end of the text, at which the text can't go on.
     #[error("line {line}: unexpected")]
     Unexpected { line: usize },
-    /// Refusal 4: a number that doesn't fit the signed 64 bits.
+    /// Refusal 4: a number that doesn't fit the signed 64 bits, or a repetition's that isn't from 1 to 1000.
     #[error("line {line}: number out of range")]
     NumberRange { line: usize },
     /// Refusal 5: a name of more than 64 bytes, a text past its limit, or a token that opens the

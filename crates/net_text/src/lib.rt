@@ -1,6 +1,7 @@
 //! The texts of a network: tokens, the tree of a network's text, and the lines of an inputs text.
 #![tactic(auto)]
 
+mod edition;
 mod fault;
 mod inputs;
 mod lexer;

@@ -7,9 +7,11 @@ ghost use Rattle.net_text.specs.Trees.{expr_tree, link_tree, then_tree, block_tr
 ghost use Rattle.net_text.specs.Numbers.{IsInRange};
 ghost use Rattle.net_text.specs.Grammar.{chain_of, first_word, level_of};
 ghost use Rattle.net_text.specs.Tokens.{lexemes};
-ghost use Rattle.net_text.specs.Reading.{Gives, has_word, has_symbol, is_name, is_level, operator_of, operator_in, has_operator, begins, starts_statement, starts_declaration, word_on_at, word_at, symbol_at, name_at, number_at, operator_at, opening_at, atom_at, parenthesised_at, minus_at, factor_at, operand_at, link_at, links_at, chain_at, expr_at, got_at, assigned_at, named_at, put_at, stop_at, else_at, if_at, statement_at, statements_at, block_at, value_at, initial_at, variable_at, variables_at, loop_at, head_at, head_tree, process_at, channel_at, declaration_at, declarations_at, edition_number_at, edition_at, text_at, whole_text};
+ghost use Rattle.net_text.specs.Editions.{Ranged, edition_number};
+ghost use Rattle.net_text.specs.Reading.{Gives, has_word, has_symbol, is_name, is_level, operator_of, word_operator, any_operator, operator_in, has_operator, has_number, begins, starts_nested, starts_statement, starts_declaration, word_on_at, word_at, symbol_at, name_at, number_at, operator_at, count_at, opening_at, atom_at, parenthesised_at, minus_at, factor_at, operand_at, link_at, links_at, chain_at, expr_at, got_at, assigned_at, named_at, put_at, stop_at, else_at, if_at, repeat_at, nested_at, statement_at, statements_at, block_at, value_at, initial_at, variable_at, variables_at, loop_at, head_at, head_tree, process_at, channel_at, declaration_at, declarations_at, edition_number_at, edition_at, text_at, whole_text};
 ghost use Rattle.net_text.specs.declared.parser.ParseError.TheVariants.{NoMemory};
 
+use crate::edition::Edition;
 use crate::limits::MAX_NESTING;
 use crate::name::Name;
 use crate::token::{Keyword, Symbol, Token, TokenKind};
@@ -17,7 +19,7 @@ use crate::tree::{
     ChannelText, Declaration, ExprText, LinkText, LoopText, NetText, NodeText, ProcessText, Role,
     StatementText, VariableText,
 };
-use kahn_net::Operator;
+use kahn_net::{MAX_TIMES, Operator};
 use std::alloc::{AllocError, AllocFailed, Global};
 use std::marker::Model;
 
@@ -28,6 +30,8 @@ pub(crate) enum Stuck {
     At { line: usize },
     /// At a token on this line that opens one more than may be open.
     TooDeep { line: usize },
+    /// At a number on this line, as often as which no repetition may be made.
+    OutOfRange { line: usize },
     /// At their end.
     AtEnd,
 }
@@ -82,11 +86,30 @@ fn is_symbol(found: TokenKind, symbol: Symbol) -> bool
     found == TokenKind::Symbol(symbol)
 }
 
+fn is_number(found: TokenKind, number: u64) -> bool
+    ensures { result ≡ has_number number found }
+{
+    match found {
+        TokenKind::Number(value) => value == number,
+        _ => false,
+    }
+}
+
+// The number by which a text names its edition.
+fn number_of(edition: Edition) -> u64
+    ensures { result ≡ edition_number edition }
+{
+    match edition {
+        Edition::First => 1,
+        Edition::Second => 2,
+    }
+}
+
 fn level_of(operator: Operator) -> Level
     ensures { result ≡ level_of operator }
 {
     match operator {
-        Operator::Multiply => Level::Product,
+        Operator::Multiply | Operator::Divide | Operator::Remainder => Level::Product,
         Operator::Add | Operator::Subtract => Level::Sum,
         Operator::Equal
         | Operator::NotEqual
@@ -126,15 +149,37 @@ fn operator_of(symbol: Symbol) -> Option<Operator>
     }
 }
 
-// The operator of this level that a token is.
-fn operator_in(level: Level, found: TokenKind) -> Option<Operator>
-    ensures { result ≡ operator_in level found }
+// The operator that a word is, if the edition has it.
+fn word_operator(word: Keyword, edition: Edition) -> Option<Operator>
+    ensures { result ≡ word_operator word edition }
 {
-    match found {
-        TokenKind::Symbol(symbol) => match operator_of(symbol) {
-            Some(operator) if is_level(level_of(operator), level) => Some(operator),
+    match edition {
+        Edition::First => None,
+        Edition::Second => match word {
+            Keyword::Div => Some(Operator::Divide),
+            Keyword::Mod => Some(Operator::Remainder),
             _ => None,
         },
+    }
+}
+
+// The operator that a token is.
+fn any_operator(edition: Edition, found: TokenKind) -> Option<Operator>
+    ensures { result ≡ any_operator edition found }
+{
+    match found {
+        TokenKind::Symbol(symbol) => operator_of(symbol),
+        TokenKind::Word(word) => word_operator(word, edition),
+        _ => None,
+    }
+}
+
+// The operator of this level that a token is.
+fn operator_in(edition: Edition, level: Level, found: TokenKind) -> Option<Operator>
+    ensures { result ≡ operator_in edition level found }
+{
+    match any_operator(edition, found) {
+        Some(operator) if is_level(level_of(operator), level) => Some(operator),
         _ => None,
     }
 }
@@ -224,12 +269,21 @@ impl<'a> Parser<'a> {
         }
     }
 
-    fn begins_with_operator(&self, level: Level) -> bool
-        ensures { result ≡ begins (has_operator level) self.now }
+    fn begins_with_operator(&self, edition: Edition, level: Level) -> bool
+        ensures { result ≡ begins (has_operator edition level) self.now }
     {
         match self.rest {
             [] => false,
-            [token, ..] => operator_in(level, token.kind).is_some(),
+            [token, ..] => operator_in(edition, level, token.kind).is_some(),
+        }
+    }
+
+    fn begins_with_number(&self, number: u64) -> bool
+        ensures { result ≡ begins (has_number number) self.now }
+    {
+        match self.rest {
+            [] => false,
+            [token, ..] => is_number(token.kind, number),
         }
     }
 
@@ -339,14 +393,35 @@ impl<'a> Parser<'a> {
         }
     }
 
-    // An operator of this level.
-    #[tactic(auto, unfolding(crate::specs::Reading::operator_at))]
-    fn operator(&mut self, level: Level) -> Result<Operator, ParseError>
-        ensures { Gives (λ operator. (operator, self.new)) result (operator_at level self.old) }
+    // The number of a repetition.
+    #[tactic(auto, unfolding(crate::specs::Reading::count_at))]
+    fn count(&mut self) -> Result<u16, ParseError>
+        ensures { Gives (λ times. (times, self.new)) result (count_at Ranged self.old) }
     {
         match self.rest {
             [] => Err(ParseError::Stuck(Stuck::AtEnd)),
-            [token, rest @ ..] => match operator_in(level, token.kind) {
+            [token, rest @ ..] => match token.kind {
+                TokenKind::Number(number) => {
+                    if number < 1 || number > MAX_TIMES as u64 {
+                        return Err(ParseError::Stuck(Stuck::OutOfRange { line: token.line }));
+                    }
+                    self.rest = rest;
+                    Ok(number as u16)
+                }
+                _ => Err(stuck_at(token)),
+            },
+        }
+    }
+
+    // An operator of this level.
+    #[tactic(auto, unfolding(crate::specs::Reading::operator_at))]
+    fn operator(&mut self, edition: Edition, level: Level) -> Result<Operator, ParseError>
+        ensures { Gives (λ operator. (operator, self.new)) result
+            (operator_at edition level self.old) }
+    {
+        match self.rest {
+            [] => Err(ParseError::Stuck(Stuck::AtEnd)),
+            [token, rest @ ..] => match operator_in(edition, level, token.kind) {
                 Some(operator) => {
                     self.rest = rest;
                     Ok(operator)
@@ -378,33 +453,33 @@ impl<'a> Parser<'a> {
     }
 
     #[cycle(expression)]
-    fn parenthesised(&mut self, left: usize) -> Result<ExprText, ParseError>
-        ensures { Gives (λ e. (expr_tree e, self.new)) result (parenthesised_at left self.old) }
+    fn parenthesised(&mut self, edition: Edition, left: usize) -> Result<ExprText, ParseError>
+        ensures { Gives (λ e. (expr_tree e, self.new)) result (parenthesised_at edition left self.old) }
     {
         self.opening(Symbol::LeftParenthesis, left)?;
-        let value = self.expr(left - 1)?;
+        let value = self.expr(edition, left - 1)?;
         self.symbol(Symbol::RightParenthesis)?;
         Ok(value)
     }
 
     #[cycle(expression)]
-    fn minus(&mut self, left: usize) -> Result<ExprText, ParseError>
-        ensures { Gives (λ e. (expr_tree e, self.new)) result (minus_at left self.old) }
+    fn minus(&mut self, edition: Edition, left: usize) -> Result<ExprText, ParseError>
+        ensures { Gives (λ e. (expr_tree e, self.new)) result (minus_at edition left self.old) }
     {
         self.opening(Symbol::Minus, left)?;
-        let value = self.factor(left - 1)?;
+        let value = self.factor(edition, left - 1)?;
         Ok(ExprText::Negate(Box::new(self.alloc, value)?))
     }
 
     #[cycle(expression)]
-    fn factor(&mut self, left: usize) -> Result<ExprText, ParseError>
-        ensures { Gives (λ e. (expr_tree e, self.new)) result (factor_at left self.old) }
+    fn factor(&mut self, edition: Edition, left: usize) -> Result<ExprText, ParseError>
+        ensures { Gives (λ e. (expr_tree e, self.new)) result (factor_at edition left self.old) }
     {
         if self.begins_with_symbol(Symbol::LeftParenthesis) {
-            return self.parenthesised(left);
+            return self.parenthesised(edition, left);
         }
         if self.begins_with_symbol(Symbol::Minus) {
-            return self.minus(left);
+            return self.minus(edition, left);
         }
         self.atom()
     }
@@ -412,36 +487,46 @@ impl<'a> Parser<'a> {
     // What the operators of a level join: factors, terms or sums.
     #[cycle(expression)]
     #[tactic(auto, unfolding(crate::specs::Reading::operand_at))]
-    fn operand(&mut self, level: Level, left: usize) -> Result<ExprText, ParseError>
-        ensures { Gives (λ e. (expr_tree e, self.new)) result (operand_at level left self.old) }
+    fn operand(
+        &mut self,
+        edition: Edition,
+        level: Level,
+        left: usize,
+    ) -> Result<ExprText, ParseError>
+        ensures { Gives (λ e. (expr_tree e, self.new)) result (operand_at edition level left self.old) }
     {
         match level {
-            Level::Product => self.factor(left),
-            Level::Sum => self.chain(Level::Product, left),
-            Level::Comparison => self.chain(Level::Sum, left),
+            Level::Product => self.factor(edition, left),
+            Level::Sum => self.chain(edition, Level::Product, left),
+            Level::Comparison => self.chain(edition, Level::Sum, left),
         }
     }
 
     // An operator of this level, and the value to its right.
     #[cycle(expression)]
     #[tactic(auto, unfolding(crate::specs::Reading::link_at, crate::specs::Reading::operand_at))]
-    fn link(&mut self, level: Level, left: usize) -> Result<LinkText, ParseError>
-        ensures { Gives (λ l. (link_tree l, self.new)) result (link_at level left self.old) }
+    fn link(&mut self, edition: Edition, level: Level, left: usize) -> Result<LinkText, ParseError>
+        ensures { Gives (λ l. (link_tree l, self.new)) result (link_at edition level left self.old) }
     {
-        let operator = self.operator(level)?;
-        let value = self.operand(level, left)?;
+        let operator = self.operator(edition, level)?;
+        let value = self.operand(edition, level, left)?;
         Ok(LinkText { operator, value })
     }
 
     #[cycle(expression)]
     #[tactic(auto, unfolding(crate::specs::Reading::links_at))]
-    fn links(&mut self, level: Level, left: usize) -> Result<Vec<LinkText>, ParseError>
+    fn links(
+        &mut self,
+        edition: Edition,
+        level: Level,
+        left: usize,
+    ) -> Result<Vec<LinkText>, ParseError>
         ensures { Gives (λ v. (map link_tree v.items, self.new)) result
-            (links_at level left self.old) }
+            (links_at edition level left self.old) }
     {
         let mut links = Vec::new(self.alloc);
-        while self.begins_with_operator(level) {
-            let link = self.link(level, left)?;
+        while self.begins_with_operator(edition, level) {
+            let link = self.link(edition, level, left)?;
             links.push(link)?;
         }
         Ok(links)
@@ -450,25 +535,25 @@ impl<'a> Parser<'a> {
     // Values with operators of one level between them: a term, or a sum.
     #[cycle(expression)]
     #[tactic(auto, unfolding(crate::specs::Reading::links_at, crate::specs::Reading::link_at, crate::specs::Reading::operand_at))]
-    fn chain(&mut self, level: Level, left: usize) -> Result<ExprText, ParseError>
+    fn chain(&mut self, edition: Edition, level: Level, left: usize) -> Result<ExprText, ParseError>
         ensures { Gives (λ e. (expr_tree e, self.new)) result
-            (chain_at level (operand_at level left) self.old) }
+            (chain_at edition level (operand_at edition level left) self.old) }
     {
-        let first = self.operand(level, left)?;
-        let links = self.links(level, left)?;
+        let first = self.operand(edition, level, left)?;
+        let links = self.links(edition, level, left)?;
         Ok(chain(self.alloc, first, links)?)
     }
 
     // A sum, or two with a comparison between them.
     #[cycle(expression)]
     #[tactic(auto, unfolding(crate::specs::Reading::expr_at, crate::specs::Reading::link_at, crate::specs::Reading::operand_at))]
-    fn expr(&mut self, left: usize) -> Result<ExprText, ParseError>
-        ensures { Gives (λ e. (expr_tree e, self.new)) result (expr_at left self.old) }
+    fn expr(&mut self, edition: Edition, left: usize) -> Result<ExprText, ParseError>
+        ensures { Gives (λ e. (expr_tree e, self.new)) result (expr_at edition left self.old) }
     {
-        let first = self.operand(Level::Comparison, left)?;
+        let first = self.operand(edition, Level::Comparison, left)?;
         let mut links = Vec::new(self.alloc);
-        if self.begins_with_operator(Level::Comparison) {
-            let link = self.link(Level::Comparison, left)?;
+        if self.begins_with_operator(edition, Level::Comparison) {
+            let link = self.link(edition, Level::Comparison, left)?;
             links.push(link)?;
         }
         Ok(chain(self.alloc, first, links)?)
@@ -487,18 +572,18 @@ impl<'a> Parser<'a> {
 
     // The value of an assignment, past the `=`.
     #[tactic(auto, unfolding(crate::specs::Reading::assigned_at))]
-    fn assigned(&mut self, left: usize) -> Result<ExprText, ParseError>
-        ensures { Gives (λ e. (expr_tree e, self.new)) result (assigned_at left self.old) }
+    fn assigned(&mut self, edition: Edition, left: usize) -> Result<ExprText, ParseError>
+        ensures { Gives (λ e. (expr_tree e, self.new)) result (assigned_at edition left self.old) }
     {
-        let value = self.expr(left)?;
+        let value = self.expr(edition, left)?;
         self.symbol(Symbol::Semicolon)?;
         Ok(value)
     }
 
     // A statement that begins with a name.
     #[tactic(auto, unfolding(crate::specs::Reading::named_at))]
-    fn named(&mut self, left: usize) -> Result<StatementText, ParseError>
-        ensures { Gives (λ s. (then_tree s NothingTree, self.new)) result (named_at left self.old) }
+    fn named(&mut self, edition: Edition, left: usize) -> Result<StatementText, ParseError>
+        ensures { Gives (λ s. (then_tree s NothingTree, self.new)) result (named_at edition left self.old) }
     {
         let variable = self.name()?;
         self.symbol(Symbol::Assign)?;
@@ -506,16 +591,16 @@ impl<'a> Parser<'a> {
             let channel = self.got()?;
             return Ok(StatementText::Get { variable, channel });
         }
-        let value = self.assigned(left)?;
+        let value = self.assigned(edition, left)?;
         Ok(StatementText::Assign { variable, value })
     }
 
     #[tactic(auto, unfolding(crate::specs::Reading::put_at))]
-    fn put(&mut self, left: usize) -> Result<StatementText, ParseError>
-        ensures { Gives (λ s. (then_tree s NothingTree, self.new)) result (put_at left self.old) }
+    fn put(&mut self, edition: Edition, left: usize) -> Result<StatementText, ParseError>
+        ensures { Gives (λ s. (then_tree s NothingTree, self.new)) result (put_at edition left self.old) }
     {
         self.word(Keyword::Put)?;
-        let value = self.expr(left)?;
+        let value = self.expr(edition, left)?;
         self.word(Keyword::To)?;
         let channel = self.name()?;
         self.symbol(Symbol::Semicolon)?;
@@ -534,25 +619,25 @@ impl<'a> Parser<'a> {
     // The statements behind `else`, which are none where there is none.
     #[cycle(statement)]
     #[tactic(auto, unfolding(crate::specs::Reading::else_at))]
-    fn otherwise(&mut self, left: usize) -> Result<Vec<StatementText>, ParseError>
-        ensures { Gives (λ v. (block_tree v.items, self.new)) result (else_at left self.old) }
+    fn otherwise(&mut self, edition: Edition, left: usize) -> Result<Vec<StatementText>, ParseError>
+        ensures { Gives (λ v. (block_tree v.items, self.new)) result (else_at edition Ranged left self.old) }
     {
         if !self.begins_with_word(Keyword::Else) {
             return Ok(Vec::new(self.alloc));
         }
         self.word(Keyword::Else)?;
-        self.block(left)
+        self.block(edition, left)
     }
 
     #[cycle(statement)]
     #[tactic(auto, unfolding(crate::specs::Reading::if_at, crate::specs::Reading::else_at))]
-    fn conditional(&mut self, left: usize) -> Result<StatementText, ParseError>
-        ensures { Gives (λ s. (then_tree s NothingTree, self.new)) result (if_at left self.old) }
+    fn conditional(&mut self, edition: Edition, left: usize) -> Result<StatementText, ParseError>
+        ensures { Gives (λ s. (then_tree s NothingTree, self.new)) result (if_at edition Ranged left self.old) }
     {
         self.word(Keyword::If)?;
-        let test = self.expr(left)?;
-        let first = self.block(left)?;
-        let second = self.otherwise(left)?;
+        let test = self.expr(edition, left)?;
+        let first = self.block(edition, left)?;
+        let second = self.otherwise(edition, left)?;
         Ok(StatementText::If {
             test,
             first,
@@ -561,51 +646,97 @@ impl<'a> Parser<'a> {
     }
 
     #[cycle(statement)]
-    #[tactic(auto, unfolding(crate::specs::Reading::statement_at, crate::specs::Reading::if_at))]
-    fn statement(&mut self, left: usize) -> Result<StatementText, ParseError>
+    #[tactic(auto, unfolding(crate::specs::Reading::repeat_at))]
+    fn repeat(&mut self, edition: Edition, left: usize) -> Result<StatementText, ParseError>
         ensures { Gives (λ s. (then_tree s NothingTree, self.new)) result
-            (statement_at left self.old) }
+            (repeat_at edition Ranged left self.old) }
     {
-        if self.begins_with_name() {
-            self.named(left)
-        } else if self.begins_with_word(Keyword::Put) {
-            self.put(left)
-        } else if self.begins_with_word(Keyword::Stop) {
-            self.stop()
-        } else {
-            self.conditional(left)
+        let line = self.word_on(Keyword::Repeat)?;
+        let times = self.count()?;
+        let body = self.block(edition, left)?;
+        Ok(StatementText::Repeat { times, line, body })
+    }
+
+    // A statement with blocks. The first edition knows no word `repeat`.
+    #[cycle(statement)]
+    #[tactic(auto, unfolding(crate::specs::Reading::nested_at, crate::specs::Reading::repeat_at, crate::specs::Reading::if_at))]
+    fn nested(&mut self, edition: Edition, left: usize) -> Result<StatementText, ParseError>
+        ensures { Gives (λ s. (then_tree s NothingTree, self.new)) result
+            (nested_at edition Ranged left self.old) }
+    {
+        match edition {
+            Edition::First => self.conditional(edition, left),
+            Edition::Second => {
+                if self.begins_with_word(Keyword::Repeat) {
+                    self.repeat(edition, left)
+                } else {
+                    self.conditional(edition, left)
+                }
+            }
         }
     }
 
-    fn begins_with_statement(&self) -> bool
-        ensures { result ≡ begins starts_statement self.now }
+    #[cycle(statement)]
+    #[tactic(auto, unfolding(crate::specs::Reading::statement_at, crate::specs::Reading::nested_at, crate::specs::Reading::repeat_at, crate::specs::Reading::if_at))]
+    fn statement(&mut self, edition: Edition, left: usize) -> Result<StatementText, ParseError>
+        ensures { Gives (λ s. (then_tree s NothingTree, self.new)) result
+            (statement_at edition Ranged left self.old) }
+    {
+        if self.begins_with_name() {
+            self.named(edition, left)
+        } else if self.begins_with_word(Keyword::Put) {
+            self.put(edition, left)
+        } else if self.begins_with_word(Keyword::Stop) {
+            self.stop()
+        } else {
+            self.nested(edition, left)
+        }
+    }
+
+    fn begins_with_nested(&self, edition: Edition) -> bool
+        ensures { result ≡ begins (starts_nested edition) self.now }
+    {
+        match edition {
+            Edition::First => self.begins_with_word(Keyword::If),
+            Edition::Second => {
+                self.begins_with_word(Keyword::Repeat) || self.begins_with_word(Keyword::If)
+            }
+        }
+    }
+
+    fn begins_with_statement(&self, edition: Edition) -> bool
+        ensures { result ≡ begins (starts_statement edition) self.now }
     {
         self.begins_with_name()
             || self.begins_with_word(Keyword::Put)
             || self.begins_with_word(Keyword::Stop)
-            || self.begins_with_word(Keyword::If)
+            || self.begins_with_nested(edition)
     }
 
     #[cycle(statement)]
     #[tactic(auto, unfolding(crate::specs::Reading::statements_at))]
-    fn statements(&mut self, left: usize) -> Result<Vec<StatementText>, ParseError>
+    fn statements(
+        &mut self,
+        edition: Edition,
+        left: usize,
+    ) -> Result<Vec<StatementText>, ParseError>
         ensures { Gives (λ v. (block_tree v.items, self.new)) result
-            (statements_at left self.old) }
+            (statements_at edition Ranged left self.old) }
     {
         let mut statements = Vec::new(self.alloc);
-        while self.begins_with_statement() {
-            let statement = self.statement(left)?;
+        while self.begins_with_statement(edition) {
+            let statement = self.statement(edition, left)?;
             statements.push(statement)?;
         }
         Ok(statements)
     }
 
     #[cycle(statement)]
-    fn block(&mut self, left: usize) -> Result<Vec<StatementText>, ParseError>
-        ensures { Gives (λ v. (block_tree v.items, self.new)) result (block_at left self.old) }
+    fn block(&mut self, edition: Edition, left: usize) -> Result<Vec<StatementText>, ParseError>
+        ensures { Gives (λ v. (block_tree v.items, self.new)) result (block_at edition Ranged left self.old) }
     {
         self.opening(Symbol::LeftBrace, left)?;
-        let statements = self.statements(left - 1)?;
+        let statements = self.statements(edition, left - 1)?;
         self.symbol(Symbol::RightBrace)?;
         Ok(statements)
     }
@@ -664,14 +795,14 @@ impl<'a> Parser<'a> {
 
     // The loop, if there is one.
     #[tactic(auto, unfolding(crate::specs::Reading::loop_at))]
-    fn repeated(&mut self, left: usize) -> Result<Option<LoopText>, ParseError>
-        ensures { Gives (λ l. (repeated_tree l, self.new)) result (loop_at left self.old) }
+    fn repeated(&mut self, edition: Edition, left: usize) -> Result<Option<LoopText>, ParseError>
+        ensures { Gives (λ l. (repeated_tree l, self.new)) result (loop_at edition Ranged left self.old) }
     {
         if !self.begins_with_word(Keyword::Loop) {
             return Ok(None);
         }
         let line = self.word_on(Keyword::Loop)?;
-        let body = self.block(left)?;
+        let body = self.block(edition, left)?;
         Ok(Some(LoopText { body, line }))
     }
 
@@ -689,13 +820,13 @@ impl<'a> Parser<'a> {
     }
 
     #[tactic(auto, unfolding(crate::specs::Reading::process_at))]
-    fn process(&mut self, left: usize) -> Result<ProcessText, ParseError>
-        ensures { Gives (λ p. (process_tree p, self.new)) result (process_at left self.old) }
+    fn process(&mut self, edition: Edition, left: usize) -> Result<ProcessText, ParseError>
+        ensures { Gives (λ p. (process_tree p, self.new)) result (process_at edition Ranged left self.old) }
     {
         let head = self.head()?;
         let variables = self.variables()?;
-        let prelude = self.statements(left)?;
-        let repeated = self.repeated(left)?;
+        let prelude = self.statements(edition, left)?;
+        let repeated = self.repeated(edition, left)?;
         self.symbol(Symbol::RightBrace)?;
         Ok(ProcessText {
             name: head.name,
@@ -718,12 +849,12 @@ impl<'a> Parser<'a> {
     }
 
     #[tactic(auto, unfolding(crate::specs::Reading::declaration_at))]
-    fn declaration(&mut self, left: usize) -> Result<Declaration, ParseError>
+    fn declaration(&mut self, edition: Edition, left: usize) -> Result<Declaration, ParseError>
         ensures { Gives (λ d. (declaration_tree d, self.new)) result
-            (declaration_at left self.old) }
+            (declaration_at edition Ranged left self.old) }
     {
         if self.begins_with_word(Keyword::Process) {
-            return Ok(Declaration::Process(self.process(left)?));
+            return Ok(Declaration::Process(self.process(edition, left)?));
         }
         if self.begins_with_word(Keyword::Input) {
             return Ok(Declaration::Channel(self.channel(Role::Input)?));
@@ -744,13 +875,17 @@ impl<'a> Parser<'a> {
     }
 
     #[tactic(auto, unfolding(crate::specs::Reading::declarations_at))]
-    fn declarations(&mut self, left: usize) -> Result<Vec<Declaration>, ParseError>
+    fn declarations(
+        &mut self,
+        edition: Edition,
+        left: usize,
+    ) -> Result<Vec<Declaration>, ParseError>
         ensures { Gives (λ v. (map declaration_tree v.items, self.new)) result
-            (declarations_at left self.old) }
+            (declarations_at edition Ranged left self.old) }
     {
         let mut declarations = Vec::new(self.alloc);
         while self.begins_with_declaration() {
-            let declaration = self.declaration(left)?;
+            let declaration = self.declaration(edition, left)?;
             declarations.push(declaration)?;
         }
         Ok(declarations)
@@ -768,28 +903,34 @@ impl<'a> Parser<'a> {
         Ok(())
     }
 
+    // What stands behind the first word of a text of this edition.
     #[tactic(auto, unfolding(crate::specs::Reading::edition_at))]
-    fn edition(&mut self) -> Result<(), ParseError>
-        ensures { Gives (λ _. (tt, self.new)) result (edition_at 1 self.old) }
+    fn edition(&mut self, edition: Edition) -> Result<NetText, ParseError>
+        ensures { Gives (λ n. (net_tree n, self.new)) result
+            (edition_at edition Ranged MAX_NESTING self.old) }
     {
-        self.word(Keyword::Kahn)?;
-        self.edition_number(1)?;
-        self.symbol(Symbol::Semicolon)
+        self.edition_number(number_of(edition))?;
+        self.symbol(Symbol::Semicolon)?;
+        let declarations = self.declarations(edition, MAX_NESTING)?;
+        Ok(NetText { declarations })
     }
 
     #[tactic(auto, unfolding(crate::specs::Reading::text_at))]
     fn text(&mut self) -> Result<NetText, ParseError>
-        ensures { Gives (λ n. (net_tree n, self.new)) result (text_at MAX_NESTING self.old) }
+        ensures { Gives (λ n. (net_tree n, self.new)) result
+            (text_at Ranged MAX_NESTING self.old) }
     {
-        self.edition()?;
-        let declarations = self.declarations(MAX_NESTING)?;
-        Ok(NetText { declarations })
+        self.word(Keyword::Kahn)?;
+        if self.begins_with_number(number_of(Edition::First)) {
+            return self.edition(Edition::First);
+        }
+        self.edition(Edition::Second)
     }
 
     /// The text that the tokens are, all of them.
     #[tactic(auto, unfolding(crate::specs::Reading::whole_text))]
     pub(crate) fn whole(&mut self) -> Result<NetText, ParseError>
-        ensures { Gives net_tree result (whole_text MAX_NESTING self.old) }
+        ensures { Gives net_tree result (whole_text Ranged MAX_NESTING self.old) }
     {
         let text = self.text()?;
         match self.rest {

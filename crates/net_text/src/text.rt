@@ -37,8 +37,9 @@ pub fn tokens(alloc: Global, text: &str) -> Result<Vec<Token<'_>>, TextFault>
     }
 }
 
-/// The tree of a network's text, edition 1. Refuses at the first token at which the text can't go on: by the
-/// bad token's own number, by 5 where it opens one more than may be open, or else by 3.
+/// The tree of a network's text, of either edition. Refuses at the first token at which the text can't go on: by
+/// the bad token's own number, by 5 where it opens one more than may be open, by 4 where it is a repetition's
+/// number and not from 1 to 1000, or else by 3.
 pub fn parse(alloc: Global, text: &str) -> Result<NetText, TextFault>
     ensures ok { IfOk result (λ net. IsTextOf (net_tree net) text.now) }
     // The refusal's cause is in the text, and a text has no other.
@@ -70,6 +71,7 @@ fn fault_at(stuck: Stuck, end: End) -> TextFault
     match stuck {
         Stuck::At { line } => TextFault::Unexpected { line },
         Stuck::TooDeep { line } => TextFault::TooLong { line },
+        Stuck::OutOfRange { line } => TextFault::NumberRange { line },
         Stuck::AtEnd => match end {
             End::Text { line } => TextFault::Unexpected { line },
             End::Bad(fault) => fault,

@@ -79,6 +79,13 @@ pub enum StatementText {
         first: Vec<StatementText>,
         second: Vec<StatementText>,
     },
+    /// Does its statements so many times.
+    Repeat {
+        times: u16,
+        /// The line of the word `repeat`.
+        line: usize,
+        body: Vec<StatementText>,
+    },
 }
 
 /// A loop's body, repeated without end.

@@ -2,10 +2,10 @@
 use Rattle.std.proofs.Common.{◌≡◌, ℕ, ◌+◌, List, [], ◌∷◌, ◌++◌, length, set, drop, sym, ap, ◌∙◌, arith}
 use Rattle.std.proofs.Common.{append_assoc, length-append, Vec, Box, Global}
 use Rattle.std.proofs.Math.Seq.{set-append_seam}
-use Rattle.kahn_net.specs.Syntax.{Tree, Block, IfThen, links_of}
+use Rattle.kahn_net.specs.Syntax.{Tree, Block, IfThen, RepeatThen, links_of}
 use Rattle.kahn_net.specs.Syntax.{tree_of, then_of, block_of}
 use Rattle.kahn_net.specs.Statements.{sites_of}
-use Rattle.kahn_net.specs.Laws.Syntax.{chain_of, if_of}
+use Rattle.kahn_net.specs.Laws.Syntax.{chain_of, if_of, repeat_of}
 use Rattle.kahn_net.specs.declared.program.Link.{Link}
 use Rattle.kahn_net.specs.declared.program.Expr.{Expr}
 use Rattle.kahn_net.specs.declared.program.Expr.TheViews as view
@@ -13,8 +13,8 @@ use Rattle.kahn_net.specs.declared.program.Statement.{Statement}
 use Rattle.kahn_net.specs.declared.program.Statement.TheViews as statement
 use Rattle.proc_code.specs.declared.instruction.Instruction.{Instruction}
 use Rattle.proc_code.specs.declared.instruction.Site.{Site}
-use Rattle.proc_code.specs.declared.instruction.Instruction.TheVariants.{Jump, JumpIfZero}
-use Rattle.proc_code.specs.Translation.{expr_code, links_code, if_code, block_code, sites_at}
+use Rattle.proc_code.specs.declared.instruction.Instruction.TheVariants.{Jump, JumpIfZero, Repeat, Again}
+use Rattle.proc_code.specs.Translation.{expr_code, links_code, if_code, repeat_code, block_code, sites_at}
 use Rattle.proc_code.specs.Laws.Sites.{length_sites}
 use Rattle.proc_code.specs.Emitting.{Emits}
 
@@ -171,3 +171,53 @@ if_emits s test first second one_block two_block code c1 c2 c3 c4 c5 table es3 e
     ∙ ap (λ (n : ℕ). choice ++ block_code (length code + length choice) n rest) sum)
     (λ rest. ap (sites_at (length code) number) (whole rest)
     ∙ ap (λ (n : ℕ). (first_sites ++ second_sites) ++ sites_at (length code + length choice) n rest) sum))
+
+-- a repetition is written once it is known where it ends
+repeat_written : (base c1 c2 c3 : List Instruction) (times : ℕ) (block : ℕ → List Instruction) (x : Instruction)
+    (n0 n1 : ℕ) → n0 ≡ length base → c1 ≡ base ++ x ∷ [] → c2 ≡ c1 ++ block (length c1)
+    → c3 ≡ c2 ++ Again (n0 + 1) ∷ [] → n1 ≡ length c3
+    → set c3 n0 (Repeat times n1) ≡ base ++ repeat_code (length base) times block
+repeat_written base c1 c2 c3 times block x n0 n1 m0 e1 e2 e3 m1 =
+    let inside = length base + 1 in
+    let at1 : length c1 ≡ inside = ap length e1 ∙ length-append base (x ∷ []) in
+    let b = block inside in
+    let e2' : c2 ≡ c1 ++ b = e2 ∙ ap (λ (n : ℕ). c1 ++ block n) at1 in
+    let l2 = ap length e2' ∙ length-append c1 b in
+    let y = Again (n0 + 1) in
+    let l3 = ap length e3 ∙ length-append c2 (y ∷ []) in
+    let to : n1 ≡ inside + length b + 1 = omega (arith, m1, l3, l2, at1) in
+    let back : n0 + 1 ≡ inside = omega (arith, m0) in
+    let all : c3 ≡ base ++ x ∷ (b ++ y ∷ []) =
+    e3 ∙ ap (λ (l : List Instruction). l ++ y ∷ [])
+    (e2' ∙ ap (λ (l : List Instruction). l ++ b) e1 ∙ append_assoc base (x ∷ []) b)
+    ∙ append_assoc base (x ∷ b) (y ∷ []) in
+    ap (λ (l : List Instruction). set l n0 (Repeat times n1)) all
+    ∙ jump_written base (b ++ y ∷ []) x (Repeat times n1) n0 m0
+    ∙ ap (λ (n : ℕ). base ++ Repeat times n ∷ (b ++ y ∷ [])) to
+    ∙ ap (λ (n : ℕ). base ++ Repeat times (inside + length b + 1) ∷ (b ++ Again n ∷ [])) back
+
+pub repeat_emits : (s : Statement) (times : ℕ) (body : Vec Statement Global) (block : List Statement)
+    (code c1 c2 c3 : List Instruction) (table es2 : List Site) (x : Instruction) (n0 n1 : ℕ)
+    → s ≡ statement.Repeat times body → block ≡ body.items → n0 ≡ length code → c1 ≡ code ++ x ∷ []
+    → c2 ≡ c1 ++ block_code (length c1) (length table) (block_of block)
+    → es2 ≡ table ++ sites_at (length c1) (length table) (block_of block)
+    → c3 ≡ c2 ++ Again (n0 + 1) ∷ [] → n1 ≡ length c3
+    → Emits code table (set c3 n0 (Repeat times n1)) es2 (then_of s)
+repeat_emits s times body block code c1 c2 c3 table es2 x n0 n1 is block_is m0 e1 e2 f2 e3 m1 =
+    let p = block_of block in
+    let number = length table in
+    let inside = length code + 1 in
+    let block_at = λ (n : ℕ). block_code n number p in
+    let repeated = repeat_code (length code) times block_at in
+    let inner_sites = sites_at inside number p in
+    let at1 : length c1 ≡ inside = ap length e1 ∙ length-append code (x ∷ []) in
+    let f2' : es2 ≡ table ++ inner_sites = f2 ∙ ap (λ (n : ℕ). table ++ sites_at n number p) at1 in
+    let whole : (rest : Block) → then_of (statement.Repeat times body) rest ≡ RepeatThen times p rest =
+    λ rest. repeat_of times body rest
+    ∙ ap (λ (l : List Statement). RepeatThen times (block_of l) rest) (sym block_is) in
+    let written = repeat_written code c1 c2 c3 times block_at x n0 n1 m0 e1 e2 e3 m1 in
+    emits_as code table (set c3 n0 (Repeat times n1)) es2 s (statement.Repeat times body) is
+    (emits code table (set c3 n0 (Repeat times n1)) es2 repeated inner_sites (sites_of p)
+    (then_of (statement.Repeat times body)) written f2' (length_sites p inside number)
+    (λ rest. ap (block_code (length code) number) (whole rest))
+    (λ rest. ap (sites_at (length code) number) (whole rest)))

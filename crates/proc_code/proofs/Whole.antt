@@ -5,7 +5,7 @@ use Rattle.kahn_net.specs.Statements.{sites_of}
 use Rattle.proc_code.specs.declared.instruction.Instruction.{Instruction}
 use Rattle.proc_code.specs.declared.instruction.Site.{Site}
 use Rattle.proc_code.specs.Translation.{block_code, sites_at, loop_code, loop_sites, process_code, process_sites}
-use Rattle.proc_code.specs.Translation.{greatest_height, FlatCode, flat_code}
+use Rattle.proc_code.specs.Translation.{greatest_height, greatest_nesting, FlatCode, flat_code}
 use Rattle.proc_code.specs.Laws.Sites.{length_sites}
 
 module _ (code : Code) (block : Block) (c0 c1 c2 : List Instruction) (e0 e1 e2 : List Site)
@@ -39,15 +39,14 @@ module _ (code : Code) (block : Block) (c0 c1 c2 : List Instruction) (e0 e1 e2 :
 
   pub whole : c2 ≡ c1 ++ loop_code (length c1) (length e1) code.body
       → e2 ≡ e1 ++ loop_sites (length c1) (length e1) code.body
-      → (deepest : ℕ) (written : List Instruction) → written ≡ c2 → deepest ≡ greatest_height 0 0 written
-      → (let made : FlatCode = record { instructions = c2; sites = e2; deepest = deepest } in made) ≡ flat_code code
-  whole e f deepest written same is =
+      → (deepest nesting : ℕ) (written : List Instruction) → written ≡ c2 → deepest ≡ greatest_height 0 0 written
+      → (again : List Instruction) → again ≡ c2 → nesting ≡ greatest_nesting 0 0 again
+      → (let made : FlatCode = record { instructions = c2; sites = e2; deepest = deepest; nesting = nesting } in made)
+      ≡ flat_code code
+  whole e f deepest nesting written same is again same_again is_nested =
       let code_is = whole_code e in
       let sites_are = whole_sites f in
       let deep : deepest ≡ greatest_height 0 0 (process_code code) = is ∙ ap (greatest_height 0 0) (same ∙ code_is) in
-      ap (λ (l : List Instruction). let made : FlatCode = record { instructions = l; sites = e2; deepest = deepest } in
-      made) code_is
-      ∙ (ap (λ (l : List Site). let made : FlatCode =
-      record { instructions = process_code code; sites = l; deepest = deepest } in made) sites_are
-      ∙ ap (λ (n : ℕ). let made : FlatCode =
-      record { instructions = process_code code; sites = process_sites code; deepest = n } in made) deep)
+      let nested : nesting ≡ greatest_nesting 0 0 (process_code code) =
+      is_nested ∙ ap (greatest_nesting 0 0) (same_again ∙ code_is) in
+      λ i. record { instructions = code_is i; sites = sites_are i; deepest = deep i; nesting = nested i }

@@ -7,4 +7,5 @@ code_view code = record {
   instructions = code.instructions.items;
   sites = code.sites.items;
   deepest = code.deepest;
+  nesting = code.nesting;
 }

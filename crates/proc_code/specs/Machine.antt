@@ -1,13 +1,14 @@
 -- What code does: one instruction, and so many of them.
-use Rattle.std.specs.Prelude.{◌≡◌, ℕ, zero, suc, ◌+◌, ◌≤◌, ℤ, pos, List, [], ◌∷◌, Option, Some, None, cond}
-use Rattle.std.specs.Prelude.{slice_get, slice_index_or, slice_set}
+use Rattle.std.specs.Prelude.{◌≡◌, ℕ, zero, suc, ◌+◌, ◌-◌, ◌≤◌, ◌==◌, nat_lt, ℤ, pos, List, [], ◌∷◌, ◌++◌, Option}
+use Rattle.std.specs.Prelude.{Some, None, cond, slice_get, slice_index_or, slice_set}
 use Rattle.std.specs.Int.{int_wrapping_neg, w64}
 use Rattle.std.specs.Ordering.{int_eq}
 use Rattle.kahn_net.specs.Streams.{history_of}
 use Rattle.kahn_net.specs.Statements.{Sent, Ended, Stopped, Trace, no_steps, after_step, on_get, point_at, apply}
 use Rattle.proc_code.specs.declared.instruction.Instruction.{Instruction}
 use Rattle.proc_code.specs.declared.instruction.Instruction.TheVariants.{Constant, Load, Store, Negate, Apply, Get, Put}
-use Rattle.proc_code.specs.declared.instruction.Instruction.TheVariants.{Jump, JumpIfZero, Stop, End}
+use Rattle.proc_code.specs.declared.instruction.Instruction.TheVariants.{Jump, JumpIfZero, Repeat, Again, Stop}
+use Rattle.proc_code.specs.declared.instruction.Instruction.TheVariants.{End}
 
 -- The trace of a machine from a state on: the place of its next instruction, its stack of values (the topmost first),
 -- the passes that remain of each repetition round the place (the outermost first), its variables, and what is unread of
@@ -24,6 +25,18 @@ top (value ∷ stack) = value
 abbrev pub below : List ℤ → List ℤ
 below [] = []
 below (value ∷ stack) = stack
+
+-- the passes that remain of the innermost repetition; where there is none, none
+abbrev pub innermost : List ℕ → ℕ
+innermost [] = 0
+innermost (k ∷ []) = k
+innermost (k ∷ j ∷ deeper) = innermost (j ∷ deeper)
+
+-- those of the repetitions round it
+abbrev pub round_it : List ℕ → List ℕ
+round_it [] = []
+round_it (k ∷ []) = []
+round_it (k ∷ j ∷ deeper) = k ∷ round_it (j ∷ deeper)
 
 -- The trace from a state on whose next instruction is this, where `go` says the trace from the state behind it. Past
 -- the last instruction the process has ended.
@@ -48,6 +61,11 @@ perform (Some (Jump target)) go place stack left vars unread = go target stack l
 perform (Some (JumpIfZero target)) go place stack left vars unread =
     cond (int_eq (top stack) (pos 0)) (go target (below stack) left vars unread)
     (go (place + 1) (below stack) left vars unread)
+perform (Some (Repeat times behind)) go place stack left vars unread =
+    cond (times == 0) (go behind stack left vars unread) (go (place + 1) stack (left ++ times ∷ []) vars unread)
+perform (Some (Again target)) go place stack left vars unread =
+    cond (nat_lt 1 (innermost left)) (go target stack (round_it left ++ (innermost left - 1) ∷ []) vars unread)
+    (go (place + 1) stack (round_it left) vars unread)
 perform (Some Stop) go place stack left vars unread = no_steps (Stopped vars)
 perform (Some End) go place stack left vars unread = no_steps (Ended vars unread)
 

@@ -3,12 +3,13 @@ use Rattle.std.specs.Prelude.{ℕ, ◌+◌, ◌-◌, List, [], ◌∷◌, ◌++�
 use Rattle.std.specs.Prelude.{nat_lt}
 use Rattle.std.specs.Prelude.{max}
 use Rattle.kahn_net.specs.Syntax.{Tree, Number, Name, Minus, Chain, Links, NoLinks, LinkThen, Block, Nothing, GetThen}
-use Rattle.kahn_net.specs.Syntax.{AssignThen, PutThen, StopThen, IfThen, Code}
+use Rattle.kahn_net.specs.Syntax.{AssignThen, PutThen, StopThen, IfThen, RepeatThen, Code}
 use Rattle.kahn_net.specs.NextActs.{Next, Gets, Puts}
 use Rattle.kahn_net.specs.Statements.{sites_of}
 use Rattle.proc_code.specs.declared.instruction.Instruction.{Instruction}
 use Rattle.proc_code.specs.declared.instruction.Instruction.TheVariants.{Constant, Load, Store, Negate, Apply, Get, Put}
-use Rattle.proc_code.specs.declared.instruction.Instruction.TheVariants.{Jump, JumpIfZero, Stop, End}
+use Rattle.proc_code.specs.declared.instruction.Instruction.TheVariants.{Jump, JumpIfZero, Repeat, Again, Stop}
+use Rattle.proc_code.specs.declared.instruction.Instruction.TheVariants.{End}
 use Rattle.proc_code.specs.declared.instruction.Site.{Site}
 use Rattle.proc_code.specs.declared.instruction.SiteAct.{SiteAct}
 use Rattle.proc_code.specs.declared.instruction.SiteAct.TheVariants.{Get as GetAct, Put as PutAct}
@@ -33,6 +34,13 @@ if_code at test first second =
     let two = one + length (first one) + 1 in
     test ++ JumpIfZero two ∷ (first one ++ Jump (two + length (second two)) ∷ second two)
 
+-- A repetition whose code begins at this place: it is opened, and behind its block it goes back there or on. Where its
+-- block's code begins, it says what it is.
+abbrev pub repeat_code : ℕ → ℕ → (ℕ → List Instruction) → List Instruction
+repeat_code at times body =
+    let inside = at + 1 in
+    Repeat times (inside + length (body inside) + 1) ∷ (body inside ++ Again inside ∷ [])
+
 -- statements whose code begins at this place, and whose first get or put has this site
 abbrev pub block_code : ℕ → ℕ → Block → List Instruction
 block_code at site Nothing = []
@@ -48,6 +56,9 @@ block_code at site (IfThen test first second rest) =
     let choice = if_code at (expr_code test) (λ n. block_code n site first)
     (λ n. block_code n (site + sites_of first) second) in
     choice ++ block_code (at + length choice) (site + sites_of first + sites_of second) rest
+block_code at site (RepeatThen times body rest) =
+    let repeated = repeat_code at times (λ n. block_code n site body) in
+    repeated ++ block_code (at + length repeated) (site + sites_of body) rest
 
 -- a loop's body, and a jump back to it; where there is no loop, the end
 abbrev pub loop_code : ℕ → ℕ → Option Block → List Instruction
@@ -78,6 +89,10 @@ entry_at at number (IfThen test first second rest) site =
     cond (nat_lt site (number + sites_of first)) (entry_at one number first site)
     (cond (nat_lt site (number + sites_of first + sites_of second)) (entry_at two (number + sites_of first) second site)
     (entry_at (at + length choice) (number + sites_of first + sites_of second) rest site))
+entry_at at number (RepeatThen times body rest) site =
+    let repeated = repeat_code at times (λ n. block_code n number body) in
+    cond (nat_lt site (number + sites_of body)) (entry_at (at + 1) number body site)
+    (entry_at (at + length repeated) (number + sites_of body) rest site)
 
 abbrev pub loop_entry : ℕ → ℕ → Option Block → ℕ → ℕ
 loop_entry at number None site = at
@@ -110,6 +125,9 @@ sites_at at number (IfThen test first second rest) =
     (λ n. block_code n (number + sites_of first) second) in
     (sites_at one number first ++ sites_at two (number + sites_of first) second)
     ++ sites_at (at + length choice) (number + sites_of first + sites_of second) rest
+sites_at at number (RepeatThen times body rest) =
+    let repeated = repeat_code at times (λ n. block_code n number body) in
+    sites_at (at + 1) number body ++ sites_at (at + length repeated) (number + sites_of body) rest
 
 abbrev pub loop_sites : ℕ → ℕ → Option Block → List Site
 loop_sites at number None = []
@@ -136,6 +154,8 @@ height_after (Get x channel site) height = height
 height_after (Put channel site) height = height - 1
 height_after (Jump target) height = height
 height_after (JumpIfZero target) height = height - 1
+height_after (Repeat times behind) height = height
+height_after (Again target) height = height
 height_after Stop height = height
 height_after End height = height
 
@@ -146,15 +166,40 @@ greatest_height greatest height [] = greatest
 greatest_height greatest height (i ∷ code) =
     greatest_height (max greatest (height_after i height)) (height_after i height) code
 
--- a process's code as data: its instructions, its sites in order, and the room that its stack takes
+-- how many repetitions are open behind an instruction, where so many were before it
+abbrev pub nesting_after : Instruction → ℕ → ℕ
+nesting_after (Repeat times behind) nesting = nesting + 1
+nesting_after (Again target) nesting = nesting - 1
+nesting_after (Constant value) nesting = nesting
+nesting_after (Load x) nesting = nesting
+nesting_after (Store x) nesting = nesting
+nesting_after Negate nesting = nesting
+nesting_after (Apply operator) nesting = nesting
+nesting_after (Get x channel site) nesting = nesting
+nesting_after (Put channel site) nesting = nesting
+nesting_after (Jump target) nesting = nesting
+nesting_after (JumpIfZero target) nesting = nesting
+nesting_after Stop nesting = nesting
+nesting_after End nesting = nesting
+
+-- the most repetitions that are open at once, as the greatest height is counted
+abbrev pub greatest_nesting : ℕ → ℕ → List Instruction → ℕ
+greatest_nesting greatest nesting [] = greatest
+greatest_nesting greatest nesting (i ∷ code) =
+    greatest_nesting (max greatest (nesting_after i nesting)) (nesting_after i nesting) code
+
+-- a process's code as data: its instructions, its sites in order, and the room that its stacks of values and of passes
+-- take
 pub record FlatCode : Type 0 where
   pub instructions : List Instruction
   pub sites : List Site
   pub deepest : ℕ
+  pub nesting : ℕ
 
 abbrev pub flat_code : Code → FlatCode
 flat_code code = record {
   instructions = process_code code;
   sites = process_sites code;
   deepest = greatest_height 0 0 (process_code code);
+  nesting = greatest_nesting 0 0 (process_code code);
 }

@@ -6,12 +6,14 @@ ghost use Rattle.proc_code.specs.Translation.{flat_code, entry_of};
 
 use crate::instruction::{Instruction, Site};
 
-/// The code of a process: its instructions, its sites by number, and how many values its stack holds at most.
+/// The code of a process: its instructions, its sites by number, how many values its stack holds at most, and how many
+/// repetitions stand round an instruction at most.
 #[derive(Debug, Drop)]
 pub struct Code {
     pub instructions: Vec<Instruction>,
     pub sites: Vec<Site>,
     pub deepest: usize,
+    pub nesting: usize,
 }
 
 impl Code {

@@ -3,7 +3,7 @@
 ghost use Rattle.std.specs.Prelude.{◌≡◌, ◌+◌, ◌<◌, ◌^◌, map, IfOk};
 ghost use Rattle.kahn_net.specs.Syntax.{code_of};
 ghost use Rattle.proc_code.specs.CodeView.{code_view};
-ghost use Rattle.proc_code.specs.Translation.{flat_code, greatest_height, height_after};
+ghost use Rattle.proc_code.specs.Translation.{flat_code, greatest_height, height_after, greatest_nesting, nesting_after};
 
 use crate::code::Code;
 use crate::emitting::{emit_loop, emit_statements};
@@ -26,6 +26,8 @@ fn height_after(instruction: Instruction, height: usize) -> usize
         Instruction::Negate
         | Instruction::Get { .. }
         | Instruction::Jump { .. }
+        | Instruction::Repeat { .. }
+        | Instruction::Again { .. }
         | Instruction::Stop
         | Instruction::End => height,
     }
@@ -44,6 +46,31 @@ fn deepest(code: &[Instruction]) -> usize
     deepest
 }
 
+/// How many repetitions are open behind an instruction, where so many were before it.
+fn nesting_after(instruction: Instruction, nesting: usize) -> usize
+    requires { nesting + 1 < 2 ^ 64 }
+    ensures { result ≡ nesting_after instruction nesting }
+{
+    match instruction {
+        Instruction::Repeat { .. } => nesting + 1,
+        Instruction::Again { .. } => nesting.saturating_sub(1),
+        _ => nesting,
+    }
+}
+
+/// The most repetitions that are open at once.
+fn most_nested(code: &[Instruction]) -> usize
+    ensures { result ≡ greatest_nesting 0 0 code.now }
+{
+    let mut nesting = 0;
+    let mut greatest = 0;
+    for instruction in code {
+        nesting = nesting_after(*instruction, nesting);
+        greatest = greatest.max(nesting);
+    }
+    greatest
+}
+
 /// The code of a process. Refuses for want of memory alone.
 pub fn compile(alloc: Global, process: &Process) -> Result<Code, Fault>
     ensures { IfOk result (λ code. code_view code ≡ flat_code (code_of process.now)) }
@@ -53,10 +80,12 @@ pub fn compile(alloc: Global, process: &Process) -> Result<Code, Fault>
     emit_statements(&mut instructions, &mut sites, &process.prelude)?;
     emit_loop(&mut instructions, &mut sites, &process.body)?;
     let deepest = deepest(&instructions);
+    let nesting = most_nested(&instructions);
     Ok(Code {
         instructions,
         sites,
         deepest,
+        nesting,
     })
 }
 

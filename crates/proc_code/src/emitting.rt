@@ -122,6 +122,29 @@ fn emit_statement(
             code[first_end] = Instruction::Jump { target: code.len() };
             Ok(())
         }
+        Statement::Repeat { times, body } => {
+            let opening = code.len();
+            emit(
+                code,
+                Instruction::Repeat {
+                    times: *times,
+                    behind: 0,
+                },
+            )?;
+            emit_statements(code, sites, body)?;
+            emit(
+                code,
+                Instruction::Again {
+                    target: opening + 1,
+                },
+            )?;
+            // Only now is it known where it ends.
+            code[opening] = Instruction::Repeat {
+                times: *times,
+                behind: code.len(),
+            };
+            Ok(())
+        }
     }
 }
 

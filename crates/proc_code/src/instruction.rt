@@ -43,6 +43,17 @@ pub enum Instruction {
     JumpIfZero {
         target: usize,
     },
+    /// Opens a repetition: puts its number on the stack of passes and goes on with its block. One of no
+    /// passes is through, and goes on behind it.
+    Repeat {
+        times: u16,
+        behind: usize,
+    },
+    /// A pass of the innermost repetition is through. Where more than one remained, it goes back to this instruction
+    /// with one less; else it takes the repetition off the stack of passes and goes on.
+    Again {
+        target: usize,
+    },
     /// The process finishes: a stop.
     Stop,
     /// The process finishes: past its last statement.

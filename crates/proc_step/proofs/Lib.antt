@@ -5,3 +5,4 @@ pub mod Lifting
 pub mod Machines
 pub mod Rounds
 pub mod Coded
+pub mod Weights

@@ -9,14 +9,15 @@ use Rattle.kahn_net.specs.Streams.{history_of, IsPrefix, ArePrefixes}
 use Rattle.kahn_net.specs.Syntax.{Code}
 use Rattle.kahn_net.specs.Statements.{Act, Got, Sent, Step, Trace, End, Ended, Waits, Stopped}
 use Rattle.kahn_net.specs.Processes.{Standing, NotBegun, At, Done, standing_at, IsHere, HasPassingLoop, process_trace}
-use Rattle.kahn_net.specs.Processes.{sent_on, got_on}
+use Rattle.kahn_net.specs.Processes.{StandsAt, sent_on, got_on}
 use Rattle.kahn_net.specs.Resuming.{trace_from, left_after}
 use Rattle.kahn_net.specs.Laws.Streams.{still_stands}
 use Rattle.kahn_net.specs.Laws.Got.{longer_from, next_from, reads, reads_from, reading_first, got_and_left, waits_empty}
 use Rattle.kahn_net.specs.Laws.Got.{IsReading, IsGetFrom, GetsNext, NoPutNext, function_of_got}
 use Rattle.kahn_net.specs.Laws.Resuming.{resumes}
 use Rattle.proc_step.specs.Turns.{IsHeldBack, IsNextHeldBack, HasBegun, AreNext, IsTurn, nothing_sent}
-use Rattle.proc_step.specs.Parts.{Played, taken_of}
+use Rattle.proc_step.specs.Parts.{CanStand, Played, taken_of}
+use Rattle.kahn_net.specs.Laws.NextActs.{repeats_fit}
 use Rattle.proc_step.proofs.Counts.{taken_is, sent_is}
 
 -- where a process stands before steps, it has begun
@@ -154,22 +155,12 @@ lifted code before items room after left sent passing played inputs m stands nex
           (reaches m done later t.steps stands.within is) (subst NoPutNext (sym cut) no_put) same));
     }
 
--- what is left is no more than there was
-pub fewer_left : (code : Code) (before : Standing) (room : List ℕ) (items left0 sent0 : List (List ℤ))
-    (after : Standing) (left sent : List (List ℤ)) → left0 ≡ items
-    → Played (trace_from code before left0) room left0 sent0 after left sent → (c : ℕ)
-    → length (history_of left c) ≤ length (history_of items c)
-fewer_left code before room items left0 sent0 after left sent same played c =
-    let reading : IsReading played.done left0 =
-    reading_first played.done played.rest left0
-    (subst (λ (x : List Step). IsReading x left0) played.whole (reads_from code before left0).reading) in
-    let all = ap (length {A = ℤ}) (got_and_left played.done left0 c reading) in
-    let n = length-append (got_on c played.done) (history_of (left_after played.done left0) c) in
-    let is : length (history_of left c) ≡ length (history_of (left_after played.done left0) c) =
-    ap (λ (x : List (List ℤ)). length (history_of x c)) played.left in
-    let was : length (history_of left0 c) ≡ length (history_of items c) =
-    ap (λ (x : List (List ℤ)). length (history_of x c)) same in
-    omega (arith, all, n, is, was)
+-- wherever a process stands it can stand
+pub can_stand : (code : Code) (inputs : List (List ℤ)) (m : ℕ) (standing : Standing)
+    → StandsAt code inputs m standing → CanStand code standing
+can_stand code inputs m (NotBegun vars) stands = tt
+can_stand code inputs m (At point vars) stands = repeats_fit code inputs m point vars stands
+can_stand code inputs m (Done vars) stands = tt
 
 -- the same where nothing is taken and nothing sent yet
 pub lifted_at : (code : Code) (before : Standing) (items : List (List ℤ)) (room : List ℕ) (left0 sent0 : List (List ℤ))

@@ -40,17 +40,17 @@ one_list items i item k more less is =
 pub two_more : (n k : ℕ) → (n + 2) * k ≡ n * k + (2 * k + 0)
 two_more n k = omega arith
 
-module _ (code : List Instruction) (done place : ℕ) (s v : List ℤ) (u : List (List ℤ)) (room : List ℕ)
-    (sent : List (List ℤ)) (next : Next) (s' v' : List ℤ) (u' sent' : List (List ℤ))
-    (went : WentOn code done place s v u room sent next s' v' u' sent') (whole : Trace) (u0 sent0 : List (List ℤ))
-    (all more : ℕ) (counted : all ≡ done + more) (remains : Remains code all place s v u room sent whole u0 sent0)
+module _ (code : List Instruction) (done place : ℕ) (s : List ℤ) (l : List ℕ) (v : List ℤ) (u : List (List ℤ)) (room : List ℕ)
+    (sent : List (List ℤ)) (next : Next) (s' : List ℤ) (l' : List ℕ) (v' : List ℤ) (u' sent' : List (List ℤ))
+    (went : WentOn code done place s l v u room sent next s' l' v' u' sent') (whole : Trace) (u0 sent0 : List (List ℤ))
+    (all more : ℕ) (counted : all ≡ done + more) (remains : Remains code all place s l v u room sent whole u0 sent0)
   where
-    pub went_to : (to : ℕ) → next ≡ Goes to → Remains code more to s' v' u' room sent' whole u0 sent0
+    pub went_to : (to : ℕ) → next ≡ Goes to → Remains code more to s' l' v' u' room sent' whole u0 sent0
     went_to to is =
-        subst (λ (n : Next). WentOn code done place s v u room sent n s' v' u' sent') is went whole u0 sent0 more
-        (subst (λ (n : ℕ). Remains code n place s v u room sent whole u0 sent0) counted remains)
+        subst (λ (n : Next). WentOn code done place s l v u room sent n s' l' v' u' sent') is went whole u0 sent0 more
+        (subst (λ (n : ℕ). Remains code n place s l v u room sent whole u0 sent0) counted remains)
 
-    pub stopped : (flow : Flow) → next ≡ Stops flow → Part whole room u0 sent0 flow v' u' sent'
+    pub stopped : (flow : Flow) → next ≡ Stops flow → Part whole room u0 sent0 flow l' v' u' sent'
     stopped flow is =
-        subst (λ (n : Next). WentOn code done place s v u room sent n s' v' u' sent') is went whole u0 sent0 more
-        (subst (λ (n : ℕ). Remains code n place s v u room sent whole u0 sent0) counted remains)
+        subst (λ (n : Next). WentOn code done place s l v u room sent n s' l' v' u' sent') is went whole u0 sent0 more
+        (subst (λ (n : ℕ). Remains code n place s l v u room sent whole u0 sent0) counted remains)

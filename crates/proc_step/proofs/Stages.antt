@@ -8,9 +8,10 @@ use Rattle.proc_step.specs.Turns.{IsNextHeldBack}
 use Rattle.proc_step.specs.Parts.{Part, Played, stands_as}
 
 -- a part leaves the process where it stopped
-pub played_as : (t : Trace) (room : List ℕ) (u0 s0 : List (List ℤ)) (flow : Flow) (v : List ℤ) (u s : List (List ℤ))
-    → Part t room u0 s0 flow v u s → Played t room u0 s0 (stands_as flow v) u s
-played_as t room u0 s0 RanOut v u s p = record {
+pub played_as : (t : Trace) (room : List ℕ) (u0 s0 : List (List ℤ)) (flow : Flow) (l : List ℕ) (v : List ℤ)
+    (u s : List (List ℤ))
+    → Part t room u0 s0 flow l v u s → Played t room u0 s0 (stands_as flow l v) u s
+played_as t room u0 s0 RanOut l v u s p = record {
   done = p.done;
   rest = p.rest;
   whole = p.whole;
@@ -20,7 +21,7 @@ played_as t room u0 s0 RanOut v u s p = record {
   stands = sym (ap (λ (x : List Step). standing_at x t.end) p.stop.0 ∙ ap (standing_at []) p.stop.1);
   held_back = subst (λ (x : List Step). IsNextHeldBack x room u s) (sym p.stop.0) tt;
 }
-played_as t room u0 s0 Stopped v u s p = record {
+played_as t room u0 s0 Stopped l v u s p = record {
   done = p.done;
   rest = p.rest;
   whole = p.whole;
@@ -30,7 +31,7 @@ played_as t room u0 s0 Stopped v u s p = record {
   stands = sym (ap (λ (x : List Step). standing_at x t.end) p.stop.0 ∙ ap (standing_at []) p.stop.1);
   held_back = subst (λ (x : List Step). IsNextHeldBack x room u s) (sym p.stop.0) tt;
 }
-played_as t room u0 s0 (Stands site) v u s p =
+played_as t room u0 s0 (Stands site) l v u s p =
     record {
       done = p.done;
       rest = p.rest;

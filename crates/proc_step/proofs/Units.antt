@@ -1,6 +1,6 @@
 -- A process of few units has few sites.
 use Rattle.std.proofs.Common.{◌≤◌, arith}
-use Rattle.kahn_net.specs.Syntax.{Block, Nothing, GetThen, PutThen, AssignThen, StopThen, IfThen}
+use Rattle.kahn_net.specs.Syntax.{Block, Nothing, GetThen, PutThen, AssignThen, StopThen, IfThen, RepeatThen}
 use Rattle.kahn_net.specs.Statements.{sites_of}
 use Rattle.kahn_net.specs.Valid.{block_units}
 
@@ -13,3 +13,4 @@ sites_within (PutThen e c rest) = let h = sites_within rest in omega arith
 sites_within (StopThen rest) = let h = sites_within rest in omega arith
 sites_within (IfThen test first second rest) = let h = sites_within first in let i = sites_within second in let j =
     sites_within rest in omega arith
+sites_within (RepeatThen times body rest) = let h = sites_within body in let j = sites_within rest in omega arith

@@ -1,36 +1,40 @@
 -- Parts of traces: what a process's code has made so far, and how it stopped.
 use Rattle.std.specs.Prelude.{◌≡◌, ◌-◌, ℕ, ℤ, List, [], ◌∷◌, ◌++◌, length}
 use Rattle.kahn_net.specs.Statements.{Step, Trace, End, Ended, Stopped as StopsAt, point_at}
-use Rattle.kahn_net.specs.Processes.{Standing, At, Done, standing_at}
+use Rattle.kahn_net.specs.Processes.{Standing, NotBegun as Before, At, Done, standing_at}
+use Rattle.kahn_net.specs.Repeats.{FitsRepeats}
+use Rattle.kahn_net.specs.Syntax.{Code}
+use Rattle.kahn_net.specs.declared.state.Mode.{Mode}
+use Rattle.kahn_net.specs.declared.state.Mode.TheVariants.{NotBegun, At as InPlace, Finished}
 use Rattle.kahn_net.specs.Puts.{put_after}
 use Rattle.kahn_net.specs.Resuming.{left_after}
 use Rattle.proc_step.specs.declared.machine.Flow.{Flow}
 use Rattle.proc_step.specs.declared.machine.Flow.TheVariants.{RanOut, Stopped, Stands}
 use Rattle.proc_step.specs.Turns.{CanAllBeMade, IsNextHeldBack}
 
--- how a part of a trace stopped: it was the whole, or the next act can't be made
-abbrev pub StopsAs : Flow → End → List Step → List ℤ → List ℕ → List (List ℤ) → List (List ℤ) → Type 0
-StopsAs RanOut end rest vars room unread sent = (rest ≡ []) × (end ≡ Ended vars unread)
-StopsAs Stopped end rest vars room unread sent = (rest ≡ []) × (end ≡ StopsAt vars)
-StopsAs (Stands site) end rest vars room unread sent =
-    (standing_at rest end ≡ At (point_at site []) vars) × IsNextHeldBack rest room unread sent
+-- how a part of a trace stopped, with these passes left: it was the whole, or the next act can't be made
+abbrev pub StopsAs : Flow → List ℕ → End → List Step → List ℤ → List ℕ → List (List ℤ) → List (List ℤ) → Type 0
+StopsAs RanOut left end rest vars room unread sent = (rest ≡ []) × (end ≡ Ended vars unread)
+StopsAs Stopped left end rest vars room unread sent = (rest ≡ []) × (end ≡ StopsAt vars)
+StopsAs (Stands site) left end rest vars room unread sent =
+    (standing_at rest end ≡ At (point_at site left) vars) × IsNextHeldBack rest room unread sent
 
--- where a process stands that stopped so, with these variables
-abbrev pub stands_as : Flow → List ℤ → Standing
-stands_as RanOut vars = Done vars
-stands_as Stopped vars = Done vars
-stands_as (Stands site) vars = At (point_at site []) vars
+-- where a process stands that stopped so, with these passes left and these variables
+abbrev pub stands_as : Flow → List ℕ → List ℤ → Standing
+stands_as RanOut left vars = Done vars
+stands_as Stopped left vars = Done vars
+stands_as (Stands site) left vars = At (point_at site left) vars
 
 -- a beginning of a trace was made, and then it stopped
-pub record Part (t : Trace) (room : List ℕ) (unread sent : List (List ℤ)) (flow : Flow) (vars' : List ℤ)
-    (unread' sent' : List (List ℤ)) : Type 0 where
+pub record Part (t : Trace) (room : List ℕ) (unread sent : List (List ℤ)) (flow : Flow) (left' : List ℕ)
+    (vars' : List ℤ) (unread' sent' : List (List ℤ)) : Type 0 where
   pub done : List Step
   pub rest : List Step
   pub whole : t.steps ≡ done ++ rest
   pub made : CanAllBeMade done room unread sent
   pub left : unread' ≡ left_after done unread
   pub put : sent' ≡ put_after done sent
-  pub stop : StopsAs flow t.end rest vars' room unread' sent'
+  pub stop : StopsAs flow left' t.end rest vars' room unread' sent'
 
 -- a beginning of a trace was made, and this is where the process stands then
 pub record Played (t : Trace) (room : List ℕ) (unread sent : List (List ℤ)) (after : Standing)
@@ -49,3 +53,15 @@ abbrev pub taken_of : List (List ℤ) → List (List ℤ) → List ℕ
 taken_of [] left = []
 taken_of (items ∷ all) [] = length items ∷ taken_of all []
 taken_of (items ∷ all) (rest ∷ left) = (length items - length rest) ∷ taken_of all left
+
+-- the passes that remain where a process is so far
+abbrev pub passes_in : Mode → List ℕ
+passes_in NotBegun = []
+passes_in (InPlace place) = place.left.items
+passes_in Finished = []
+
+-- a process can stand so: as many passes remain as can
+abbrev pub CanStand : Code → Standing → Type 0
+CanStand code (At point vars) = FitsRepeats code point
+CanStand code (Before vars) = Unit {0}
+CanStand code (Done vars) = Unit {0}

@@ -1,8 +1,8 @@
 //! One instruction of a turn.
 
-ghost use Rattle.std.specs.Prelude.{◌≡◌, ◌+◌, ◌<◌, ◌^◌, ◌∷◌, IfOk, OnOk, length};
+ghost use Rattle.std.specs.Prelude.{◌≡◌, ◌+◌, ◌-◌, ◌<◌, ◌^◌, [], ◌∷◌, ◌++◌, nat_lt, true, false, IfOk, OnOk, length};
 ghost use mathlib.Core.List.{reverse};
-ghost use Rattle.proc_code.specs.Machine.{top, below};
+ghost use Rattle.proc_code.specs.Machine.{top, below, innermost, round_it};
 ghost use Rattle.proc_step.specs.Stepping.{Stepped};
 
 use crate::room::{has_room, send};
@@ -47,12 +47,41 @@ fn push(stack: &mut Vec<i64>, value: i64) -> Result<(), AllocError>
     Ok(())
 }
 
+/// Opens a repetition of so many passes.
+fn open(left: &mut Vec<u16>, times: u16) -> Result<(), AllocError>
+    ensures { OnOk result (left.new.items ≡ left.old.items ++ times ∷ []) }
+{
+    left.push(times)?;
+    Ok(())
+}
+
+/// A pass of the innermost repetition is through: one less remains, or the repetition is taken off the stack of passes
+/// where none does. Answers whether one remains.
+fn pass_through(left: &mut Vec<u16>) -> Result<bool, AllocError>
+    ensures remains { IfOk result (λ more. more ≡ nat_lt 1 (innermost left.old.items)) }
+    ensures back { IfOk result (λ more. more ≡ true
+        → left.new.items ≡ round_it left.old.items ++ (innermost left.old.items - 1) ∷ []) }
+    ensures on { IfOk result (λ more. more ≡ false → left.new.items ≡ round_it left.old.items) }
+{
+    match left.pop() {
+        Some(remaining) => {
+            if remaining > 1 {
+                left.push(remaining - 1)?;
+                return Ok(true);
+            }
+            Ok(false)
+        }
+        None => Ok(false),
+    }
+}
+
 /// Carries out the instruction at this place. A get with no item left and a put with no room stop before they change
-/// anything but the stack, which is let go of.
+/// anything but the stack of values, which is let go of.
 pub fn perform(
     instruction: Instruction,
     place: usize,
     stack: &mut Vec<i64>,
+    left: &mut Vec<u16>,
     variables: &mut [i64],
     unread: &mut [Unread<'_>],
     room: &[usize],
@@ -61,8 +90,8 @@ pub fn perform(
     requires within { place + 1 < 2 ^ 64 }
     requires rooms { length sent.old ≡ length room.now }
     ensures step { IfOk result (λ next. Stepped instruction place (reverse stack.old.items)
-        variables.old unread.old room.now sent.old next (reverse stack.new.items) variables.new
-        unread.new sent.new) }
+        left.old.items variables.old unread.old room.now sent.old next (reverse stack.new.items)
+        left.new.items variables.new unread.new sent.new) }
     ensures rooms { length sent.new ≡ length sent.old }
 {
     match instruction {
@@ -116,6 +145,19 @@ pub fn perform(
             } else {
                 Ok(Next::Goes(place + 1))
             }
+        }
+        Instruction::Repeat { times, behind } => {
+            if times == 0 {
+                return Ok(Next::Goes(behind));
+            }
+            open(left, times)?;
+            Ok(Next::Goes(place + 1))
+        }
+        Instruction::Again { target } => {
+            if pass_through(left)? {
+                return Ok(Next::Goes(target));
+            }
+            Ok(Next::Goes(place + 1))
         }
         Instruction::Stop => Ok(Next::Stops(Flow::Stopped)),
         Instruction::End => Ok(Next::Stops(Flow::RanOut)),

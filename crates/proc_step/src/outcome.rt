@@ -1,14 +1,14 @@
 //! What a turn comes to.
 
-ghost use Rattle.std.specs.Prelude.{◌≡◌, ◌≤◌, ℕ, ℤ, List, [], length, IfOk};
-ghost use Rattle.kahn_net.specs.Streams.{history_of};
+ghost use Rattle.std.specs.Prelude.{◌≡◌, ℤ, List, [], length, IfOk, IsTrue};
 ghost use Rattle.kahn_net.specs.Syntax.{code_of};
 ghost use Rattle.kahn_net.specs.Processes.{HasPassingLoop};
 ghost use Rattle.kahn_net.specs.States.{standing_in, standing_of};
 ghost use Rattle.proc_code.specs.CodeView.{code_view};
 ghost use Rattle.proc_code.specs.Translation.{flat_code};
 ghost use Rattle.proc_step.specs.Turns.{IsTurn, nothing_sent};
-ghost use Rattle.proc_step.specs.Parts.{stands_as, taken_of};
+ghost use Rattle.proc_step.specs.Parts.{passes_in, stands_as, taken_of};
+ghost use Rattle.kahn_net.specs.Repeats.{code_repeats_within};
 
 use crate::machine::Flow;
 use crate::room::empty_histories;
@@ -35,34 +35,41 @@ fn count_taken(
     left: &[Unread<'_>],
 ) -> Result<Vec<usize>, AllocError>
     requires count { length left.now ≡ length items.now }
-    requires fewer { (c : ℕ) → length (history_of left.now c) ≤ length (history_of items.now c) }
     ensures { IfOk result (λ taken. taken.items ≡ taken_of items.now left.now) }
 {
     let mut taken = Vec::new(alloc);
     for (items, left) in items.iter().zip(left) {
-        taken.push(items.len() - left.len())?;
+        taken.push(items.len().saturating_sub(left.len()))?;
     }
     Ok(taken)
 }
 
-/// How far a process is that stopped so.
-fn mode_of(alloc: Global, flow: Flow) -> Mode
-    ensures { (vars : List ℤ) → standing_in result vars ≡ stands_as flow vars }
+/// How far a process is that stopped so, with these passes left.
+fn mode_of(flow: Flow, left: Vec<u16>) -> Mode
+    ensures { (vars : List ℤ) → standing_in result vars ≡ stands_as flow left.items vars }
 {
     match flow {
         Flow::RanOut => Mode::Finished,
         Flow::Stopped => Mode::Finished,
-        Flow::Stands(site) => Mode::At(Place {
-            site,
-            left: Vec::new(alloc),
-        }),
+        Flow::Stands(site) => Mode::At(Place { site, left }),
     }
 }
 
-/// How far a process is after a turn, and how many items it took from each channel.
+/// The passes that remain where a process is so far, with room for those that its code may open.
+fn passes_of(alloc: Global, mode: &Mode, nesting: usize) -> Result<Vec<u16>, AllocError>
+    ensures { IfOk result (λ left. left.items ≡ passes_in mode.now) }
+{
+    let mut left = Vec::with_capacity(alloc, nesting)?;
+    if let Mode::At(place) = mode {
+        left.extend_from_slice(place.left.as_slice())?;
+    }
+    Ok(left)
+}
+
+/// How a process stopped in a turn, and how many items it took from each channel.
 #[derive(Debug, Drop)]
 struct Stop {
-    mode: Mode,
+    flow: Flow,
     taken: Vec<usize>,
 }
 
@@ -73,6 +80,7 @@ fn turn_from(
     code: &Code,
     mode: &Mode,
     stack: &mut Vec<i64>,
+    passes: &mut Vec<u16>,
     variables: &mut [i64],
     items: &[History],
     left: &mut [Unread<'_>],
@@ -80,22 +88,21 @@ fn turn_from(
     sent: &mut [History],
 ) -> Result<Stop, AllocError>
     requires passing { HasPassingLoop (code_of process.now) }
+    requires within { IsTrue (code_repeats_within (code_of process.now)) }
+    requires passes { passes.old.items ≡ passes_in mode.now }
     requires compiled { code_view code.now ≡ flat_code (code_of process.now) }
     requires empty { stack.old.items ≡ [] }
     requires untaken { left.old ≡ items.now }
     requires unsent { sent.old ≡ nothing_sent room.now }
     ensures { IfOk result (λ stop. IsTurn (code_of process.now)
         (standing_in mode.now variables.old) items.now room.now
-        (standing_in stop.mode variables.new) stop.taken.items sent.new) }
+        (stands_as stop.flow passes.new.items variables.new) stop.taken.items sent.new) }
 {
     let flow = play(
-        process, code, mode, items, stack, variables, left, room, sent,
+        process, code, mode, items, stack, passes, variables, left, room, sent,
     )?;
     let taken = count_taken(alloc, items, left)?;
-    Ok(Stop {
-        mode: mode_of(alloc, flow),
-        taken,
-    })
+    Ok(Stop { flow, taken })
 }
 
 /// Makes a turn of a process with this code from this state, on these items and this room.
@@ -108,13 +115,15 @@ pub fn take_turn(
     room: &[usize],
 ) -> Result<Outcome, AllocError>
     requires passing { HasPassingLoop (code_of process.now) }
+    requires within { IsTrue (code_repeats_within (code_of process.now)) }
     requires compiled { code_view code.now ≡ flat_code (code_of process.now) }
     ensures { IfOk result (λ after. IsTurn (code_of process.now)
         (standing_of state.now) items.now room.now
         (standing_of after.state) after.taken.items after.sent.items) }
 {
-    // The stack has its room before the first act, so that no instruction asks for more.
+    // The stacks have their room before the first act, so that no instruction asks for more.
     let mut stack = Vec::with_capacity(alloc, code.deepest)?;
+    let mut passes = passes_of(alloc, &state.mode, code.nesting)?;
     let mut variables = Vec::from_slice(alloc, state.variables.as_slice())?;
     let mut left = all_unread(alloc, items)?;
     let mut sent = empty_histories(alloc, room)?;
@@ -124,6 +133,7 @@ pub fn take_turn(
         code,
         &state.mode,
         &mut stack,
+        &mut passes,
         &mut variables,
         items,
         &mut left,
@@ -132,7 +142,7 @@ pub fn take_turn(
     )?;
     Ok(Outcome {
         state: ProcState {
-            mode: stop.mode,
+            mode: mode_of(stop.flow, passes),
             variables,
         },
         taken: stop.taken,

@@ -2,3 +2,5 @@ pub mod Node
 pub mod NodeLaws
 pub mod World
 pub mod WorldLaws
+pub mod Join
+pub mod JoinLaws

@@ -1,5 +1,6 @@
 -- A node as data, what its events do, and what is true of it.
 pub mod JobView
+pub mod LiveView
 pub mod NodeView
 pub mod Modes
 pub mod Plans

@@ -1,5 +1,6 @@
 -- What follows for a node from the definitions of its events.
 pub mod ImageLaws
+pub mod RepeatLaws
 pub mod NumberedLaws
 pub mod ReachedLaws
 pub mod PlaceLaws

@@ -50,6 +50,20 @@ const TWO_DECIDED: [u8; 61] = [
     0, 0, 0, 2, 0, 0, 0, 0, 0, 0, 0, 3, 2, 0, 2, 0, 0, 0, 0, 0, 0, 0, 5, 1, 2, 0, 0, 0, 0,
 ];
 
+/// A node whose process has made two of three passes of a repetition, each of which puts an item: one pass remains.
+const REPEATED: [u8; 84] = [
+    2, 0, 0, 0, 0, 0, 0, 0, 0, 0, 1, 0, 0, 0, 0, 0, 0, 0, 0, 0, 1, 0, 1, 0, 0, 0, 1, 1, 0, 1, 1, 0,
+    0, 0, 0, 0, 0, 0, 5, 0, 2, 0, 0, 0, 0, 0, 0, 0, 0, 0, 0, 1, 0, 1, 1, 0, 0, 0, 0, 0, 0, 0, 0, 0,
+    0, 0, 2, 0, 0, 0, 0, 0, 0, 0, 5, 0, 0, 0, 0, 0, 0, 0, 5, 0,
+];
+
+/// The same within a repetition of 1,000 passes, the first of which is at hand.
+const NESTED: [u8; 86] = [
+    2, 0, 0, 0, 0, 0, 0, 0, 0, 0, 1, 0, 0, 0, 0, 0, 0, 0, 0, 0, 1, 0, 1, 0, 0, 0, 1, 2, 3, 232, 0,
+    1, 1, 0, 0, 0, 0, 0, 0, 0, 5, 0, 2, 0, 0, 0, 0, 0, 0, 0, 0, 0, 0, 1, 0, 1, 1, 0, 0, 0, 0, 0, 0,
+    0, 0, 0, 0, 0, 2, 0, 0, 0, 0, 0, 0, 0, 5, 0, 0, 0, 0, 0, 0, 0, 5, 0,
+];
+
 /// The number of the refusal of these bytes, or 0 where they are read as a record that is spelled so again.
 fn refusal(alloc: Global, bytes: &[u8]) -> Result<u8, AllocError> {
     match read_record(alloc, bytes) {
@@ -135,13 +149,15 @@ fn stands_each_change(rt: &impl Abort, alloc: Global, bytes: &[u8]) -> Result<()
 }
 
 #[test]
-fn five_records(rt: HostRuntime) -> Result<(), Fail> {
+fn seven_records(rt: HostRuntime) -> Result<(), Fail> {
     let alloc = rt.alloc();
     is_spelling(&rt, alloc, &OPENING)?;
     is_spelling(&rt, alloc, &LATER)?;
     is_spelling(&rt, alloc, &DECIDED)?;
     is_spelling(&rt, alloc, &WHOLE)?;
     is_spelling(&rt, alloc, &TWO_DECIDED)?;
+    is_spelling(&rt, alloc, &REPEATED)?;
+    is_spelling(&rt, alloc, &NESTED)?;
     Ok(())
 }
 
@@ -164,6 +180,7 @@ fn one_bit_turned(rt: HostRuntime) -> Result<(), Fail> {
     stands_each_change(&rt, alloc, &LATER)?;
     stands_each_change(&rt, alloc, &WHOLE)?;
     stands_each_change(&rt, alloc, &TWO_DECIDED)?;
+    stands_each_change(&rt, alloc, &NESTED)?;
     Ok(())
 }
 
@@ -224,7 +241,7 @@ fn an_image(rt: HostRuntime) {
     row(&rt, alloc, &OPENING, 21, 64, 32);
     row(&rt, alloc, &OPENING, 22, 3, 32);
     row(&rt, alloc, &OPENING, 23, 65, 32);
-    row(&rt, alloc, &LATER, 27, 1, 32);
+    row(&rt, alloc, &LATER, 27, 65, 32);
     row(&rt, alloc, &WHOLE, 59, 0, 32);
     // channels and roles
     row(&rt, alloc, &OPENING, 42, 1, 32);
@@ -238,6 +255,20 @@ fn an_image(rt: HostRuntime) {
     row(&rt, alloc, &WHOLE, 140, 3, 0);
     row(&rt, alloc, &WHOLE, 148, 5, 32);
     row(&rt, alloc, &WHOLE, 140, 5, 32);
+}
+
+#[test]
+fn passes_that_remain(rt: HostRuntime) {
+    let alloc = rt.alloc();
+    row(&rt, alloc, &REPEATED, 27, 65, 32);
+    row(&rt, alloc, &REPEATED, 27, 255, 32);
+    // from 1 to 1,000 passes: 0, 769, 1,025; 1,000 and 1,001
+    row(&rt, alloc, &REPEATED, 29, 0, 32);
+    row(&rt, alloc, &REPEATED, 28, 3, 0);
+    row(&rt, alloc, &REPEATED, 28, 4, 32);
+    row(&rt, alloc, &NESTED, 29, 232, 0);
+    row(&rt, alloc, &NESTED, 29, 233, 32);
+    row(&rt, alloc, &NESTED, 31, 0, 32);
 }
 
 #[test]

@@ -1,5 +1,6 @@
 -- A run of two nodes: node 1 puts an item, node 0 gets it and starts an instance, and node 1 takes part.
-use Rattle.std.proofs.Common.{◌≡◌, ◌⊎◌, inr, ℕ, zero, suc, ◌<◌, ◌≤◌, Bool, true, false, Option, Some, None, [], ◌∷◌}
+use Rattle.std.proofs.Common.{◌≡◌, ◌⊎◌, inl, inr, ℕ, zero, suc, ◌<◌, ◌≤◌, Bool, true, false, Option, Some, None, []}
+use Rattle.std.proofs.Common.{◌∷◌}
 use Rattle.std.proofs.Common.{refl, sym, ap, subst, arith}
 use Rattle.std.proofs.Math.Path.{fun_ext}
 use Rattle.std.specs.Prelude.{◌≢◌}
@@ -170,7 +171,7 @@ puts = Acts 1 (at_1 new_record new_record new_record idle idle (Running put None
       was = refl;
       now = refl;
       received = λ c. omega arith;
-      base = refl;
+      base = λ c. inl refl;
       sent = λ c. omega arith;
       local = λ c is. omega arith;
     }))
@@ -182,7 +183,7 @@ gets = Acts 0 (at_0 new_record new_record new_record idle (Running got None) (Ru
       was = refl;
       now = refl;
       received = λ c. omega arith;
-      base = refl;
+      base = λ c. inl refl;
       sent = λ c. omega arith;
       local = local;
     }))

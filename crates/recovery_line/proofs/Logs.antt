@@ -53,8 +53,10 @@ pub step_reaches : (net : Net) (k : ℕ) (a b : Node) → NodeOk net k a → Nod
 step_reaches net k a b ok (Work before later live s) = with_record net k a b s.same.disk (λ j now. record {
   image = before;
   is = Current (ap current_of s.was);
-  base = λ c q cross. let this = current_is b.mode later j live s.now now in let same =
-      ap (λ (f : ℕ → ℕ). f c) s.base in rw this (omega arith);
+  base = λ c q cross. let this = current_is b.mode later j live s.now now in rw this (elim (s.base c) [
+    | inl stays ↦ (omega arith)
+    | inr goes ↦ absurd (cross.apart (one_inside goes.0.to cross.to))
+  ]);
 })
 step_reaches net k a b ok (Trim c to before later live bound s) = with_record net k a b s.same.disk (λ j now. record {
   image = before;

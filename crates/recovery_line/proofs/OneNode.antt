@@ -149,16 +149,27 @@ works_ok net k a b before later live ok s = record_stays_ok net k a b ok (record
     old = current_fits net k a b before ok (same_outlets a b s.same.outlets) (ap current_of s.was)
 
     rises : AtMost before later
-    rises c = let e = ap (λ (f : ℕ → ℕ). f c) s.base in (s.received c, omega arith, s.sent c)
+    rises c = (s.received c, elim (s.base c) [ inl stays ↦ (omega arith) | inr goes ↦ goes.1 ], s.sent c)
 
     fits : Fits net k a b later
     fits = record {
       after = at_most_next a.disk.permanent before later old.after rises;
       latest = λ x n i held. at_most_next i before later (old.latest x n i held) rises;
-      local = λ c is. let e = ap (λ (f : ℕ → ℕ). f c) s.base in let one = (old.local c is).0 in let two =
-          s.received c in (omega arith, s.local c is);
-      output = λ c is. let e = ap (λ (f : ℕ → ℕ). f c) s.base in let one = old.output c is in omega arith;
-      log = λ c. let e = ap (λ (f : ℕ → ℕ). f c) s.base in let one = old.log c in let two = s.sent c in omega arith;
+      local = λ c is. (
+        let had = (old.local c is).0 in let more = s.received c in elim (s.base c) [
+          | inl stays ↦ (omega arith)
+          | inr goes ↦ goes.2
+        ],
+        s.local c is,
+      );
+      output = λ c is. let had = old.output c is in elim (s.base c) [
+        | inl stays ↦ (omega arith)
+        | inr goes ↦ absurd (some_not_none is.to goes.0.to)
+      ];
+      log = λ c. let had = old.log c in let more = s.sent c in elim (s.base c) [
+        | inl stays ↦ (omega arith)
+        | inr goes ↦ let got = s.local c goes.0 in (omega (arith, goes.2, got))
+      ];
     }
 
 -- a log is trimmed, if of a local channel to what was got, and if of an output to what was released

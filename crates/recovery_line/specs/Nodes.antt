@@ -1,5 +1,5 @@
 -- A node, and those of its steps for which no packet has to come.
-use Rattle.std.specs.Prelude.{◌≡◌, ◌≢◌, ℕ, ◌≤◌, ◌<◌, ◌+◌, Bool, true, Option, Some, None}
+use Rattle.std.specs.Prelude.{◌≡◌, ◌≢◌, ◌⊎◌, ℕ, ◌≤◌, ◌<◌, ◌+◌, Bool, true, Option, Some, None}
 use Rattle.recovery_line.specs.Images.{Image, Net, IsCross, IsLocal, IsOutput}
 use Rattle.recovery_line.specs.Records.{Record, Holds}
 use Rattle.recovery_line.specs.Moves.{Takes, Decides, Drops}
@@ -49,13 +49,20 @@ pub record Unwritten (a b : Node) : Type 0 where
   pub disk : b.disk ≡ a.disk
   pub outlets : b.outlets ≡ a.outlets
 
+-- The log of a channel begins where it began; or the channel stays on the node, and its log lets go of items that were
+-- got there.
+abbrev pub LetsGoOfGot : Net → ℕ → Image → Image → ℕ → Type 0
+LetsGoOfGot net k before later c =
+    (later.base c ≡ before.base c)
+    ⊎ (IsLocal net c k × (before.base c ≤ later.base c) × (later.base c ≤ later.received c))
+
 -- Processes get and put items.
 pub record Works (net : Net) (k : ℕ) (a b : Node) (before later : Image) (live : Option Live) : Type 0 where
   pub same : Unwritten a b
   pub was : a.mode ≡ Running before live
   pub now : b.mode ≡ Running later live
   pub received : (c : ℕ) → before.received c ≤ later.received c
-  pub base : later.base ≡ before.base
+  pub base : (c : ℕ) → LetsGoOfGot net k before later c
   pub sent : (c : ℕ) → before.sent c ≤ later.sent c
   pub local : (c : ℕ) → IsLocal net c k → later.received c ≤ later.sent c
 

@@ -14,6 +14,26 @@ fn one_if_so(holds: bool) -> i64
     if holds { 1 } else { 0 }
 }
 
+/// How often the right value goes into the left one, toward zero; 0 where it is 0.
+fn quotient(left: i64, right: i64) -> i64
+    ensures { result ≡ apply Operator.Divide left right }
+{
+    if right == 0 {
+        return 0;
+    }
+    left.wrapping_div(right)
+}
+
+/// What a quotient leaves; 0 where the right value is 0.
+fn remainder(left: i64, right: i64) -> i64
+    ensures { result ≡ apply Operator.Remainder left right }
+{
+    if right == 0 {
+        return 0;
+    }
+    left.wrapping_rem(right)
+}
+
 /// The value of an operator on two values.
 pub fn operate(operator: Operator, left: i64, right: i64) -> i64
     ensures { result ≡ apply operator left right }
@@ -22,6 +42,8 @@ pub fn operate(operator: Operator, left: i64, right: i64) -> i64
         Operator::Add => left.wrapping_add(right),
         Operator::Subtract => left.wrapping_sub(right),
         Operator::Multiply => left.wrapping_mul(right),
+        Operator::Divide => quotient(left, right),
+        Operator::Remainder => remainder(left, right),
         Operator::Equal => one_if_so(left == right),
         Operator::NotEqual => one_if_so(left != right),
         Operator::Less => one_if_so(left < right),

@@ -5,7 +5,7 @@ ghost use Rattle.std.specs.Prelude.{IsTrue, IfOk, OnOk, IsErrOf};
 ghost use Rattle.kahn_net.specs.Streams.{history_of};
 ghost use Rattle.kahn_net.specs.Syntax.{Nothing, block_of, code_of, then_of};
 ghost use Rattle.kahn_net.specs.Valid.{is_passing};
-ghost use Rattle.kahn_net.specs.Statements.{trace_of};
+ghost use Rattle.kahn_net.specs.Statements.{rounds, trace_of};
 ghost use Rattle.kahn_net.specs.Processes.{HasPassingLoop};
 ghost use Rattle.kahn_net.specs.Puts.{put_after};
 ghost use Rattle.stream_eq.specs.Limits.{IsWithin, GoesPast};
@@ -97,7 +97,40 @@ fn play_statement(
                 play_statements(first, variables, unread, limits, sent)
             }
         }
+        Statement::Repeat { times, body } => {
+            play_repeated(body, *times, variables, unread, limits, sent)
+        }
     }
+}
+
+/// Makes the acts of these statements so many times, until one waits or stops, and puts their items. Answers whether
+/// they ended.
+#[cycle(play)]
+fn play_repeated(
+    body: &[Statement],
+    times: u16,
+    variables: &mut [i64],
+    unread: &mut [Unread<'_>],
+    limits: &[usize],
+    sent: &mut [History],
+) -> Result<bool, Fault>
+    requires { length limits.now ≡ length sent.old }
+    ensures played { IfOk result
+        (λ ended. (site : ℕ) (left : List ℕ) → IsPlayed
+        (rounds times (λ k. trace_of site (left ++ k ∷ []) (block_of body.now)) variables.old
+        unread.old) sent.old sent.new ended variables.new unread.new) }
+    ensures within { OnOk result (IsWithin limits.now sent.old → IsWithin limits.now sent.new) }
+    ensures long { IsErrOf result Fault.Long
+        → (site : ℕ) (left : List ℕ) → GoesPast limits.now
+        (put_after (rounds times (λ k. trace_of site (left ++ k ∷ []) (block_of body.now))
+        variables.old unread.old).steps sent.old) }
+{
+    for _ in 0..times {
+        if !play_statements(body, variables, unread, limits, sent)? {
+            return Ok(false);
+        }
+    }
+    Ok(true)
 }
 
 /// Makes the acts of these statements until one waits or stops, and puts their items. Answers

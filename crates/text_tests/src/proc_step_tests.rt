@@ -26,34 +26,49 @@ const LED: &str =
 const BRANCHES: &str =
     "kahn 1; input i; output o; process p on 0 { var v; var w; loop { v = get i; if v == 7 { put 1 to o; w = get i; put w to o; } else { put 2 to o; if v == 0 { stop; } } put 3 to o; } }";
 
+/// Each item three times.
+const THRICE: &str =
+    "kahn 2; input i; output o; process p on 0 { var v; loop { v = get i; repeat 3 { put v to o; } } }";
+
+/// Two gets in a repetition.
+const BY_TWO: &str =
+    "kahn 2; input i; output o; process p on 0 { var v; loop { repeat 2 { v = get i; put v to o; } put 0 to o; } }";
+
 fn net_of(alloc: Global, text: &str) -> Result<Arc<Net>, Fail> {
     let net = check(alloc, parse(alloc, text)?)?;
     Ok(Arc::new(alloc, net)?)
 }
 
-/// How far a process is, by its site alone.
+/// How far a process is, by its site, and by the passes that remain of a repetition round it.
 #[derive(Clone, Copy, Debug, PartialEq, Eq)]
 enum Where {
     NotBegun,
     At(usize),
+    Within(usize, u16),
     Finished,
 }
 
-fn mode_at(alloc: Global, place: Where) -> Mode {
+fn place_at(alloc: Global, site: usize, passes: &[u16]) -> Result<Mode, AllocError> {
+    let left = Vec::from_slice(alloc, passes)?;
+    Ok(Mode::At(Place { site, left }))
+}
+
+fn mode_at(alloc: Global, place: Where) -> Result<Mode, AllocError> {
     match place {
-        Where::NotBegun => Mode::NotBegun,
-        Where::At(site) => Mode::At(Place {
-            site,
-            left: Vec::new(alloc),
-        }),
-        Where::Finished => Mode::Finished,
+        Where::NotBegun => Ok(Mode::NotBegun),
+        Where::At(site) => place_at(alloc, site, &[]),
+        Where::Within(site, passes) => place_at(alloc, site, &[passes]),
+        Where::Finished => Ok(Mode::Finished),
     }
 }
 
 fn where_is(mode: &Mode) -> Where {
     match mode {
         Mode::NotBegun => Where::NotBegun,
-        Mode::At(place) => Where::At(place.site),
+        Mode::At(place) => match place.left.first() {
+            None => Where::At(place.site),
+            Some(passes) => Where::Within(place.site, *passes),
+        },
         Mode::Finished => Where::Finished,
     }
 }
@@ -61,7 +76,7 @@ fn where_is(mode: &Mode) -> Where {
 fn state(alloc: Global, place: Where, variables: &[i64]) -> Result<ProcState, AllocError> {
     let variables = Vec::from_slice(alloc, variables)?;
     Ok(ProcState {
-        mode: mode_at(alloc, place),
+        mode: mode_at(alloc, place)?,
         variables,
     })
 }
@@ -270,6 +285,130 @@ fn turns_of_the_running_sum(rt: HostRuntime) -> Result<(), Fail> {
         variables: &[6, 3],
         taken: 3,
         sent: &[1, 3],
+    };
+    goes(&rt, alloc, &net, start, end)
+}
+
+#[test]
+fn turns_within_a_repetition(rt: HostRuntime) -> Result<(), Fail> {
+    let alloc = rt.alloc();
+    let net = net_of(alloc, THRICE)?;
+    let start = Start {
+        place: Where::NotBegun,
+        variables: &[0],
+        items: &[5],
+        room: 2,
+    };
+    let end = End {
+        place: Where::Within(1, 1),
+        variables: &[5],
+        taken: 1,
+        sent: &[5, 5],
+    };
+    goes(&rt, alloc, &net, start, end)?;
+    let start = Start {
+        place: Where::NotBegun,
+        variables: &[0],
+        items: &[5],
+        room: 0,
+    };
+    let end = End {
+        place: Where::Within(1, 3),
+        variables: &[5],
+        taken: 1,
+        sent: &[],
+    };
+    goes(&rt, alloc, &net, start, end)?;
+    let start = Start {
+        place: Where::Within(1, 1),
+        variables: &[5],
+        items: &[],
+        room: 0,
+    };
+    let end = End {
+        place: Where::Within(1, 1),
+        variables: &[5],
+        taken: 0,
+        sent: &[],
+    };
+    goes(&rt, alloc, &net, start, end)?;
+    let start = Start {
+        place: Where::Within(1, 1),
+        variables: &[5],
+        items: &[6],
+        room: 3,
+    };
+    let end = End {
+        place: Where::Within(1, 1),
+        variables: &[6],
+        taken: 1,
+        sent: &[5, 6, 6],
+    };
+    goes(&rt, alloc, &net, start, end)?;
+    let start = Start {
+        place: Where::Within(1, 2),
+        variables: &[5],
+        items: &[6],
+        room: 64,
+    };
+    let end = End {
+        place: Where::At(0),
+        variables: &[6],
+        taken: 1,
+        sent: &[5, 5, 6, 6, 6],
+    };
+    goes(&rt, alloc, &net, start, end)?;
+    let net = net_of(alloc, BY_TWO)?;
+    let start = Start {
+        place: Where::NotBegun,
+        variables: &[0],
+        items: &[1],
+        room: 64,
+    };
+    let end = End {
+        place: Where::Within(0, 1),
+        variables: &[1],
+        taken: 1,
+        sent: &[1],
+    };
+    goes(&rt, alloc, &net, start, end)?;
+    let start = Start {
+        place: Where::Within(0, 1),
+        variables: &[1],
+        items: &[2, 3],
+        room: 64,
+    };
+    let end = End {
+        place: Where::Within(0, 1),
+        variables: &[3],
+        taken: 2,
+        sent: &[2, 0, 3],
+    };
+    goes(&rt, alloc, &net, start, end)?;
+    let start = Start {
+        place: Where::Within(0, 1),
+        variables: &[1],
+        items: &[2],
+        room: 1,
+    };
+    let end = End {
+        place: Where::At(2),
+        variables: &[2],
+        taken: 1,
+        sent: &[2],
+    };
+    goes(&rt, alloc, &net, start, end)?;
+    let start = Start {
+        place: Where::Within(1, 2),
+        variables: &[1],
+        items: &[],
+        room: 64,
+    };
+    let end = End {
+        place: Where::Within(0, 1),
+        variables: &[1],
+        taken: 0,
+        sent: &[1],
     };
     goes(&rt, alloc, &net, start, end)
 }

@@ -1,25 +1,25 @@
 -- Laws of what is got: what a trace got from a channel is a front of what was unread there, and what is left is the
 -- rest. Where it waits, nothing is left on the channel at which it waits.
 use Rattle.std.proofs.Common.{true, false, cond, pos, eqb, Bool, ◌≡◌, ◌≢◌, ◌⊎◌, ℕ, zero, suc, ◌+◌, ◌≤◌, List, ℤ, []}
-use Rattle.std.proofs.Common.{◌∷◌, ◌++◌, refl, sym, ap, ◌∙◌, subst, set, drop, append_assoc, append-nil, arith, length}
-use Rattle.std.proofs.Common.{Option, Some, None, inl, inr, ◌==◌}
+use Rattle.std.proofs.Common.{◌∷◌, ◌++◌, ◌-◌, refl, sym, ap, ◌∙◌, subst, set, drop, append_assoc, append-nil, arith}
+use Rattle.std.proofs.Common.{length, Option, Some, None, inl, inr, ◌==◌}
 use Rattle.std.proofs.lemmas.List.{get_or-set_same, get_or-set_other, take-append-drop, append_cancel_left}
 use Rattle.std.proofs.lemmas.List.{length-append}
 use Rattle.std.proofs.lemmas.Bool.Decides.{eqb_tells, nat_tests}
 use Rattle.std.specs.Prelude.{take, nat_lt, IsTrue}
 use Rattle.std.specs.Ordering.{int_eq}
 use Rattle.kahn_net.specs.Streams.{history_of, total, ArePrefixes}
-use Rattle.kahn_net.specs.Syntax.{Block, Nothing, GetThen, AssignThen, PutThen, StopThen, IfThen, Code}
+use Rattle.kahn_net.specs.Syntax.{Block, Nothing, GetThen, AssignThen, PutThen, StopThen, IfThen, RepeatThen, Code}
 use Rattle.kahn_net.specs.Valid.{is_passing}
 use Rattle.kahn_net.specs.Statements.{Act, Got, Sent, Point, Step, Trace, End, Ended, Waits, Stopped, trace_of}
-use Rattle.kahn_net.specs.Statements.{point_at, choose, on_get, from_end, then_do, value_of, sites_of}
+use Rattle.kahn_net.specs.Statements.{point_at, choose, on_get, no_steps, from_end, then_do, rounds, value_of, sites_of}
 use Rattle.kahn_net.specs.Processes.{Standing, NotBegun, At, Done, standing_at, HasPassingLoop, passes, loop_trace}
 use Rattle.kahn_net.specs.Processes.{process_trace, got_by, got_on}
-use Rattle.kahn_net.specs.Resuming.{trace_on, body_on, code_on, trace_from, left_by, left_after}
+use Rattle.kahn_net.specs.Resuming.{passes_left, trace_on, body_on, code_on, trace_from, left_by, left_after}
 use Rattle.kahn_net.specs.Laws.Traces.{one_of, both_of}
 use Rattle.kahn_net.specs.Laws.Passes.{fewer_left}
-use Rattle.kahn_net.specs.Laws.Streams.{IsLonger, within, prefixes_set, not_done, longer, longer_then, longer_loop}
-use Rattle.kahn_net.specs.Laws.Streams.{longer_process}
+use Rattle.kahn_net.specs.Laws.Streams.{IsLonger, within, prefixes_set, not_done, longer, longer_then, longer_rounds}
+use Rattle.kahn_net.specs.Laws.Streams.{longer_loop, longer_process}
 use Rattle.kahn_net.specs.Laws.Prefixes.{IsFollowed, followed, prefix_of}
 
 -- where more is unread, statements do from a site on what they did, and then more
@@ -53,6 +53,22 @@ longer_on number left (IfThen test first second b) site inner v u w p =
     (longer_then (trace_on m left second site inner v u) (trace_on m left second site inner v w) behind behind
     (longer_on m left second site inner v u w p) (λ v' u' w' e e' p'. longer n left b v' u' w' p'))
     (longer_on n left b site inner v u w p))
+longer_on number left (RepeatThen times body b) site inner v u w p =
+    let k = passes_left inner in
+    let n = number + sites_of body in
+    let pass = λ (j : ℕ). trace_of number (left ++ j ∷ []) body in
+    let behind = trace_of n left b in
+    let at_hand = λ (y : List (List ℤ)). trace_on number (left ++ k ∷ []) body site (drop 1 inner) v y in
+    let one = λ (y : List (List ℤ)). then_do (at_hand y) (rounds (k - 1) pass) in
+    both_of IsLonger (nat_lt site n) (then_do (one u) behind) (trace_on n left b site inner v u)
+    (then_do (one w) behind) (trace_on n left b site inner v w)
+    (longer_then (one u) (one w) behind behind
+    (longer_then (at_hand u) (at_hand w) (rounds (k - 1) pass) (rounds (k - 1) pass)
+    (longer_on number (left ++ k ∷ []) body site (drop 1 inner) v u w p)
+    (λ v' u' w' e e' p'. longer_rounds (k - 1) pass
+    (λ j x y z q. longer number (left ++ j ∷ []) body x y z q) v' u' w' p'))
+    (λ v' u' w' e e' p'. longer n left b v' u' w' p'))
+    (longer_on n left b site inner v u w p)
 
 longer_body_on : (number : ℕ) (body : Option Block) (point : Point) (v : List ℤ) (u w : List (List ℤ))
     → ArePrefixes u w → IsLonger (body_on number body point v u) (body_on number body point v w)
@@ -200,14 +216,25 @@ reads_then t go unread r next = at_end t.end refl
           empty = λ s' v' d e. ap (λ (x : List (List ℤ)). history_of x d) after ∙ n.empty s' v' d e;
         }
 
--- what statements do
-pub reads_block : (site : ℕ) (left : List ℕ) (b : Block) (vars : List ℤ) (unread : List (List ℤ))
-    → Reads (trace_of site left b vars unread) unread
-reads_block site left Nothing vars unread =
-    record { reading = tt; left = λ v u e. same v u e; empty = λ s v c e. absurd (cc) }
+-- with nothing to do
+reads_none : (vars : List ℤ) (unread : List (List ℤ)) → Reads (no_steps (Ended vars unread)) unread
+reads_none vars unread = record { reading = tt; left = λ v u e. same v u e; empty = λ s v c e. absurd (cc) }
   where
     same : (v : List ℤ) (u : List (List ℤ)) → Ended vars unread ≡ Ended v u → unread ≡ u
     same v u e = cc
+
+-- so many passes
+pub reads_rounds : (n : ℕ) (pass : ℕ → List ℤ → List (List ℤ) → Trace)
+    → ((k : ℕ) (v : List ℤ) (u : List (List ℤ)) → Reads (pass k v u) u) → (v : List ℤ) (u : List (List ℤ))
+    → Reads (rounds n pass v u) u
+reads_rounds zero pass h v u = reads_none v u
+reads_rounds (suc n) pass h v u =
+    reads_then (pass (suc n) v u) (rounds n pass) u (h (suc n) v u) (λ v' u' e. reads_rounds n pass h v' u')
+
+-- what statements do
+pub reads_block : (site : ℕ) (left : List ℕ) (b : Block) (vars : List ℤ) (unread : List (List ℤ))
+    → Reads (trace_of site left b vars unread) unread
+reads_block site left Nothing vars unread = reads_none vars unread
 reads_block site left (AssignThen x e rest) vars unread =
     let r = reads_block site left rest (set vars x (value_of e vars)) unread in
     record { reading = r.reading; left = r.left; empty = r.empty }
@@ -224,6 +251,11 @@ reads_block site left (IfThen test first second rest) vars unread =
     (one_of (λ (t : Trace). Reads t unread) (int_eq (value_of test vars) (pos 0)) other one
     (reads_block (site + sites_of first) left second vars unread) (reads_block site left first vars unread))
     (λ v u e. reads_block (site + sites_of first + sites_of second) left rest v u)
+reads_block site left (RepeatThen times body rest) vars unread =
+    let pass = λ (k : ℕ). trace_of site (left ++ k ∷ []) body in
+    reads_then (rounds times pass vars unread) (trace_of (site + sites_of body) left rest) unread
+    (reads_rounds times pass (λ k v u. reads_block site (left ++ k ∷ []) body v u) vars unread)
+    (λ v u e. reads_block (site + sites_of body) left rest v u)
 reads_block site left (GetThen x c rest) vars unread =
     at_get (history_of unread c) refl
     (λ item later. reads_block (site + 1) left rest (set vars x item) (set unread c later))
@@ -291,6 +323,21 @@ reads_on number left (IfThen test first second b) site inner vars unread =
     (reads_then (trace_on m left second site inner vars unread) behind unread
     (reads_on m left second site inner vars unread) (λ v u e. reads_block n left b v u))
     (reads_on n left b site inner vars unread))
+reads_on number left (RepeatThen times body b) site inner vars unread =
+    let k = passes_left inner in
+    let n = number + sites_of body in
+    let pass = λ (j : ℕ). trace_of number (left ++ j ∷ []) body in
+    let behind = trace_of n left b in
+    let at_hand = trace_on number (left ++ k ∷ []) body site (drop 1 inner) vars unread in
+    let one = then_do at_hand (rounds (k - 1) pass) in
+    one_of (λ (t : Trace). Reads t unread) (nat_lt site n) (then_do one behind)
+    (trace_on n left b site inner vars unread)
+    (reads_then one behind unread
+    (reads_then at_hand (rounds (k - 1) pass) unread
+    (reads_on number (left ++ k ∷ []) body site (drop 1 inner) vars unread)
+    (λ v u e. reads_rounds (k - 1) pass (λ j x y. reads_block number (left ++ j ∷ []) body x y) v u))
+    (λ v u e. reads_block n left b v u))
+    (reads_on n left b site inner vars unread)
 
 reads_body_on : (number : ℕ) (body : Option Block) (point : Point) (vars : List ℤ) (unread : List (List ℤ))
     → Reads (body_on number body point vars unread) unread
@@ -409,6 +456,16 @@ next_then t long go go' l g next = at_end t.end refl
               ∙ (h ∙ append_assoc t.steps (go v u).steps more)));
         }
 
+-- so many passes
+pub next_rounds : (n : ℕ) (pass : ℕ → List ℤ → List (List ℤ) → Trace)
+    → ((k : ℕ) (v : List ℤ) (u w : List (List ℤ)) → ArePrefixes u w → IsLonger (pass k v u) (pass k v w))
+    → ((k : ℕ) (v : List ℤ) (u w : List (List ℤ)) → ArePrefixes u w → NextIsGet (pass k v u) (pass k v w))
+    → (v : List ℤ) (u w : List (List ℤ)) → ArePrefixes u w → NextIsGet (rounds n pass v u) (rounds n pass v w)
+next_rounds zero pass l h v u w p = record { next = λ s v' d e more h. absurd (cc) }
+next_rounds (suc n) pass l h v u w p =
+    next_then (pass (suc n) v u) (pass (suc n) v w) (rounds n pass) (rounds n pass) (l (suc n) v u w p)
+    (h (suc n) v u w p) (λ v' u' w' e e' p'. next_rounds n pass l h v' u' w' p')
+
 -- what statements do
 pub next_block : (site : ℕ) (left : List ℕ) (b : Block) (v : List ℤ) (u w : List (List ℤ)) → ArePrefixes u w
     → NextIsGet (trace_of site left b v u) (trace_of site left b v w)
@@ -435,6 +492,14 @@ next_block site left (IfThen test first second b) v u w p =
     (both_of NextIsGet zero (other u) (one u) (other w) (one w)
     (next_block (site + sites_of first) left second v u w p) (next_block site left first v u w p))
     (λ v' u' w' e e' p'. next_block (site + sites_of first + sites_of second) left b v' u' w' p')
+next_block site left (RepeatThen times body b) v u w p =
+    let pass = λ (k : ℕ). trace_of site (left ++ k ∷ []) body in
+    let go = trace_of (site + sites_of body) left b in
+    let further = λ (k : ℕ) (x : List ℤ) (y z : List (List ℤ)) (q : ArePrefixes y z).
+    longer site (left ++ k ∷ []) body x y z q in
+    next_then (rounds times pass v u) (rounds times pass v w) go go (longer_rounds times pass further v u w p)
+    (next_rounds times pass further (λ k x y z q. next_block site (left ++ k ∷ []) body x y z q) v u w p)
+    (λ v' u' w' e e' p'. next_block (site + sites_of body) left b v' u' w' p')
 next_block site left (GetThen x c b) v u w p =
     at_get (history_of u c) (history_of w c) refl refl (followed (history_of u c) (history_of w c) (p.at c))
     (λ item l l' q. next_block (site + 1) left b (set v x item) (set u c l) (set w c l') q)
@@ -548,6 +613,27 @@ next_on_block number left (IfThen test first second b) site inner v u w p =
     (longer_on m left second site inner v u w p) (next_on_block m left second site inner v u w p)
     (λ v' u' w' e e' p'. next_block n left b v' u' w' p'))
     (next_on_block n left b site inner v u w p))
+next_on_block number left (RepeatThen times body b) site inner v u w p =
+    let k = passes_left inner in
+    let n = number + sites_of body in
+    let pass = λ (j : ℕ). trace_of number (left ++ j ∷ []) body in
+    let behind = trace_of n left b in
+    let further = λ (j : ℕ) (x : List ℤ) (y z : List (List ℤ)) (q : ArePrefixes y z).
+    longer number (left ++ j ∷ []) body x y z q in
+    let at_hand = λ (y : List (List ℤ)). trace_on number (left ++ k ∷ []) body site (drop 1 inner) v y in
+    let one = λ (y : List (List ℤ)). then_do (at_hand y) (rounds (k - 1) pass) in
+    let at_hand_longer = longer_on number (left ++ k ∷ []) body site (drop 1 inner) v u w p in
+    both_of NextIsGet (nat_lt site n) (then_do (one u) behind) (trace_on n left b site inner v u)
+    (then_do (one w) behind) (trace_on n left b site inner v w)
+    (next_then (one u) (one w) behind behind
+    (longer_then (at_hand u) (at_hand w) (rounds (k - 1) pass) (rounds (k - 1) pass) at_hand_longer
+    (λ v' u' w' e e' p'. longer_rounds (k - 1) pass further v' u' w' p'))
+    (next_then (at_hand u) (at_hand w) (rounds (k - 1) pass) (rounds (k - 1) pass) at_hand_longer
+    (next_on_block number (left ++ k ∷ []) body site (drop 1 inner) v u w p)
+    (λ v' u' w' e e' p'. next_rounds (k - 1) pass further
+    (λ j x y z q. next_block number (left ++ j ∷ []) body x y z q) v' u' w' p'))
+    (λ v' u' w' e e' p'. next_block n left b v' u' w' p'))
+    (next_on_block n left b site inner v u w p)
 
 next_body_on : (number : ℕ) (body : Option Block) (point : Point) (v : List ℤ) (u w : List (List ℤ)) → ArePrefixes u w
     → NextIsGet (body_on number body point v u) (body_on number body point v w)

@@ -1,13 +1,14 @@
 -- Laws of passes: each whole pass of a body that passes takes an item, so one pass more than there are items is always
 -- enough.
 use Rattle.std.proofs.Common.{◌≡◌, ℕ, zero, suc, ◌+◌, ◌≤◌, Bool, true, false, ◌&&◌, ◌||◌, pos, List, ℤ, [], ◌∷◌, ◌++◌}
-use Rattle.std.proofs.Common.{length, set, refl, ap, ◌∙◌, arith}
-use Rattle.std.specs.Prelude.{IsTrue}
+use Rattle.std.proofs.Common.{length, set, refl, sym, ap, subst, ◌∙◌, arith}
+use Rattle.std.specs.Prelude.{IsTrue, nat_lt}
+use Rattle.std.proofs.lemmas.Bool.{lt-ltb}
 use Rattle.std.specs.Ordering.{int_eq}
 use Rattle.kahn_net.specs.Streams.{history_of, total}
-use Rattle.kahn_net.specs.Syntax.{Block, Nothing, GetThen, AssignThen, PutThen, StopThen, IfThen}
+use Rattle.kahn_net.specs.Syntax.{Block, Nothing, GetThen, AssignThen, PutThen, StopThen, IfThen, RepeatThen}
 use Rattle.kahn_net.specs.Valid.{is_passing}
-use Rattle.kahn_net.specs.Statements.{Trace, End, Ended, trace_of, point_at, choose, on_get, from_end, value_of}
+use Rattle.kahn_net.specs.Statements.{Trace, End, Ended, trace_of, point_at, choose, on_get, from_end, value_of, rounds}
 use Rattle.kahn_net.specs.Statements.{sites_of}
 use Rattle.kahn_net.specs.Processes.{passes}
 use Rattle.kahn_net.specs.Laws.Traces.{one_of, then_do_same, ended_then}
@@ -36,6 +37,26 @@ of_second true false r = omega arith
 of_second false true r = omega arith
 of_second false false r = omega arith
 
+-- a repetition passes where it is made and its block does, or what comes behind it does
+of_rounds : (a r : Bool) → one_if (a || r) ≤ one_if a + one_if r
+of_rounds true r = omega arith
+of_rounds false r = omega arith
+
+-- a repetition takes what one of its passes takes, where it is made at all
+pub rounds_take : (n : ℕ) (pass : ℕ → List ℤ → List (List ℤ) → Trace) (b : Bool)
+    → ((k : ℕ) (v : List ℤ) (u : List (List ℤ)) (v' : List ℤ) (u' : List (List ℤ)) → (pass k v u).end ≡ Ended v' u'
+    → total u' + one_if b ≤ total u)
+    → (v : List ℤ) (u : List (List ℤ)) (v' : List ℤ) (u' : List (List ℤ)) → (rounds n pass v u).end ≡ Ended v' u'
+    → total u' + one_if (nat_lt 0 n && b) ≤ total u
+rounds_take zero pass b takes v u v' u' e = let same : u ≡ u' = cc in omega (arith, ap total same)
+rounds_take (suc n) pass b takes v u v' u' e =
+    let parts = ended_then (pass (suc n) v u) (rounds n pass) v' u' e in
+    let first = takes (suc n) v u parts.0 parts.1 parts.2 in
+    let later = rounds_take n pass b takes parts.0 parts.1 v' u' parts.3 in
+    let made : true ≡ nat_lt 0 (suc n) = sym (lt-ltb 0 (suc n) (omega arith)) in
+    let both : total u' + one_if b ≤ total u = omega (arith, first, later) in
+    subst (λ (t : Bool). total u' + one_if (t && b) ≤ total u) made both
+
 pub pass_takes : (site : ℕ) (left : List ℕ) (b : Block) (vars : List ℤ) (unread : List (List ℤ)) (vars' : List ℤ)
     (unread' : List (List ℤ))
     → (trace_of site left b vars unread).end ≡ Ended vars' unread'
@@ -63,6 +84,15 @@ pass_takes site left (IfThen test first second rest) vars unread vars' unread' e
     omega (arith, part, of_first (is_passing first) (is_passing second) (is_passing rest)))
     parts.0 parts.1 parts.2 in
     omega (arith, later, chosen)
+pass_takes site left (RepeatThen times body rest) vars unread vars' unread' e =
+    let go = trace_of (site + sites_of body) left rest in
+    let pass = λ (k : ℕ). trace_of site (left ++ k ∷ []) body in
+    let parts = ended_then (rounds times pass vars unread) go vars' unread' e in
+    let later = pass_takes (site + sites_of body) left rest parts.0 parts.1 vars' unread' parts.3 in
+    let made =
+    rounds_take times pass (is_passing body)
+    (λ k v u v' u' f. pass_takes site (left ++ k ∷ []) body v u v' u' f) vars unread parts.0 parts.1 parts.2 in
+    omega (arith, later, made, of_rounds (nat_lt 0 times && is_passing body) (is_passing rest))
 pass_takes site left (GetThen x channel rest) vars unread vars' unread' e =
     at_get (history_of unread channel) refl
     (λ item later f. pass_takes (site + 1) left rest (set vars x item) (set unread channel later) vars' unread' f) e

@@ -6,10 +6,10 @@ use Rattle.std.proofs.lemmas.List.{get_or-set_same, get_or-set_other, length-set
 use Rattle.std.proofs.lemmas.Bool.Decides.{eqb_tells}
 use Rattle.std.specs.Ordering.{int_eq}
 use Rattle.kahn_net.specs.Streams.{history_of, total}
-use Rattle.kahn_net.specs.Syntax.{Block, Nothing, GetThen, AssignThen, PutThen, StopThen, IfThen, Code}
+use Rattle.kahn_net.specs.Syntax.{Block, Nothing, GetThen, AssignThen, PutThen, StopThen, IfThen, RepeatThen, Code}
 use Rattle.kahn_net.specs.Valid.{block_puts, body_puts, code_puts}
 use Rattle.kahn_net.specs.Statements.{Act, Got, Sent, Step, Trace, End, Ended, Waits, Stopped, trace_of, point_at}
-use Rattle.kahn_net.specs.Statements.{choose, on_get, from_end, then_do, value_of, sites_of}
+use Rattle.kahn_net.specs.Statements.{choose, on_get, from_end, then_do, rounds, value_of, sites_of}
 use Rattle.kahn_net.specs.Puts.{put_by, put_after}
 use Rattle.kahn_net.specs.Laws.Traces.{one_of}
 use Rattle.kahn_net.specs.Processes.{passes, loop_trace, sent_by, sent_on, output_of}
@@ -47,6 +47,15 @@ silent_then channel t go h later =
     at_end (Waits s v c) = refl
     at_end (Stopped v) = refl
 
+-- so many passes
+silent_rounds : (channel n : ℕ) (pass : ℕ → List ℤ → List (List ℤ) → Trace)
+    → ((k : ℕ) (v : List ℤ) (u : List (List ℤ)) → sent_on channel (pass k v u).steps ≡ [])
+    → (v : List ℤ) (u : List (List ℤ)) → sent_on channel (rounds n pass v u).steps ≡ []
+silent_rounds channel zero pass h v u = refl
+silent_rounds channel (suc n) pass h v u =
+    silent_then channel (pass (suc n) v u) (rounds n pass) (h (suc n) v u)
+    (λ v' u'. silent_rounds channel n pass h v' u')
+
 -- statements without a put on a channel put nothing there
 pub silent_block : (channel site : ℕ) (left : List ℕ) (b : Block) (vars : List ℤ) (unread : List (List ℤ))
     → block_puts channel b ≡ false → sent_on channel (trace_of site left b vars unread).steps ≡ []
@@ -72,6 +81,12 @@ silent_block channel site left (IfThen test first second rest) vars unread h =
     (silent_block channel (site + sites_of first) left second vars unread in_second.0)
     (silent_block channel site left first vars unread in_first.0))
     (λ v u. silent_block channel (site + sites_of first + sites_of second) left rest v u in_second.1)
+silent_block channel site left (RepeatThen times body rest) vars unread h =
+    let both = either_false (block_puts channel body) (block_puts channel rest) h in
+    let pass = λ (k : ℕ). trace_of site (left ++ k ∷ []) body in
+    silent_then channel (rounds times pass vars unread) (trace_of (site + sites_of body) left rest)
+    (silent_rounds channel times pass (λ k v u. silent_block channel site (left ++ k ∷ []) body v u both.0) vars unread)
+    (λ v u. silent_block channel (site + sites_of body) left rest v u both.1)
 silent_block channel site left (GetThen x c rest) vars unread h =
     at_get (history_of unread c)
     (λ item later. silent_block channel (site + 1) left rest (set vars x item) (set unread c later) h)

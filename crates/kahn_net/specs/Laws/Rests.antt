@@ -8,10 +8,10 @@ use Rattle.std.proofs.lemmas.Bool.Decides.{nat_tests}
 use Rattle.std.specs.Prelude.{IsTrue, slice_get}
 use Rattle.std.specs.Ordering.{int_eq}
 use Rattle.kahn_net.specs.Streams.{history_of, total, ArePrefixes}
-use Rattle.kahn_net.specs.Syntax.{Block, Nothing, GetThen, AssignThen, PutThen, StopThen, IfThen, Code}
+use Rattle.kahn_net.specs.Syntax.{Block, Nothing, GetThen, AssignThen, PutThen, StopThen, IfThen, RepeatThen, Code}
 use Rattle.kahn_net.specs.Valid.{block_gets, body_gets, code_gets}
 use Rattle.kahn_net.specs.Statements.{Act, Got, Sent, Step, Trace, End, Ended, Waits, Stopped, trace_of, point_at}
-use Rattle.kahn_net.specs.Statements.{choose, on_get, from_end, then_do, value_of, sites_of}
+use Rattle.kahn_net.specs.Statements.{choose, on_get, from_end, then_do, rounds, value_of, sites_of}
 use Rattle.kahn_net.specs.Processes.{Standing, NotBegun, StandsAt, HasPassingLoop, passes, loop_trace, process_trace}
 use Rattle.kahn_net.specs.Processes.{got_by, got_on}
 use Rattle.kahn_net.specs.Resuming.{left_after}
@@ -40,6 +40,14 @@ deaf_then channel t go h later =
     at_end (Waits s v c) = refl
     at_end (Stopped v) = refl
 
+-- so many passes
+deaf_rounds : (channel n : ℕ) (pass : ℕ → List ℤ → List (List ℤ) → Trace)
+    → ((k : ℕ) (v : List ℤ) (u : List (List ℤ)) → got_on channel (pass k v u).steps ≡ [])
+    → (v : List ℤ) (u : List (List ℤ)) → got_on channel (rounds n pass v u).steps ≡ []
+deaf_rounds channel zero pass h v u = refl
+deaf_rounds channel (suc n) pass h v u =
+    deaf_then channel (pass (suc n) v u) (rounds n pass) (h (suc n) v u) (λ v' u'. deaf_rounds channel n pass h v' u')
+
 -- statements without a get from a channel get nothing there
 deaf_block : (channel site : ℕ) (left : List ℕ) (b : Block) (vars : List ℤ) (unread : List (List ℤ))
     → block_gets channel b ≡ false → got_on channel (trace_of site left b vars unread).steps ≡ []
@@ -59,6 +67,12 @@ deaf_block channel site left (IfThen test first second rest) vars unread h =
     (deaf_block channel (site + sites_of first) left second vars unread in_second.0)
     (deaf_block channel site left first vars unread in_first.0))
     (λ v u. deaf_block channel (site + sites_of first + sites_of second) left rest v u in_second.1)
+deaf_block channel site left (RepeatThen times body rest) vars unread h =
+    let both = either_false (block_gets channel body) (block_gets channel rest) h in
+    let pass = λ (k : ℕ). trace_of site (left ++ k ∷ []) body in
+    deaf_then channel (rounds times pass vars unread) (trace_of (site + sites_of body) left rest)
+    (deaf_rounds channel times pass (λ k v u. deaf_block channel site (left ++ k ∷ []) body v u both.0) vars unread)
+    (λ v u. deaf_block channel (site + sites_of body) left rest v u both.1)
 deaf_block channel site left (GetThen x c rest) vars unread h =
     let both = either_false (c == channel) (block_gets channel rest) h in
     at_get (history_of unread c) both.0

@@ -7,10 +7,10 @@ use Rattle.std.proofs.lemmas.Bool.Decides.{eqb_tells}
 use Rattle.std.specs.Prelude.{IsTrue}
 use Rattle.std.specs.Ordering.{int_eq}
 use Rattle.kahn_net.specs.Streams.{history_of, total, IsPrefix, ArePrefixes}
-use Rattle.kahn_net.specs.Syntax.{Block, Nothing, GetThen, AssignThen, PutThen, StopThen, IfThen, Code}
+use Rattle.kahn_net.specs.Syntax.{Block, Nothing, GetThen, AssignThen, PutThen, StopThen, IfThen, RepeatThen, Code}
 use Rattle.kahn_net.specs.Valid.{is_passing}
 use Rattle.kahn_net.specs.Statements.{Got, Sent, Point, Step, Trace, End, Ended, Waits, Stopped, no_steps, trace_of}
-use Rattle.kahn_net.specs.Statements.{point_at, choose, on_get, from_end, then_do, value_of, sites_of}
+use Rattle.kahn_net.specs.Statements.{point_at, choose, on_get, from_end, then_do, rounds, value_of, sites_of}
 use Rattle.kahn_net.specs.Processes.{Standing, NotBegun, At, Done, standing_at, IsHere, StandsAt, HasPassingLoop}
 use Rattle.kahn_net.specs.Processes.{passes, loop_trace, process_trace, sent_on, output_of}
 use Rattle.kahn_net.specs.Laws.Traces.{both_of}
@@ -113,10 +113,10 @@ longer_then t long go go' l next = at_end t.end refl
           stops = n2.stops;
         }
 
--- what statements do
-pub longer : (site : ℕ) (left : List ℕ) (b : Block) (v : List ℤ) (u w : List (List ℤ)) → ArePrefixes u w
-    → IsLonger (trace_of site left b v u) (trace_of site left b v w)
-longer site left Nothing v u w p =
+-- with nothing to do
+longer_none : (v : List ℤ) (u w : List (List ℤ)) → ArePrefixes u w
+    → IsLonger (no_steps (Ended v u)) (no_steps (Ended v w))
+longer_none v u w p =
     record {
       more = [];
       steps = refl;
@@ -131,6 +131,20 @@ longer site left Nothing v u w p =
 
     same_unread : (v' : List ℤ) (u' : List (List ℤ)) → Ended v u ≡ Ended v' u' → u ≡ u'
     same_unread v' u' h = cc
+
+-- so many passes
+pub longer_rounds : (n : ℕ) (pass : ℕ → List ℤ → List (List ℤ) → Trace)
+    → ((k : ℕ) (v : List ℤ) (u w : List (List ℤ)) → ArePrefixes u w → IsLonger (pass k v u) (pass k v w))
+    → (v : List ℤ) (u w : List (List ℤ)) → ArePrefixes u w → IsLonger (rounds n pass v u) (rounds n pass v w)
+longer_rounds zero pass h v u w p = longer_none v u w p
+longer_rounds (suc n) pass h v u w p =
+    longer_then (pass (suc n) v u) (pass (suc n) v w) (rounds n pass) (rounds n pass) (h (suc n) v u w p)
+    (λ v' u' w' e e' p'. longer_rounds n pass h v' u' w' p')
+
+-- what statements do
+pub longer : (site : ℕ) (left : List ℕ) (b : Block) (v : List ℤ) (u w : List (List ℤ)) → ArePrefixes u w
+    → IsLonger (trace_of site left b v u) (trace_of site left b v w)
+longer site left Nothing v u w p = longer_none v u w p
 longer site left (AssignThen x e b) v u w p =
     let r = longer site left b (set v x (value_of e v)) u w p in
     record { more = r.more; steps = r.steps; stands = r.stands; ends = r.ends; stops = r.stops }
@@ -162,6 +176,12 @@ longer site left (IfThen test first second b) v u w p =
     (both_of IsLonger (int_eq (value_of test v) (pos 0)) (other u) (one u) (other w) (one w)
     (longer (site + sites_of first) left second v u w p) (longer site left first v u w p))
     (λ v' u' w' e e' p'. longer (site + sites_of first + sites_of second) left b v' u' w' p')
+longer site left (RepeatThen times body b) v u w p =
+    let pass = λ (k : ℕ). trace_of site (left ++ k ∷ []) body in
+    let go = trace_of (site + sites_of body) left b in
+    longer_then (rounds times pass v u) (rounds times pass v w) go go
+    (longer_rounds times pass (λ k v' u' w' p'. longer site (left ++ k ∷ []) body v' u' w' p') v u w p)
+    (λ v' u' w' e e' p'. longer (site + sites_of body) left b v' u' w' p')
 longer site left (GetThen x c b) v u w p =
     at_get (history_of u c) (history_of w c) refl refl (followed (history_of u c) (history_of w c) (p.at c))
     (λ item l l' q. longer (site + 1) left b (set v x item) (set u c l) (set w c l') q)

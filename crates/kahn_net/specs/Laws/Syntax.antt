@@ -1,10 +1,10 @@
--- A chain and an if, as code finds them, are those of their trees, and statements from one on are that one and those
--- after it.
+-- A chain, an if and a repetition, as code finds them, are those of their trees, and statements from one on are that
+-- one and those after it.
 use Rattle.std.proofs.Common.{◌≡◌, ◌∙◌, ◌+◌, ◌<◌, ℕ, List, ap, sym, refl, drop, get_or, length, Box, Vec, Global, rules}
 use Rattle.std.proofs.lemmas.List.{at_drop_more}
 use mathlib.Core.Former.{Count}
-use Rattle.kahn_net.specs.Syntax.{Chain, LinkThen, Block, IfThen, tree_of, row_of, links_of, then_of, row_block}
-use Rattle.kahn_net.specs.Syntax.{block_of}
+use Rattle.kahn_net.specs.Syntax.{Chain, LinkThen, Block, IfThen, RepeatThen, tree_of, row_of, links_of, then_of}
+use Rattle.kahn_net.specs.Syntax.{row_block, block_of}
 use Rattle.kahn_net.specs.declared.program.Statement.{Statement, Row_of-Statement, end_of-Statement, more_of-Statement}
 use Rattle.kahn_net.specs.declared.program.Statement.{items-the_row-Statement, the_lemmas as the_statement_lemmas}
 use Rattle.kahn_net.specs.declared.program.Statement.TheViews as statement
@@ -29,6 +29,10 @@ pub if_of : (test : Expr) (first second : Vec Statement Global) (rest : Block)
     → then_of (statement.If test first second) rest
     ≡ IfThen (tree_of test) (block_of first.items) (block_of second.items) rest
 if_of test first second rest = search (rules, the_statement_lemmas, row_statements)
+
+pub repeat_of : (times : ℕ) (body : Vec Statement Global) (rest : Block)
+    → then_of (statement.Repeat times body) rest ≡ RepeatThen times (block_of body.items) rest
+repeat_of times body rest = search (rules, the_statement_lemmas, row_statements)
 
 -- the statement at hand, and those after it
 pub block_at : (ss : List Statement) (i : ℕ) (s : Statement) → i < length ss → s ≡ get_or ss i s

@@ -4,12 +4,12 @@ use Rattle.std.proofs.Common.{append_assoc, append-nil, pos, arith, Vec, Global}
 use Rattle.std.specs.Ordering.{int_eq}
 use Rattle.kahn_net.specs.Streams.{history_of}
 use Rattle.kahn_net.specs.Syntax.{Block, Nothing, then_of, row_block, block_of, tree_of}
-use Rattle.kahn_net.specs.Laws.Syntax.{if_of}
+use Rattle.kahn_net.specs.Laws.Syntax.{if_of, repeat_of}
 use Rattle.kahn_net.specs.declared.program.Expr.{Expr}
 use Rattle.kahn_net.specs.declared.program.Statement.TheViews as view
 use Rattle.kahn_net.specs.Statements.{point_at, Step, Trace, End, Ended, Waits, Stopped, no_steps, on_get, trace_of}
-use Rattle.kahn_net.specs.Statements.{value_of, choose, sites_of, from_end, then_do}
-use Rattle.kahn_net.specs.declared.program.Statement.{Statement, Get, Assign, Put, Stop, If'}
+use Rattle.kahn_net.specs.Statements.{value_of, choose, sites_of, from_end, then_do, rounds}
+use Rattle.kahn_net.specs.declared.program.Statement.{Statement, Get, Assign, Put, Stop, If', Repeat'}
 
 -- what is true of both is true of the one that a test chooses
 pub one_of : (P : Trace → Type 0) (test : Bool) (a b : Trace) → P a → P b → P (cond test a b)
@@ -96,6 +96,12 @@ first_then_rest site left (If' e p first q second) rest v u =
     ap (λ (n : ℕ). then_do chosen (trace_of n left rest)) same
     ∙ sym (then_do_then chosen (trace_of (site + sites_of a + sites_of b) left Nothing)
     (trace_of (site + (sites_of a + (sites_of b + 0))) left rest))
+first_then_rest site left (Repeat' times p body) rest v u =
+    let b = row_block body in
+    let made = rounds times (λ (k : ℕ). trace_of site (left ++ k ∷ []) b) v u in
+    let same : site + sites_of b ≡ site + (sites_of b + 0) = omega arith in
+    ap (λ (n : ℕ). then_do made (trace_of n left rest)) same
+    ∙ sym (then_do_then made (trace_of (site + sites_of b) left Nothing) (trace_of (site + (sites_of b + 0)) left rest))
 
 -- with nothing behind it
 pub then_nothing : (t : Trace) (site : ℕ) (left : List ℕ) → then_do t (trace_of site left Nothing) ≡ t
@@ -129,6 +135,17 @@ then_nothing t site left = at t.end refl
         } in r) is
         ∙ (ap (λ (x : List Step). let r : Trace = record { steps = x; end = Stopped v } in r) (append-nil t.steps)
         ∙ ap (λ (e : End). let r : Trace = record { steps = t.steps; end = e } in r) (sym is))
+
+-- what a repetition does, as code finds it, with nothing behind it: so many passes of its block
+pub makes_passes : (s : Statement) (times : ℕ) (body : Vec Statement Global) → s ≡ view.Repeat times body
+    → (site : ℕ) (left : List ℕ) (v : List ℤ) (u : List (List ℤ))
+    → trace_of site left (then_of s Nothing) v u
+    ≡ rounds times (λ (k : ℕ). trace_of site (left ++ k ∷ []) (block_of body.items)) v u
+makes_passes s times body is site left v u =
+    let b = block_of body.items in
+    ap (λ (block : Block). trace_of site left block v u)
+    (ap (λ (x : Statement). then_of x Nothing) is ∙ repeat_of times body Nothing)
+    ∙ then_nothing (rounds times (λ (k : ℕ). trace_of site (left ++ k ∷ []) b) v u) (site + sites_of b) left
 
 -- what an if does, as code finds it, with nothing behind it: its first block where the value isn't 0, and else its
 -- second

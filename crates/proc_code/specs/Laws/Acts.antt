@@ -3,6 +3,7 @@ use Rattle.std.specs.Prelude.{◌≡◌, ℕ, List, ℤ, [], slice_get, Some}
 use Rattle.kahn_net.specs.Syntax.{Code}
 use Rattle.kahn_net.specs.NextActs.{next_at}
 use Rattle.kahn_net.specs.Statements.{Point}
+use Rattle.kahn_net.specs.Repeats.{FitsRepeats}
 use Rattle.kahn_net.specs.Processes.{HasPassingLoop, process_trace, At}
 use Rattle.kahn_net.specs.Resuming.{trace_from}
 use Rattle.proc_code.specs.declared.instruction.Site.{Site}
@@ -16,11 +17,12 @@ ActsFromTheBeginning =
     (code : Code) → HasPassingLoop code → (inputs : List (List ℤ))
     → Runs (process_code code) (most_steps code inputs) 0 [] [] code.vars inputs (λ go. process_trace code inputs)
 
--- from a point, with any variables, on whatever is unread
+-- from a point at which a process can stand, with any variables, on whatever is unread
 abbrev pub ActsFromEachSite : Type 0
 ActsFromEachSite =
     (code : Code) → HasPassingLoop code → (point : Point) (vars : List ℤ) (unread : List (List ℤ))
-    → Runs (process_code code) (most_steps code unread) (entry_of code point.site) [] [] vars unread
+    → FitsRepeats code point
+    → Runs (process_code code) (most_steps code unread) (entry_of code point.site) [] point.left vars unread
     (λ go. trace_from code (At point vars) unread)
 
 -- each row of the table of sites is right

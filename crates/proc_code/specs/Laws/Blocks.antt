@@ -1,22 +1,46 @@
--- The code of a block perform what the block perform, and goes on behind it.
-use Rattle.std.proofs.Common.{◌≡◌, ℕ, suc, ◌+◌, ◌≤◌, Bool, true, false, cond, List, ℤ, pos, [], ◌∷◌, ◌++◌, set, length}
+-- The code of a block performs what the block does, and goes on behind it.
+use Rattle.std.proofs.Common.{◌≡◌, ℕ, zero, suc, ◌+◌, ◌-◌, ◌*◌, ◌≤◌, Bool, true, false, cond, List, ℤ, pos, [], ◌∷◌, ◌++◌, set, length}
 use Rattle.std.proofs.Common.{Some, refl, sym, ap, ◌∙◌, subst, arith, length-append}
-use Rattle.std.specs.Prelude.{slice_get}
+use Rattle.std.specs.Prelude.{slice_get, nat_lt, ◌==◌}
+use Rattle.std.proofs.lemmas.Bool.{lt-ltb, ne_eqb}
 use Rattle.std.specs.Ordering.{int_eq}
 use Rattle.std.specs.Int.{int_wrapping_neg, w64}
 use Rattle.kahn_net.specs.Streams.{history_of}
 use Rattle.kahn_net.specs.Syntax.{Tree, Number, Name, Minus, Chain, Links, NoLinks, LinkThen, Block, Nothing, GetThen}
-use Rattle.kahn_net.specs.Syntax.{AssignThen, PutThen, StopThen, IfThen}
+use Rattle.kahn_net.specs.Syntax.{AssignThen, PutThen, StopThen, IfThen, RepeatThen}
 use Rattle.kahn_net.specs.Statements.{Got, Sent, Trace, Ended, no_steps, point_at, after_step, on_get, then_do}
-use Rattle.kahn_net.specs.Statements.{trace_of, choose, value_of, value_along, apply, sites_of}
+use Rattle.kahn_net.specs.Statements.{trace_of, choose, rounds, value_of, value_along, apply, sites_of}
 use Rattle.kahn_net.specs.Laws.Traces.{then_do_then}
 use Rattle.proc_code.specs.declared.instruction.Instruction.{Instruction}
 use Rattle.proc_code.specs.declared.instruction.Instruction.TheVariants.{Constant, Load, Store, Negate, Apply, Get, Put}
-use Rattle.proc_code.specs.declared.instruction.Instruction.TheVariants.{Jump, JumpIfZero, Stop}
-use Rattle.proc_code.specs.Machine.{Continuation, perform, Runs}
-use Rattle.proc_code.specs.Translation.{expr_code, links_code, if_code, block_code}
+use Rattle.proc_code.specs.declared.instruction.Instruction.TheVariants.{Jump, JumpIfZero, Repeat, Again, Stop}
+use Rattle.proc_code.specs.Machine.{Continuation, innermost, round_it, perform, Runs}
+use Rattle.proc_code.specs.Translation.{expr_code, links_code, if_code, repeat_code, block_code}
 use Rattle.proc_code.specs.Laws.Running.{IsCodeAt, first_part, later_part, rephrased, in_more_steps, single_step}
 use Rattle.proc_code.specs.Laws.Running.{not_moved, first_moves, first_makes, ends_at}
+
+-- The most instructions that statements take: each of theirs once, and those of a repetition's block, with the way back,
+-- as often as it is made.
+abbrev pub most_of : Block → ℕ
+most_of Nothing = 0
+most_of (GetThen x channel rest) = 1 + most_of rest
+most_of (AssignThen x e rest) = length (expr_code e) + 1 + most_of rest
+most_of (PutThen e channel rest) = length (expr_code e) + 1 + most_of rest
+most_of (StopThen rest) = 1 + most_of rest
+most_of (IfThen test first second rest) =
+    length (expr_code test) + (1 + (most_of first + (1 + most_of second))) + most_of rest
+most_of (RepeatThen times body rest) = 1 + times * (most_of body + 1) + most_of rest
+
+-- the innermost repetition, and those round it
+pub innermost_is : (left : List ℕ) (k : ℕ) → innermost (left ++ k ∷ []) ≡ k
+innermost_is [] k = refl
+innermost_is (j ∷ []) k = refl
+innermost_is (j ∷ i ∷ deeper) k = innermost_is (i ∷ deeper) k
+
+pub round_it_is : (left : List ℕ) (k : ℕ) → round_it (left ++ k ∷ []) ≡ left
+round_it_is [] k = refl
+round_it_is (j ∷ []) k = refl
+round_it_is (j ∷ i ∷ deeper) k = ap (λ (l : List ℕ). j ∷ l) (round_it_is (i ∷ deeper) k)
 
 module _ (code : List Instruction) where
   -- the machine comes to another place, with another stack, in at most so many steps
@@ -100,26 +124,29 @@ module _ (code : List Instruction) where
         later.0 (λ go. refl) refl)
         (links_reached rest (here + 1) y s left v u later.1))
 
-  -- what statements do, and then what stands at this place
+  -- What statements do, and then what stands at this place. Where it begins, other repetitions may be open.
+  abbrev pub MakesFrom : ℕ → ℕ → List ℤ → List ℕ → List ℕ → List ℤ → List (List ℤ) → Trace → ℕ → Type 0
+  MakesFrom m at s from left v u t at' = Runs code m at s from v u (λ go. then_do t (λ v' u'. go at' s left v' u'))
+
   abbrev pub Makes : ℕ → ℕ → List ℤ → List ℕ → List ℤ → List (List ℤ) → Trace → ℕ → Type 0
-  Makes m at s left v u t at' = Runs code m at s left v u (λ go. then_do t (λ v' u'. go at' s left v' u'))
+  Makes m at s left v u t at' = MakesFrom m at s left left v u t at'
 
   -- one after the other
   pub makes_both : (m n : ℕ) (t : Trace) (f : List ℤ → List (List ℤ) → Trace) (at at1 at2 : ℕ) (s : List ℤ)
-      (left : List ℕ) (v : List ℤ) (u : List (List ℤ)) → Makes m at s left v u t at1
+      (from left : List ℕ) (v : List ℤ) (u : List (List ℤ)) → MakesFrom m at s from left v u t at1
       → ((v' : List ℤ) (u' : List (List ℤ)) → Makes n at1 s left v' u' (f v' u') at2)
-      → Makes (m + n) at s left v u (then_do t f) at2
-  makes_both m n t f at at1 at2 s left v u a b =
-      rephrased code at s left v u _ _ (λ go. sym (then_do_then t f (λ v' u'. go at2 s left v' u')))
-      (first_makes code t at at1 s s left left v u (λ v' u' go. then_do (f v' u') (λ v2 u2. go at2 s left v2 u2)) a
+      → MakesFrom (m + n) at s from left v u (then_do t f) at2
+  makes_both m n t f at at1 at2 s from left v u a b =
+      rephrased code at s from v u _ _ (λ go. sym (then_do_then t f (λ v' u'. go at2 s left v' u')))
+      (first_makes code t at at1 s s from left v u (λ v' u' go. then_do (f v' u') (λ v2 u2. go at2 s left v2 u2)) a
       (λ v' u' e. b v' u'))
 
   -- and then a jump
-  pub makes_and_jumps : (m : ℕ) (t : Trace) (at at1 to : ℕ) (s : List ℤ) (left : List ℕ) (v : List ℤ)
-      (u : List (List ℤ)) → slice_get code at1 ≡ Some (Jump to) → Makes m at s left v u t at1
-      → Makes (m + 1) at s left v u t to
-  makes_and_jumps m t at at1 to s left v u h a =
-      first_makes code t at at1 s s left left v u (λ v' u' go. go to s left v' u') a
+  pub makes_and_jumps : (m : ℕ) (t : Trace) (at at1 to : ℕ) (s : List ℤ) (from left : List ℕ) (v : List ℤ)
+      (u : List (List ℤ)) → slice_get code at1 ≡ Some (Jump to) → MakesFrom m at s from left v u t at1
+      → MakesFrom (m + 1) at s from left v u t to
+  makes_and_jumps m t at at1 to s from left v u h a =
+      first_makes code t at at1 s s from left v u (λ v' u' go. go to s left v' u') a
       (λ v' u' e. single_step code at1 s left v' u' (Jump to) h)
 
   -- a choice: its parts, and where they stand
@@ -162,14 +189,15 @@ module _ (code : List Instruction) where
     pub if_length_is : if_length ≡ length test + (1 + (length (first one_at) + (1 + length (second two_at))))
     if_length_is = omega (arith, at_end)
 
-    choice_made : (x : ℤ) (a b : Trace) (s : List ℤ) (left : List ℕ) (v : List ℤ) (u : List (List ℤ))
+    choice_made : (m1 m2 : ℕ) (x : ℤ) (a b : Trace) (s : List ℤ) (left : List ℕ) (v : List ℤ) (u : List (List ℤ))
         → IsCodeAt code at (if_code at test first second)
         → Reaches (length test) at s left v u (at + length test) (x ∷ s)
-        → (IsCodeAt code one_at (first one_at) → Makes (length (first one_at)) one_at s left v u a jump_at)
-        → (IsCodeAt code two_at (second two_at) → Makes (length (second two_at)) two_at s left v u b end_at)
-        → Makes if_length at s left v u (choose x a b) (at + if_length)
-    choice_made x a b s left v u h tested p q =
-        ends_at code if_length if_length at end_at (at + if_length) s s left v u (choose x a b) at_end (omega arith)
+        → (IsCodeAt code one_at (first one_at) → Makes m1 one_at s left v u a jump_at)
+        → (IsCodeAt code two_at (second two_at) → Makes m2 two_at s left v u b end_at)
+        → Makes (length test + (1 + (m1 + (1 + m2)))) at s left v u (choose x a b) (at + if_length)
+    choice_made m1 m2 x a b s left v u h tested p q =
+        ends_at code (length test + (1 + (m1 + (1 + m2)))) (length test + (1 + (m1 + (1 + m2)))) at end_at
+        (at + if_length) s s left v u (choose x a b) at_end (omega arith)
         (by (int_eq x (pos 0)) refl)
       where
         tests : Runs code (length test + 1) at s left v u
@@ -179,10 +207,10 @@ module _ (code : List Instruction) where
             (single_step code (at + length test) (x ∷ s) left v u (JumpIfZero two_at) (behind_test h).0)
 
         by : (zero_is : Bool) → int_eq x (pos 0) ≡ zero_is
-            → Makes if_length at s left v u (cond (int_eq x (pos 0)) b a) end_at
+            → Makes (length test + (1 + (m1 + (1 + m2)))) at s left v u (cond (int_eq x (pos 0)) b a) end_at
         by true is =
-            in_more_steps code (length test + 1 + length (second two_at)) if_length at s left v u
-            _ (omega (arith, if_length_is))
+            in_more_steps code (length test + 1 + m2) (length test + (1 + (m1 + (1 + m2)))) at s left v u
+            _ (omega arith)
             (rephrased code at s left v u
             _ _ (λ go. ap (λ (z : Bool). then_do (cond z b a) (λ v' u'. go end_at s left v' u')) (sym is))
             (first_moves code (λ t. t) at two_at s s left left v v u u
@@ -191,22 +219,117 @@ module _ (code : List Instruction) where
             _ _ (λ go. ap (λ (z : Bool). cond z (go two_at s left v u) (go one_at s left v u)) is) tests)
             (q (second_stands h).1)))
         by false is =
-            in_more_steps code (length test + 1 + (length (first one_at) + 1)) if_length at s left v u
-            _ (omega (arith, if_length_is))
+            in_more_steps code (length test + 1 + (m1 + 1)) (length test + (1 + (m1 + (1 + m2)))) at s left v u
+            _ (omega arith)
             (rephrased code at s left v u
             _ _ (λ go. ap (λ (z : Bool). then_do (cond z b a) (λ v' u'. go end_at s left v' u')) (sym is))
             (first_moves code (λ t. t) at one_at s s left left v v u u
             (λ go. then_do a (λ v' u'. go end_at s left v' u'))
             (rephrased code at s left v u
             _ _ (λ go. ap (λ (z : Bool). cond z (go two_at s left v u) (go one_at s left v u)) is) tests)
-            (makes_and_jumps (length (first one_at)) a one_at jump_at end_at s left v u (second_stands h).0
+            (makes_and_jumps m1 a one_at jump_at end_at s left left v u (second_stands h).0
             (p (first_stands h)))))
 
-  -- the code of statements perform what they do
+  -- a repetition: where its block is through, it goes back or on
+  module _ (site : ℕ) (body : Block) (inside jump m : ℕ) (s : List ℤ) (left : List ℕ)
+      (again_stands : slice_get code jump ≡ Some (Again inside))
+      (pass_made : (k : ℕ) (v : List ℤ) (u : List (List ℤ))
+      → Makes m inside s (left ++ k ∷ []) v u (trace_of site (left ++ k ∷ []) body v u) jump) where
+    abbrev pass : ℕ → List ℤ → List (List ℤ) → Trace
+    pass k = trace_of site (left ++ k ∷ []) body
+
+    goes_on : (v : List ℤ) (u : List (List ℤ))
+        → Runs code 1 jump s (left ++ 1 ∷ []) v u (λ go. go (jump + 1) s left v u)
+    goes_on v u =
+        rephrased code jump s (left ++ 1 ∷ []) v u _ (λ go. go (jump + 1) s left v u)
+        (λ go. ap (λ (k : ℕ). cond (nat_lt 1 k) (go inside s (round_it (left ++ 1 ∷ []) ++ (k - 1) ∷ []) v u)
+        (go (jump + 1) s (round_it (left ++ 1 ∷ [])) v u)) (innermost_is left 1)
+        ∙ ap (λ (l : List ℕ). go (jump + 1) s l v u) (round_it_is left 1))
+        (single_step code jump s (left ++ 1 ∷ []) v u (Again inside) again_stands)
+
+    goes_back : (k : ℕ) (v : List ℤ) (u : List (List ℤ))
+        → Runs code 1 jump s (left ++ suc (suc k) ∷ []) v u (λ go. go inside s (left ++ suc k ∷ []) v u)
+    goes_back k v u =
+        let from = left ++ suc (suc k) ∷ [] in
+        let more : nat_lt 1 (suc (suc k)) ≡ true = lt-ltb 1 (suc (suc k)) (omega arith) in
+        let one_less : suc (suc k) - 1 ≡ suc k = omega arith in
+        rephrased code jump s from v u _ (λ go. go inside s (left ++ suc k ∷ []) v u)
+        (λ go. ap (λ (j : ℕ). cond (nat_lt 1 j) (go inside s (round_it from ++ (j - 1) ∷ []) v u)
+        (go (jump + 1) s (round_it from) v u)) (innermost_is left (suc (suc k)))
+        ∙ (ap (λ (b : Bool). cond b (go inside s (round_it from ++ (suc (suc k) - 1) ∷ []) v u)
+        (go (jump + 1) s (round_it from) v u)) more
+        ∙ (ap (λ (l : List ℕ). go inside s (l ++ (suc (suc k) - 1) ∷ []) v u) (round_it_is left (suc (suc k)))
+        ∙ ap (λ (j : ℕ). go inside s (left ++ j ∷ []) v u) one_less)))
+        (single_step code jump s from v u (Again inside) again_stands)
+
+    -- behind a pass, those that remain past it
+    pub again_made : (k : ℕ) (v : List ℤ) (u : List (List ℤ))
+        → MakesFrom (1 + k * (m + 1)) jump s (left ++ suc k ∷ []) left v u (rounds k pass v u) (jump + 1)
+    again_made zero v u =
+        in_more_steps code 1 (1 + 0 * (m + 1)) jump s (left ++ 1 ∷ []) v u
+        (λ go. then_do (no_steps (Ended v u)) (λ v' u'. go (jump + 1) s left v' u')) (omega arith) (goes_on v u)
+    again_made (suc k) v u =
+        in_more_steps code (1 + (m + (1 + k * (m + 1)))) (1 + suc k * (m + 1)) jump s (left ++ suc (suc k) ∷ []) v u
+        (λ go. then_do (rounds (suc k) pass v u) (λ v' u'. go (jump + 1) s left v' u')) (omega arith)
+        (first_moves code (λ t. t) jump inside s s (left ++ suc (suc k) ∷ []) (left ++ suc k ∷ []) v v u u
+        (λ go. then_do (rounds (suc k) pass v u) (λ v' u'. go (jump + 1) s left v' u')) (goes_back k v u)
+        (rephrased code inside s (left ++ suc k ∷ []) v u
+        _ _ (λ go. sym (then_do_then (pass (suc k) v u) (rounds k pass) (λ v' u'. go (jump + 1) s left v' u')))
+        (first_makes code (pass (suc k) v u) inside jump s s (left ++ suc k ∷ []) (left ++ suc k ∷ []) v u
+        (λ v' u' go. then_do (rounds k pass v' u') (λ w x. go (jump + 1) s left w x)) (pass_made (suc k) v u)
+        (λ v' u' e. again_made k v' u'))))
+
+    -- all of its passes, from where it is opened
+    pub rounds_made : (at times : ℕ) (v : List ℤ) (u : List (List ℤ))
+        → slice_get code at ≡ Some (Repeat times (jump + 1)) → at + 1 ≡ inside
+        → Makes (1 + times * (m + 1)) at s left v u (rounds times pass v u) (jump + 1)
+    rounds_made at zero v u here next =
+        in_more_steps code 1 (1 + 0 * (m + 1)) at s left v u
+        (λ go. then_do (no_steps (Ended v u)) (λ v' u'. go (jump + 1) s left v' u')) (omega arith)
+        (single_step code at s left v u (Repeat 0 (jump + 1)) here)
+    rounds_made at (suc k) v u here next =
+        in_more_steps code (1 + (m + (1 + k * (m + 1)))) (1 + suc k * (m + 1)) at s left v u
+        (λ go. then_do (rounds (suc k) pass v u) (λ v' u'. go (jump + 1) s left v' u')) (omega arith)
+        (first_moves code (λ t. t) at inside s s left (left ++ suc k ∷ []) v v u u
+        (λ go. then_do (rounds (suc k) pass v u) (λ v' u'. go (jump + 1) s left v' u'))
+        (rephrased code at s left v u _ (λ go. go inside s (left ++ suc k ∷ []) v u)
+        (λ go. ap (λ (b : Bool). cond b (go (jump + 1) s left v u) (go (at + 1) s (left ++ suc k ∷ []) v u)) some
+        ∙ ap (λ (n : ℕ). go n s (left ++ suc k ∷ []) v u) next)
+        (single_step code at s left v u (Repeat (suc k) (jump + 1)) here))
+        (rephrased code inside s (left ++ suc k ∷ []) v u
+        _ _ (λ go. sym (then_do_then (pass (suc k) v u) (rounds k pass) (λ v' u'. go (jump + 1) s left v' u')))
+        (first_makes code (pass (suc k) v u) inside jump s s (left ++ suc k ∷ []) (left ++ suc k ∷ []) v u
+        (λ v' u' go. then_do (rounds k pass v' u') (λ w x. go (jump + 1) s left w x)) (pass_made (suc k) v u)
+        (λ v' u' e. again_made k v' u'))))
+      where
+        some : (suc k == 0) ≡ false
+        some = ne_eqb (suc k) 0 (λ e. let no : ⊥ = omega (arith, e) in no)
+
+  -- its parts, and where they stand
+  module _ (at times : ℕ) (block : ℕ → List Instruction) where
+    abbrev inside_at : ℕ
+    inside_at = at + 1
+
+    abbrev pub again_at : ℕ
+    again_at = inside_at + length (block inside_at)
+
+    abbrev repeat_length : ℕ
+    repeat_length = length (repeat_code at times block)
+
+    pub behind_again : again_at + 1 ≡ at + repeat_length
+    behind_again = omega (arith, length-append (block inside_at) (Again inside_at ∷ []))
+
+    pub block_stands : IsCodeAt code at (repeat_code at times block) → IsCodeAt code inside_at (block inside_at)
+    block_stands h = first_part code inside_at (block inside_at) (Again inside_at ∷ []) h.1
+
+    pub again_stands_at : IsCodeAt code at (repeat_code at times block)
+        → slice_get code again_at ≡ Some (Again inside_at)
+    again_stands_at h = (later_part code inside_at (block inside_at) (Again inside_at ∷ []) h.1).0
+
+  -- the code of statements performs what they do
   pub block_made : (b : Block) (at site : ℕ) (s : List ℤ) (left : List ℕ) (v : List ℤ) (u : List (List ℤ))
       → IsCodeAt code at (block_code at site b)
-      → Makes (length (block_code at site b)) at s left v u (trace_of site left b v u)
-      (at + length (block_code at site b))
+      → Makes (most_of b) at s left v u (trace_of site left b v u) (at + length (block_code at site b))
   block_made Nothing at site s left v u h =
       ends_at code 0 0 at at (at + 0) s s left v u (no_steps (Ended v u)) (let e : at ≡ at + 0 = omega arith in e)
       (omega arith) (not_moved code at s left v u)
@@ -218,25 +341,24 @@ module _ (code : List Instruction) where
           → Runs code 1 at s left v u
           (λ go. on_get all (point_at site left) c v (λ item later. go (at + 1) s left (set v x item) (set u c later)))
           → ((w : List ℤ) (y : List (List ℤ))
-          → Makes (length (block_code (at + 1) (site + 1) rest)) (at + 1) s left w y
+          → Makes (most_of rest) (at + 1) s left w y
           (trace_of (site + 1) left rest w y) (at + 1 + length (block_code (at + 1) (site + 1) rest)))
-          → Makes (length (block_code at site (GetThen x c rest))) at s left v u
+          → Makes (most_of (GetThen x c rest)) at s left v u
           (on_get all (point_at site left) c v
           (λ item later. trace_of (site + 1) left rest (set v x item) (set u c later)))
           (at + length (block_code at site (GetThen x c rest)))
       by [] a more =
-          in_more_steps code 1 (length (block_code at site (GetThen x c rest))) at s left v u _ (omega arith) a
+          in_more_steps code 1 (most_of (GetThen x c rest)) at s left v u _ (omega arith) a
       by (item ∷ later) a more =
-          let n = length (block_code (at + 1) (site + 1) rest) in
+          let n = most_of rest in
           let t = trace_of (site + 1) left rest (set v x item) (set u c later) in
           let to = at + length (block_code at site (GetThen x c rest)) in
-          in_more_steps code (1 + n) (length (block_code at site (GetThen x c rest))) at s left v u _ (omega arith)
-          (first_moves code (after_step (record { point = point_at site left; vars = v; act = Got c item })) at
+          first_moves code (after_step (record { point = point_at site left; vars = v; act = Got c item })) at
           (at + 1) s s left left v (set v x item) u (set u c later)
           (λ go. then_do t (λ v' u'. go to s left v' u')) a
-          (ends_at code n n (at + 1) (at + 1 + n) to s s left (set v x item) (set u c later) t (omega arith)
-          (omega arith)
-          (more (set v x item) (set u c later))))
+          (ends_at code n n (at + 1) (at + 1 + length (block_code (at + 1) (site + 1) rest)) to s s left
+          (set v x item) (set u c later) t (omega arith) (omega arith)
+          (more (set v x item) (set u c later)))
   block_made (AssignThen x e rest) at site s left v u h =
       let m = length (expr_code e) in
       let c = expr_code e ++ Store x ∷ [] in
@@ -246,7 +368,6 @@ module _ (code : List Instruction) where
       let here = at + m in
       let c_long : length c ≡ m + 1 = length-append (expr_code e) (Store x ∷ []) in
       let all_long : length (c ++ r) ≡ length c + length r = length-append c r in
-      in_more_steps code (m + 1 + length r) (length (c ++ r)) at s left v u _ (omega (arith, c_long, all_long))
       (first_moves code (λ t. t) at (at + length c) s s left left v w u u
       (λ go. then_do (trace_of site left rest w u) (λ v' u'. go (at + length (c ++ r)) s left v' u'))
       (first_moves code (λ t. t) at here s (value_of e v ∷ s) left left v v u u (λ go. go (at + length c) s left w u)
@@ -255,7 +376,7 @@ module _ (code : List Instruction) where
       (let e1 : here + 1 ≡ at + length c = omega (arith, c_long) in e1)
       (single_step code here (value_of e v ∷ s) left v u (Store x)
       (later_part code at (expr_code e) (Store x ∷ []) mine).0)))
-      (ends_at code (length r) (length r) (at + length c) (at + length c + length r) (at + length (c ++ r)) s s left w
+      (ends_at code (most_of rest) (most_of rest) (at + length c) (at + length c + length r) (at + length (c ++ r)) s s left w
       u (trace_of site left rest w u) (omega (arith, all_long)) (omega arith)
       (block_made rest (at + length c) site s left w u (later_part code at c r h))))
   block_made (PutThen e d rest) at site s left v u h =
@@ -267,7 +388,6 @@ module _ (code : List Instruction) where
       let puts = after_step (record { point = point_at site left; vars = v; act = Sent d (value_of e v) }) in
       let c_long : length c ≡ m + 1 = length-append (expr_code e) (Put d site ∷ []) in
       let all_long : length (c ++ r) ≡ length c + length r = length-append c r in
-      in_more_steps code (m + 1 + length r) (length (c ++ r)) at s left v u _ (omega (arith, c_long, all_long))
       (first_moves code puts at (at + length c) s s left left v v u u
       (λ go. then_do (trace_of (site + 1) left rest v u) (λ v' u'. go (at + length (c ++ r)) s left v' u'))
       (first_moves code (λ t. t) at here s (value_of e v ∷ s) left left v v u u
@@ -277,11 +397,11 @@ module _ (code : List Instruction) where
       (let e1 : here + 1 ≡ at + length c = omega (arith, c_long) in e1)
       (single_step code here (value_of e v ∷ s) left v u (Put d site)
       (later_part code at (expr_code e) (Put d site ∷ []) mine).0)))
-      (ends_at code (length r) (length r) (at + length c) (at + length c + length r) (at + length (c ++ r)) s s left v
+      (ends_at code (most_of rest) (most_of rest) (at + length c) (at + length c + length r) (at + length (c ++ r)) s s left v
       u (trace_of (site + 1) left rest v u) (omega (arith, all_long)) (omega arith)
       (block_made rest (at + length c) (site + 1) s left v u (later_part code at c r h))))
   block_made (StopThen rest) at site s left v u h =
-      in_more_steps code 1 (length (block_code at site (StopThen rest))) at s left v u _ (omega arith)
+      in_more_steps code 1 (most_of (StopThen rest)) at s left v u _ (omega arith)
       (single_step code at s left v u Stop h.0)
   block_made (IfThen test first second rest) at site s left v u h =
       let one = λ (n : ℕ). block_code n site first in
@@ -293,14 +413,16 @@ module _ (code : List Instruction) where
       let one_place = at + length (expr_code test) + 1 in
       let two_place = one_place + length (one one_place) + 1 in
       let all_long : length (c ++ r) ≡ length c + length r = length-append c r in
-      ends_at code (length c + length r) (length (c ++ r)) at (at + length c + length r) (at + length (c ++ r)) s s
+      let most = length (expr_code test) + (1 + (most_of first + (1 + most_of second))) in
+      ends_at code (most + most_of rest) (most_of (IfThen test first second rest)) at (at + length c + length r)
+      (at + length (c ++ r)) s s
       left v u (trace_of site left (IfThen test first second rest) v u) (omega (arith, all_long))
-      (omega (arith, all_long))
-      (makes_both (length c) (length r)
+      (omega arith)
+      (makes_both most (most_of rest)
       (choose x (trace_of site left first v u) (trace_of (site + sites_of first) left second v u))
       (trace_of (site + sites_of first + sites_of second) left rest)
-      at (at + length c) (at + length c + length r) s left v u
-      (choice_made at (expr_code test) one two x (trace_of site left first v u)
+      at (at + length c) (at + length c + length r) s left left v u
+      (choice_made at (expr_code test) one two (most_of first) (most_of second) x (trace_of site left first v u)
       (trace_of (site + sites_of first) left second v u) s left v u mine
       (expr_reached test at s left v u
       (first_part code at (expr_code test)
@@ -309,3 +431,25 @@ module _ (code : List Instruction) where
       (λ k. block_made second two_place (site + sites_of first) s left v u k))
       (λ v' u'. block_made rest (at + length c) (site + sites_of first + sites_of second) s left v' u'
       (later_part code at c r h)))
+  block_made (RepeatThen times body rest) at site s left v u h =
+      let block = λ (n : ℕ). block_code n site body in
+      let c = repeat_code at times block in
+      let r = block_code (at + length c) (site + sites_of body) rest in
+      let mine = first_part code at c r h in
+      let jump = again_at at times block in
+      let all_long : length (c ++ r) ≡ length c + length r = length-append c r in
+      let m = most_of body in
+      let pass = λ (k : ℕ). trace_of site (left ++ k ∷ []) body in
+      let go = trace_of (site + sites_of body) left rest in
+      let ends : jump + 1 ≡ at + length c = behind_again at times block in
+      ends_at code (1 + times * (m + 1) + most_of rest) (most_of (RepeatThen times body rest)) at
+      (at + length c + length r) (at + length (c ++ r)) s s left v u
+      (trace_of site left (RepeatThen times body rest) v u) (omega (arith, all_long)) (omega arith)
+      (makes_both (1 + times * (m + 1)) (most_of rest) (rounds times pass v u) go at (at + length c)
+      (at + length c + length r) s left left v u
+      (ends_at code (1 + times * (m + 1)) (1 + times * (m + 1)) at (jump + 1) (at + length c) s s left v u
+      (rounds times pass v u) ends (omega arith)
+      (rounds_made site body (at + 1) jump m s left (again_stands_at at times block mine)
+      (λ k v' u'. block_made body (at + 1) site s (left ++ k ∷ []) v' u' (block_stands at times block mine))
+      at times v u mine.0 refl))
+      (λ v' u'. block_made rest (at + length c) (site + sites_of body) s left v' u' (later_part code at c r h)))

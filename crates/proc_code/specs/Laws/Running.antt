@@ -135,11 +135,18 @@ module _ (code : List Instruction) where
           _ _ (λ go. then_do_same t (λ v' u'. go at' stack' left' v' u') (λ v' u'. f v' u' go)
           (λ v' u' e. absurd (cc))) a)
 
-  -- to another place, which is the same one
+  -- to another place, which is the same one, perhaps with other repetitions round it
+  pub ends_at_from : (m m' at at1 at2 : ℕ) (stack stack' : List ℤ) (from left : List ℕ) (v : List ℤ)
+      (u : List (List ℤ)) (t : Trace) → at1 ≡ at2 → m ≤ m'
+      → Runs code m at stack from v u (λ go. then_do t (λ v' u'. go at1 stack' left v' u'))
+      → Runs code m' at stack from v u (λ go. then_do t (λ v' u'. go at2 stack' left v' u'))
+  ends_at_from m m' at at1 at2 stack stack' from left v u t e h d =
+      in_more_steps m m' at stack from v u (λ go. then_do t (λ v' u'. go at2 stack' left v' u')) h
+      (subst (λ (n : ℕ). Runs code m at stack from v u (λ go. then_do t (λ v' u'. go n stack' left v' u'))) e d)
+
   pub ends_at : (m m' at at1 at2 : ℕ) (stack stack' : List ℤ) (left : List ℕ) (v : List ℤ) (u : List (List ℤ))
       (t : Trace) → at1 ≡ at2 → m ≤ m'
       → Runs code m at stack left v u (λ go. then_do t (λ v' u'. go at1 stack' left v' u'))
       → Runs code m' at stack left v u (λ go. then_do t (λ v' u'. go at2 stack' left v' u'))
   ends_at m m' at at1 at2 stack stack' left v u t e h d =
-      in_more_steps m m' at stack left v u (λ go. then_do t (λ v' u'. go at2 stack' left v' u')) h
-      (subst (λ (n : ℕ). Runs code m at stack left v u (λ go. then_do t (λ v' u'. go n stack' left v' u'))) e d)
+      ends_at_from m m' at at1 at2 stack stack' left left v u t e h d

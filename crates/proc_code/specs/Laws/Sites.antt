@@ -7,12 +7,12 @@ use Rattle.std.proofs.lemmas.Option.{slice_get-get_or, slice_get_past}
 use Rattle.std.proofs.lemmas.List.{get_or_append_left, get_or-append_right}
 use Rattle.std.proofs.lemmas.Bool.{lt-ltb, le-ltb, cases_lt}
 use Rattle.std.proofs.lemmas.Bool.Decides.{eqb_tells}
-use Rattle.kahn_net.specs.Syntax.{Block, Nothing, GetThen, AssignThen, PutThen, StopThen, IfThen, Code}
+use Rattle.kahn_net.specs.Syntax.{Block, Nothing, GetThen, AssignThen, PutThen, StopThen, IfThen, RepeatThen, Code}
 use Rattle.kahn_net.specs.Statements.{sites_of}
 use Rattle.kahn_net.specs.NextActs.{Next, Gets, Puts, NoNext, next_on, next_in_body, next_at}
 use Rattle.proc_code.specs.declared.instruction.Instruction.TheVariants.{Store, Put, Jump}
 use Rattle.proc_code.specs.declared.instruction.Site.{Site}
-use Rattle.proc_code.specs.Translation.{expr_code, if_code, block_code, loop_code, process_code, entry_at, loop_entry}
+use Rattle.proc_code.specs.Translation.{expr_code, if_code, repeat_code, block_code, loop_code, process_code, entry_at, loop_entry}
 use Rattle.proc_code.specs.Translation.{entry_of, get_site, put_site, sites_at, loop_sites, process_sites, next_by}
 
 -- as many rows as sites
@@ -40,6 +40,15 @@ length_sites (IfThen test first second rest) at number =
       length-append mine theirs,
       length-append
           (sites_at one number first) (sites_at two (number + sites_of first) second),
+    )
+length_sites (RepeatThen times body rest) at number =
+    let repeated = repeat_code at times (λ n. block_code n number body) in
+    let theirs = sites_at (at + length repeated) (number + sites_of body) rest in
+    omega (
+      arith,
+      length_sites body (at + 1) number,
+      length_sites rest (at + length repeated) (number + sites_of body),
+      length-append (sites_at (at + 1) number body) theirs,
     )
 
 -- what is read off a row
@@ -109,6 +118,26 @@ module _ {A : Type 0} (read : Site → A) (number site : ℕ) (d : Site) where
           (let same : k - (n1 + n2) ≡ site - (number + n1 + n2) = omega arith in same)
           ∙ (r c ∙ picked false false (le-ltb site (number + n1) b) (le-ltb site (number + n1 + n2) c)))
 
+  -- a row of a block, or of what stands behind it
+  among_two : (ones rest : List Site) (n1 : ℕ) (x z : A) → length ones ≡ n1 → number ≤ site
+      → (site < number + n1 → read (get_or ones (site - number) d) ≡ x)
+      → (number + n1 ≤ site → read (get_or rest (site - (number + n1)) d) ≡ z)
+      → read (get_or (ones ++ rest) (site - number) d) ≡ cond (nat_lt site (number + n1)) x z
+  among_two ones rest n1 x z long above p r = by (cases_lt site (number + n1))
+    where
+      k : ℕ
+      k = site - number
+
+      by : (site < number + n1) ⊎ (number + n1 ≤ site)
+          → read (get_or (ones ++ rest) k d) ≡ cond (nat_lt site (number + n1)) x z
+      by (inl a) =
+          ap read (get_or_append_left ones rest d k (omega (arith, a, above, long)))
+          ∙ (p a ∙ sym (ap (λ (b : Bool). cond b x z) (lt-ltb site (number + n1) a)))
+      by (inr c) =
+          ap read (get_or-append_right ones rest n1 k d long (omega (arith, c, above)))
+          ∙ (ap (λ (n : ℕ). read (get_or rest n d)) (let same : k - n1 ≡ site - (number + n1) = omega arith in same)
+          ∙ (r c ∙ sym (ap (λ (b : Bool). cond b x z) (le-ltb site (number + n1) c))))
+
 -- the row of a site says where its code begins
 pub entries_are : (b : Block) (at number site : ℕ) (d : Site) → number ≤ site → site < number + sites_of b
     → (get_or (sites_at at number b) (site - number) d).entry ≡ entry_at at number b site
@@ -141,6 +170,14 @@ entries_are (IfThen test first second rest) at number site d above under =
     (λ h. entries_are first one number site d above h) (λ h k. entries_are second two past_first site d h k)
     (λ h. entries_are rest behind past_second site d h
     (let k : site < past_second + sites_of rest = omega (arith, under) in k))
+entries_are (RepeatThen times body rest) at number site d above under =
+    let past = number + sites_of body in
+    let behind = at + length (repeat_code at times (λ n. block_code n number body)) in
+    among_two (λ (s : Site). s.entry) number site d (sites_at (at + 1) number body) (sites_at behind past rest)
+    (sites_of body) (entry_at (at + 1) number body site) (entry_at behind past rest site)
+    (length_sites body (at + 1) number) above
+    (λ h. entries_are body (at + 1) number site d above h)
+    (λ h. entries_are rest behind past site d h (let k : site < past + sites_of rest = omega (arith, under) in k))
 
 abbrev next_in : Site → Next
 next_in row = next_by row.act
@@ -177,6 +214,14 @@ acts_are (IfThen test first second rest) at number site d above under =
     (λ h. acts_are first one number site d above h) (λ h k. acts_are second two past_first site d h k)
     (λ h. acts_are rest behind past_second site d h
     (let k : site < past_second + sites_of rest = omega (arith, under) in k))
+acts_are (RepeatThen times body rest) at number site d above under =
+    let past = number + sites_of body in
+    let behind = at + length (repeat_code at times (λ n. block_code n number body)) in
+    among_two next_in number site d (sites_at (at + 1) number body) (sites_at behind past rest)
+    (sites_of body) (next_on number body site) (next_on past rest site)
+    (length_sites body (at + 1) number) above
+    (λ h. acts_are body (at + 1) number site d above h)
+    (λ h. acts_are rest behind past site d h (let k : site < past + sites_of rest = omega (arith, under) in k))
 
 -- a number that isn't the site's, nor below another
 not_this : {A : Type 0} (number site : ℕ) (x y z : A) → number < site → y ≡ z → cond (number == site) x y ≡ z
@@ -223,6 +268,15 @@ entry_past (IfThen test first second rest) at number site past =
     (le-ltb site past_first (omega (arith, past)))
     ∙ (ap (λ (t : Bool). cond t (entry_at two past_first second site) later)
     (le-ltb site past_second (omega (arith, past))) ∙ is)
+entry_past (RepeatThen times body rest) at number site past =
+    let past_body = number + sites_of body in
+    let repeated = repeat_code at times (λ n. block_code n number body) in
+    let later = entry_at (at + length repeated) past_body rest site in
+    let r = entry_past rest (at + length repeated) past_body site (omega (arith, past)) in
+    let is : later ≡ at + length (repeated ++ block_code (at + length repeated) past_body rest) =
+    omega (arith, r, length-append repeated (block_code (at + length repeated) past_body rest)) in
+    ap (λ (t : Bool). cond t (entry_at (at + 1) number body site) later)
+    (le-ltb site past_body (omega (arith, past))) ∙ is
 
 pub next_past : (b : Block) (number site : ℕ) → number + sites_of b ≤ site → next_on number b site ≡ NoNext
 next_past Nothing number site past = refl
@@ -243,6 +297,10 @@ next_past (IfThen test first second rest) number site past =
     (le-ltb site past_first (omega (arith, past)))
     ∙ (ap (λ (t : Bool). cond t (next_on past_first second site) later) (le-ltb site past_second (omega (arith, past)))
     ∙ next_past rest past_second site (omega (arith, past)))
+next_past (RepeatThen times body rest) number site past =
+    let past_body = number + sites_of body in
+    ap (λ (t : Bool). cond t (next_on number body site) (next_on past_body rest site))
+    (le-ltb site past_body (omega (arith, past))) ∙ next_past rest past_body site (omega (arith, past))
 
 -- the same of a process
 module _ (code : Code) (site : ℕ) where

@@ -3,18 +3,20 @@ use Rattle.std.specs.Prelude.{ℕ, List, Option, Some, None}
 use Rattle.record.specs.ImageView.{ImageView}
 use Rattle.record.specs.RecordView.{RecordView}
 use Rattle.protocol.specs.Node.JobView.{JobView}
+use Rattle.protocol.specs.Node.LiveView.{LiveView}
 use Rattle.protocol.specs.declared.armed_restart.ArmedRestart.{ArmedRestart}
 use Rattle.protocol.specs.declared.links.Inbox.{Inbox}
 use Rattle.protocol.specs.declared.links.Outbox.{Outbox}
 
 -- what a node has in memory while it runs: where it stands, the job that is out, the process to which the last job was
--- granted, and its ends of channels from other nodes and to them
+-- granted, its ends of channels from other nodes and to them, and the checkpoint for which it collects answers
 pub record RunningView : Type 0 where
   pub current : ImageView
   pub out : Option JobView
   pub last : Option ℕ
   pub inboxes : List Inbox
   pub outboxes : List Outbox
+  pub live : Option LiveView
 
 -- A node is down, and has no more than its record; or it holds another's tentative image and waits for the verdict; or
 -- it runs.
@@ -32,7 +34,7 @@ pub record NodeView : Type 0 where
   pub armed : List ArmedRestart
   pub mode : ModeView
 
--- a node that runs, all in one
+-- a node that runs, all in one but for answers that it collects
 pub record RunningNode : Type 0 where
   pub kept : RecordView
   pub version : ℕ

@@ -89,6 +89,7 @@ running_from net home kept = record {
         inboxes = opening_inboxes net home;
         outboxes =
             opening_outboxes net home;
+        live = None;
       });
 }
 

@@ -16,7 +16,7 @@ crash_prospect restart node = if_due (not (is_down node.mode)) (becoming (crashe
 -- The node has no ends of channels between nodes then: none is restored so far.
 abbrev pub restored_with : RecordView → Option Tentative → ModeView
 restored_with kept None =
-    Runs (record { current = kept.permanent; out = None; last = None; inboxes = []; outboxes = [] })
+    Runs (record { current = kept.permanent; out = None; last = None; inboxes = []; outboxes = []; live = None })
 restored_with kept (Some held) = InDoubt
 
 -- the mode in which a node with this record comes back: with another's tentative image it waits for the verdict, else
@@ -31,7 +31,8 @@ restored node = with_mode (restored_mode (with_epoch node.kept)) (with_kept (wit
 -- the same where it is known whether a tentative image is held
 abbrev pub restored_from : ImageView → Bool → ModeView
 restored_from image true = InDoubt
-restored_from image false = Runs (record { current = image; out = None; last = None; inboxes = []; outboxes = [] })
+restored_from image false =
+    Runs (record { current = image; out = None; last = None; inboxes = []; outboxes = []; live = None })
 
 -- a node that is down comes back, if there is a next epoch
 abbrev pub recover_prospect : NodeView → Prospect

@@ -3,7 +3,7 @@
 use Rattle.std.proofs.Common.{◌≡◌, ◌⊎◌, inl, inr, ℕ, zero, suc, ◌+◌, ◌^◌, ◌<◌, ◌≤◌, Bool, true, false, cond, ℤ, List}
 use Rattle.std.proofs.Common.{[], ◌∷◌, ◌++◌, length, map, get_or, Some, None, refl, sym, ap, ◌∙◌, arith}
 use Rattle.std.specs.Prelude.{slice_get, ◌&&◌, nat_lt, nat_le, replicate}
-use Rattle.std.proofs.lemmas.Bool.{eq-eqb, le-leb, lt-ltb, and_from}
+use Rattle.std.proofs.lemmas.Bool.{le-leb, lt-ltb, and_from}
 use Rattle.std.proofs.lemmas.List.{length-replicate, get_or_past}
 use Rattle.std.proofs.lemmas.List.Elements.{All-nil, All-cons, All-append}
 use Rattle.std.proofs.lemmas.Option.{slice_get_cases, get_or_from_slice_get}
@@ -11,14 +11,14 @@ use Rattle.kahn_net.specs.Streams.{history_of}
 use Rattle.kahn_net.specs.Syntax.{Code, Network}
 use Rattle.kahn_net.specs.Valid.{IsValid}
 use Rattle.kahn_net.specs.Fits.{AreShort}
-use Rattle.kahn_net.specs.Processes.{Standing}
+use Rattle.kahn_net.specs.Processes.{Standing, StandsAt}
 use Rattle.kahn_net.specs.Processes.Standing.{NotBegun, At, Done}
 use Rattle.kahn_net.specs.Approximations.{approximation}
 use Rattle.kahn_net.specs.declared.program.Channel.{Channel}
 use Rattle.kahn_net.specs.declared.program.Port.{Port}
 use Rattle.kahn_net.specs.declared.program.Port.TheVariants.{Outside, Process}
 use Rattle.kahn_net.specs.declared.limits.TheConstants.{MAX_COUNT, MAX_NODES, MAX_PROCESSES, MAX_CHANNELS}
-use Rattle.kahn_net.specs.declared.limits.TheConstants.{MAX_VARIABLES}
+use Rattle.kahn_net.specs.declared.limits.TheConstants.{MAX_VARIABLES, MAX_TIMES, MAX_REPEATS}
 use Rattle.retained.specs.LogState.{LogState, IsWithinLimits, IsInLog, log_end}
 use Rattle.retained.specs.declared.log.TheConstants.{MAX_LOG_ITEMS}
 use Rattle.record.specs.ProcessView.{SavedProcessView}
@@ -28,7 +28,7 @@ use Rattle.record.specs.declared.image.SavedEnd.{SavedEnd}
 use Rattle.record.specs.declared.image.End.{End}
 use Rattle.record.specs.declared.image.End.TheVariants.{Receives, Sends, Both}
 use Rattle.ckpt_codec.specs.Fields.{Field, IsAllowed, AreAllowed}
-use Rattle.ckpt_codec.specs.RecordText.{any, at_most, exactly, count, item, flag, between, variables_of, mode_fields}
+use Rattle.ckpt_codec.specs.RecordText.{any, at_most, remaining, count, item, flag, between, variables_of, mode_fields}
 use Rattle.ckpt_codec.specs.RecordText.{process_fields, processes_fields, role_of, retained_count, end_fields}
 use Rattle.ckpt_codec.specs.RecordText.{saved_end_fields, ends_fields, image_fields, version_field, IsRecord}
 use Rattle.ckpt_codec.specs.declared.version.TheConstants.{VERSION}
@@ -46,7 +46,8 @@ use Rattle.protocol.specs.NodeLaws.ImageLaws.{channel_of_entry}
 use Rattle.protocol.specs.NodeLaws.NumberedLaws.{where_mark, where_count}
 use Rattle.protocol.specs.NodeLaws.SharingLaws.{share_within}
 use Rattle.protocol.specs.NodeLaws.VariableLaws.{variables_stay}
-use Rattle.protocol.specs.NodeLaws.SiteLaws.{code_sites, StandsBelow, site_of_standing, site_short}
+use Rattle.protocol.specs.NodeLaws.SiteLaws.{site_of_standing, site_short}
+use Rattle.protocol.specs.NodeLaws.RepeatLaws.{AreFew, HasFewPasses, passes_few}
 
 -- ---- fields of one kind
 
@@ -74,10 +75,10 @@ limited_allowed width limit n small le = (omega (arith, small, le), le-leb n lim
 
 -- ---- processes
 
--- a point takes 4 bytes, and has no passes left
+-- a point takes 4 bytes, and no more passes remain there than may be written
 abbrev pub HasShortSite : Standing → Type 0
 HasShortSite (NotBegun vars) = Unit {0}
-HasShortSite (At point vars) = (point.site < 256 ^ 4) × (point.left ≡ [])
+HasShortSite (At point vars) = (point.site < 256 ^ 4) × HasFewPasses point.left
 HasShortSite (Done vars) = Unit {0}
 
 -- what may be written of a process
@@ -85,14 +86,23 @@ pub record IsShortStanding (standing : Standing) : Type 0 where
   pub site : HasShortSite standing
   pub variables : length (variables_of standing) ≤ MAX_VARIABLES
 
+passes_allowed : (left : List ℕ) → AreFew left → AreAllowed (map remaining left)
+passes_allowed [] few = All-nil IsAllowed
+passes_allowed (k ∷ left) few =
+    let most = few.1 in
+    All-cons IsAllowed (remaining k) (map remaining left)
+    (number_allowed 2 1 (suc MAX_TIMES) k (omega arith) few.0 (omega (arith, most))) (passes_allowed left few.2)
+
 mode_allowed : (standing : Standing) → HasShortSite standing → AreAllowed (mode_fields standing)
 mode_allowed (NotBegun vars) short = one_field (at_most 1 2 0) (limited_allowed 1 2 0 (omega arith) (omega arith))
 mode_allowed (At point vars) short =
-    let none : length point.left ≡ 0 = ap (length {A = ℕ}) short.1 in
-    All-cons IsAllowed (at_most 1 2 1) (any 4 point.site ∷ exactly 1 0 (length point.left) ∷ [])
+    let depth : Field = at_most 1 MAX_REPEATS (length point.left) in
+    All-cons IsAllowed (at_most 1 2 1) (any 4 point.site ∷ depth ∷ map remaining point.left)
     (limited_allowed 1 2 1 (omega arith) (omega arith))
-    (All-cons IsAllowed (any 4 point.site) (exactly 1 0 (length point.left) ∷ []) (short.0, refl)
-    (one_field (exactly 1 0 (length point.left)) (omega (arith, none), eq-eqb (length point.left) 0 none)))
+    (All-cons IsAllowed (any 4 point.site) (depth ∷ map remaining point.left) (short.0, refl)
+    (All-cons IsAllowed depth (map remaining point.left)
+    (limited_allowed 1 MAX_REPEATS (length point.left) (omega arith) short.1.count)
+    (passes_allowed point.left short.1.each)))
 mode_allowed (Done vars) short = one_field (at_most 1 2 2) (limited_allowed 1 2 2 (omega arith) (omega arith))
 
 process_allowed : (least : ℕ) (p : SavedProcessView) → least ≤ p.number → p.number < MAX_PROCESSES
@@ -243,11 +253,14 @@ code_of_entry net home image k saved laid is = at (slice_get_cases net.codes sav
     at (inl here) = (here.0, here.2)
     at (inr past) = absurd (omega (arith, within, past.0))
 
-site_written : (net : Network) (p : ℕ) (code : Code) (standing : Standing) → IsValid net
-    → slice_get net.codes p ≡ Some code → StandsBelow (code_sites code) standing → HasShortSite standing
-site_written net p code (NotBegun vars) valid here below = tt
-site_written net p code (At point vars) valid here below = (site_short net p code point valid here below, below.left)
-site_written net p code (Done vars) valid here below = tt
+site_written : (net : Network) (p : ℕ) (code : Code) (inputs : List (List ℤ)) (m : ℕ) (standing : Standing)
+    → IsValid net → slice_get net.codes p ≡ Some code → StandsAt code inputs m standing → HasShortSite standing
+site_written net p code inputs m (NotBegun vars) valid here stands = tt
+site_written net p code inputs m (At point vars) valid here stands = (
+  site_short net p code point valid here (site_of_standing code inputs m (At point vars) stands),
+  passes_few net p code inputs m point vars valid here stands,
+)
+site_written net p code inputs m (Done vars) valid here stands = tt
 
 -- each process of an image that stands there may be written
 pub standing_short : (net : Network) (home : ℕ) (histories : List (List ℤ)) (made : ℕ → ℕ) (image : ImageView)
@@ -259,8 +272,8 @@ standing_short net home histories made image valid laid stands k saved is =
     let same = variables_stay code.0 histories (made saved.number) saved.standing here in
     let few = (valid.codes saved.number code.0 code.1).variables in
     record {
-      site = site_written net saved.number code.0 saved.standing valid code.1
-          (site_of_standing code.0 histories (made saved.number) saved.standing here);
+      site =
+          site_written net saved.number code.0 histories (made saved.number) saved.standing valid code.1 here;
       variables = omega (arith, same, few);
     }
 

@@ -1,12 +1,13 @@
--- Laws of sites: where a process stands at a point, that is a site of its statements, and no passes remain there.
+-- Laws of sites: where a process stands at a point, that is a site of its statements.
 use Rattle.std.proofs.Common.{◌≡◌, ℕ, zero, suc, ◌+◌, ◌^◌, ◌<◌, ◌≤◌, Bool, true, false, cond, ℤ, pos, List, [], ◌∷◌}
 use Rattle.std.proofs.Common.{◌++◌, drop, Option, Some, None, refl, sym, subst, append-nil, arith}
 use Rattle.std.specs.Prelude.{slice_get, slice_set}
 use Rattle.std.specs.Ordering.{int_eq}
 use Rattle.kahn_net.specs.Streams.{history_of, total}
 use Rattle.kahn_net.specs.Syntax.{Block, Nothing, GetThen, AssignThen, PutThen, StopThen, IfThen, Code, Network}
+use Rattle.kahn_net.specs.Syntax.{RepeatThen}
 use Rattle.kahn_net.specs.Statements.{Point, Step, End, Ended, Waits, Stopped, Trace, point_at, on_get, from_end}
-use Rattle.kahn_net.specs.Statements.{then_do, sites_of, choose, value_of, trace_of}
+use Rattle.kahn_net.specs.Statements.{then_do, rounds, sites_of, choose, value_of, trace_of}
 use Rattle.kahn_net.specs.Processes.{passes, loop_trace, process_trace, Standing, StandsAt, standing_at}
 use Rattle.kahn_net.specs.Processes.Standing.{NotBegun, At, Done}
 use Rattle.kahn_net.specs.Valid.{IsValid, body_units}
@@ -14,10 +15,9 @@ use Rattle.kahn_net.specs.Laws.Valid.{units_few}
 use Rattle.kahn_net.specs.declared.limits.TheConstants.{MAX_UNITS}
 use Rattle.proc_step.proofs.Units.{sites_within}
 
--- a point below this site, with no passes left
-pub record IsSiteBelow (n : ℕ) (point : Point) : Type 0 where
-  pub site : point.site < n
-  pub left : point.left ≡ []
+-- a point below this site
+abbrev pub IsSiteBelow : ℕ → Point → Type 0
+IsSiteBelow n point = point.site < n
 
 -- so is each point of these acts, and the one at which they end
 abbrev pub EachBelow : ℕ → List Step → Type 0
@@ -65,57 +65,73 @@ one_of P true x y p q = p
 one_of P false x y p q = q
 
 -- a site of its own, before those of the rest
-own_site : (n site more : ℕ) → site + (more + 1) ≤ n → IsSiteBelow n (point_at site [])
-own_site n site more within = record { site = omega (arith, within); left = refl }
+own_site : (n site more : ℕ) (left : List ℕ) → site + (more + 1) ≤ n → IsSiteBelow n (point_at site left)
+own_site n site more left within = omega (arith, within)
 
 rest_within : (n site more : ℕ) → site + (more + 1) ≤ n → site + 1 + more ≤ n
 rest_within n site more within = omega (arith, within)
 
+-- so many passes
+sites_rounds : (n times : ℕ) (pass : ℕ → List ℤ → List (List ℤ) → Trace)
+    → ((k : ℕ) (v : List ℤ) (u : List (List ℤ)) → HasSites n (pass k v u)) → (v : List ℤ) (u : List (List ℤ))
+    → HasSites n (rounds times pass v u)
+sites_rounds n zero pass each v u = record { steps = tt; end = tt }
+sites_rounds n (suc times) pass each v u =
+    sites_then n (pass (suc times) v u) (rounds times pass) (each (suc times) v u)
+    (λ v' u'. sites_rounds n times pass each v' u')
+
 -- what statements do
-sites_block : (n site : ℕ) (b : Block) (vars : List ℤ) (unread : List (List ℤ)) → site + sites_of b ≤ n
-    → HasSites n (trace_of site [] b vars unread)
-sites_block n site Nothing vars unread within = record { steps = tt; end = tt }
-sites_block n site (AssignThen x e rest) vars unread within =
-    let r = sites_block n site rest (slice_set vars x (value_of e vars)) unread within in
+sites_block : (n site : ℕ) (left : List ℕ) (b : Block) (vars : List ℤ) (unread : List (List ℤ)) → site + sites_of b ≤ n
+    → HasSites n (trace_of site left b vars unread)
+sites_block n site left Nothing vars unread within = record { steps = tt; end = tt }
+sites_block n site left (AssignThen x e rest) vars unread within =
+    let r = sites_block n site left rest (slice_set vars x (value_of e vars)) unread within in
     record { steps = r.steps; end = r.end }
-sites_block n site (PutThen e c rest) vars unread within =
-    let r = sites_block n (site + 1) rest vars unread (rest_within n site (sites_of rest) within) in
-    record { steps = (own_site n site (sites_of rest) within, r.steps); end = r.end }
-sites_block n site (StopThen rest) vars unread within = record { steps = tt; end = tt }
-sites_block n site (IfThen test first second rest) vars unread within =
-    let one = trace_of site [] first vars unread in
-    let other = trace_of (site + sites_of first) [] second vars unread in
+sites_block n site left (PutThen e c rest) vars unread within =
+    let r = sites_block n (site + 1) left rest vars unread (rest_within n site (sites_of rest) within) in
+    record { steps = (own_site n site (sites_of rest) left within, r.steps); end = r.end }
+sites_block n site left (StopThen rest) vars unread within = record { steps = tt; end = tt }
+sites_block n site left (IfThen test first second rest) vars unread within =
+    let one = trace_of site left first vars unread in
+    let other = trace_of (site + sites_of first) left second vars unread in
     let in_first : site + sites_of first ≤ n = omega (arith, within) in
     let in_second : site + sites_of first + sites_of second ≤ n = omega (arith, within) in
     let behind : site + sites_of first + sites_of second + sites_of rest ≤ n = omega (arith, within) in
-    sites_then n (choose (value_of test vars) one other) (trace_of (site + sites_of first + sites_of second) [] rest)
+    sites_then n (choose (value_of test vars) one other) (trace_of (site + sites_of first + sites_of second) left rest)
     (one_of (HasSites n) (int_eq (value_of test vars) (pos 0)) other one
-    (sites_block n (site + sites_of first) second vars unread in_second)
-    (sites_block n site first vars unread in_first))
-    (λ v u. sites_block n (site + sites_of first + sites_of second) rest v u behind)
-sites_block n site (GetThen x c rest) vars unread within =
+    (sites_block n (site + sites_of first) left second vars unread in_second)
+    (sites_block n site left first vars unread in_first))
+    (λ v u. sites_block n (site + sites_of first + sites_of second) left rest v u behind)
+sites_block n site left (GetThen x c rest) vars unread within =
     at_get (history_of unread c)
-    (λ item later. sites_block n (site + 1) rest (slice_set vars x item) (slice_set unread c later)
+    (λ item later. sites_block n (site + 1) left rest (slice_set vars x item) (slice_set unread c later)
     (rest_within n site (sites_of rest) within))
   where
-    own : IsSiteBelow n (point_at site [])
-    own = own_site n site (sites_of rest) within
+    own : IsSiteBelow n (point_at site left)
+    own = own_site n site (sites_of rest) left within
 
     at_get : (history : List ℤ)
         → ((item : ℤ) (later : List ℤ)
-        → HasSites n (trace_of (site + 1) [] rest (slice_set vars x item) (slice_set unread c later)))
+        → HasSites n (trace_of (site + 1) left rest (slice_set vars x item) (slice_set unread c later)))
         → HasSites n
-        (on_get history (point_at site []) c vars
-        (λ item later. trace_of (site + 1) [] rest (slice_set vars x item) (slice_set unread c later)))
+        (on_get history (point_at site left) c vars
+        (λ item later. trace_of (site + 1) left rest (slice_set vars x item) (slice_set unread c later)))
     at_get [] more = record { steps = tt; end = own }
     at_get (item ∷ later) more = let r = more item later in record { steps = (own, r.steps); end = r.end }
+sites_block n site left (RepeatThen times body rest) vars unread within =
+    let pass : ℕ → List ℤ → List (List ℤ) → Trace = λ k. trace_of site (left ++ k ∷ []) body in
+    let in_body : site + sites_of body ≤ n = omega (arith, within) in
+    let behind : site + sites_of body + sites_of rest ≤ n = omega (arith, within) in
+    sites_then n (rounds times pass vars unread) (trace_of (site + sites_of body) left rest)
+    (sites_rounds n times pass (λ k v u. sites_block n site (left ++ k ∷ []) body v u in_body) vars unread)
+    (λ v u. sites_block n (site + sites_of body) left rest v u behind)
 
 -- whole passes
 sites_passes : (n fuel site : ℕ) (b : Block) (vars : List ℤ) (unread : List (List ℤ)) → site + sites_of b ≤ n
     → HasSites n (passes fuel site b vars unread)
 sites_passes n zero site b vars unread within = record { steps = tt; end = tt }
 sites_passes n (suc fuel) site b vars unread within =
-    sites_then n (trace_of site [] b vars unread) (passes fuel site b) (sites_block n site b vars unread within)
+    sites_then n (trace_of site [] b vars unread) (passes fuel site b) (sites_block n site [] b vars unread within)
     (λ v u. sites_passes n fuel site b v u within)
 
 -- how many sites a process has
@@ -138,7 +154,7 @@ sites_process code inputs =
     let all : sites_of code.prelude + body_sites code.body ≤ code_sites code = omega arith in
     sites_then (code_sites code) (trace_of 0 [] code.prelude code.vars inputs)
     (loop_trace (sites_of code.prelude) code.body)
-    (sites_block (code_sites code) 0 code.prelude code.vars inputs prelude)
+    (sites_block (code_sites code) 0 [] code.prelude code.vars inputs prelude)
     (λ v u. sites_loop (code_sites code) (sites_of code.prelude) code.body v u all)
 
 sites_standing : (n : ℕ) (steps : List Step) (end : End) → EachBelow n steps → EndBelow n end
@@ -148,7 +164,7 @@ sites_standing n [] (Waits point vars channel) h k = k
 sites_standing n [] (Ended vars unread) h k = tt
 sites_standing n [] (Stopped vars) h k = tt
 
--- wherever a process stands, the site is one of its own, and no passes remain
+-- wherever a process stands, the site is one of its own
 pub site_of_standing : (code : Code) (inputs : List (List ℤ)) (m : ℕ) (standing : Standing)
     → StandsAt code inputs m standing → StandsBelow (code_sites code) standing
 site_of_standing code inputs m (NotBegun vars) stands = tt
@@ -177,5 +193,4 @@ pub site_short : (net : Network) (p : ℕ) (code : Code) (point : Point) → IsV
     → slice_get net.codes p ≡ Some code → IsSiteBelow (code_sites code) point → point.site < 256 ^ 4
 site_short net p code point valid here below =
     let few = sites_few net p code valid here in
-    let lt = below.site in
-    omega (arith, few, lt)
+    omega (arith, few, below)

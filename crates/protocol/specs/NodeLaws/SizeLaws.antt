@@ -5,18 +5,19 @@ use Rattle.std.specs.Prelude.{slice_get}
 use Rattle.std.proofs.Math.Logic.{∥∥₁_elim}
 use Rattle.std.proofs.Math.Bridge.{le_prop}
 use Rattle.std.proofs.lemmas.List.{length-replicate}
-use Rattle.std.proofs.lemmas.Option.{slice_get_cases}
-use Rattle.kahn_net.specs.Syntax.{Code, Network}
+use Rattle.kahn_net.specs.Syntax.{Network}
+use Rattle.kahn_net.specs.Processes.{Standing}
+use Rattle.kahn_net.specs.Processes.Standing.{NotBegun, At, Done}
 use Rattle.kahn_net.specs.Valid.{IsValid}
 use Rattle.kahn_net.specs.Approximations.{approximation}
-use Rattle.kahn_net.specs.declared.limits.TheConstants.{MAX_NODES, MAX_VARIABLES}
+use Rattle.kahn_net.specs.declared.limits.TheConstants.{MAX_NODES, MAX_VARIABLES, MAX_REPEATS}
 use Rattle.record.specs.ProcessView.{SavedProcessView}
 use Rattle.record.specs.ImageView.{ImageView}
 use Rattle.record.specs.RecordView.{RecordView}
 use Rattle.record.specs.declared.image.SavedEnd.{SavedEnd}
 use Rattle.ckpt_codec.specs.RecordText.{variables_of}
 use Rattle.record.specs.Moves.{highest_seen}
-use Rattle.ckpt_codec.specs.SizeLaws.{IsImageWithin, IsRecordWithin, within_tentative, within_decision}
+use Rattle.ckpt_codec.specs.SizeLaws.{IsImageWithin, IsRecordWithin, within_tentative, within_decision, left_of}
 use Rattle.ckpt_codec.specs.declared.lengths.TheConstants.{MAX_RETAINED_ITEMS}
 use Rattle.protocol.specs.Node.NodeView.{RunningNode}
 use Rattle.protocol.specs.Node.Reached.{HasReached, ImageStands, IsLaidOut, LogsAreWithin}
@@ -24,33 +25,30 @@ use Rattle.protocol.specs.Node.Starting.{with_own, held_number, decided}
 use Rattle.protocol.specs.Node.Opening.{opening_image, opening_record}
 use Rattle.protocol.specs.NodeLaws.OpeningLaws.{reached_opening, laid_out_opening, logs_opening}
 use Rattle.protocol.specs.Node.Layout.{has_process, has_end}
-use Rattle.protocol.specs.NodeLaws.NumberedLaws.{where_mark, where_count}
+use Rattle.protocol.specs.NodeLaws.NumberedLaws.{where_count}
 use Rattle.protocol.specs.NodeLaws.SharingLaws.{items_fit}
-use Rattle.protocol.specs.NodeLaws.VariableLaws.{variables_stay}
+use Rattle.protocol.specs.NodeLaws.LikeLaws.{HasShortSite, standing_short}
 
 -- each process of an image that stands there has no more variables than a network allows
 variables_few : (net : Network) (home : ℕ) (histories : List (List ℤ)) (made : ℕ → ℕ) (image : ImageView) → IsValid net
     → IsLaidOut net home image → ImageStands net histories made image
     → (k : ℕ) (saved : SavedProcessView) → slice_get image.processes k ≡ Some saved
     → length (variables_of saved.standing) ≤ MAX_VARIABLES
-variables_few net home histories made image valid laid stands k saved is = at (slice_get_cases net.codes saved.number).1
-  where
-    within : saved.number < 0 + length net.codes
-    within =
-        (where_mark (λ (s : SavedProcessView). s.number) (has_process net home) 0 (length net.codes) image.processes k
-        saved laid.processes is).2
+variables_few net home histories made image valid laid stands k saved is =
+    (standing_short net home histories made image valid laid stands k saved is).variables
 
-    at : ((x : Code) × (saved.number < length net.codes) × (slice_get net.codes saved.number ≡ Some x)
-        × (get_or net.codes saved.number x ≡ x))
-        ⊎ ((length net.codes ≤ saved.number) × (slice_get net.codes saved.number ≡ None))
-        → length (variables_of saved.standing) ≤ MAX_VARIABLES
-    at (inl here) =
-        let same =
-        variables_stay here.0 histories (made saved.number) saved.standing
-        (stands.processes k saved here.0 is here.2) in
-        let few = (valid.codes saved.number here.0 here.2).variables in
-        omega (arith, same, few)
-    at (inr past) = absurd (omega (arith, within, past.0))
+-- and no more repetitions round where it stands
+depth_few : (standing : Standing) → HasShortSite standing → length (left_of standing) ≤ MAX_REPEATS
+depth_few (NotBegun vars) short = omega arith
+depth_few (At point vars) short = short.1.count
+depth_few (Done vars) short = omega arith
+
+repeats_few : (net : Network) (home : ℕ) (histories : List (List ℤ)) (made : ℕ → ℕ) (image : ImageView) → IsValid net
+    → IsLaidOut net home image → ImageStands net histories made image
+    → (k : ℕ) (saved : SavedProcessView) → slice_get image.processes k ≡ Some saved
+    → length (left_of saved.standing) ≤ MAX_REPEATS
+repeats_few net home histories made image valid laid stands k saved is =
+    depth_few saved.standing (standing_short net home histories made image valid laid stands k saved is).site
 
 -- an image of a valid network, whose logs keep to their share, is within the bounds of which a record holds two
 pub image_within : (net : Network) (home : ℕ) (histories : List (List ℤ)) (made : ℕ → ℕ) (image : ImageView)
@@ -67,6 +65,7 @@ image_within net home histories made image valid laid stands logs =
     record {
       processes = omega (arith, processes, codes);
       variables = variables_few net home histories made image valid laid stands;
+      passes = repeats_few net home histories made image valid laid stands;
       ends = omega (arith, ends, channels);
       items = items_fit image (λ k saved log is has. (logs k saved log is has).count);
     }
@@ -85,6 +84,10 @@ current_within net home inputs node valid laid logs reached = record {
   variables = λ k saved is.
       ∥∥₁_elim reached le_prop
       (λ come. variables_few net home (approximation net inputs come.n) come.current_acts node.current valid laid
+      come.current k saved is);
+  passes = λ k saved is.
+      ∥∥₁_elim reached le_prop
+      (λ come. repeats_few net home (approximation net inputs come.n) come.current_acts node.current valid laid
       come.current k saved is);
   ends =
       (let count =

@@ -111,7 +111,7 @@ room_stays share position true (Both received log) = more_room share position lo
 
 -- Images
 
-end_of_trimmed : (c position : ℕ) (image : ImageView) (d : ℕ)
+pub end_of_trimmed : (c position : ℕ) (image : ImageView) (d : ℕ)
     → end_of (trimmed_image c position image) d
     ≡ option_map (λ (s : SavedEnd). (trimmed_saved c position s).end)
     (find (λ (s : SavedEnd). eqb s.channel d) image.ends)
@@ -130,7 +130,7 @@ received_trimmed c position image d =
     at None = refl
     at (Some s) = still_received position (eqb s.channel c) s.end
 
-sent_trimmed : (c position : ℕ) (image : ImageView) (d : ℕ)
+pub sent_trimmed : (c position : ℕ) (image : ImageView) (d : ℕ)
     → sent_of (trimmed_image c position image) d ≡ sent_of image d
 sent_trimmed c position image d =
     ap (λ (o : Option End). sent_in (log_at o)) (end_of_trimmed c position image d)

@@ -6,8 +6,9 @@ use Rattle.std.specs.Ordering.{int_eq}
 use Rattle.std.proofs.lemmas.List.{length-set}
 use Rattle.kahn_net.specs.Streams.{history_of, total}
 use Rattle.kahn_net.specs.Syntax.{Block, Nothing, GetThen, AssignThen, PutThen, StopThen, IfThen, Code}
+use Rattle.kahn_net.specs.Syntax.{RepeatThen}
 use Rattle.kahn_net.specs.Statements.{Step, End, Ended, Waits, Stopped, Trace, point_at, on_get, from_end, then_do}
-use Rattle.kahn_net.specs.Statements.{sites_of, choose, value_of, trace_of}
+use Rattle.kahn_net.specs.Statements.{rounds, sites_of, choose, value_of, trace_of}
 use Rattle.kahn_net.specs.Processes.{passes, loop_trace, process_trace, Standing, StandsAt, standing_at}
 use Rattle.kahn_net.specs.Processes.Standing.{NotBegun, At, Done}
 use Rattle.ckpt_codec.specs.RecordText.{variables_of}
@@ -53,6 +54,15 @@ one_of : (P : Trace → Type 0) (b : Bool) (x y : Trace) → P x → P y → P (
 one_of P true x y p q = p
 one_of P false x y p q = q
 
+-- so many passes
+variables_rounds : (n times : ℕ) (pass : ℕ → List ℤ → List (List ℤ) → Trace)
+    → ((k : ℕ) (v : List ℤ) (u : List (List ℤ)) → length v ≡ n → HasVariables n (pass k v u)) → (v : List ℤ)
+    (u : List (List ℤ)) → length v ≡ n → HasVariables n (rounds times pass v u)
+variables_rounds n zero pass each v u same = record { steps = tt; end = same }
+variables_rounds n (suc times) pass each v u same =
+    variables_then n (pass (suc times) v u) (rounds times pass) (each (suc times) v u same)
+    (λ v' u' e. variables_rounds n times pass each v' u' e)
+
 -- what statements do
 variables_block : (n site : ℕ) (left : List ℕ) (b : Block) (vars : List ℤ) (unread : List (List ℤ)) → length vars ≡ n
     → HasVariables n (trace_of site left b vars unread)
@@ -85,6 +95,11 @@ variables_block n site left (GetThen x c rest) vars unread k =
         (λ item later. trace_of (site + 1) left rest (slice_set vars x item) (slice_set unread c later)))
     at_get [] more = record { steps = tt; end = k }
     at_get (item ∷ later) more = let r = more item later in record { steps = (k, r.steps); end = r.end }
+variables_block n site left (RepeatThen times body rest) vars unread k =
+    let pass : ℕ → List ℤ → List (List ℤ) → Trace = λ j. trace_of site (left ++ j ∷ []) body in
+    variables_then n (rounds times pass vars unread) (trace_of (site + sites_of body) left rest)
+    (variables_rounds n times pass (λ j v u e. variables_block n site (left ++ j ∷ []) body v u e) vars unread k)
+    (λ v u e. variables_block n (site + sites_of body) left rest v u e)
 
 -- whole passes
 variables_passes : (n fuel site : ℕ) (b : Block) (vars : List ℤ) (unread : List (List ℤ)) → length vars ≡ n

@@ -5,4 +5,4 @@ use Rattle.ckpt_codec.proofs.lengths.length_of_processes.Given as goal
 
 abbrev pub invariant-loop-process : goal.invariant-loop-process
 invariant-loop-process l =
-    (l.total ≡ sum_by process_length (take l.process-index l.processes)) × (l.total ≤ 2048 * l.process-index)
+    (l.total ≡ sum_by process_length (take l.process-index l.processes)) × (l.total ≤ 4096 * l.process-index)

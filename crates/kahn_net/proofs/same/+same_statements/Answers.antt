@@ -1,7 +1,8 @@
-use Rattle.std.proofs.Common.{arith, refl, sym, ap, ◌∙◌}
+use Rattle.std.proofs.Common.{◌≡◌, arith, refl, sym, ap, ◌∙◌}
+use Rattle.std.proofs.lemmas.Bool.Decides.{nat_tests}
 use Rattle.std.proofs.lemmas.Bool.{false≢true}
 use Rattle.kahn_net.specs.Syntax.{block_of}
-use Rattle.kahn_net.proofs.Alike.{as_many, ifs_same, same_at}
+use Rattle.kahn_net.proofs.Alike.{as_many, ifs_same, repeats_same, same_at}
 use Rattle.kahn_net.proofs.same.+same_statements.Goals as goal
 
 pub is_same_statement-returns-then-not-is_same_statements : goal.is_same_statement-returns-then-not-is_same_statements
@@ -29,6 +30,22 @@ is_same_statement-returns-else-not-is_same_statements t c =
       λ e. c.is_same_statements-in-If-b.ensures.1
           (ap block_of c.deref-in-If-b-2.ensures.value ∙ (both.0 e).2
           ∙ ap block_of (sym c.deref-in-If-b-3.ensures.value)),
+    )
+
+pub is_same_statement-returns-then-times-n : goal.is_same_statement-returns-then-times-n
+is_same_statement-returns-then-times-n t c =
+    let both =
+    repeats_same c.args.a.now c.args.b.now c.in-Repeat.times c.in-Repeat-b.n c.in-Repeat.body c.in-Repeat-b.other
+    c.in-Repeat.is c.in-Repeat-b.is in
+    let times : c.in-Repeat.times ≡ c.in-Repeat-b.n = grind (arith, nat_tests, c.if-times-n.true) in (
+      λ h. both.1 (
+        times,
+        ap block_of (sym c.deref-then-times-n.ensures.value) ∙ c.is_same_statements-then-times-n.ensures.0 h
+            ∙ ap block_of c.deref-then-times-n-2.ensures.value,
+      ),
+      λ e. c.is_same_statements-then-times-n.ensures.1
+          (ap block_of c.deref-then-times-n.ensures.value ∙ (both.0 e).1
+          ∙ ap block_of (sym c.deref-then-times-n-2.ensures.value)),
     )
 
 pub is_same_statements-returns-then-a-b : goal.is_same_statements-returns-then-a-b

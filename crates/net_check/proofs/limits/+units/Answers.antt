@@ -2,7 +2,7 @@ use Rattle.std.proofs.Common.{◌+◌, suc, refl, arith}
 use Rattle.net_text.specs.Trees.{block_tree, expr_tree}
 use Rattle.net_check.specs.Texts.{block_units_text, expr_units_text}
 use Rattle.net_check.proofs.Counting.{counted_on, none_left, then_costs, units_at}
-use Rattle.net_check.proofs.Ifs.{if_units}
+use Rattle.net_check.proofs.Ifs.{if_units, repeat_units}
 use Rattle.net_check.proofs.limits.+units.Goals as goal
 
 pub units_after-returns-in-None : goal.units_after-returns-in-None
@@ -45,3 +45,13 @@ units_after_statement-returns-in_ok-rest-in-If-2 t c =
     (suc (expr_units_text (expr_tree c.in-If.test) + block_units_text (block_tree c.deref.result.now)))
     (block_units_text (block_tree c.deref-in-If.result.now)) _ (omega arith) (omega arith)
     c.units_after-in-If.ensures
+
+pub units_after_statement-returns-in_ok-rest-in-Repeat : goal.units_after_statement-returns-in_ok-rest-in-Repeat
+units_after_statement-returns-in_ok-rest-in-Repeat t c =
+    let whole =
+    repeat_units c.args.statement.now c.in-Repeat.times c.in-Repeat.line c.in-Repeat.body c.deref-in-Repeat.result.now
+    c.in-Repeat.is c.deref-in-Repeat.ensures.value in
+    let taken = c.in_ok-rest-in-Repeat.ensures in
+    counted_on c.units_after-in-Repeat.result c.args.left c.in_ok-rest-in-Repeat.rest 2
+    (block_units_text (block_tree c.deref-in-Repeat.result.now)) _ (omega arith) (omega arith)
+    c.units_after-in-Repeat.ensures

@@ -1,6 +1,6 @@
-use Rattle.std.proofs.Common.{refl}
+use Rattle.std.proofs.Common.{refl, sym}
 use Rattle.net_text.specs.Trees.{process_tree}
-use Rattle.net_check.specs.NetFaults.{many_units}
+use Rattle.net_check.specs.NetFaults.{many_units, many_times}
 use Rattle.net_check.proofs.Fitting.{past_units}
 use Rattle.net_check.proofs.limits.check_limits.Goals as goal
 
@@ -8,3 +8,6 @@ pub returns-then-not-has_few_units-clause-err : goal.returns-then-not-has_few_un
 returns-then-not-has_few_units-clause-err c =
     λ text p h. many_units p (process_tree c.args.process.now) h
     (past_units c.has_few_units.result _ c.has_few_units.ensures.1 c.if-not-has_few_units.true) refl
+
+pub returns-in-Some-clause-err : goal.returns-in-Some-clause-err
+returns-in-Some-clause-err c = λ text p h. many_times p (process_tree c.args.process.now) h (sym c.in-Some.ensures)

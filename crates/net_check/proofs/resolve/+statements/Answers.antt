@@ -5,7 +5,8 @@ use Rattle.kahn_net.specs.declared.program.Statement.{Statement}
 use Rattle.kahn_net.specs.Syntax.{block_of}
 use Rattle.kahn_net.specs.Valid.{block_gets, block_puts}
 use Rattle.net_check.specs.Uses.{OfVariable, GetFrom, PutOn, expr_uses}
-use Rattle.net_check.proofs.Ifs.{if_gets, if_puts, if_resolves, within_first, within_second, within_test}
+use Rattle.net_check.proofs.Ifs.{if_gets, if_puts, if_resolves, within_first, within_second, within_test, within_body}
+use Rattle.net_check.proofs.Ifs.{claims_same, repeat_gets, repeat_puts, repeat_resolves}
 use Rattle.net_check.proofs.Using.{use_more, use_from_name, within_next, within_same, within_left, within_right}
 use Rattle.net_check.proofs.Using.{within_statement}
 use Rattle.net_check.proofs.Resolving.{resolves_more, puts_push, gets_push, claims_then, use_earlier}
@@ -110,3 +111,28 @@ resolve_statement-returns-in_ok-second-in-If-clause-gets t c =
     claims_then
     _ _ _ _ _ _ _ _ _ (λ k. if_gets k c.in_ok-test-in-If.test c.in_ok-first-in-If.first
     c.in_ok-second-in-If.second) c.in_ok-first-in-If.ensures.gets c.in_ok-second-in-If.ensures.gets
+
+pub resolve_statement-returns-in_err-body-in-Repeat-clause-err : goal.resolve_statement-returns-in_err-body-in-Repeat-clause-err
+resolve_statement-returns-in_err-body-in-Repeat-clause-err t c =
+    let p = err_from_is_err_and c.from_residual-in_err-body-in-Repeat.result
+    c.from_residual-in_err-body-in-Repeat.ensures.1 in
+    rw (p.1, p.2)
+    (use_more
+    _ _ _ _ _ _ _ _ (within_body c.args.statement.now c.in-Repeat.times c.in-Repeat.line c.in-Repeat.body
+    c.deref-in-Repeat.result.now c.in-Repeat.is c.deref-in-Repeat.ensures.value) c.in_err-body-in-Repeat.ensures.err)
+
+pub resolve_statement-returns-in_ok-body-in-Repeat-clause-ok : goal.resolve_statement-returns-in_ok-body-in-Repeat-clause-ok
+resolve_statement-returns-in_ok-body-in-Repeat-clause-ok t c =
+    repeat_resolves _ _ c.args.statement.now c.in-Repeat.times c.in-Repeat.line c.in-Repeat.body
+    c.deref-in-Repeat.result.now c.in_ok-body-in-Repeat.body c.in-Repeat.is c.deref-in-Repeat.ensures.value
+    c.in_ok-body-in-Repeat.ensures.ok
+
+pub resolve_statement-returns-in_ok-body-in-Repeat-clause-puts : goal.resolve_statement-returns-in_ok-body-in-Repeat-clause-puts
+resolve_statement-returns-in_ok-body-in-Repeat-clause-puts t c =
+    claims_same _ _ _ _ _ _ _ (λ k. repeat_puts k c.in-Repeat.times c.in_ok-body-in-Repeat.body)
+    c.in_ok-body-in-Repeat.ensures.puts
+
+pub resolve_statement-returns-in_ok-body-in-Repeat-clause-gets : goal.resolve_statement-returns-in_ok-body-in-Repeat-clause-gets
+resolve_statement-returns-in_ok-body-in-Repeat-clause-gets t c =
+    claims_same _ _ _ _ _ _ _ (λ k. repeat_gets k c.in-Repeat.times c.in_ok-body-in-Repeat.body)
+    c.in_ok-body-in-Repeat.ensures.gets

@@ -1,6 +1,7 @@
 use Rattle.std.proofs.Common.{◌≡◌, Ok, List, sym, ap, subst, ◌∙◌, arith}
 use Rattle.net_text.specs.Trees.{net_tree}
 use Rattle.net_text.specs.Tokens.{Lexeme, lexemes, IsReading}
+use Rattle.net_text.specs.Editions.{Ranged}
 use Rattle.net_text.specs.Reading.{whole_text}
 use Rattle.net_text.specs.Texts.{IsParseFault}
 use Rattle.net_text.specs.declared.limits.TheConstants.{MAX_NESTING}
@@ -11,22 +12,22 @@ use Rattle.net_text.proofs.text.parse.Goals as goal
 pub returns-in-Text-clause-ok : goal.returns-in-Text-clause-ok
 returns-in-Text-clause-ok c =
     let reading = c.in_ok-reading.reading in
-    let read : whole_text MAX_NESTING (lexemes reading.tokens.items) ≡ Ok (net_tree c.in-Ok.net) =
-    ap (λ (ts : List Lexeme). whole_text MAX_NESTING ts) (sym (c.new.ensures ∙ ap lexemes c.deref.ensures.value))
+    let read : whole_text Ranged MAX_NESTING (lexemes reading.tokens.items) ≡ Ok (net_tree c.in-Ok.net) =
+    ap (λ (ts : List Lexeme). whole_text Ranged MAX_NESTING ts) (sym (c.new.ensures ∙ ap lexemes c.deref.ensures.value))
     ∙ c.in-Ok.ensures in
     record {
       small = omega arith;
       tokens = lexemes reading.tokens.items;
       read = tokens_of c.args.text.now (lexemes reading.tokens.items) reading.end c.in-Text.line
           c.in_ok-reading.ensures c.in-Text.is;
-      grammar = whole_took MAX_NESTING (lexemes reading.tokens.items) (net_tree c.in-Ok.net) read;
+      grammar = whole_took Ranged MAX_NESTING (lexemes reading.tokens.items) (net_tree c.in-Ok.net) read;
     }
 
 pub returns-in-Text-clause-only : goal.returns-in-Text-clause-only
 returns-in-Text-clause-only c =
     let reading = c.in_ok-reading.reading in
-    let read : whole_text MAX_NESTING (lexemes reading.tokens.items) ≡ Ok (net_tree c.in-Ok.net) =
-    ap (λ (ts : List Lexeme). whole_text MAX_NESTING ts) (sym (c.new.ensures ∙ ap lexemes c.deref.ensures.value))
+    let read : whole_text Ranged MAX_NESTING (lexemes reading.tokens.items) ≡ Ok (net_tree c.in-Ok.net) =
+    ap (λ (ts : List Lexeme). whole_text Ranged MAX_NESTING ts) (sym (c.new.ensures ∙ ap lexemes c.deref.ensures.value))
     ∙ c.in-Ok.ensures in
     λ tree is. one_tree (lexemes reading.tokens.items) (net_tree c.in-Ok.net) tree read
     (tree_read c.args.text.now tree (lexemes reading.tokens.items) reading.end is c.in_ok-reading.ensures).0
@@ -59,8 +60,8 @@ returns-clause-only c =
 pub returns-in-Ok-clause-err : goal.returns-in-Ok-clause-err
 returns-in-Ok-clause-err c =
     let reading = c.in_ok-reading.reading in
-    let read : whole_text MAX_NESTING (lexemes reading.tokens.items) ≡ Ok (net_tree c.in-Ok.net) =
-    ap (λ (ts : List Lexeme). whole_text MAX_NESTING ts) (sym (c.new.ensures ∙ ap lexemes c.deref.ensures.value))
+    let read : whole_text Ranged MAX_NESTING (lexemes reading.tokens.items) ≡ Ok (net_tree c.in-Ok.net) =
+    ap (λ (ts : List Lexeme). whole_text Ranged MAX_NESTING ts) (sym (c.new.ensures ∙ ap lexemes c.deref.ensures.value))
     ∙ c.in-Ok.ensures in
     tokens_fault c.args.text.now (lexemes reading.tokens.items) (net_tree c.in-Ok.net) c.in-Bad.fault (omega arith)
     (subst (IsReading c.args.text.now (lexemes reading.tokens.items)) c.in-Bad.is c.in_ok-reading.ensures) read

@@ -11,4 +11,5 @@ returns c =
     all.code.items c.new-sites.result.items ones.sites.items all.sites.items (ap block_of c.deref.ensures.value)
     c.new-instructions.ensures.items c.new-sites.ensures.items c.in_ok-emit_statements.ensures.code
     c.in_ok-emit_statements.ensures.sites c.in_ok-emit_loop.ensures.code c.in_ok-emit_loop.ensures.sites
-    c.deepest-deepest.result c.deref-2.result.now c.deref-2.ensures.value c.deepest-deepest.ensures
+    c.deepest-deepest.result c.most_nested-nesting.result c.deref-2.result.now c.deref-2.ensures.value c.deepest-deepest.ensures
+    c.deref-3.result.now c.deref-3.ensures.value c.most_nested-nesting.ensures

@@ -1,5 +1,5 @@
 use Rattle.std.proofs.Common.{◌∙◌}
-use Rattle.proc_code.proofs.Emitted.{if_emits}
+use Rattle.proc_code.proofs.Emitted.{if_emits, repeat_emits}
 use Rattle.proc_code.proofs.emitting.+emitting.Goals as goal
 
 pub emit_statement-returns-in_ok-emit_statements-in-If-2 : goal.emit_statement-returns-in_ok-emit_statements-in-If-2
@@ -17,3 +17,12 @@ emit_statement-returns-in_ok-emit_statements-in-If-2 t c =
     c.in_ok-emit-in-If-2.ensures
     c.in_ok-emit_statements-in-If-2.ensures.code c.in_ok-emit_statements-in-If-2.ensures.sites
     (c.len-in-If.ensures ∙ c.emit_statements-in-If.new.code.ok.0)
+
+pub emit_statement-returns-in_ok-emit-in-Repeat-2 : goal.emit_statement-returns-in_ok-emit-in-Repeat-2
+emit_statement-returns-in_ok-emit-in-Repeat-2 t c =
+    repeat_emits c.args.statement.now c.in-Repeat.times c.in-Repeat.body c.deref-in-Repeat.result.now c.args.code.now.items
+    c.emit-in-Repeat.new.code.items c.emit_statements-in-Repeat.new.code.items c.emit-in-Repeat-2.new.code.items
+    c.args.sites.now.items c.emit_statements-in-Repeat.new.sites.items _ c.len-opening.result c.len-in-Repeat.result
+    c.in-Repeat.is c.deref-in-Repeat.ensures.value (c.len-opening.ensures ∙ c.args.code.now.ok.0) c.in_ok-emit-in-Repeat.ensures
+    c.in_ok-emit_statements-in-Repeat.ensures.code c.in_ok-emit_statements-in-Repeat.ensures.sites
+    c.in_ok-emit-in-Repeat-2.ensures (c.len-in-Repeat.ensures ∙ c.emit-in-Repeat-2.new.code.ok.0)

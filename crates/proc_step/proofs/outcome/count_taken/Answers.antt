@@ -1,5 +1,5 @@
-use Rattle.std.proofs.Common.{List, ℤ, length, ap, arith}
-use Rattle.proc_step.proofs.Counts.{counted_more, fewer_later}
+use Rattle.std.proofs.Common.{List, ℕ, ℤ, [], ◌∷◌, ◌++◌, ◌∙◌, length, ap, arith}
+use Rattle.proc_step.proofs.Counts.{counted_more}
 use Rattle.proc_step.proofs.outcome.count_taken.Goals as goal
 
 pub loop-items-preserved : goal.loop-items-preserved
@@ -9,7 +9,8 @@ loop-items-preserved c =
     record {
       counted =
           counted_more c.loop-items.taken.items c.push.new.self.items _ c.in-Some.items.now c.in-Some.left.now
-          _ _ _ _ s.0 s.1 (rw (c.len.ensures, c.len-in-loop-items.ensures) at c.in_ok-push.ensures.items) i.counted;
+          _ _ _ _ s.0 s.1 (c.in_ok-push.ensures.items
+          ∙ ap (λ (n : ℕ). c.loop-items.taken.items ++ n ∷ [])
+          (omega (arith, c.saturating_sub.ensures, c.len.ensures, c.len-in-loop-items.ensures))) i.counted;
       count = omega (arith, i.count, ap (length {A = List ℤ}) s.0, ap (length {A = List ℤ}) s.1);
-      fewer = fewer_later c.in-Some.items.now c.in-Some.left.now _ _ _ _ s.0 s.1 i.fewer;
     }

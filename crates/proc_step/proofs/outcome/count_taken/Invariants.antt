@@ -7,6 +7,4 @@ abbrev pub invariant-loop-items : goal.invariant-loop-items
 invariant-loop-items l = record {
   counted : l.taken.items ++ taken_of l.items-iterator.a.rest.now l.items-iterator.b.rest.now ≡ taken_of l.items l.left;
   count : length l.items-iterator.b.rest.now ≡ length l.items-iterator.a.rest.now;
-  fewer : (c : ℕ)
-      → length (history_of l.items-iterator.b.rest.now c) ≤ length (history_of l.items-iterator.a.rest.now c);
 }

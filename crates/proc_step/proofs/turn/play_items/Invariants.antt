@@ -1,5 +1,6 @@
 use Rattle.std.proofs.Common.{◌≡◌, ℕ, List, ℤ, ◌+◌, ◌*◌, drop, length}
 use mathlib.Core.List.{reverse}
+use Rattle.kahn_net.specs.declared.limits.TheConstants.{MAX_NESTED_TIMES}
 use Rattle.kahn_net.specs.Streams.{total}
 use Rattle.kahn_net.specs.Statements.{Trace}
 use Rattle.proc_step.specs.Stepping.{Remains}
@@ -9,8 +10,8 @@ abbrev pub invariant-loop-list : goal.invariant-loop-list
 invariant-loop-list l = record {
   rooms : length l.sent ≡ length l.room;
   went : (whole : Trace) (u0 sent0 : List (List ℤ)) (more : ℕ)
-      → Remains l.code (total l.items * length l.code + more) l.start (reverse l.initial.stack.items)
-      l.initial.variables l.initial.unread l.room l.initial.sent whole u0 sent0
-      → Remains l.code (total (drop l.list-index l.items) * length l.code + more) l.place (reverse l.stack.items)
-      l.variables l.unread l.room l.sent whole u0 sent0;
+      → Remains l.code (total l.items * (MAX_NESTED_TIMES * length l.code) + more) l.start (reverse l.initial.stack.items)
+      l.initial.left.items l.initial.variables l.initial.unread l.room l.initial.sent whole u0 sent0
+      → Remains l.code (total (drop l.list-index l.items) * (MAX_NESTED_TIMES * length l.code) + more) l.place (reverse l.stack.items)
+      l.left.items l.variables l.unread l.room l.sent whole u0 sent0;
 }

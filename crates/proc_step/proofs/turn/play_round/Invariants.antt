@@ -8,8 +8,8 @@ abbrev pub invariant-loop : goal.invariant-loop
 invariant-loop l = record {
   rooms : length l.sent ≡ length l.room;
   went : (whole : Trace) (u0 sent0 : List (List ℤ)) (more : ℕ)
-      → Remains l.code (length l.code + more) l.start (reverse l.initial.stack.items) l.initial.variables
+      → Remains l.code (length l.code + more) l.start (reverse l.initial.stack.items) l.initial.left.items l.initial.variables
       l.initial.unread l.room l.initial.sent whole u0 sent0
-      → Remains l.code (length l.code + more - l.counter) l.place (reverse l.stack.items) l.variables l.unread l.room
+      → Remains l.code (length l.code + more - l.counter) l.place (reverse l.stack.items) l.left.items l.variables l.unread l.room
       l.sent whole u0 sent0;
 }

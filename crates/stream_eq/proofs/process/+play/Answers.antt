@@ -1,4 +1,4 @@
-use Rattle.std.proofs.Common.{◌+◌, drop, sym, ap, ◌∙◌, subst}
+use Rattle.std.proofs.Common.{suc, ◌+◌, ◌-◌, [], ◌∷◌, ◌++◌, drop, sym, ap, ◌∙◌, subst, arith}
 use Rattle.std.proofs.lemmas.Result.{err_from_is_err_and, IfOk-weaker}
 use Rattle.kahn_net.specs.Syntax.{Block, block_of}
 use Rattle.kahn_net.specs.Statements.{Trace, trace_of, sites_of}
@@ -8,7 +8,8 @@ use Rattle.kahn_net.specs.Puts.{put_after}
 use Rattle.stream_eq.specs.Limits.{GoesPast}
 use Rattle.stream_eq.specs.Play.{IsPlayed}
 use Rattle.stream_eq.proofs.Errors.{other_err}
-use Rattle.stream_eq.proofs.Going.{going_at, goes_further, stays, past_behind}
+use Rattle.stream_eq.proofs.Going.{going_at, goes_further, stays, past_behind, one_less, round_at, round_further}
+use Rattle.stream_eq.proofs.Going.{round_stays, round_past, round_ended, takes_rounds}
 use Rattle.stream_eq.proofs.process.+play.Goals as goal
 
 pub play_statement-returns-then-is_zero-clause-played : goal.play_statement-returns-then-is_zero-clause-played
@@ -96,3 +97,57 @@ play_statements-loop-statement-preserved t c =
       going = λ site left. goes_further c.statement-item.result (block_of (drop (i + 1) ss))
           (going_at (before.going site left) here) c.in_ok-play_statement.ensures.played c.if-not-branch.false;
     }
+
+pub play_repeated-returns-in_err-play_statements-clause-long : goal.play_repeated-returns-in_err-play_statements-clause-long
+play_repeated-returns-in_err-play_statements-clause-long t c =
+    let p = err_from_is_err_and c.from_residual.result c.from_residual.ensures.1 in
+    let n = c.args.times in
+    let i = c.loop.counter in
+    rw (p.1, p.2)
+    (λ h site left. round_past c.args.limits.now
+    (round_at (one_less n i c.loop-test.true) (c.loop.invariant.going site left))
+    (c.in_err-play_statements.ensures.long (other_err _ _ h) site (left ++ suc (n - (i + 1)) ∷ [])))
+
+pub play_repeated-returns-then-not-branch-clause-played : goal.play_repeated-returns-then-not-branch-clause-played
+play_repeated-returns-then-not-branch-clause-played t c site left =
+    let n = c.args.times in
+    let i = c.loop.counter in
+    round_stays (round_at (one_less n i c.loop-test.true) (c.loop.invariant.going site left))
+    (c.in_ok-play_statements.ensures.played site (left ++ suc (n - (i + 1)) ∷ [])) c.if-not-branch.true
+
+pub play_repeated-loop-preserved : goal.play_repeated-loop-preserved
+play_repeated-loop-preserved t c =
+    let n = c.args.times in
+    let i = c.loop.counter in
+    let before = c.loop.invariant in
+    record {
+      count = before.count ∙ sym c.play_statements.auto.sent;
+      within = λ l. c.in_ok-play_statements.ensures.within (before.within l);
+      going = λ site left. round_further (round_at (one_less n i c.loop-test.true) (before.going site left))
+          (c.in_ok-play_statements.ensures.played site (left ++ suc (n - (i + 1)) ∷ [])) c.if-not-branch.false;
+    }
+
+pub play_repeated-returns-clause-played : goal.play_repeated-returns-clause-played
+play_repeated-returns-clause-played t c site left =
+    round_ended (omega arith) (c.loop.invariant.going site left)
+
+pub play_statement-returns-in-Repeat-clause-played : goal.play_statement-returns-in-Repeat-clause-played
+play_statement-returns-in-Repeat-clause-played t c =
+    let vars = c.args.variables.now in
+    let unread = c.args.unread.now in
+    IfOk-weaker c.play_repeated.result _ _
+    (λ ended played site left.
+    subst (λ (x : Trace). IsPlayed x c.args.sent.now c.play_repeated.new.sent ended c.play_repeated.new.variables
+    c.play_repeated.new.unread)
+    (sym (takes_rounds c.args.statement.now c.in-Repeat.times c.in-Repeat.body c.deref-in-Repeat.result.now c.in-Repeat.is
+    c.deref-in-Repeat.ensures.value site left vars unread)) (played site left))
+    c.play_repeated.ensures.played
+
+pub play_statement-returns-in-Repeat-clause-long : goal.play_statement-returns-in-Repeat-clause-long
+play_statement-returns-in-Repeat-clause-long t c h site left =
+    let vars = c.args.variables.now in
+    let unread = c.args.unread.now in
+    subst (λ (x : Trace). GoesPast c.args.limits.now (put_after x.steps c.args.sent.now))
+    (sym (takes_rounds c.args.statement.now c.in-Repeat.times c.in-Repeat.body c.deref-in-Repeat.result.now c.in-Repeat.is
+    c.deref-in-Repeat.ensures.value site left vars unread))
+    (c.play_repeated.ensures.long h site left)

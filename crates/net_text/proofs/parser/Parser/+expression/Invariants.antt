@@ -29,9 +29,9 @@ decreases-chain l = at_level l.left l.level 5
 abbrev pub decreases-expr : goal.decreases-expr
 decreases-expr l = 16 * l.left + 15
 
-abbrev pub invariant-links-loop-level : goal.invariant-links-loop-level
-invariant-links-loop-level l =
-    after_items (map link_tree l.links.items) (links_at l.level l.left l.self) ≡ links_at l.level l.left l.initial.self
+abbrev pub invariant-links-loop-edition : goal.invariant-links-loop-edition
+invariant-links-loop-edition l =
+    after_items (map link_tree l.links.items) (links_at l.edition l.level l.left l.self) ≡ links_at l.edition l.level l.left l.initial.self
 
-abbrev pub decreases-links-loop-level : goal.decreases-links-loop-level
-decreases-links-loop-level l = length l.self
+abbrev pub decreases-links-loop-edition : goal.decreases-links-loop-edition
+decreases-links-loop-edition l = length l.self

@@ -1,5 +1,6 @@
 use Rattle.std.proofs.Common.{◌≡◌, ◌+◌, ◌*◌, length}
 use Rattle.net_text.specs.Trees.{block_tree}
+use Rattle.net_text.specs.Editions.{Ranged}
 use Rattle.net_text.specs.Reading.{statements_at}
 use Rattle.net_text.proofs.Many.{after_block}
 use Rattle.net_text.proofs.parser.Parser.+statement.Given as goal
@@ -13,15 +14,21 @@ decreases-otherwise l = 8 * l.left + 1
 abbrev pub decreases-conditional : goal.decreases-conditional
 decreases-conditional l = 8 * l.left + 2
 
+abbrev pub decreases-repeat : goal.decreases-repeat
+decreases-repeat l = 8 * l.left + 1
+
+abbrev pub decreases-nested : goal.decreases-nested
+decreases-nested l = 8 * l.left + 3
+
 abbrev pub decreases-statement : goal.decreases-statement
-decreases-statement l = 8 * l.left + 3
+decreases-statement l = 8 * l.left + 4
 
 abbrev pub decreases-statements : goal.decreases-statements
-decreases-statements l = 8 * l.left + 4
+decreases-statements l = 8 * l.left + 5
 
-abbrev pub invariant-statements-loop-self : goal.invariant-statements-loop-self
-invariant-statements-loop-self l =
-    after_block (block_tree l.statements.items) (statements_at l.left l.self) ≡ statements_at l.left l.initial.self
+abbrev pub invariant-statements-loop-edition : goal.invariant-statements-loop-edition
+invariant-statements-loop-edition l =
+    after_block (block_tree l.statements.items) (statements_at l.edition Ranged l.left l.self) ≡ statements_at l.edition Ranged l.left l.initial.self
 
-abbrev pub decreases-statements-loop-self : goal.decreases-statements-loop-self
-decreases-statements-loop-self l = length l.self
+abbrev pub decreases-statements-loop-edition : goal.decreases-statements-loop-edition
+decreases-statements-loop-edition l = length l.self

@@ -17,6 +17,14 @@ take_turn-requires-clause-passing c =
     c.args.self.named in
     (valid_at net.program c.args.self.process c.index-process.result.now net.valid lt c.index-process.ensures).passes
 
+pub take_turn-requires-clause-within : goal.take_turn-requires-clause-within
+take_turn-requires-clause-within c =
+    let net = c.deref-net.result.now in
+    let p = c.args.self.process in
+    let lt =
+    subst (λ (n : Net). p < length n.program.processes.items) (sym c.deref-net.ensures) c.args.self.named in
+    (valid_at net.program p c.index-process.result.now net.valid lt c.index-process.ensures).repeats
+
 pub take_turn-requires-clause-compiled : goal.take_turn-requires-clause-compiled
 take_turn-requires-clause-compiled c =
     let net = c.deref-net.result.now in

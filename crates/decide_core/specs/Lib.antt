@@ -1,0 +1,2 @@
+pub mod InitiatorView
+pub mod NoteLaws

@@ -1,0 +1,37 @@
+-- That a world has come about by steps of the abstract machine.
+use Rattle.std.specs.Prelude.{◌≡◌, ℕ, List, Some, All, slice_get}
+use Rattle.datagram.specs.PacketText.{IsPacketText}
+use Rattle.datagram.specs.declared.packet.Packet.{Packet as Datagram}
+use Rattle.kahn_net.specs.Syntax.{Network}
+use Rattle.wire.specs.Traffic.{Traffic, flights_to}
+use Rattle.wire.specs.declared.queue.Flight.{Flight}
+use Rattle.recovery_line.specs.Images.{Net}
+use Rattle.recovery_line.specs.Packets.{Packet}
+use Rattle.recovery_line.specs.Worlds.{World, Run, Reachable}
+use Rattle.protocol.specs.Join.Seen.{packet_seen, world_seen}
+use Rattle.protocol.specs.World.RecoveryLine.{net_seen}
+use Rattle.protocol.specs.World.StationView.{StationView}
+
+-- some steps lead from one world to another
+abbrev pub Leads : Net → World → World → Type 0
+Leads net w v = (worlds : List World) × Run net w worlds v
+
+abbrev pub WasSent : List Packet → Packet → Type 0
+WasSent sent packet = (place : ℕ) × (slice_get sent place ≡ Some packet)
+
+-- what bytes to a node say of checkpoints, if they spell a packet, was sent
+abbrev pub SaysWhatWasSent : List Packet → ℕ → List ℕ → Type 0
+SaysWhatWasSent sent to bytes =
+    (packet : Datagram) → IsPacketText packet bytes → (told : Packet) → packet_seen packet ≡ Some told
+    → WasSent sent told
+
+-- Whatever is in flight was sent. What was sent need not be in flight: it may be lost or have come, and may never
+-- really have been sent, where a device failed in the event.
+abbrev pub Carries : Traffic → List Packet → Type 0
+Carries traffic sent = (to : ℕ) → All (λ (f : Flight). SaysWhatWasSent sent to f.packet) (flights_to traffic to)
+
+-- Steps of the machine lead from its opening world to these stations, and whatever is in flight was sent in them.
+pub record HasRun (net : Network) (stations : List StationView) (traffic : Traffic) : Type 0 where
+  pub sent : List Packet
+  pub reached : Reachable (net_seen net) (world_seen stations sent)
+  pub carries : Carries traffic sent

@@ -1,0 +1,174 @@
+-- The recovery line of stations to which steps of the abstract machine lead is in order, also at a moment inside an
+-- event.
+use Rattle.std.proofs.Common.{◌≡◌, ◌⊎◌, inl, inr, ℕ, zero, suc, ◌≤◌, List, [], ◌∷◌, Some, refl, sym, ap, ◌∙◌}
+use Rattle.std.specs.Prelude.{slice_get, slice_set}
+use Rattle.std.proofs.lemmas.List.{map-set}
+use Rattle.kahn_net.specs.Syntax.{Network}
+use Rattle.record.specs.RecordView.{RecordView}
+use Rattle.recovery_line.proofs.Theorems.{line_is_sound, line_covers, line_never_falls_back}
+use Rattle.recovery_line.specs.Images.{Net}
+use Rattle.recovery_line.specs.Line.{Sound, Covers, NotBehind, AtMoment}
+use Rattle.recovery_line.specs.Packets.{Packet}
+use Rattle.recovery_line.specs.Records.{Record, effective}
+use Rattle.recovery_line.specs.Worlds.{World, Reachable}
+use Rattle.protocol.specs.Join.Line.{AreEither, LineStays}
+use Rattle.protocol.specs.Join.Runs.{Leads}
+use Rattle.protocol.specs.Join.Seen.{world_seen}
+use Rattle.protocol.specs.JoinLaws.Leading.{leads_here, leads_on, outlets_same}
+use Rattle.protocol.specs.JoinLaws.Sent.{waits}
+use Rattle.protocol.specs.World.RecoveryLine.{net_seen, records_of, records_seen, outlets_seen}
+use Rattle.protocol.specs.World.StationView.{StationView}
+
+-- steps lead from the world to one with these records, from which so many items have left
+pub record LeadsTo (net : Net) (w : World) (records : ℕ → Record) (left : ℕ → ℕ) : Type 0 where
+  pub world : World
+  pub leads : Leads net w world
+  pub records_are : world.records ≡ records
+  pub outlets_are : world.outlets ≡ left
+
+pub record LineHolds (net : Net) (w : World) (records : ℕ → Record) (left : ℕ → ℕ) : Type 0 where
+  pub sound : Sound net (effective records) left
+  pub covers : Covers net records left
+  pub not_behind : NotBehind w.records records
+  pub more_left : (c : ℕ) → w.outlets c ≤ left c
+
+-- Where steps lead to records from a world that steps led to, the line that follows from them is sound, covers what has
+-- left, and isn't behind the line of that world.
+abbrev pub LinesHold : Type 0
+LinesHold =
+    (net : Net) (w : World) (records : ℕ → Record) (left : ℕ → ℕ) → Reachable net w → LeadsTo net w records left
+    → LineHolds net w records left
+
+pub lines_hold : LinesHold
+lines_hold net w records left reached to =
+    let there = leads_on net _ w to.world reached to.leads in
+    let moment : AtMoment to.world to.world records left =
+    record { of_records = inl (sym to.records_are); of_outlets = inl (sym to.outlets_are) } in
+    let on = line_never_falls_back net w to.world to.world to.leads.0 records left reached to.leads.1
+    (waits net to.world) moment in
+    record {
+      sound = line_is_sound net to.world to.world records left there (waits net to.world) moment;
+      covers = line_covers net to.world to.world records left there (waits net to.world) moment;
+      not_behind = on.0;
+      more_left = on.1;
+    }
+
+-- ---- the records that a crash inside an event leaves
+
+-- where no station has another one, they are those of before
+pub none_other : (kepts records : List RecordView) → AreEither kepts kepts records → records ≡ kepts
+none_other [] [] either = refl
+none_other [] (r ∷ records) either = absurd either
+none_other (k ∷ kepts) [] either = absurd either
+none_other (k ∷ kepts) (r ∷ records) either =
+    ap (λ (x : RecordView). x ∷ records) (elim either.0 [ inl one ↦ one | inr other ↦ other ])
+    ∙ ap (λ (rest : List RecordView). k ∷ rest) (none_other kepts records either.1)
+
+-- where one station has, they are those of before, or those with its next one
+pub one_other : (kepts records : List RecordView) (place : ℕ) (next : RecordView)
+    → AreEither kepts (slice_set kepts place next) records
+    → (records ≡ kepts) ⊎ (records ≡ slice_set kepts place next)
+one_other [] [] place next either = inl refl
+one_other [] (r ∷ records) place next either = absurd either
+one_other (k ∷ kepts) [] zero next either = absurd either
+one_other (k ∷ kepts) [] (suc place) next either = absurd either
+one_other (k ∷ kepts) (r ∷ records) zero next either =
+    let rest = ap (λ (others : List RecordView). r ∷ others) (none_other kepts records either.1) in
+    elim either.0 [
+      | inl old ↦ inl (rest ∙ ap (λ (x : RecordView). x ∷ kepts) old)
+      | inr new ↦ inr (rest ∙ ap (λ (x : RecordView). x ∷ kepts) new)
+    ]
+one_other (k ∷ kepts) (r ∷ records) (suc place) next either =
+    let first = ap (λ (x : RecordView). x ∷ records) (elim either.0 [ inl one ↦ one | inr other ↦ other ]) in
+    elim (one_other kepts records place next either.1) [
+      | inl old ↦ inl (first ∙ ap (λ (others : List RecordView). k ∷ others) old)
+      | inr new ↦ inr (first ∙ ap (λ (others : List RecordView). k ∷ others) new)
+    ]
+
+-- ---- stations
+
+line_stays : (net : Network) (before after : List StationView) (sent : List Packet) (records : List RecordView)
+    → Reachable (net_seen net) (world_seen before sent)
+    → LeadsTo (net_seen net) (world_seen before sent) (records_seen records) (outlets_seen before)
+    → LeadsTo (net_seen net) (world_seen before sent) (records_seen records) (outlets_seen after)
+    → LineStays net before after records
+line_stays net before after sent records reached first last =
+    let one = lines_hold (net_seen net) (world_seen before sent) (records_seen records) (outlets_seen before) reached
+    first in
+    let other = lines_hold (net_seen net) (world_seen before sent) (records_seen records) (outlets_seen after) reached
+    last in
+    record {
+      at_first = record { sound = one.sound; covers = one.covers };
+      at_last = record { sound = other.sound; covers = other.covers };
+      not_behind = one.not_behind;
+    }
+
+module _ (net : Network) (before : List StationView) (sent : List Packet)
+    (reached : Reachable (net_seen net) (world_seen before sent)) where
+  -- An event at one place leaves the records of before, or with the next one what steps lead to; nothing leaves in it.
+  pub line_at_put : (k : ℕ) (old next : StationView) (later : List Packet) (after : List StationView)
+      (records : List RecordView) → slice_get before k ≡ Some old → next.outlets ≡ old.outlets
+      → Leads (net_seen net) (world_seen before sent) (world_seen (slice_set before k next) later)
+      → outlets_seen after ≡ outlets_seen before
+      → AreEither (records_of before) (slice_set (records_of before) k next.node.kept) records
+      → LineStays net before after records
+  line_at_put k old next later after records there outlets leads same left =
+      let to = by (one_other (records_of before) records k next.node.kept left) in
+      line_stays net before after sent records reached to
+      (record {
+        world = to.world;
+        leads = to.leads;
+        records_are = to.records_are;
+        outlets_are = to.outlets_are ∙ sym same;
+      })
+    where
+      by : (records ≡ records_of before) ⊎ (records ≡ slice_set (records_of before) k next.node.kept)
+          → LeadsTo (net_seen net) (world_seen before sent) (records_seen records) (outlets_seen before)
+      by (inl kept) = record {
+        world = world_seen before sent;
+        leads = leads_here (net_seen net) (world_seen before sent) (world_seen before sent) refl;
+        records_are = ap records_seen (sym kept);
+        outlets_are = refl;
+      }
+      by (inr new) = record {
+        world = world_seen (slice_set before k next) later;
+        leads = leads;
+        records_are = ap records_seen (map-set (λ (s : StationView). s.node.kept) before k next ∙ sym new);
+        outlets_are = outlets_same before k old next there outlets;
+      }
+
+  -- an event puts no record, and an item may leave in it
+  pub line_at_release : (after : List StationView) (later : List Packet) (records : List RecordView)
+      → Leads (net_seen net) (world_seen before sent) (world_seen after later)
+      → records_of after ≡ records_of before → AreEither (records_of before) (records_of before) records
+      → LineStays net before after records
+  line_at_release after later records leads same left =
+      let are = none_other (records_of before) records left in
+      line_stays net before after sent records reached
+      (record {
+        world = world_seen before sent;
+        leads = leads_here (net_seen net) (world_seen before sent) (world_seen before sent) refl;
+        records_are = ap records_seen (sym are);
+        outlets_are = refl;
+      })
+      (record {
+        world = world_seen after later;
+        leads = leads;
+        records_are = ap records_seen (same ∙ sym are);
+        outlets_are = refl;
+      })
+
+-- the records that stations keep are in line with themselves
+pub line_now : (net : Network) (stations : List StationView) (sent : List Packet)
+    → Reachable (net_seen net) (world_seen stations sent) → LineStays net stations stations (records_of stations)
+line_now net stations sent reached =
+    line_stays net stations stations sent (records_of stations) reached as_it_is as_it_is
+  where
+    as_it_is : LeadsTo (net_seen net) (world_seen stations sent) (records_seen (records_of stations))
+        (outlets_seen stations)
+    as_it_is = record {
+      world = world_seen stations sent;
+      leads = leads_here (net_seen net) (world_seen stations sent) (world_seen stations sent) refl;
+      records_are = refl;
+      outlets_are = refl;
+    }
