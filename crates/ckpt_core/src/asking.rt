@@ -1,6 +1,6 @@
 //! A node is asked whether it keeps so many items of a channel for good.
 ghost use Rattle.std.specs.Prelude.{◌≡◌, ◌<◌, length, option_copied};
-ghost use Rattle.protocol.specs.Join.Answering.{holds, is_past, answer_of_holder, answer_of_free, answer_above, answer_to_ask};
+ghost use Rattle.protocol.specs.Node.Answering.{holds, is_past, answer_of_holder, answer_of_free, answer_above, answer_to_ask};
 ghost use Rattle.ckpt_core.specs.AskView.{answer_view, mode_with};
 
 use datagram::Reason;

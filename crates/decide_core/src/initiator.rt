@@ -1,6 +1,6 @@
 //! The checkpoint for which a node collects answers.
 ghost use Rattle.std.specs.Prelude.{◌≡◌, Some, slice_get};
-ghost use Rattle.protocol.specs.Join.Collecting.{answered_by, is_open, is_open_at, awaits, covered_live, with_answer};
+ghost use Rattle.protocol.specs.Node.Collecting.{answered_by, is_open, is_open_at, awaits, covered_live, with_answer};
 ghost use Rattle.decide_core.specs.InitiatorView.{answer_view, question_view};
 
 use std::marker::Model;

@@ -12,11 +12,12 @@ use Rattle.record.specs.RecordView.{RecordView}
 use Rattle.record.specs.declared.record.Tentative.{Tentative}
 use Rattle.recovery_line.specs.Nodes.{Answer}
 use Rattle.recovery_line.specs.Observers.{has_node}
-use Rattle.protocol.specs.Join.Beginning.{live_in}
+use Rattle.protocol.specs.Node.Beginning.{live_in}
 use Rattle.protocol.specs.Join.Seen.{questions_seen}
 use Rattle.protocol.specs.Node.Addresses.{are_nodes, producer_node}
 use Rattle.protocol.specs.Node.Layout.{is_incoming, is_outgoing}
 use Rattle.protocol.specs.Node.LiveView.{LiveView}
+use Rattle.protocol.specs.Node.NodeView.{InDoubt}
 use Rattle.protocol.specs.World.StationView.{StationView}
 
 -- another node of the network
@@ -58,7 +59,9 @@ pub record KeepsNodes (net : Network) (home : ℕ) (kept : RecordView) : Type 0 
   pub held : (held : Tentative) → kept.tentative ≡ Some held → HeldIsSound net home held
   pub decisions : (i : ℕ) (d : DecisionView) → slice_get kept.decisions i ≡ Some d → DecisionIsSound net home d
 
--- so it is of a station's record, and of what its node collects
+-- So it is of a station's record, and of what its node collects; and no node is in doubt: nodes come back in a world of
+-- one alone so far, and that one holds no image but its own.
 pub record IsJoined (net : Network) (station : StationView) : Type 0 where
+  pub sure : station.node.mode ≢ InDoubt
   pub kept : KeepsNodes net station.number station.node.kept
   pub live : (live : LiveView) → live_in station.node.mode ≡ Some live → LiveIsSound net station.number live

@@ -5,9 +5,9 @@ use Rattle.kahn_net.specs.Syntax.{Network}
 use Rattle.kahn_net.specs.Valid.{IsValid}
 use Rattle.record.specs.RecordView.{RecordView}
 use Rattle.wire.specs.Traffic.{Traffic, all_sent, opening_traffic}
-use Rattle.protocol.specs.Join.Deeds.{deed_plan}
+use Rattle.protocol.specs.World.Steps.{plan_of}
 use Rattle.protocol.specs.Join.Joined.{IsJoined}
-use Rattle.protocol.specs.Join.Line.{AreEither, LineStays}
+use Rattle.protocol.specs.World.RecoveryLine.{AreEither, AreInLine}
 use Rattle.protocol.specs.Join.Runs.{HasRun}
 use Rattle.protocol.specs.Node.Plans.{next_record}
 use Rattle.protocol.specs.World.DoneView.{DoneView}
@@ -26,11 +26,11 @@ use Rattle.protocol.specs.World.Traffic.{TrafficIsSound}
 abbrev pub HaveTakenNothing : List OutletView → Type 0
 HaveTakenNothing outlets = (i : ℕ) (outlet : OutletView) → slice_get outlets i ≡ Some outlet → outlet.taken ≡ []
 
--- what is in flight after a deed that was answered so: as before, where nothing happened
-abbrev pub traffic_by : Traffic → ℕ → ℕ → StationPlan → ReplyView → Traffic
-traffic_by traffic k round plan answer =
+-- what is in flight after a deed that came out and was answered so: as before, where nothing happened
+abbrev pub traffic_by : Traffic → ℕ → ℕ → StationPlan → Outcome → ReplyView → Traffic
+traffic_by traffic k round plan came answer =
     if has_happened answer
-    then all_sent round (plan_sendings plan answer) (traffic_left traffic k plan.came) else traffic
+    then all_sent round (plan_sendings plan came) (traffic_left traffic k plan.came) else traffic
 
 -- What has to be known of the station of a node and of its world: the network is valid, there is one station a node, by
 -- their numbers, and both the station and what is in flight are sound.
@@ -56,10 +56,10 @@ abbrev pub DeedsRun : Type 0
 DeedsRun =
     (setting : Setting) (stations : List StationView) (k : ℕ) (old new : StationView) (deed : Deed)
     (fits : RecordView → Bool) (answer : ReplyView) → StandsIn setting stations k old
-    → IsPlanned fits setting.round (deed_plan setting k deed old) old answer new
+    → IsPlanned fits setting.round (plan_of setting k deed old) old answer new
     → ∥ HasRun setting.net stations setting.traffic ∥₁
     → ∥ HasRun setting.net (slice_set stations k new)
-    (traffic_by setting.traffic k setting.round (deed_plan setting k deed old) answer) ∥₁
+    (traffic_by setting.traffic k setting.round (plan_of setting k deed old) answer) ∥₁
 
 -- Whatever records a crash leaves in a deed, of each station the one of before or of this one the one that the deed
 -- puts, the line that follows from them is in order.
@@ -68,9 +68,9 @@ DeedsKeepTheLine =
     (setting : Setting) (stations : List StationView) (k : ℕ) (old new : StationView) (deed : Deed)
     (records : List RecordView) → StandsIn setting stations k old → new.outlets ≡ old.outlets
     → AreEither (records_of stations)
-    (slice_set (records_of stations) k (next_record (deed_plan setting k deed old).prospect old.node.kept)) records
+    (slice_set (records_of stations) k (next_record (plan_of setting k deed old).prospect old.node.kept)) records
     → ∥ HasRun setting.net stations setting.traffic ∥₁
-    → LineStays setting.net stations (slice_set stations k new) records
+    → AreInLine setting.net stations (slice_set stations k new) records
 
 -- A turn that comes back is one step.
 abbrev pub InstallsRun : Type 0
@@ -100,7 +100,7 @@ ReleasesKeepTheLine =
     → IsNumbered stations → AreSound net inputs stations → IsNumbered (slice_set stations k new)
     → AreSound net inputs (slice_set stations k new) → IsRelease round (next_release round old) old answer new
     → AreEither (records_of stations) (records_of stations) records → ∥ HasRun net stations traffic ∥₁
-    → LineStays net stations (slice_set stations k new) records
+    → AreInLine net stations (slice_set stations k new) records
 
 -- What the network does to a packet in flight is no step at all.
 abbrev pub NetworkRuns : Type 0
@@ -112,7 +112,7 @@ NetworkRuns =
 abbrev pub LinesAreSound : Type 0
 LinesAreSound =
     (net : Network) (stations : List StationView) (traffic : Traffic) → ∥ HasRun net stations traffic ∥₁
-    → LineStays net stations stations (records_of stations)
+    → AreInLine net stations stations (records_of stations)
 
 -- ---- what may be said
 
@@ -122,7 +122,7 @@ abbrev pub DeedsStayJoined : Type 0
 DeedsStayJoined =
     (setting : Setting) (stations : List StationView) (k : ℕ) (old new : StationView) (deed : Deed)
     (fits : RecordView → Bool) (answer : ReplyView) → StandsIn setting stations k old
-    → IsPlanned fits setting.round (deed_plan setting k deed old) old answer new → IsJoined setting.net new
+    → IsPlanned fits setting.round (plan_of setting k deed old) old answer new → IsJoined setting.net new
 
 abbrev pub OthersStayJoined : Type 0
 OthersStayJoined =

@@ -21,11 +21,11 @@ use Rattle.recovery_line.specs.Observers.{image_seen, record_seen}
 use Rattle.recovery_line.specs.Packets.{Packet, Ask, Took, Covered, AreNeeds, HearsAsk}
 use Rattle.recovery_line.specs.Records.{Record}
 use Rattle.recovery_line.specs.Worlds.{World, InFlight, MaySend}
-use Rattle.protocol.specs.Join.Answering.{AskAnswer, Silent, CoveredBefore, TookBefore, TakesNow, Declines, holds}
-use Rattle.protocol.specs.Join.Answering.{is_past}
-use Rattle.protocol.specs.Join.Answering.{answer_of_holder, answer_of_free, answer_above, answer_to_ask}
-use Rattle.protocol.specs.Join.Answering.{with_current_as, kept_then, took_packet, answer_packets}
-use Rattle.protocol.specs.Join.Needs.{held_needs}
+use Rattle.protocol.specs.Node.Answering.{AskAnswer, Silent, CoveredBefore, TookBefore, TakesNow, Declines, holds}
+use Rattle.protocol.specs.Node.Answering.{is_past}
+use Rattle.protocol.specs.Node.Answering.{answer_of_holder, answer_of_free, answer_above, answer_to_ask}
+use Rattle.protocol.specs.Node.Answering.{with_current_as, kept_then, took_packet, answer_packets}
+use Rattle.protocol.specs.Node.Needs.{held_needs}
 use Rattle.protocol.specs.Join.Runs.{Leads, WasSent}
 use Rattle.protocol.specs.Join.Seen.{live_seen, mode_seen, need_of, all_seen, world_seen}
 use Rattle.protocol.specs.JoinLaws.Holding.{at_most, above, not_below, up_seen, IsHeld, held_seen}

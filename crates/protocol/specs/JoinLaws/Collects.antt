@@ -19,12 +19,13 @@ use Rattle.recovery_line.specs.Nodes.{Answer, Awaited, By_took, By_covered, Mode
 use Rattle.recovery_line.specs.Observers.{image_seen, record_seen}
 use Rattle.recovery_line.specs.Packets.{Packet, Covered, Took, HearsCovered, HearsTook}
 use Rattle.recovery_line.specs.Worlds.{World, IsLive, MaySend}
-use Rattle.protocol.specs.Join.Beginning.{ask_on, collecting}
-use Rattle.protocol.specs.Join.Collecting.{was_asked, with_answer, is_open_at, awaits, with_covered, hearing_covered}
-use Rattle.protocol.specs.Join.Collecting.{needs_no_question, new_question, with_need, with_needs, new_ask, new_asks}
-use Rattle.protocol.specs.Join.Collecting.{joined_live, is_met, are_met, given_up}
+use Rattle.protocol.specs.Node.Beginning.{ask_on, collecting}
+use Rattle.protocol.specs.Node.Collecting.{was_asked, with_answer, is_open_at, awaits, with_covered, hearing_covered}
+use Rattle.protocol.specs.Node.Collecting.{needs_no_question, new_question, with_need, with_needs, new_ask, new_asks}
+use Rattle.protocol.specs.Node.Collecting.{joined_live, is_met, are_met, given_up}
 use Rattle.protocol.specs.Join.Runs.{Leads, WasSent}
-use Rattle.protocol.specs.Join.Seen.{need_of, question_seen, questions_seen, live_seen, mode_seen, in_front, all_seen}
+use Rattle.protocol.specs.Join.Seen.{need_of, question_seen, questions_seen, live_seen, mode_seen, all_seen}
+use Rattle.protocol.specs.Node.Beginning.{in_front}
 use Rattle.protocol.specs.Join.Seen.{node_seen, world_seen}
 use Rattle.protocol.specs.JoinLaws.Crossings.{both_true, cross_within, producer_is}
 use Rattle.protocol.specs.JoinLaws.Holding.{at_most, IsHeld, held_seen, named_so}

@@ -15,9 +15,9 @@ use Rattle.recovery_line.specs.Packets.{Packet}
 use Rattle.wire.proofs.Passing.{arrived_passes}
 use Rattle.wire.specs.Traffic.{Traffic, all_sent, flights_to}
 use Rattle.wire.specs.declared.queue.Flight.{Flight}
-use Rattle.protocol.specs.Join.Beginning.{live_in}
-use Rattle.protocol.specs.Join.Deeds.{come_plan}
-use Rattle.protocol.specs.Join.Hearing.{hear_prospect, told_prospect, come_prospect}
+use Rattle.protocol.specs.Node.Beginning.{live_in}
+use Rattle.protocol.specs.World.Steps.{deliver_plan}
+use Rattle.protocol.specs.Node.Hearing.{hear_prospect, told_prospect, deliver_prospect}
 use Rattle.protocol.specs.Join.Joined.{IsJoined}
 use Rattle.protocol.specs.Join.Promises.{traffic_by}
 use Rattle.protocol.specs.Join.Runs.{Leads, SaysWhatWasSent, Carries, HasRun}
@@ -129,10 +129,10 @@ module _ (net : Network) (stations : List StationView) (k : ℕ) (old : StationV
     pub come_leads : (inputs : List (List ℤ)) (run : HasRun net stations traffic) (place : ℕ) (bytes : List ℕ)
         → option_map (λ (f : Flight). f.packet) (slice_get (flights_to traffic k) place) ≡ Some bytes
         → SpellsSound net inputs k bytes
-        → ProspectLeads net stations k old run.sent (come_plan net place (Some bytes) old).prospect
+        → ProspectLeads net stations k old run.sent (deliver_plan net place (Some bytes) old).prospect
     come_leads inputs run place bytes came says =
         subst (λ (o : Option Datagram). ProspectLeads net stations k old run.sent
-        (come_prospect net old.number o old.node))
+        (deliver_prospect net old.number o old.node))
         (sym packet_is) (by (is_down old.node.mode) refl)
       where
         packet_is : packet_for net old.number bytes ≡ Some says.packet

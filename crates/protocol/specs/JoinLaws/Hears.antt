@@ -19,19 +19,19 @@ use Rattle.recovery_line.specs.Images.{Image}
 use Rattle.recovery_line.specs.Nodes.{Mode}
 use Rattle.recovery_line.specs.Observers.{image_seen, record_seen, names}
 use Rattle.recovery_line.specs.Packets.{Packet, Kept, Ask, Took, Covered, Query, Commit, Ended, Settled, HearsKept}
-use Rattle.protocol.specs.Join.Answering.{holds, answer_to_ask, kept_then, takes_now, AskAnswer, Silent}
-use Rattle.protocol.specs.Join.Answering.{CoveredBefore, TookBefore, TakesNow, Declines, answering}
-use Rattle.protocol.specs.Join.Beginning.{live_in, collecting}
-use Rattle.protocol.specs.Join.Collecting.{is_live, was_asked, are_met, Ignores, Joins, GivesUp}
-use Rattle.protocol.specs.Join.Collecting.{answer_to_took}
-use Rattle.protocol.specs.Join.Collecting.{joining, joined_asks, joined_live, give_up_prospect, took_by, loses}
-use Rattle.protocol.specs.Join.Collecting.{hearing_covered, refused_prospect, took_prospect}
-use Rattle.protocol.specs.Join.Hearing.{remembering, hear_prospect}
+use Rattle.protocol.specs.Node.Answering.{holds, answer_to_ask, kept_then, takes_now, AskAnswer, Silent}
+use Rattle.protocol.specs.Node.Answering.{CoveredBefore, TookBefore, TakesNow, Declines, answering}
+use Rattle.protocol.specs.Node.Beginning.{live_in, collecting}
+use Rattle.protocol.specs.Node.Collecting.{is_live, was_asked, are_met, Ignores, Joins, GivesUp}
+use Rattle.protocol.specs.Node.Collecting.{answer_to_took}
+use Rattle.protocol.specs.Node.Collecting.{joining, joined_asks, joined_live, give_up_prospect, took_by, loses}
+use Rattle.protocol.specs.Node.Collecting.{hearing_covered, refused_prospect, took_prospect}
+use Rattle.protocol.specs.Node.Hearing.{remembering, hear_prospect}
 use Rattle.protocol.specs.Join.Runs.{Leads, WasSent}
 use Rattle.protocol.specs.Join.Seen.{need_of, body_seen, live_seen, mode_seen, all_seen, world_seen}
-use Rattle.protocol.specs.Join.Verdicts.{after_verdict, settled_packets, verdict_packets, commit_prospect}
-use Rattle.protocol.specs.Join.Verdicts.{ended_prospect}
-use Rattle.protocol.specs.Join.Verdicts.{settled_prospect}
+use Rattle.protocol.specs.Node.Verdicts.{after_verdict, settled_packets, verdict_packets, commit_prospect}
+use Rattle.protocol.specs.Node.Verdicts.{ended_prospect}
+use Rattle.protocol.specs.Node.Verdicts.{settled_prospect}
 use Rattle.protocol.specs.JoinLaws.Answers.{answer_tells, answer_leads}
 use Rattle.protocol.specs.JoinLaws.Collects.{covered_leads, give_up_leads, joined_leads}
 use Rattle.protocol.specs.JoinLaws.Crossings.{both_true, between_cross, channel_within, goes_cross}

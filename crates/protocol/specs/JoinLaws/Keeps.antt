@@ -25,13 +25,13 @@ use Rattle.record.specs.declared.record.Tentative.{Tentative}
 use Rattle.recovery_line.proofs.Basics.{one_inside, same_or_other, some_not_none}
 use Rattle.recovery_line.specs.Nodes.{Answer, By_took, By_covered}
 use Rattle.recovery_line.specs.Observers.{has_node}
-use Rattle.protocol.specs.Join.Beginning.{live_begun}
-use Rattle.protocol.specs.Join.Collecting.{with_answer, with_taker, with_needs, joined_live, with_covered}
+use Rattle.protocol.specs.Node.Beginning.{live_begun}
+use Rattle.protocol.specs.Node.Collecting.{with_answer, with_taker, with_needs, joined_live, with_covered}
 use Rattle.protocol.specs.Join.Joined.{IsOther, IsQuestion, LiveIsSound, MayBeAskedFor, HeldIsSound, DecisionIsSound}
 use Rattle.protocol.specs.Join.Joined.{KeepsNodes}
-use Rattle.protocol.specs.Join.Needs.{question_on}
+use Rattle.protocol.specs.Node.Needs.{question_on}
 use Rattle.protocol.specs.Join.Seen.{need_of, question_seen, questions_seen}
-use Rattle.protocol.specs.Join.Verdicts.{participants_of, decision_on}
+use Rattle.protocol.specs.Node.Verdicts.{participants_of, decision_on}
 use Rattle.protocol.specs.JoinLaws.Crossings.{both_true, comes_cross, cross_within, producer_is}
 use Rattle.protocol.specs.JoinLaws.Spelled.{question_of}
 use Rattle.protocol.specs.JoinLaws.NeedLaws.{asked_only, needed_above, needed_cross, each_length, has_where_below}

@@ -18,13 +18,13 @@ use Rattle.record.specs.Moves.{with_epoch}
 use Rattle.record.specs.RecordView.{RecordView}
 use Rattle.record.specs.declared.record.Tentative.{Tentative}
 use Rattle.recovery_line.proofs.Basics.{one_inside, some_not_none}
-use Rattle.protocol.specs.Join.Beginning.{live_in, begin_prospect}
-use Rattle.protocol.specs.Join.Deeds.{come_plan, deed_plan}
-use Rattle.protocol.specs.Join.Hearing.{hear_prospect, told_prospect, come_prospect}
+use Rattle.protocol.specs.Node.Beginning.{live_in, start_prospect}
+use Rattle.protocol.specs.World.Steps.{deliver_plan, plan_of}
+use Rattle.protocol.specs.Node.Hearing.{hear_prospect, told_prospect, deliver_prospect}
 use Rattle.protocol.specs.Join.Joined.{LiveIsSound, MayBeAskedFor, KeepsNodes, IsJoined}
 use Rattle.protocol.specs.Join.Promises.{StandsIn, DeedsStayJoined, OthersStayJoined, OpeningIsJoined}
-use Rattle.protocol.specs.Join.Telling.{turn_packets}
-use Rattle.protocol.specs.Join.Verdicts.{conclude_prospect}
+use Rattle.protocol.specs.Node.Telling.{turn_packets}
+use Rattle.protocol.specs.Node.Verdicts.{decide_prospect}
 use Rattle.protocol.specs.JoinLaws.Crossings.{true_both}
 use Rattle.protocol.specs.JoinLaws.Keeps.{epoch_keeps, current_counts}
 use Rattle.protocol.specs.JoinLaws.Sayable.{ProspectSays, begins_says, concludes_says, hears_says}
@@ -176,11 +176,11 @@ module _ (setting : Setting) (stations : List StationView) (k : ℕ) (old : Stat
       node links)
 
   came_joins : (place : ℕ) (o : Option (List ℕ)) → SpelledBytes setting k o
-      → ProspectJoins setting.net old.number (come_plan setting.net place o old).prospect
+      → ProspectJoins setting.net old.number (deliver_plan setting.net place o old).prospect
   came_joins place None says = tt
   came_joins place (Some bytes) says =
       subst (λ (o : Option Packet). ProspectJoins setting.net old.number
-      (come_prospect setting.net old.number o old.node))
+      (deliver_prospect setting.net old.number o old.node))
       (sym packet_is) (by (not (is_down old.node.mode)))
     where
       to_here : says.packet.to ≡ old.number
@@ -207,7 +207,7 @@ module _ (setting : Setting) (stations : List StationView) (k : ℕ) (old : Stat
   deed_joins : (deed : Deed)
       → ((place : ℕ) → deed ≡ event.Deliver place
       → SpelledBytes setting k (due_bytes setting.round (flight_at setting k place)))
-      → ProspectJoins setting.net old.number (deed_plan setting k deed old).prospect
+      → ProspectJoins setting.net old.number (plan_of setting k deed old).prospect
   deed_joins (event.Deliver place) says =
       came_joins place (due_bytes setting.round (flight_at setting k place)) (says place refl)
   deed_joins event.Grant says =
@@ -216,11 +216,11 @@ module _ (setting : Setting) (stations : List StationView) (k : ℕ) (old : Stat
       turn_joins setting.net old.number old.node joins_now (not (is_down old.node.mode))
       (turn_packets setting.net old.number old.node.kept old.node.mode)
   deed_joins event.Start says =
-      says_joins setting.net setting.inputs old.number (begin_prospect setting.net old.number old.node)
+      says_joins setting.net setting.inputs old.number (start_prospect setting.net old.number old.node)
       (begins_says setting.net setting.inputs in_world.valid old.number here_below old.node in_world.joined.kept
       in_world.joined.live counts)
   deed_joins event.Decide says =
-      says_joins setting.net setting.inputs old.number (conclude_prospect old.number old.node)
+      says_joins setting.net setting.inputs old.number (decide_prospect old.number old.node)
       (concludes_says setting.net setting.inputs in_world.valid old.number here_below old.node in_world.joined.kept
       in_world.joined.live counts)
   deed_joins (event.Crash fill rounds) says =
@@ -265,7 +265,7 @@ deeds_stay_joined setting stations k old new deed fits answer in_world step =
     ∥∥₁_elim (known_bytes setting stations k old in_world deed) (hlevel (le_prop, ℕ_set, Bool-set))
     (λ says. subst (IsJoined setting.net) (sym step.same) (as_station
     (made_joins setting.net old.number old.node (joins_now setting stations k old in_world)
-    (restart_after old.node.armed step.call setting.round) (deed_plan setting k deed old).prospect (outcome_of answer)
+    (restart_after old.node.armed step.call setting.round) (plan_of setting k deed old).prospect (outcome_of answer)
     new.node (deed_joins setting stations k old in_world deed says) step.step)))
   where
     as_station : {failures : _} {turns : _} → NodeJoins setting.net old.number new.node

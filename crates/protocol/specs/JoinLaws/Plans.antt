@@ -15,7 +15,7 @@ use Rattle.protocol.specs.Join.Runs.{Leads, Carries, HasRun}
 use Rattle.protocol.specs.Join.Seen.{mode_seen, all_seen, node_seen, world_seen}
 use Rattle.protocol.specs.JoinLaws.Leading.{leads_here, leads_by, leads_on, acts, outlets_same, set_there, set_again}
 use Rattle.protocol.specs.JoinLaws.Leading.{set_itself, unseen}
-use Rattle.protocol.specs.Join.Line.{AreEither, LineStays}
+use Rattle.protocol.specs.World.RecoveryLine.{AreEither, AreInLine}
 use Rattle.protocol.specs.JoinLaws.Lines.{line_at_put}
 use Rattle.protocol.specs.JoinLaws.Sent.{carries_still, carries_all}
 use Rattle.protocol.specs.Node.Modes.{crashed, with_kept}
@@ -174,7 +174,7 @@ module _ (net : Network) (stations : List StationView) (k : ℕ) (old : StationV
 
   as_before : (after : List StationView) (records : List RecordView) → outlets_seen after ≡ outlets_seen stations
       → AreEither (records_of stations) (slice_set (records_of stations) k old.node.kept) records
-      → LineStays net stations after records
+      → AreInLine net stations after records
   as_before after records same left =
       line_at_put net stations run.sent run.reached k old old run.sent after records there refl
       (leads_here (net_seen net) (world_seen stations run.sent) _
@@ -184,7 +184,7 @@ module _ (net : Network) (stations : List StationView) (k : ℕ) (old : StationV
       → (after : List StationView) (records : List RecordView) → outlets_seen after ≡ outlets_seen stations
       → AreEither (records_of stations)
       (slice_set (records_of stations) k (next_record prospect old.node.kept)) records
-      → LineStays net stations after records
+      → AreInLine net stations after records
   prospect_line Undue by_steps after records same left = as_before after records same left
   prospect_line (Exhausted looks) by_steps after records same left = as_before after records same left
   prospect_line (Planned plan) by_steps after records same left =

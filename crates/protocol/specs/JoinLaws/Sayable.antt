@@ -20,20 +20,20 @@ use Rattle.record.specs.RecordView.{RecordView}
 use Rattle.recovery_line.proofs.Basics.{one_inside}
 use Rattle.recovery_line.specs.Nodes.{By_took}
 use Rattle.recovery_line.specs.Observers.{has_node, names}
-use Rattle.protocol.specs.Join.Answering.{AskAnswer, Silent, CoveredBefore, TookBefore, TakesNow, Declines, holds}
-use Rattle.protocol.specs.Join.Answering.{kept_then}
-use Rattle.protocol.specs.Join.Answering.{answer_to_ask, with_current_as, ask_prospect}
-use Rattle.protocol.specs.Join.Beginning.{live_in, collecting, live_asks, may_begin, beginning, begun, begin_prospect}
-use Rattle.protocol.specs.Join.Collecting.{TookAnswer, Ignores, Joins, GivesUp, answer_to_took}
-use Rattle.protocol.specs.Join.Collecting.{awaits, with_covered, hearing_covered, joining, joined_asks}
-use Rattle.protocol.specs.Join.Collecting.{joined_live, give_up_prospect, took_by, took_prospect, loses}
-use Rattle.protocol.specs.Join.Collecting.{refused_prospect, with_answer}
-use Rattle.protocol.specs.Join.Hearing.{hear_prospect}
+use Rattle.protocol.specs.Node.Answering.{AskAnswer, Silent, CoveredBefore, TookBefore, TakesNow, Declines, holds}
+use Rattle.protocol.specs.Node.Answering.{kept_then}
+use Rattle.protocol.specs.Node.Answering.{answer_to_ask, with_current_as, ask_prospect}
+use Rattle.protocol.specs.Node.Beginning.{live_in, collecting, live_asks, may_start, beginning, begun, start_prospect}
+use Rattle.protocol.specs.Node.Collecting.{TookAnswer, Ignores, Joins, GivesUp, answer_to_took}
+use Rattle.protocol.specs.Node.Collecting.{awaits, with_covered, hearing_covered, joining, joined_asks}
+use Rattle.protocol.specs.Node.Collecting.{joined_live, give_up_prospect, took_by, took_prospect, loses}
+use Rattle.protocol.specs.Node.Collecting.{refused_prospect, with_answer}
+use Rattle.protocol.specs.Node.Hearing.{hear_prospect}
 use Rattle.protocol.specs.Join.Joined.{IsOther, LiveIsSound, MayBeAskedFor, KeepsNodes}
-use Rattle.protocol.specs.Join.Verdicts.{is_ready, concluded, decided_now, commit_packets, conclude_prospect, mode_then}
-use Rattle.protocol.specs.Join.Verdicts.{after_verdict, settled_packets, commit_prospect, ended_prospect}
-use Rattle.protocol.specs.Join.Verdicts.{settled_prospect}
-use Rattle.protocol.specs.Join.Verdicts.{participants_of, verdict_packets}
+use Rattle.protocol.specs.Node.Verdicts.{may_decide, concluded, decided_now, commit_packets, decide_prospect, mode_then}
+use Rattle.protocol.specs.Node.Verdicts.{after_verdict, settled_packets, commit_prospect, ended_prospect}
+use Rattle.protocol.specs.Node.Verdicts.{settled_prospect}
+use Rattle.protocol.specs.Node.Verdicts.{participants_of, verdict_packets}
 use Rattle.protocol.specs.JoinLaws.Crossings.{both_true}
 use Rattle.protocol.specs.JoinLaws.Keeps.{takes_keeps, drops_keeps, settles_keeps, decides_keeps, confirms_keeps}
 use Rattle.protocol.specs.JoinLaws.Keeps.{begun_sound, covered_sound, joined_sound}
@@ -119,8 +119,8 @@ module _ (net : Network) (inputs : List (List ℤ)) (valid : IsValid net) (home 
   live_sendable None sound = nothing
   live_sendable (Some l) sound = asks_sendable net inputs valid home here l (sound l refl)
 
-  pub begins_says : ProspectSays net inputs home (begin_prospect net home old)
-  begins_says = by (may_begin old) (nat_lt (highest_seen home old.kept) MAX_COUNT) refl
+  pub begins_says : ProspectSays net inputs home (start_prospect net home old)
+  begins_says = by (may_start old) (nat_lt (highest_seen home old.kept) MAX_COUNT) refl
     where
       by : (due : Bool) → (less : Bool) → nat_lt (highest_seen home old.kept) MAX_COUNT ≡ less
           → ProspectSays net inputs home
@@ -161,8 +161,8 @@ module _ (net : Network) (inputs : List (List ℤ)) (valid : IsValid net) (home 
       (λ p has. (sound l refl).takers p
       (has_where_below (λ q. has_node q l.takers) p 0 (length old.kept.highest) has).0)
 
-  pub concludes_says : ProspectSays net inputs home (conclude_prospect home old)
-  concludes_says = by (is_ready home old.kept (live_in old.mode))
+  pub concludes_says : ProspectSays net inputs home (decide_prospect home old)
+  concludes_says = by (may_decide home old.kept (live_in old.mode))
     where
       by : (due : Bool) → ProspectSays net inputs home (if_due due (Planned (record {
         node = concluded old;

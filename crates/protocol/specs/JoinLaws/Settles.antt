@@ -17,12 +17,12 @@ use Rattle.recovery_line.specs.Packets.{Packet, Query, Commit, Ended, Settled, H
 use Rattle.recovery_line.specs.Packets.{after_verdict as verdict_mode}
 use Rattle.recovery_line.specs.Records.{Record}
 use Rattle.recovery_line.specs.Worlds.{World, InFlight}
-use Rattle.protocol.specs.Join.Answering.{holds}
-use Rattle.protocol.specs.Join.Beginning.{live_in}
-use Rattle.protocol.specs.Join.Collecting.{is_live}
+use Rattle.protocol.specs.Node.Answering.{holds}
+use Rattle.protocol.specs.Node.Beginning.{live_in}
+use Rattle.protocol.specs.Node.Collecting.{is_live}
 use Rattle.protocol.specs.Join.Runs.{Leads, WasSent}
 use Rattle.protocol.specs.Join.Seen.{live_seen, mode_seen, all_seen, world_seen}
-use Rattle.protocol.specs.Join.Verdicts.{commit_to, mode_then, after_verdict, settled_packets, verdict_packets}
+use Rattle.protocol.specs.Node.Verdicts.{commit_to, mode_then, after_verdict, settled_packets, verdict_packets}
 use Rattle.protocol.specs.JoinLaws.Holding.{at_most, IsHeld, held_where, named_so, not_held, up_seen}
 use Rattle.protocol.specs.JoinLaws.Leading.{leads_by, leads_on, hears, outlets_same, record_at, mode_at, set_there}
 use Rattle.protocol.specs.JoinLaws.Sent.{MaySendAll, sends}

@@ -26,18 +26,19 @@ use Rattle.record.specs.declared.record.Tentative.{Tentative}
 use Rattle.recovery_line.specs.Images.{IsCross}
 use Rattle.recovery_line.specs.Nodes.{Answer, Awaited, By_took, By_covered}
 use Rattle.recovery_line.specs.Observers.{decides, has_node}
-use Rattle.protocol.specs.Join.Answering.{AskAnswer, Silent, CoveredBefore, TookBefore, TakesNow, Declines}
-use Rattle.protocol.specs.Join.Answering.{answer_packets}
-use Rattle.protocol.specs.Join.Answering.{took_packet}
-use Rattle.protocol.specs.Join.Beginning.{if_awaited, ask_on, open_question, open_questions, live_asks}
-use Rattle.protocol.specs.Join.Collecting.{needs_no_question, with_need, new_ask, new_asks}
-use Rattle.protocol.specs.Join.Collecting.{is_live}
+use Rattle.protocol.specs.Node.Answering.{AskAnswer, Silent, CoveredBefore, TookBefore, TakesNow, Declines}
+use Rattle.protocol.specs.Node.Answering.{answer_packets}
+use Rattle.protocol.specs.Node.Answering.{took_packet}
+use Rattle.protocol.specs.Node.Beginning.{if_awaited, ask_on, open_question, open_questions, live_asks}
+use Rattle.protocol.specs.Node.Collecting.{needs_no_question, with_need, new_ask, new_asks}
+use Rattle.protocol.specs.Node.Collecting.{is_live}
 use Rattle.protocol.specs.Join.Joined.{IsOther, IsQuestion, LiveIsSound, MayBeAskedFor, DecisionIsSound}
 use Rattle.protocol.specs.Join.Joined.{KeepsNodes}
-use Rattle.protocol.specs.Join.Needs.{is_needed, need_on, needs_of, held_needs}
-use Rattle.protocol.specs.Join.Seen.{questions_seen, in_front}
-use Rattle.protocol.specs.Join.Telling.{decision_packets, packet_if, query_packets, verdicts_told}
-use Rattle.protocol.specs.Join.Verdicts.{commit_to, settled_packets, verdict_packets}
+use Rattle.protocol.specs.Node.Needs.{is_needed, need_on, needs_of, held_needs}
+use Rattle.protocol.specs.Join.Seen.{questions_seen}
+use Rattle.protocol.specs.Node.Beginning.{in_front}
+use Rattle.protocol.specs.Node.Telling.{decision_packets, packet_if, query_packets, verdicts_told}
+use Rattle.protocol.specs.Node.Verdicts.{commit_to, settled_packets, verdict_packets}
 use Rattle.protocol.specs.JoinLaws.Crossings.{both_true, true_both, channel_within, comes_cross, cross_goes, goes_cross}
 use Rattle.protocol.specs.JoinLaws.Crossings.{cross_within, producer_below, producer_is}
 use Rattle.protocol.specs.JoinLaws.NeedLaws.{needed_above}

@@ -17,11 +17,12 @@ use Rattle.recovery_line.specs.Observers.{image_seen, record_seen, tentative_see
 use Rattle.recovery_line.specs.Packets.{Packet}
 use Rattle.recovery_line.specs.Records.{Record}
 use Rattle.recovery_line.specs.Worlds.{World, IsLive, MaySend, Reachable}
-use Rattle.protocol.specs.Join.Beginning.{live_in, live_begun, if_awaited, ask_on, open_question, open_questions}
-use Rattle.protocol.specs.Join.Beginning.{live_asks}
-use Rattle.protocol.specs.Join.Beginning.{may_begin, beginning, begun}
+use Rattle.protocol.specs.Node.Beginning.{live_in, live_begun, if_awaited, ask_on, open_question, open_questions}
+use Rattle.protocol.specs.Node.Beginning.{live_asks}
+use Rattle.protocol.specs.Node.Beginning.{may_start, beginning, begun}
 use Rattle.protocol.specs.Join.Runs.{Leads}
-use Rattle.protocol.specs.Join.Seen.{questions_seen, live_seen, mode_seen, in_front, all_seen, world_seen}
+use Rattle.protocol.specs.Join.Seen.{questions_seen, live_seen, mode_seen, all_seen, world_seen}
+use Rattle.protocol.specs.Node.Beginning.{in_front}
 use Rattle.protocol.specs.JoinLaws.Crossings.{both_true}
 use Rattle.protocol.specs.JoinLaws.Leading.{leads_by, leads_on, acts, outlets_same, record_at, mode_at, set_there}
 use Rattle.protocol.specs.JoinLaws.NeedLaws.{asks_needs}
@@ -112,7 +113,7 @@ module _ (net : Network) (home : ℕ) (w : World) (live : LiveView) (is : IsLive
 
 module _ (net : Network) (valid : IsValid net) (stations : List StationView) (k : ℕ) (old : StationView)
     (there : slice_get stations k ≡ Some old) (sent : List Packet)
-    (reached : Reachable (net_seen net) (world_seen stations sent)) (may : may_begin old.node ≡ true)
+    (reached : Reachable (net_seen net) (world_seen stations sent)) (may : may_start old.node ≡ true)
     (listed : k < length old.node.kept.highest) where
   runs : is_running old.node.mode ≡ true
   runs = (both_true (is_running old.node.mode)

@@ -10,13 +10,13 @@ use Rattle.std.proofs.Math.Logic.{∥∥₁_elim, ∥∥₁_map, ∥∥₁_map�
 use Rattle.kahn_net.specs.Nodes.{node_count}
 use Rattle.wire.specs.Queue.{is_due}
 use Rattle.wire.specs.declared.queue.Flight.{Flight}
-use Rattle.protocol.specs.Join.Deeds.{come_plan, deed_plan}
+use Rattle.protocol.specs.World.Steps.{deliver_plan, plan_of}
 use Rattle.protocol.specs.Join.Promises.{StandsIn, OpeningHasRun, DeedsRun, DeedsKeepTheLine, InstallsRun, ReleasesRun}
 use Rattle.protocol.specs.Join.Promises.{NetworkRuns, LinesAreSound, ReleasesKeepTheLine}
 use Rattle.protocol.specs.Join.Runs.{HasRun}
-use Rattle.protocol.specs.Join.Beginning.{begin_prospect}
-use Rattle.protocol.specs.Join.Telling.{turn_prospect}
-use Rattle.protocol.specs.Join.Verdicts.{conclude_prospect}
+use Rattle.protocol.specs.Node.Beginning.{start_prospect}
+use Rattle.protocol.specs.Node.Telling.{send_prospect}
+use Rattle.protocol.specs.Node.Verdicts.{decide_prospect}
 use Rattle.protocol.specs.JoinLaws.Deeds.{same_leads, grant_leads, starts_lead, concludes_lead}
 use Rattle.protocol.specs.JoinLaws.Events.{planned_run, come_leads, install_run, release_run, release_steps}
 use Rattle.protocol.specs.JoinLaws.Events.{release_puts_none}
@@ -121,27 +121,27 @@ module _ (setting : Setting) (stations : List StationView) (k : ℕ) (old : Stat
 
     came : (place : ℕ) (o : Option (List ℕ)) → due_bytes setting.round (flight_at setting k place) ≡ o
         → SpelledBytes setting k o
-        → ProspectLeads setting.net stations k old run.sent (come_plan setting.net place o old).prospect
+        → ProspectLeads setting.net stations k old run.sent (deliver_plan setting.net place o old).prospect
     came place None is says = tt
     came place (Some bytes) is says =
         come_leads setting.net stations k old in_world.there setting.traffic in_world.valid in_world.number
         in_world.joined setting.inputs run place bytes (due_are setting.round (flight_at setting k place) bytes is) says
 
     deed_leads : (deed : Deed) → Spelled setting k deed
-        → ProspectLeads setting.net stations k old run.sent (deed_plan setting k deed old).prospect
+        → ProspectLeads setting.net stations k old run.sent (plan_of setting k deed old).prospect
     deed_leads (event.Deliver place) says =
         came place (due_bytes setting.round (flight_at setting k place)) refl says
     deed_leads event.Grant says =
         grant_leads setting.net stations k old in_world.there run.sent (node_job setting.net setting.inputs old.node)
     deed_leads event.Send says =
-        as_numbered (λ (n : ℕ). turn_prospect setting.net n old.node)
+        as_numbered (λ (n : ℕ). send_prospect setting.net n old.node)
         (turn_leads setting.net in_world.valid stations k old in_world.there run.sent incoming)
     deed_leads event.Start says =
-        as_numbered (λ (n : ℕ). begin_prospect setting.net n old.node)
+        as_numbered (λ (n : ℕ). start_prospect setting.net n old.node)
         (starts_lead setting.net stations k old in_world.there run.sent run.reached in_world.count in_world.joined
         in_world.valid)
     deed_leads event.Decide says =
-        as_numbered (λ (n : ℕ). conclude_prospect n old.node)
+        as_numbered (λ (n : ℕ). decide_prospect n old.node)
         (concludes_lead setting.net stations k old in_world.there run.sent run.reached in_world.count in_world.joined)
     deed_leads (event.Crash fill rounds) says =
         where_due setting.restarts (crash_prospect (round_later setting.round rounds) old.node)
@@ -157,14 +157,14 @@ pub deeds_run : DeedsRun
 deeds_run setting stations k old new deed fits answer in_world step known =
     ∥∥₁_map₂ known (all_spelled setting stations k old in_world deed)
     (λ run says. planned_run setting.net stations k old in_world.there setting.traffic run fits setting.round
-    (deed_plan setting k deed old) answer new (deed_leads setting stations k old in_world run deed says) step)
+    (plan_of setting k deed old) answer new (deed_leads setting stations k old in_world run deed says) step)
 
 pub deeds_keep_the_line : DeedsKeepTheLine
 deeds_keep_the_line setting stations k old new deed records in_world same left known =
     ∥∥₁_elim
     (∥∥₁_map₂ known (all_spelled setting stations k old in_world deed)
     (λ run says. prospect_line setting.net stations k old in_world.there setting.traffic run
-    (deed_plan setting k deed old).prospect (deed_leads setting stations k old in_world run deed says)
+    (plan_of setting k deed old).prospect (deed_leads setting stations k old in_world run deed says)
     (slice_set stations k new) records (outlets_same stations k old new in_world.there same) left))
     (hlevel (le_prop)) (λ line. line)
 

@@ -1,7 +1,7 @@
 use Rattle.std.proofs.Common.{List, Option, Some, sym, ap, ◌∙◌, arith}
 use Rattle.std.specs.Prelude.{slice_get}
 use Rattle.std.proofs.lemmas.Option.{slice_get-get_or}
-use Rattle.protocol.specs.Join.Collecting.{with_answer}
+use Rattle.protocol.specs.Node.Collecting.{with_answer}
 use Rattle.protocol.specs.Node.LiveView.{LiveView, QuestionView}
 use Rattle.decide_core.proofs.initiator.Initiator.note.Goals as goal
 use Rattle.decide_core.specs.InitiatorView.{answer_view}

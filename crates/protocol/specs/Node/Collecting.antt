@@ -11,9 +11,8 @@ use Rattle.record.specs.RecordView.{RecordView}
 use Rattle.record.specs.declared.record.Tentative.{Tentative}
 use Rattle.recovery_line.specs.Nodes.{Answer, Awaited, By_took, By_covered}
 use Rattle.recovery_line.specs.Observers.{has_node}
-use Rattle.protocol.specs.Join.Answering.{holds}
-use Rattle.protocol.specs.Join.Beginning.{ask_on, collecting, live_in}
-use Rattle.protocol.specs.Join.Seen.{in_front}
+use Rattle.protocol.specs.Node.Answering.{holds}
+use Rattle.protocol.specs.Node.Beginning.{ask_on, collecting, in_front, live_in}
 use Rattle.protocol.specs.Node.Addresses.{producer_node}
 use Rattle.protocol.specs.Node.LiveView.{QuestionView, LiveView}
 use Rattle.protocol.specs.Node.Modes.{with_kept}

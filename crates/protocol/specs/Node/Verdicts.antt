@@ -8,9 +8,9 @@ use Rattle.datagram.specs.declared.packet.Packet.{Packet}
 use Rattle.record.specs.Moves.{highest_seen, with_decision, with_permanent, without_tentative, with_confirmed}
 use Rattle.record.specs.RecordView.{RecordView}
 use Rattle.recovery_line.specs.Observers.{decides, has_node, names}
-use Rattle.protocol.specs.Join.Answering.{holds}
-use Rattle.protocol.specs.Join.Beginning.{collecting, live_in}
-use Rattle.protocol.specs.Join.Collecting.{is_live, is_open}
+use Rattle.protocol.specs.Node.Answering.{holds}
+use Rattle.protocol.specs.Node.Beginning.{collecting, live_in}
+use Rattle.protocol.specs.Node.Collecting.{is_live, is_open}
 use Rattle.protocol.specs.Node.Layout.{numbers_where}
 use Rattle.protocol.specs.Node.LiveView.{QuestionView, LiveView}
 use Rattle.protocol.specs.Node.Modes.{with_kept}
@@ -24,9 +24,9 @@ abbrev pub all_answered : List (Option QuestionView) → Bool
 all_answered questions = list_all (λ (question : Option QuestionView). not (is_open question)) questions
 
 -- a node may decide: it holds the image of the checkpoint for which it collects answers, and none is missing
-abbrev pub is_ready : ℕ → RecordView → Option LiveView → Bool
-is_ready home kept None = false
-is_ready home kept (Some live) = holds home live.number kept.tentative && all_answered live.questions
+abbrev pub may_decide : ℕ → RecordView → Option LiveView → Bool
+may_decide home kept None = false
+may_decide home kept (Some live) = holds home live.number kept.tentative && all_answered live.questions
 
 -- who took part, of so many nodes, ascending
 abbrev pub participants_of : ℕ → List ℕ → List ℕ
@@ -51,9 +51,9 @@ commit_packets home nodes None = []
 commit_packets home nodes (Some live) = map (commit_to home live.number) (participants_of nodes live.takers)
 
 -- whom it names is told
-abbrev pub conclude_prospect : ℕ → NodeView → Prospect
-conclude_prospect home node =
-    if_due (is_ready home node.kept (live_in node.mode))
+abbrev pub decide_prospect : ℕ → NodeView → Prospect
+decide_prospect home node =
+    if_due (may_decide home node.kept (live_in node.mode))
     (Planned (record {
       node = concluded node;
       puts = true;

@@ -10,8 +10,8 @@ use Rattle.record.specs.Ends.{received_of}
 use Rattle.record.specs.ImageView.{ImageView}
 use Rattle.record.specs.RecordView.{RecordView}
 use Rattle.record.specs.declared.record.Tentative.{Tentative}
-use Rattle.protocol.specs.Join.Beginning.{live_asks}
-use Rattle.protocol.specs.Join.Verdicts.{commit_to}
+use Rattle.protocol.specs.Node.Beginning.{live_asks}
+use Rattle.protocol.specs.Node.Verdicts.{commit_to}
 use Rattle.protocol.specs.Node.Addresses.{producer_node}
 use Rattle.protocol.specs.Node.Layout.{incoming_on}
 use Rattle.protocol.specs.Node.Modes.{is_none, is_down}
@@ -56,6 +56,6 @@ turn_packets net home kept (Runs running) =
     ++ (if is_none kept.tentative then flat_map (outbox_packets net home running.current) running.outboxes else [])))
 
 -- a node that is up sends that
-abbrev pub turn_prospect : Network → ℕ → NodeView → Prospect
-turn_prospect net home node =
+abbrev pub send_prospect : Network → ℕ → NodeView → Prospect
+send_prospect net home node =
     if_due (not (is_down node.mode)) (telling (turn_packets net home node.kept node.mode) node)

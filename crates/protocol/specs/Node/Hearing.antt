@@ -5,9 +5,9 @@ use Rattle.datagram.specs.declared.packet.Body.TheVariants.{Data, Ack, Kept, Ask
 use Rattle.datagram.specs.declared.packet.Body.TheVariants.{Ended, Settled, Undone}
 use Rattle.datagram.specs.declared.packet.Packet.{Packet}
 use Rattle.kahn_net.specs.Syntax.{Network}
-use Rattle.protocol.specs.Join.Answering.{ask_prospect}
-use Rattle.protocol.specs.Join.Collecting.{hearing_covered, took_prospect, refused_prospect}
-use Rattle.protocol.specs.Join.Verdicts.{commit_prospect, ended_prospect, query_prospect, settled_prospect}
+use Rattle.protocol.specs.Node.Answering.{ask_prospect}
+use Rattle.protocol.specs.Node.Collecting.{hearing_covered, took_prospect, refused_prospect}
+use Rattle.protocol.specs.Node.Verdicts.{commit_prospect, ended_prospect, query_prospect, settled_prospect}
 use Rattle.protocol.specs.Node.Delivering.{hearing}
 use Rattle.protocol.specs.Node.Modes.{is_down}
 use Rattle.protocol.specs.Node.NodeView.{NodeView, RunningView, on_running}
@@ -40,5 +40,5 @@ abbrev pub told_prospect : Network → ℕ → Option Packet → NodeView → Pr
 told_prospect net home None node = becoming node
 told_prospect net home (Some packet) node = hear_prospect net home packet.from packet.body node
 
-abbrev pub come_prospect : Network → ℕ → Option Packet → NodeView → Prospect
-come_prospect net home packet node = if_due (not (is_down node.mode)) (told_prospect net home packet node)
+abbrev pub deliver_prospect : Network → ℕ → Option Packet → NodeView → Prospect
+deliver_prospect net home packet node = if_due (not (is_down node.mode)) (told_prospect net home packet node)

@@ -11,7 +11,7 @@ use Rattle.record.specs.Ends.{sent_of}
 use Rattle.record.specs.Moves.{highest_seen, with_tentative}
 use Rattle.record.specs.RecordView.{RecordView}
 use Rattle.record.specs.declared.record.Tentative.{Tentative}
-use Rattle.protocol.specs.Join.Needs.{held_needs}
+use Rattle.protocol.specs.Node.Needs.{held_needs}
 use Rattle.protocol.specs.Node.Modes.{with_kept}
 use Rattle.protocol.specs.Node.NodeView.{NodeView, ModeView, Down, InDoubt, Runs}
 use Rattle.protocol.specs.Node.Plans.{Prospect, Planned}

@@ -9,8 +9,7 @@ use Rattle.record.specs.Moves.{highest_seen}
 use Rattle.record.specs.RecordView.{RecordView}
 use Rattle.record.specs.declared.record.TheConstants.{MAX_DECISIONS}
 use Rattle.recovery_line.specs.Nodes.{Answer, Awaited, By_took, By_covered}
-use Rattle.protocol.specs.Join.Needs.{questions_of}
-use Rattle.protocol.specs.Join.Seen.{in_front}
+use Rattle.protocol.specs.Node.Needs.{questions_of}
 use Rattle.protocol.specs.Node.Addresses.{producer_node}
 use Rattle.protocol.specs.Node.LiveView.{QuestionView, LiveView}
 use Rattle.protocol.specs.Node.Modes.{is_none, is_running, with_kept}
@@ -39,6 +38,11 @@ live_begun net home kept image =
 
 -- ---- unanswered questions
 
+-- a packet, if there is one, in front of others
+abbrev pub in_front : {A : Type 0} → Option A → List A → List A
+in_front None others = others
+in_front (Some packet) others = packet ∷ others
+
 abbrev pub if_awaited : Answer → Packet → Option Packet
 if_awaited Awaited packet = Some packet
 if_awaited By_took packet = None
@@ -66,8 +70,8 @@ live_asks net home (Some live) = open_questions net home live.number 0 live.ques
 -- ---- the event
 
 -- it runs, holds no tentative image, and fewer decisions of its own are unsettled than a record has room for
-abbrev pub may_begin : NodeView → Bool
-may_begin node =
+abbrev pub may_start : NodeView → Bool
+may_start node =
     is_running node.mode && (is_none node.kept.tentative && nat_lt (length node.kept.decisions) MAX_DECISIONS)
 
 abbrev pub beginning : Network → ℕ → RecordView → RunningView → RunningView
@@ -78,9 +82,9 @@ abbrev pub begun : Network → ℕ → NodeView → NodeView
 begun net home node = with_kept (with_own_now home node) (on_running (beginning net home node.kept) node)
 
 -- it puts the tentative image, and asks
-abbrev pub begin_prospect : Network → ℕ → NodeView → Prospect
-begin_prospect net home node =
-    if_due (may_begin node)
+abbrev pub start_prospect : Network → ℕ → NodeView → Prospect
+start_prospect net home node =
+    if_due (may_start node)
     (unless_spent false (nat_lt (highest_seen home node.kept) MAX_COUNT)
     (Planned (record {
       node = begun net home node;
