@@ -10,6 +10,7 @@ use Rattle.record.specs.Ends.{received_of}
 use Rattle.record.specs.ImageView.{ImageView}
 use Rattle.record.specs.RecordView.{RecordView}
 use Rattle.record.specs.declared.record.Tentative.{Tentative}
+use Rattle.record.specs.declared.record.TheConstants.{MAX_DECISIONS}
 use Rattle.recovery_line.specs.Nodes.{Answer}
 use Rattle.recovery_line.specs.Observers.{has_node}
 use Rattle.protocol.specs.Node.Beginning.{live_in}
@@ -53,11 +54,14 @@ pub record DecisionIsSound (net : Network) (home : ℕ) (decision : DecisionView
   pub number : IsPositive decision.number
   pub others : (p : ℕ) → has_node p decision.participants ≡ true → IsOther net home p
 
--- A record lists a number for each node of the network; and what it holds and what it decided may be said.
+-- A record lists a number for each node of the network; what it holds and what it decided may be said; and while an
+-- image of the node's own is held there is room for one decision more.
 pub record KeepsNodes (net : Network) (home : ℕ) (kept : RecordView) : Type 0 where
   pub listed : length kept.highest ≡ node_count net
   pub held : (held : Tentative) → kept.tentative ≡ Some held → HeldIsSound net home held
   pub decisions : (i : ℕ) (d : DecisionView) → slice_get kept.decisions i ≡ Some d → DecisionIsSound net home d
+  pub room : (held : Tentative) → kept.tentative ≡ Some held → held.initiator ≡ home
+      → length kept.decisions < MAX_DECISIONS
 
 -- So it is of a station's record, and of what its node collects; and no node is in doubt: nodes come back in a world of
 -- one alone so far, and that one holds no image but its own.
