@@ -6,7 +6,7 @@ ghost use Rattle.protocol.specs.Node.Delivering.{acknowledged, changed_at, deliv
 ghost use Rattle.protocol.specs.Node.Modes.{is_down};
 ghost use Rattle.record.specs.RecordView.{RecordView};
 
-use crate::addresses::names_right;
+use layout::names_right;
 use crate::popping::take_next;
 use crate::state::NodeState;
 use datagram::{Packet, PacketFault, read_packet};

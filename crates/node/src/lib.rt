@@ -3,7 +3,6 @@
 //! A node that is down has no more than what its store's cell holds; recovered, it runs from its permanent image.
 #![tactic(auto)]
 
-mod addresses;
 mod checkpoint;
 mod choosing;
 mod delivering;
@@ -11,7 +10,6 @@ mod granting;
 mod installing;
 mod mode;
 mod node;
-mod nodes;
 mod opening;
 mod popping;
 mod preparing;
@@ -25,7 +23,7 @@ mod state;
 
 pub use mode::Mode;
 pub use node::Node;
-pub use nodes::{is_here, node_count};
+pub use layout::{is_here, node_count};
 pub use opening::opening_record;
 pub use protocol::{ArmedRestart, Delivery, MAX_JOB_ITEMS, Outcome, Refusal};
 pub use restart::round_later;

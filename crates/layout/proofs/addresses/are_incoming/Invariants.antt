@@ -3,7 +3,7 @@ use Rattle.std.specs.List.{list_all}
 use Rattle.datagram.specs.declared.packet.Need.{Need}
 use Rattle.kahn_net.specs.Syntax.{network_of}
 use Rattle.protocol.specs.Node.Layout.{is_incoming}
-use Rattle.node.proofs.addresses.are_incoming.Given as goal
+use Rattle.layout.proofs.addresses.are_incoming.Given as goal
 
 abbrev pub invariant-loop-need : goal.invariant-loop-need
 invariant-loop-need l =

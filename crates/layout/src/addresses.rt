@@ -76,7 +76,7 @@ fn names_run(net: &Net, from: u8, to: u8, body: &Body) -> bool
 }
 
 /// Whether a packet names two nodes of the network, and channels that run as it claims.
-pub(crate) fn names_right(net: &Net, packet: &Packet) -> bool
+pub fn names_right(net: &Net, packet: &Packet) -> bool
     ensures { result ≡ names_right (network_of net.now.program) packet.now }
 {
     names_run(net, packet.from, packet.to, &packet.body)

@@ -46,7 +46,7 @@ fn is_away(net: &Net, home: u8, port: Port) -> bool
 }
 
 /// Whether a channel comes to the node from another one.
-pub(crate) fn is_incoming(net: &Net, home: u8, channel: usize) -> bool
+pub fn is_incoming(net: &Net, home: u8, channel: usize) -> bool
     ensures { result ≡ is_incoming (network_of net.now.program) home channel }
 {
     match net.program.channels.get(channel) {
@@ -56,7 +56,7 @@ pub(crate) fn is_incoming(net: &Net, home: u8, channel: usize) -> bool
 }
 
 /// Whether a channel goes from the node to another one.
-pub(crate) fn is_outgoing(net: &Net, home: u8, channel: usize) -> bool
+pub fn is_outgoing(net: &Net, home: u8, channel: usize) -> bool
     ensures { result ≡ is_outgoing (network_of net.now.program) home channel }
 {
     match net.program.channels.get(channel) {
