@@ -1,14 +1,12 @@
 //! What a node says of checkpoints in which it takes part.
-ghost use Rattle.std.specs.Prelude.{◌≡◌, ◌++◌, ◌∷◌, [], ◌<◌, length, IfOk, Some, option_copied};
+ghost use Rattle.std.specs.Prelude.{◌≡◌, ℕ, ◌++◌, ◌∷◌, [], ◌<◌, length, IfOk, Some, option_copied};
 ghost use Rattle.kahn_net.specs.Syntax.{network_of};
-ghost use Rattle.protocol.specs.Node.Answering.{answer_packets, kept_then};
+ghost use Rattle.protocol.specs.Node.Answering.{answer_packets, kept_then, with_current_as};
 ghost use Rattle.protocol.specs.Node.Beginning.{in_front};
 ghost use Rattle.protocol.specs.Node.Needs.{held_needs, is_needed, need_on, needs_of};
 ghost use Rattle.protocol.specs.Node.Telling.{query_packets};
 ghost use Rattle.protocol.specs.Node.Verdicts.{settled_packets};
 ghost use Rattle.record.specs.Moves.{highest_seen};
-ghost use Rattle.record.specs.RecordView.{RecordView};
-ghost use Rattle.record.specs.declared.record.Tentative.{Tentative as TentativeView};
 ghost use Rattle.ckpt_core.specs.AskView.{answer_view, mode_with};
 ghost use Rattle.kahn_net.specs.declared.limits.TheConstants.{MAX_CHANNELS};
 
@@ -60,32 +58,35 @@ pub fn needs_of(
     Ok(needs)
 }
 
-// That a node took part with this image, as the initiator is told.
-fn took(
-    alloc: Global,
-    net: &Net,
-    home: u8,
-    permanent: &Image,
-    image: &Image,
-    question: Question,
-) -> Result<Packet, AllocError>
-    ensures { IfOk result (λ packet. packet ≡ record {
+// That a node took part with an image of these needs, as the initiator is told.
+fn took(home: u8, question: Question, needs: Needs) -> Packet
+    ensures { result ≡ record {
       from = home;
       to = question.initiator;
-      body = Body.Took question.number question.channel question.count
-          (needs_of (network_of net.now.program) home permanent.now image.now);
-    }) }
+      body = Body.Took question.number question.channel question.count needs;
+    } }
 {
-    Ok(Packet {
+    Packet {
         from: home,
         to: question.initiator,
         body: Body::Took {
             number: question.number,
             channel: u16::from(question.channel),
             count: question.count,
-            needs: needs_of(alloc, net, home, permanent, image)?,
+            needs,
         },
-    })
+    }
+}
+
+// What the image that is held needs of other nodes: nothing where none is held.
+fn held_needs(alloc: Global, net: &Net, home: u8, kept: &Record) -> Result<Needs, AllocError>
+    ensures { IfOk result (λ needs. needs ≡ held_needs (network_of net.now.program) home
+        kept.now.permanent kept.now.tentative) }
+{
+    match &kept.tentative {
+        Some(held) => needs_of(alloc, net, home, &kept.permanent, &held.image),
+        None => Ok(Needs::new(alloc)),
+    }
 }
 
 /// That a node takes no part, as the initiator is told.
@@ -126,21 +127,21 @@ fn covered(home: u8, question: Question) -> Packet
     }
 }
 
-// That the node took part before, with the image that it holds.
-fn took_before(
+// What the image would need of other nodes that a node takes now: the one that is held where it is in doubt.
+fn needs_now(
     alloc: Global,
     net: &Net,
     home: u8,
     kept: &Record,
-    question: Question,
-) -> Result<Option<Packet>, AllocError>
-    ensures { IfOk result (λ packet. in_front packet [] ≡ answer_packets (network_of net.now.program)
-        home question.initiator question.number question.channel question.count kept.now
-        (answer_view AskAnswer.TookBefore)) }
+    current: Option<&Image>,
+) -> Result<Needs, AllocError>
+    ensures { (x n : ℕ) → IfOk result (λ needs. needs ≡ held_needs (network_of net.now.program) home
+        (with_current_as x n (mode_with (option_copied current.entry)) kept.now).permanent
+        (with_current_as x n (mode_with (option_copied current.entry)) kept.now).tentative) }
 {
-    match &kept.tentative {
-        Some(held) => Ok(Some(took(alloc, net, home, &kept.permanent, &held.image, question)?)),
-        None => Ok(None),
+    match current {
+        Some(image) => needs_of(alloc, net, home, &kept.permanent, image),
+        None => held_needs(alloc, net, home, kept),
     }
 }
 
@@ -163,11 +164,14 @@ pub fn say_answer(
     match answer {
         AskAnswer::Silent => Ok(None),
         AskAnswer::CoveredBefore => Ok(Some(covered(home, question))),
-        AskAnswer::TookBefore => took_before(alloc, net, home, kept, question),
-        AskAnswer::TakesNow => match current {
-            Some(image) => Ok(Some(took(alloc, net, home, &kept.permanent, image, question)?)),
-            None => took_before(alloc, net, home, kept, question),
-        },
+        AskAnswer::TookBefore => {
+            let needs = held_needs(alloc, net, home, kept)?;
+            Ok(Some(took(home, question, needs)))
+        }
+        AskAnswer::TakesNow => {
+            let needs = needs_now(alloc, net, home, kept, current)?;
+            Ok(Some(took(home, question, needs)))
+        }
         AskAnswer::Declines(reason) => Ok(Some(refusal(home, question, reason))),
     }
 }

@@ -7,7 +7,7 @@ ghost use Rattle.protocol.specs.Node.Beginning.{in_front};
 ghost use Rattle.protocol.specs.Node.Collecting.{answer_to_took, are_met, is_live, is_met};
 ghost use Rattle.protocol.specs.Node.Verdicts.{may_decide, verdict_packets};
 ghost use Rattle.record.specs.Moves.{highest_seen};
-ghost use Rattle.recovery_line.specs.Observers.{decides};
+ghost use Rattle.recovery_line.specs.Observers.{decides, has_node, names};
 ghost use Rattle.decide_core.specs.InitiatorView.{took_view};
 ghost use Rattle.kahn_net.specs.declared.limits.TheConstants.{MAX_CHANNELS};
 
@@ -118,6 +118,30 @@ fn decides(decisions: &[Decision], number: u64) -> bool
 {
     for decision in decisions {
         if decision.number == number {
+            return true;
+        }
+    }
+    false
+}
+
+// Whether a node stands in a list.
+pub(crate) fn has_node(node: u8, nodes: &[u8]) -> bool
+    ensures { result ≡ has_node node nodes.now }
+{
+    for other in nodes {
+        if *other == node {
+            return true;
+        }
+    }
+    false
+}
+
+/// Whether a decision of this number names a node.
+pub fn names(decisions: &[Decision], number: u64, node: u8) -> bool
+    ensures { result ≡ names decisions.now number node }
+{
+    for decision in decisions {
+        if decision.number == number && has_node(node, decision.participants.as_slice()) {
             return true;
         }
     }

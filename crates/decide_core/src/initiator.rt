@@ -6,10 +6,10 @@ ghost use Rattle.protocol.specs.Node.Collecting.{answered_by, is_open, is_open_a
 ghost use Rattle.protocol.specs.Node.Needs.{question_on, questions_of};
 ghost use Rattle.protocol.specs.Node.Verdicts.{all_answered, commit_packets, commit_to, participants_of};
 ghost use Rattle.record.specs.Moves.{highest_seen};
-ghost use Rattle.recovery_line.specs.Observers.{has_node};
 ghost use Rattle.decide_core.specs.InitiatorView.{answer_view, question_view};
 ghost use Rattle.kahn_net.specs.declared.limits.TheConstants.{MAX_CHANNELS, MAX_COUNT};
 
+use crate::hearing::has_node;
 use datagram::{Body, Need, Packet};
 use layout::{is_incoming, producer_node};
 use net_check::Net;
@@ -46,7 +46,8 @@ pub struct Initiator {
 impl Model for Initiator {
     ghost use Rattle.protocol.specs.Node.LiveView.{LiveView};
     ghost use Rattle.decide_core.specs.InitiatorView.{question_view};
-    ghost use Rattle.std.specs.Prelude.{map};
+    ghost use Rattle.kahn_net.specs.declared.limits.TheConstants.{MAX_CHANNELS};
+    ghost use Rattle.std.specs.Prelude.{◌≤◌, length, map};
 
     ghost Value = { LiveView };
 
@@ -55,6 +56,8 @@ impl Model for Initiator {
       questions = map question_view initiator.questions.items;
       takers = initiator.takers.items;
     } };
+
+    ghost invariant = { λ initiator. length initiator.questions.items ≤ MAX_CHANNELS };
 }
 
 // ---- questions
@@ -265,18 +268,6 @@ fn add_new_asks(
 
 // ---- who takes part
 
-// Whether a node stands in a list.
-fn has_node(node: u8, nodes: &[u8]) -> bool
-    ensures { result ≡ has_node node nodes.now }
-{
-    for other in nodes {
-        if *other == node {
-            return true;
-        }
-    }
-    false
-}
-
 // Notes who took part, behind those that took part before, unless it is one of them.
 fn note_taker(node: u8, takers: &mut Vec<u8>) -> Result<(), AllocError>
     ensures ok { OnOk result (takers.new.items ≡ with_taker node takers.old.items) }
@@ -346,7 +337,6 @@ impl Initiator {
         net: &Net,
         home: u8,
     ) -> Result<(), AllocError>
-        requires { length self.now.questions ≤ MAX_CHANNELS }
         ensures { OnOk result (packets.new.items ≡ packets.old.items
             ++ live_asks (network_of net.now.program) home (Some self.now)) }
     {

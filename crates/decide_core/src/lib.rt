@@ -5,5 +5,5 @@
 mod hearing;
 mod initiator;
 
-pub use hearing::{TookAnswer, answer_to_took, loses, may_decide, verdict_of};
+pub use hearing::{TookAnswer, answer_to_took, loses, may_decide, names, verdict_of};
 pub use initiator::{Answer, Asked, Initiator, commit_to};

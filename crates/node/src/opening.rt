@@ -180,6 +180,7 @@ pub(crate) fn open_state(
             last: None,
             inboxes: open_inboxes(alloc, net, number)?,
             outboxes: open_outboxes(alloc, net, number)?,
+            live: None,
         }),
         version: 0,
         restart: 0,
