@@ -266,6 +266,24 @@ fn add_new_asks(
     Ok(())
 }
 
+// Adds the questions that needs make, and notes each, behind the answer that a node took part of which a channel was asked.
+fn add_asks_behind(
+    packets: &mut Vec<Packet>,
+    net: &Net,
+    home: u8,
+    number: u64,
+    channel: u16,
+    needs: &[Need],
+    questions: &mut [Option<Asked>],
+) -> Result<(), AllocError>
+    ensures { OnOk result (packets.new.items ≡ packets.old.items
+        ++ new_asks (network_of net.now.program) home number needs.now
+        (with_answer (answer_view Answer.ByTook) channel (map question_view questions.old))) }
+{
+    note(questions, usize::from(channel), Answer::ByTook);
+    add_new_asks(packets, net, home, number, needs, questions)
+}
+
 // ---- who takes part
 
 // Notes who took part, behind those that took part before, unless it is one of them.
@@ -390,8 +408,8 @@ impl Initiator {
     {
         // What a need makes depends on what the needs before it made.
         let mut questions = self.questions.clone()?;
-        note(questions.as_mut_slice(), usize::from(channel), Answer::ByTook);
-        add_new_asks(packets, net, home, self.number, needs, questions.as_mut_slice())
+        let questions = questions.as_mut_slice();
+        add_asks_behind(packets, net, home, self.number, channel, needs, questions)
     }
 
     /// A node took part of which this channel was asked, and has these needs. Refuses for want of memory alone, and then

@@ -3,8 +3,9 @@ mod Opened
 mod Raising
 mod Checkpoints
 mod Recoveries
+mod Puts
 mod Starts
-mod Walking
+mod Verdicts
 mod Handing
 mod Slices
 mod Dues

@@ -348,7 +348,7 @@ fn run_image(alloc: Global, state: &NodeState, image: &Image) -> Result<Option<I
 
 // The image that is held, of this initiator's checkpoint of this number.
 fn held_image(kept: &Record, initiator: u8, number: u64) -> Option<&Image>
-    ensures { option_copied result.entry ≡ held_image initiator number kept.now.tentative }
+    ensures { option_copied result ≡ held_image initiator number kept.now.tentative }
 {
     match &kept.tentative {
         Some(held) if held.initiator == initiator && held.number == number => Some(&held.image),

@@ -1,5 +1,5 @@
 //! What a node has beside its record.
-ghost use Rattle.std.specs.Prelude.{◌≡◌, ◌⊎◌, ◌+◌, ℤ, List, length, IfOk, IsErrOf, OnErr, OnOk, Some, is_some, option_copied};
+ghost use Rattle.std.specs.Prelude.{◌≡◌, ◌⊎◌, ◌+◌, ℤ, List, length, IfOk, IsErrOf, OnErr, OnOk, Some, is_some, option_copied, option_map};
 ghost use Rattle.kahn_net.specs.Streams.{IsPrefix};
 ghost use Rattle.kahn_net.specs.Syntax.{network_of};
 ghost use Rattle.kahn_net.specs.States.{standing_of};
@@ -87,7 +87,7 @@ impl NodeState {
 
     /// The checkpoint for which answers are collected, if there is one.
     pub fn live(&self) -> Option<&Initiator>
-        ensures { option_copied result.entry ≡ live_in (mode_view self.now.mode) }
+        ensures { option_copied result ≡ live_in (mode_view self.now.mode) }
     {
         match &self.mode {
             Mode::Running(running) => running.live.as_ref(),
@@ -97,7 +97,7 @@ impl NodeState {
 
     /// Where its processes and channels stand now, if it runs.
     pub fn current(&self) -> Option<&Image>
-        ensures { option_copied result.entry ≡ current_in (mode_view self.now.mode) }
+        ensures { option_copied result ≡ current_in (mode_view self.now.mode) }
     {
         match &self.mode {
             Mode::Running(running) => Some(&running.current),
