@@ -1,5 +1,5 @@
 -- What is promised of checkpoints that several nodes take together, as the contracts of the law calls say it.
-use Rattle.std.specs.Prelude.{◌≡◌, ◌⊎◌, ℕ, ℤ, Bool, if◌then◌else◌, List, [], length, Some, slice_get, slice_set}
+use Rattle.std.specs.Prelude.{◌≡◌, ◌⊎◌, ℕ, ℤ, Bool, true, if◌then◌else◌, List, [], length, Some, slice_get, slice_set}
 use Rattle.kahn_net.specs.Nodes.{node_count}
 use Rattle.kahn_net.specs.Syntax.{Network}
 use Rattle.kahn_net.specs.Valid.{IsValid}
@@ -21,6 +21,7 @@ use Rattle.protocol.specs.World.StationView.{OutletView, StationView}
 use Rattle.protocol.specs.World.Steps.{Setting, StationPlan, plan_sendings, traffic_left, traffic_acted, next_release}
 use Rattle.protocol.specs.World.Steps.{IsPlanned, IsInstalled, IsRelease}
 use Rattle.protocol.specs.World.Traffic.{TrafficIsSound}
+use Rattle.protocol.specs.declared.outcome.Outcome.{Outcome}
 
 -- nothing has left by these outlets
 abbrev pub HaveTakenNothing : List OutletView → Type 0
@@ -42,6 +43,7 @@ pub record StandsIn (setting : Setting) (stations : List StationView) (k : ℕ) 
   pub node : old.node.kept.node ≡ k
   pub sound : StationInvariant setting.net setting.inputs old
   pub joined : IsJoined setting.net old
+  pub alone : setting.restarts ≡ true → node_count setting.net ≡ 1
   pub traffic : TrafficIsSound setting.net setting.inputs setting.traffic
 
 -- An opening world of outlets that have taken nothing has run, with no step.
@@ -55,11 +57,11 @@ OpeningHasRun =
 abbrev pub DeedsRun : Type 0
 DeedsRun =
     (setting : Setting) (stations : List StationView) (k : ℕ) (old new : StationView) (deed : Deed)
-    (fits : RecordView → Bool) (answer : ReplyView) → StandsIn setting stations k old
-    → IsPlanned fits setting.round (plan_of setting k deed old) old answer new
+    (fits : RecordView → Bool) (came : Outcome) (answer : ReplyView) → StandsIn setting stations k old
+    → IsPlanned fits setting.round (plan_of setting k deed old) came old answer new
     → ∥ HasRun setting.net stations setting.traffic ∥₁
     → ∥ HasRun setting.net (slice_set stations k new)
-    (traffic_by setting.traffic k setting.round (plan_of setting k deed old) answer) ∥₁
+    (traffic_by setting.traffic k setting.round (plan_of setting k deed old) came answer) ∥₁
 
 -- Whatever records a crash leaves in a deed, of each station the one of before or of this one the one that the deed
 -- puts, the line that follows from them is in order.
@@ -121,8 +123,8 @@ LinesAreSound =
 abbrev pub DeedsStayJoined : Type 0
 DeedsStayJoined =
     (setting : Setting) (stations : List StationView) (k : ℕ) (old new : StationView) (deed : Deed)
-    (fits : RecordView → Bool) (answer : ReplyView) → StandsIn setting stations k old
-    → IsPlanned fits setting.round (plan_of setting k deed old) old answer new → IsJoined setting.net new
+    (fits : RecordView → Bool) (came : Outcome) (answer : ReplyView) → StandsIn setting stations k old
+    → IsPlanned fits setting.round (plan_of setting k deed old) came old answer new → IsJoined setting.net new
 
 abbrev pub OthersStayJoined : Type 0
 OthersStayJoined =

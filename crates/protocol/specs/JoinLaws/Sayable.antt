@@ -1,5 +1,5 @@
 -- After each deed a station's record and what it collects may be said, and so may what is sent in the deed.
-use Rattle.std.proofs.Common.{◌≡◌, ℕ, ◌+◌, ◌<◌, ◌&&◌, Bool, true, false, cond, List, ℤ, [], length, All, Option}
+use Rattle.std.proofs.Common.{◌≡◌, ◌≢◌, ℕ, ◌+◌, ◌<◌, ◌&&◌, Bool, true, false, cond, List, ℤ, [], length, All, Option}
 use Rattle.std.proofs.Common.{Some, None, option_map, refl, sym, ap, subst, ◌∙◌, arith}
 use Rattle.std.specs.Prelude.{nat_lt}
 use Rattle.std.specs.List.{list_all}
@@ -17,6 +17,7 @@ use Rattle.kahn_net.specs.Valid.{IsValid}
 use Rattle.kahn_net.specs.declared.limits.TheConstants.{MAX_COUNT}
 use Rattle.record.specs.Moves.{highest_seen, with_permanent, without_tentative, with_confirmed}
 use Rattle.record.specs.RecordView.{RecordView}
+use Rattle.record.specs.declared.record.TheConstants.{MAX_DECISIONS}
 use Rattle.recovery_line.proofs.Basics.{one_inside}
 use Rattle.recovery_line.specs.Nodes.{By_took}
 use Rattle.recovery_line.specs.Observers.{has_node, names}
@@ -45,7 +46,7 @@ use Rattle.protocol.specs.Node.Addresses.{are_nodes, names_run}
 use Rattle.protocol.specs.Node.Delivering.{hearing}
 use Rattle.protocol.specs.Node.Layout.{is_incoming, is_outgoing}
 use Rattle.protocol.specs.Node.LiveView.{LiveView}
-use Rattle.protocol.specs.Node.Modes.{with_kept}
+use Rattle.protocol.specs.Node.Modes.{is_none, is_running, with_kept}
 use Rattle.protocol.specs.Node.NodeView.{NodeView, ModeView, Down, InDoubt, Runs, RunningView, on_mode, on_running}
 use Rattle.protocol.specs.Node.NodeView.{running_in}
 use Rattle.protocol.specs.Node.Plans.{Plan, Prospect, Undue, Exhausted, Planned, becoming, putting, telling, if_due}
@@ -56,6 +57,7 @@ use Rattle.protocol.specs.WorldLaws.SendLaws.{IsSendable}
 
 -- of the node of this number that a plan makes, and of what it sends
 pub record PlanSays (net : Network) (inputs : List (List ℤ)) (home : ℕ) (plan : Plan) : Type 0 where
+  pub sure : plan.node.mode ≢ InDoubt
   pub kept : KeepsNodes net home plan.node.kept
   pub live : (live : LiveView) → live_in plan.node.mode ≡ Some live → LiveIsSound net home live
   pub sendable : All (IsSendable net inputs) plan.packets
@@ -67,19 +69,26 @@ ProspectSays net inputs home (Exhausted looks) = Unit {0}
 ProspectSays net inputs home (Planned plan) = PlanSays net inputs home plan
 
 module _ (net : Network) (inputs : List (List ℤ)) (valid : IsValid net) (home : ℕ) (here : home < node_count net)
-    (old : NodeView) (kept : KeepsNodes net home old.kept)
+    (old : NodeView) (sure : old.mode ≢ InDoubt) (kept : KeepsNodes net home old.kept)
     (live : (live : LiveView) → live_in old.mode ≡ Some live → LiveIsSound net home live)
     (counts : (running : RunningView) → old.mode ≡ Runs running → MayBeAskedFor net home running.current) where
   nothing : All (IsSendable net inputs) []
   nothing = All-nil (IsSendable net inputs)
 
+  -- a change of what is in memory leaves no doubt
+  surely : (change : RunningView → RunningView) (mode : ModeView) → mode ≢ InDoubt → on_mode change mode ≢ InDoubt
+  surely change Down known is = absurd (cc)
+  surely change InDoubt known is = known refl
+  surely change (Runs running) known is = absurd (cc)
+
   stays : ProspectSays net inputs home (becoming old)
-  stays = record { kept = kept; live = live; sendable = nothing; refusable = nothing }
+  stays = record { sure = sure; kept = kept; live = live; sendable = nothing; refusable = nothing }
 
   -- a change that leaves what is collected
   changes : (change : RunningView → RunningView) → ((running : RunningView) → (change running).live ≡ running.live)
       → ProspectSays net inputs home (becoming (on_running change old))
   changes change same = record {
+    sure = surely change old.mode sure;
     kept = kept;
     live = λ l is. live l (sym (live_same old.mode) ∙ is);
     sendable = nothing;
@@ -93,18 +102,27 @@ module _ (net : Network) (inputs : List (List ℤ)) (valid : IsValid net) (home 
 
   tells : (packets : List Packet) → All (IsSendable net inputs) packets
       → ProspectSays net inputs home (telling packets old)
-  tells packets sendable = record { kept = kept; live = live; sendable = sendable; refusable = nothing }
+  tells packets sendable = record { sure = sure; kept = kept; live = live; sendable = sendable; refusable = nothing }
 
   -- ---- it begins, and decides
 
-  begun_kept : nat_lt (highest_seen home old.kept) MAX_COUNT ≡ true → (mode : ModeView) → old.mode ≡ mode
+  begun_kept : nat_lt (highest_seen home old.kept) MAX_COUNT ≡ true → length old.kept.decisions < MAX_DECISIONS
+      → (mode : ModeView) → old.mode ≡ mode
       → KeepsNodes net home (own_at home old.kept (running_in old.kept old.version mode))
-  begun_kept less Down is = kept
-  begun_kept less InDoubt is = kept
-  begun_kept less (Runs running) is =
+  begun_kept less few Down is = kept
+  begun_kept less few InDoubt is = kept
+  begun_kept less few (Runs running) is =
       let below = ltb-true (highest_seen home old.kept) MAX_COUNT less in
       takes_keeps net home old.kept kept home (highest_seen home old.kept + 1) running.current here
-      (omega arith, omega (arith, below)) (counts running is)
+      (omega arith, omega (arith, below)) (counts running is) (λ same. few)
+
+  -- a node that may start has room for a decision
+  few_now : may_start old ≡ true → length old.kept.decisions < MAX_DECISIONS
+  few_now due =
+      let rest = (both_true (is_running old.mode)
+      (is_none old.kept.tentative && nat_lt (length old.kept.decisions) MAX_DECISIONS) due).1 in
+      ltb-true (length old.kept.decisions) MAX_DECISIONS
+      (both_true (is_none old.kept.tentative) (nat_lt (length old.kept.decisions) MAX_DECISIONS) rest).1
 
   begun_live : nat_lt (highest_seen home old.kept) MAX_COUNT ≡ true → (mode : ModeView) → old.mode ≡ mode
       → (l : LiveView) → live_in (on_mode (beginning net home old.kept) mode) ≡ Some l → LiveIsSound net home l
@@ -120,9 +138,9 @@ module _ (net : Network) (inputs : List (List ℤ)) (valid : IsValid net) (home 
   live_sendable (Some l) sound = asks_sendable net inputs valid home here l (sound l refl)
 
   pub begins_says : ProspectSays net inputs home (start_prospect net home old)
-  begins_says = by (may_start old) (nat_lt (highest_seen home old.kept) MAX_COUNT) refl
+  begins_says = by (may_start old) refl (nat_lt (highest_seen home old.kept) MAX_COUNT) refl
     where
-      by : (due : Bool) → (less : Bool) → nat_lt (highest_seen home old.kept) MAX_COUNT ≡ less
+      by : (due : Bool) → may_start old ≡ due → (less : Bool) → nat_lt (highest_seen home old.kept) MAX_COUNT ≡ less
           → ProspectSays net inputs home
           (if_due due (unless_spent false less (Planned (record {
             node = begun net home old;
@@ -131,10 +149,11 @@ module _ (net : Network) (inputs : List (List ℤ)) (valid : IsValid net) (home 
             packets = live_asks net home (live_in (begun net home old).mode);
             refused = [];
           }))))
-      by false less e = tt
-      by true false e = tt
-      by true true e = record {
-        kept = begun_kept e old.mode refl;
+      by false is less e = tt
+      by true is false e = tt
+      by true is true e = record {
+        sure = surely (beginning net home old.kept) old.mode sure;
+        kept = begun_kept e (few_now is) old.mode refl;
         live = begun_live e old.mode refl;
         sendable = live_sendable (live_in (begun net home old).mode) (begun_live e old.mode refl);
         refusable = nothing;
@@ -173,6 +192,7 @@ module _ (net : Network) (inputs : List (List ℤ)) (valid : IsValid net) (home 
       })))
       by false = tt
       by true = record {
+        sure = surely (collecting None) old.mode sure;
         kept = decided_kept (live_in old.mode) live;
         live = none_live old.mode;
         sendable = decided_told (live_in old.mode) live;
@@ -190,6 +210,7 @@ module _ (net : Network) (inputs : List (List ℤ)) (valid : IsValid net) (home 
     taken_kept InDoubt is = kept
     taken_kept (Runs running) is =
         takes_keeps net home old.kept kept x n running.current other.below asked.0 (counts running is)
+        (λ same. absurd (other.apart same))
 
     kept_after : (answer : AskAnswer) → KeepsNodes net home (kept_then x n answer old.mode old.kept)
     kept_after Silent = kept
@@ -202,6 +223,7 @@ module _ (net : Network) (inputs : List (List ℤ)) (valid : IsValid net) (home 
     asked_says =
         let answer = answer_to_ask x n c m old.kept old.mode in
         record {
+          sure = sure;
           kept = kept_after (answer_to_ask x n c m old.kept old.mode);
           live = live;
           sendable = answers_sendable net inputs valid home here x n c m asked right
@@ -217,6 +239,7 @@ module _ (net : Network) (inputs : List (List ℤ)) (valid : IsValid net) (home 
 
   gives_up : ProspectSays net inputs home (give_up_prospect old)
   gives_up = record {
+    sure = surely (collecting None) old.mode sure;
     kept = drops_keeps net home old.kept kept;
     live = none_live old.mode;
     sendable = nothing;
@@ -232,6 +255,7 @@ module _ (net : Network) (inputs : List (List ℤ)) (valid : IsValid net) (home 
 
   covered_says : (n c : ℕ) → ProspectSays net inputs home (becoming (on_running (hearing_covered n c) old))
   covered_says n c = record {
+    sure = surely (hearing_covered n c) old.mode sure;
     kept = kept;
     live = λ l is. by old.mode refl l is;
     sendable = nothing;
@@ -293,6 +317,7 @@ module _ (net : Network) (inputs : List (List ℤ)) (valid : IsValid net) (home 
       by Ignores = stays
       by GivesUp = gives_up
       by Joins = record {
+        sure = surely (joining net home p c needs) old.mode sure;
         kept = kept;
         live = joined old.mode refl;
         sendable = asks (live_in old.mode) live;
@@ -307,6 +332,11 @@ module _ (net : Network) (inputs : List (List ℤ)) (valid : IsValid net) (home 
   verdict_live next Down at l is = absurd (cc)
   verdict_live next InDoubt at l is = absurd (cc)
   verdict_live next (Runs running) at l is = live l (ap live_in at ∙ is)
+
+  verdict_sure : (next : RecordView) (mode : ModeView) → mode_then next mode ≢ InDoubt
+  verdict_sure next Down is = absurd (cc)
+  verdict_sure next InDoubt is = absurd (cc)
+  verdict_sure next (Runs running) is = absurd (cc)
 
   commit_says : (x n : ℕ) → IsPositive n → IsOther net home x
       → ProspectSays net inputs home (commit_prospect home x n old)
@@ -323,6 +353,7 @@ module _ (net : Network) (inputs : List (List ℤ)) (valid : IsValid net) (home 
           }))
           (telling (settled_packets home x n old.kept) old))
       by true = record {
+        sure = verdict_sure (with_permanent old.kept) old.mode;
         kept = settles_keeps net home old.kept kept;
         live = verdict_live (with_permanent old.kept) old.mode refl;
         sendable = settled_sendable net inputs valid home here x n (with_permanent old.kept) positive other;
@@ -338,6 +369,7 @@ module _ (net : Network) (inputs : List (List ℤ)) (valid : IsValid net) (home 
       by : (b : Bool) → ProspectSays net inputs home
           (cond b (putting false (after_verdict (without_tentative old.kept) old)) (becoming old))
       by true = record {
+        sure = verdict_sure (without_tentative old.kept) old.mode;
         kept = drops_keeps net home old.kept kept;
         live = verdict_live (without_tentative old.kept) old.mode refl;
         sendable = nothing;
@@ -351,6 +383,7 @@ module _ (net : Network) (inputs : List (List ℤ)) (valid : IsValid net) (home 
       by : (b : Bool) → ProspectSays net inputs home
           (cond b (putting false (with_kept (with_confirmed n p old.kept) old)) (becoming old))
       by true = record {
+        sure = sure;
         kept = confirms_keeps net home old.kept kept n p;
         live = live;
         sendable = nothing;
