@@ -3,4 +3,3 @@
 pub mod Seen
 pub mod Runs
 pub mod Joined
-pub mod Promises

@@ -1,5 +1,5 @@
 -- Whatever event happens, a world goes on being one to which steps of the abstract machine have led.
-use Rattle.std.proofs.Common.{◌≡◌, ℕ, ◌<◌, ◌&&◌, Bool, true, false, cond, List, ℤ, length, Option, Some, None}
+use Rattle.std.proofs.Common.{◌≡◌, ◌⊎◌, inl, inr, ℕ, ◌<◌, ◌&&◌, Bool, true, false, cond, List, ℤ, length, Option, Some, None}
 use Rattle.std.proofs.Common.{option_map, refl, sym, ap, subst, ◌∙◌, arith}
 use Rattle.std.specs.Prelude.{◌==◌, nat_lt, not, slice_get, slice_set}
 use Rattle.std.proofs.lemmas.Bool.{eq-eqb, ltb-true}
@@ -19,7 +19,7 @@ use Rattle.protocol.specs.Node.Beginning.{live_in}
 use Rattle.protocol.specs.World.Steps.{deliver_plan}
 use Rattle.protocol.specs.Node.Hearing.{hear_prospect, told_prospect, deliver_prospect}
 use Rattle.protocol.specs.Join.Joined.{IsJoined}
-use Rattle.protocol.specs.Join.Promises.{traffic_by}
+use Rattle.protocol.specs.JoinLaws.Promises.{traffic_by}
 use Rattle.protocol.specs.Join.Runs.{Leads, SaysWhatWasSent, Carries, HasRun}
 use Rattle.protocol.specs.Join.Seen.{body_seen, live_seen, mode_seen, node_seen, world_seen}
 use Rattle.protocol.specs.JoinLaws.Crossings.{both_true, true_both}

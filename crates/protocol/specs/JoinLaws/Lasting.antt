@@ -1,5 +1,5 @@
 -- What a station keeps and collects may be said at any time.
-use Rattle.std.proofs.Common.{◌≡◌, ◌≢◌, ◌⊎◌, inl, inr, ⊎_elim, ℕ, zero, suc, ◌<◌, Bool, true, false, cond, List, ℤ, [], ◌∷◌}
+use Rattle.std.proofs.Common.{◌≡◌, ◌≢◌, ◌⊎◌, ⊎_elim, ℕ, zero, suc, ◌<◌, Bool, true, false, cond, List, ℤ, [], ◌∷◌}
 use Rattle.std.proofs.Common.{length, Option, Some, None, refl, sym, ap, subst, ◌∙◌, arith}
 use Rattle.std.specs.Prelude.{◌==◌, nat_lt, not, replicate, slice_get}
 use Rattle.std.proofs.Math.Bool.{Bool-set}
@@ -22,7 +22,7 @@ use Rattle.protocol.specs.Node.Beginning.{live_in, start_prospect}
 use Rattle.protocol.specs.World.Steps.{deliver_plan, plan_of}
 use Rattle.protocol.specs.Node.Hearing.{hear_prospect, told_prospect, deliver_prospect}
 use Rattle.protocol.specs.Join.Joined.{LiveIsSound, MayBeAskedFor, KeepsNodes, IsJoined}
-use Rattle.protocol.specs.Join.Promises.{StandsIn, DeedsStayJoined, OthersStayJoined, OpeningIsJoined}
+use Rattle.protocol.specs.JoinLaws.Promises.{StandsIn, DeedsStayJoined, OpeningIsJoined}
 use Rattle.protocol.specs.Node.Telling.{turn_packets}
 use Rattle.protocol.specs.Node.Verdicts.{decide_prospect}
 use Rattle.protocol.specs.JoinLaws.Crossings.{true_both}
@@ -147,7 +147,7 @@ module _ (net : Network) (home : ℕ) (old : NodeView) (joins : NodeJoins net ho
 
       surely : (o : Option Tentative) → o ≡ None → restored_with (with_epoch old.kept) o ≢ InDoubt
       surely None free is = absurd (cc)
-      surely (Some held) free is = absurd (some_not_none refl free)
+      surely (Some held) free is = absurd (some_not_none refl (sym free))
 
       none : (o : Option Tentative) (live : LiveView) → live_in (restored_with (with_epoch old.kept) o) ≡ Some live
           → LiveIsSound net home live
@@ -324,12 +324,6 @@ release_joined net old new round answer step joined = by (next_release round old
         let joins = changed_joins net old.number old.node (node_of_station net old joined)
         (cut_at is.outlet.channel (length is.later.taken)) (λ r. refl) in
         subst (IsJoined net) (sym is.same) (record { sure = joins.sure; kept = joins.kept; live = joins.live })
-
-pub others_stay_joined : OthersStayJoined
-others_stay_joined net old new done round answer (inl step) joined =
-    install_joined net old new done answer step joined
-others_stay_joined net old new done round answer (inr step) joined =
-    release_joined net old new round answer step joined
 
 pub opening_is_joined : OpeningIsJoined
 opening_is_joined net failures outlets k station is = from_number (node_count net) 0 failures k refl is

@@ -14,8 +14,8 @@ use Rattle.record.specs.Moves.{with_epoch}
 use Rattle.wire.specs.Queue.{is_due}
 use Rattle.wire.specs.declared.queue.Flight.{Flight}
 use Rattle.protocol.specs.World.Steps.{deliver_plan, plan_of}
-use Rattle.protocol.specs.Join.Promises.{StandsIn, OpeningHasRun, DeedsRun, DeedsKeepTheLine, InstallsRun, ReleasesRun}
-use Rattle.protocol.specs.Join.Promises.{NetworkRuns, LinesAreSound, ReleasesKeepTheLine}
+use Rattle.protocol.specs.JoinLaws.Promises.{StandsIn, OpeningHasRun, DeedsRun, DeedsKeepTheLine, InstallsRun, ReleasesRun}
+use Rattle.protocol.specs.JoinLaws.Promises.{NetworkRuns, LinesAreSound, ReleasesKeepTheLine}
 use Rattle.protocol.specs.Join.Runs.{HasRun}
 use Rattle.protocol.specs.Node.Beginning.{start_prospect}
 use Rattle.protocol.specs.Node.Telling.{send_prospect}

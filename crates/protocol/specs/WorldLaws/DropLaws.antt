@@ -37,13 +37,13 @@ release_is round None old answer new step = ap is_dropped step.0
 release_is round (Some place) old answer new step =
     ⊎_elim (λ left. ap is_dropped left.0) (λ failed. ap is_dropped failed.0) step.handed.came
 
-by_outcome : (made declined : ReplyView) (came : Outcome) → is_dropped made ≡ false → is_dropped declined ≡ false
-    → is_dropped (answer_by made declined came) ≡ false
-by_outcome made declined outcome.NotDue one other = refl
-by_outcome made declined outcome.Made one other = one
-by_outcome made declined (outcome.Refused TooLarge) one other = other
-by_outcome made declined (outcome.Refused Spent) one other = refl
-by_outcome made declined outcome.Failed one other = refl
+by_outcome : (made otherwise : ReplyView) (came : Outcome) → is_dropped made ≡ false → is_dropped otherwise ≡ false
+    → is_dropped (answer_by made otherwise came) ≡ false
+by_outcome made otherwise outcome.NotDue one other = refl
+by_outcome made otherwise outcome.Made one other = one
+by_outcome made otherwise (outcome.Refused TooLarge) one other = other
+by_outcome made otherwise (outcome.Refused Spent) one other = refl
+by_outcome made otherwise outcome.Failed one other = refl
 
 -- nor is what is answered where a record is too large
 bytes_declined : (net : Network) (place : ℕ) (bytes : Option (List ℕ)) (station : StationView)

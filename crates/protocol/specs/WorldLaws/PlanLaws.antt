@@ -98,7 +98,7 @@ runs_now Down is = absurd (cc)
 runs_now InDoubt is = absurd (cc)
 runs_now (Runs running) is = (running, refl)
 
-first_true : (a b : Bool) → (a && b) ≡ true → a ≡ true
+pub first_true : (a b : Bool) → (a && b) ≡ true → a ≡ true
 first_true true b is = refl
 first_true false b is = absurd (cc)
 

@@ -156,14 +156,14 @@ module _ (setting : Setting) (sure : IsSoundSetting setting) (capacity : ℕ) (r
       (deed_sound setting sure old sound k deed) in
       cc
 
-  answered_fits : (made declined answer : ReplyView) (came : Outcome) → ¬ (IsTooLarge made)
-      → ¬ (came ≡ outcome.Refused TooLarge) → answer ≡ answer_by made declined came → ¬ (IsTooLarge answer)
-  answered_fits made declined answer outcome.NotDue other fit is = is_not reply.NotDue answer is (λ large. cc)
-  answered_fits made declined answer outcome.Made other fit is = is_not made answer is other
-  answered_fits made declined answer (outcome.Refused TooLarge) other fit is = absurd (fit refl)
-  answered_fits made declined answer (outcome.Refused Spent) other fit is =
+  answered_fits : (made otherwise answer : ReplyView) (came : Outcome) → ¬ (IsTooLarge made)
+      → ¬ (came ≡ outcome.Refused TooLarge) → answer ≡ answer_by made otherwise came → ¬ (IsTooLarge answer)
+  answered_fits made otherwise answer outcome.NotDue other fit is = is_not reply.NotDue answer is (λ large. cc)
+  answered_fits made otherwise answer outcome.Made other fit is = is_not made answer is other
+  answered_fits made otherwise answer (outcome.Refused TooLarge) other fit is = absurd (fit refl)
+  answered_fits made otherwise answer (outcome.Refused Spent) other fit is =
       is_not (reply.Refused Spent) answer is (λ large. cc)
-  answered_fits made declined answer outcome.Failed other fit is = is_not reply.Down answer is (λ large. cc)
+  answered_fits made otherwise answer outcome.Failed other fit is = is_not reply.Down answer is (λ large. cc)
 
   pub station_fits : (e : EventView) (came : Outcome) (old : StationView) (answer : ReplyView) (new : StationView)
       → IsSoundStation setting old → IsStationStep setting (fits_in capacity) e came old answer new

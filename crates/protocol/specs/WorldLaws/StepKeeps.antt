@@ -39,7 +39,7 @@ use Rattle.protocol.specs.World.DoneView.{DoneView, IsTurnOfJob}
 use Rattle.protocol.specs.World.EventView.{NetworkAct, EventView, ByNode, ByNetwork, Install, Release, event_node}
 use Rattle.protocol.specs.World.EventView as event
 use Rattle.protocol.specs.Join.Joined.{IsJoined}
-use Rattle.protocol.specs.Join.Promises.{StandsIn}
+use Rattle.protocol.specs.JoinLaws.Promises.{StandsIn}
 use Rattle.protocol.specs.Join.Runs.{HasRun}
 use Rattle.protocol.specs.JoinLaws.Lasting.{deeds_stay_joined, install_joined, release_joined}
 use Rattle.protocol.specs.JoinLaws.Leading.{set_there}

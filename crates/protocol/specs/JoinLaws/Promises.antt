@@ -1,4 +1,4 @@
--- What is promised of checkpoints that several nodes take together, as the contracts of the law calls say it.
+-- What the laws of checkpoints that several nodes take together say, in one form for all events.
 use Rattle.std.specs.Prelude.{◌≡◌, ◌⊎◌, ℕ, ℤ, Bool, true, if◌then◌else◌, List, [], length, Some, slice_get, slice_set}
 use Rattle.kahn_net.specs.Nodes.{node_count}
 use Rattle.kahn_net.specs.Syntax.{Network}
@@ -118,19 +118,13 @@ LinesAreSound =
 
 -- ---- what may be said
 
--- After each deed, however it comes out, what a station keeps and collects may be said to other nodes; and so it is
--- after a turn that comes back and an item that leaves, and of each station of an opening world.
+-- After each deed, however it comes out, what a station keeps and collects may be said to other nodes; and so it is of
+-- each station of an opening world.
 abbrev pub DeedsStayJoined : Type 0
 DeedsStayJoined =
     (setting : Setting) (stations : List StationView) (k : ℕ) (old new : StationView) (deed : Deed)
     (fits : RecordView → Bool) (came : Outcome) (answer : ReplyView) → StandsIn setting stations k old
     → IsPlanned fits setting.round (plan_of setting k deed old) came old answer new → IsJoined setting.net new
-
-abbrev pub OthersStayJoined : Type 0
-OthersStayJoined =
-    (net : Network) (old new : StationView) (done : DoneView) (round : ℕ) (answer : ReplyView)
-    → IsInstalled net.channels done old answer new ⊎ IsRelease round (next_release round old) old answer new
-    → IsJoined net old → IsJoined net new
 
 abbrev pub OpeningIsJoined : Type 0
 OpeningIsJoined =
