@@ -348,15 +348,30 @@ module _ (setting : Setting) (sure : IsSoundSetting setting) (old : StationView)
         sound_becoming setting.net setting.inputs old.node old
         (moved_keeps setting.net setting.inputs old.node old.failures old.turns old sound.inv.kept sound.inv.runs) refl
 
-    -- so what it sends by a deed may be written, also what it sends where its record is too large
+    -- ---- what it sends may be written, also what it sends where its record is too large
+
+    written : (prospect : Prospect) → IsSoundProspect setting.net setting.inputs old prospect → IsWritten prospect
+    written Undue is = tt
+    written (Exhausted looks) is = tt
+    written (Planned plan) is =
+        (λ k d within. (is.sendable k d within).writable, λ k d within. (is.refusable k d within).writable)
+
     pub deed_writable : (k : ℕ) (deed : Deed) → IsWritten (plan_of setting k deed old).prospect
-    deed_writable k deed = by (plan_of setting k deed old).prospect (deed_sound k deed)
-      where
-        by : (prospect : Prospect) → IsSoundProspect setting.net setting.inputs old prospect → IsWritten prospect
-        by Undue is = tt
-        by (Exhausted looks) is = tt
-        by (Planned plan) is =
-            (λ k d within. (is.sendable k d within).writable, λ k d within. (is.refusable k d within).writable)
+    deed_writable k deed = written (plan_of setting k deed old).prospect (deed_sound k deed)
+
+    pub start_writable : IsWritten (start_prospect setting.net old.number old.node)
+    start_writable = written (start_prospect setting.net old.number old.node) begins_sound
+
+    pub decide_writable : IsWritten (decide_prospect old.number old.node)
+    decide_writable = written (decide_prospect old.number old.node) decides_sound
+
+    -- of whatever bytes come, if they are sound
+    pub hear_writable : (bytes : List ℕ) (to : ℕ) → BytesAreSound setting.net setting.inputs to bytes
+        → IsWritten
+        (deliver_prospect setting.net old.number (packet_for setting.net old.number bytes) old.node)
+    hear_writable bytes to says =
+        written (deliver_prospect setting.net old.number (packet_for setting.net old.number bytes) old.node)
+        (told_sound bytes to says (packet_for setting.net old.number bytes) refl)
 
 deed_sends : (setting : Setting) (k : ℕ) (deed : Deed) (station : StationView) (came : Outcome)
     → is_down station.node.mode ≡ true → packets_by (plan_of setting k deed station).prospect came ≡ []

@@ -242,15 +242,12 @@ module _ (world : WorldView) (inv : WorldInvariant world) (answer : ReplyView) (
           (line_then fits e station act.later there (subst IsNumbered act.stations numbered)
           (subst (AreSound world.net world.inputs) act.stations sound) act.step either)
 
--- Whatever records a crash of all nodes leaves at moments of an event, of each station the one of before or the one that
--- the event puts there: their line is one of what had left before and of what has left then, and isn't behind the line
--- of before.
-pub act_in_line : (world : WorldView) (rooms : List (RecordView → Bool)) (e : EventView) (came : Outcome)
+in_line : (world : WorldView) (rooms : List (RecordView → Bool)) (e : EventView) (came : Outcome)
     (answer : ReplyView) (new : List StationView) (records : List RecordView) → WorldInvariant world
     → IsAct (setting_of world) (event_node e) rooms e came world.stations answer new
     → AreEither (records_of world.stations) (map (next_for (setting_of world) e) world.stations) records
     → AreInLine world.net world.stations new records
-act_in_line world rooms e came answer new records inv act left =
+in_line world rooms e came answer new records inv act left =
     let setting = setting_of world in
     let sure = world_sure world inv in
     let room = slice_get rooms (event_node e) in
@@ -260,6 +257,30 @@ act_in_line world rooms e came answer new records inv act left =
     (world_station world inv (event_node e)) inv.numbered act)
     (act_keeps setting sure (event_node e) room found e came world.stations answer new refl
     (world_station world inv (event_node e)) inv.stations act) act left
+
+-- what is an event at the station of this number, in this setting, is one of the world
+as_act : (world : WorldView) (setting : Setting) (number : ℕ) (rooms : List (RecordView → Bool)) (e : EventView)
+    (came : Outcome) (answer : ReplyView) (new : List StationView) → setting ≡ setting_of world
+    → number ≡ event_node e → IsAct setting number rooms e came world.stations answer new
+    → IsAct (setting_of world) (event_node e) rooms e came world.stations answer new
+as_act world setting number rooms e came answer new same_setting same_number act =
+    subst (λ (n : ℕ). IsAct (setting_of world) n rooms e came world.stations answer new) same_number
+    (subst (λ (s : Setting). IsAct s number rooms e came world.stations answer new) same_setting act)
+
+-- Whatever records a crash of all nodes leaves at moments of an event, of each station the one of before or the one that
+-- the event puts there: their line is one of what had left before and of what has left then, and isn't behind the line
+-- of before.
+pub act_in_line : (rooms : List (RecordView → Bool)) (e : EventView) (came : Outcome) (world : WorldView)
+    (answer : ReplyView) (setting : Setting) (number : ℕ) (new : List StationView) (records : List RecordView)
+    → WorldInvariant world → setting ≡ setting_of world → number ≡ event_node e
+    → IsAct setting number rooms e came world.stations answer new
+    → AreEither (records_of world.stations) (map (next_for setting e) world.stations) records
+    → AreInLine world.net world.stations new records
+act_in_line rooms e came world answer setting number new records inv same_setting same_number act left =
+    in_line world rooms e came answer new records inv
+    (as_act world setting number rooms e came answer new same_setting same_number act)
+    (subst (λ (s : Setting). AreEither (records_of world.stations) (map (next_for s e) world.stations) records)
+    same_setting left)
 
 -- ---- the records that are kept in the end
 
@@ -309,14 +330,21 @@ act_kept world inv e came answer (Some room) (Some station) new there act =
     (world_station world inv (event_node e) station there) act.step)
 
 -- The line at the end of an event isn't behind the one before it.
-pub line_goes_on : (world : WorldView) (rooms : List (RecordView → Bool)) (e : EventView) (came : Outcome)
-    (answer : ReplyView) (new : List StationView) → WorldInvariant world
-    → IsAct (setting_of world) (event_node e) rooms e came world.stations answer new
+pub line_goes_on : (rooms : List (RecordView → Bool)) (e : EventView) (came : Outcome) (world : WorldView)
+    (answer : ReplyView) (setting : Setting) (number : ℕ) (new : List StationView) → WorldInvariant world
+    → setting ≡ setting_of world → number ≡ event_node e
+    → IsAct setting number rooms e came world.stations answer new
     → NotBehind (records_seen (records_of world.stations)) (records_seen (records_of new))
-line_goes_on world rooms e came answer new inv act =
-    (act_in_line world rooms e came answer new (records_of new) inv act
+line_goes_on rooms e came world answer setting number new inv same_setting same_number act =
+    let acted = as_act world setting number rooms e came answer new same_setting same_number act in
+    (in_line world rooms e came answer new (records_of new) inv acted
     (act_kept world inv e came answer (slice_get rooms (event_node e)) (slice_get world.stations (event_node e)) new
-    refl act)).not_behind
+    refl acted)).not_behind
+
+-- and the line of the records that are kept is in order at any time
+pub line_now : (world : WorldView) → WorldInvariant world
+    → AreInLine world.net world.stations world.stations (records_of world.stations)
+line_now world inv = lines_are_sound world.net world.stations world.traffic inv.run
 
 -- counts that don't fall from a first line to a second, nor from that to a third, don't fall from the first to the
 -- third

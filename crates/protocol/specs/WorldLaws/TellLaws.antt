@@ -12,7 +12,7 @@ use Rattle.protocol.specs.Node.Beginning.{live_asks, live_in}
 use Rattle.protocol.specs.Node.LiveView.{LiveView}
 use Rattle.protocol.specs.Node.Modes.{is_none}
 use Rattle.protocol.specs.Node.NodeView.{Down, InDoubt, ModeView, Runs, RunningNode, RunningView, running_in, running_node}
-use Rattle.protocol.specs.Node.Sending.{inbox_packets, outbox_packets}
+use Rattle.protocol.specs.Node.Sending.{inbox_packets, outbox_packets, IsWritable}
 use Rattle.protocol.specs.Node.Telling.{turn_packets, verdicts_told}
 use Rattle.protocol.specs.World.Invariant.{StationInvariant, outputs_of}
 use Rattle.protocol.specs.World.StationView.{StationView}
@@ -46,3 +46,10 @@ module _ (net : Network) (inputs : List (List ℤ)) (valid : IsValid net) (stati
   pub turn_sendable : All (IsSendable net inputs)
       (turn_packets net station.number station.node.kept station.node.mode)
   turn_sendable = in_mode station.node.mode refl
+
+  -- and what it sends may be written
+  pub station_writable : All IsWritable (turn_packets net station.number station.node.kept station.node.mode)
+  station_writable =
+      (let may : All (IsSendable net inputs) (turn_packets net station.number station.node.kept station.node.mode) =
+      turn_sendable in
+      λ k d within. (may k d within).writable)
