@@ -1,5 +1,6 @@
 -- Whatever event happens, a world goes on being one to which steps of the abstract machine have led.
-use Rattle.std.proofs.Common.{◌≡◌, ◌⊎◌, inl, inr, ℕ, ◌<◌, ◌&&◌, Bool, true, false, cond, List, ℤ, length, Option, Some, None}
+use Rattle.std.proofs.Common.{◌≡◌, ◌⊎◌, inl, inr, ℕ, ◌<◌, ◌&&◌, Bool, true, false, cond, List, ℤ, length, Option, Some}
+use Rattle.std.proofs.Common.{None}
 use Rattle.std.proofs.Common.{option_map, refl, sym, ap, subst, ◌∙◌, arith}
 use Rattle.std.specs.Prelude.{◌==◌, nat_lt, not, slice_get, slice_set}
 use Rattle.std.proofs.lemmas.Bool.{eq-eqb, ltb-true}

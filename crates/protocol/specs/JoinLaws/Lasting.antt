@@ -1,7 +1,7 @@
 -- What a station keeps and collects may be said at any time.
-use Rattle.std.proofs.Common.{◌≡◌, ◌≢◌, ◌⊎◌, ⊎_elim, ℕ, zero, suc, ◌<◌, Bool, true, false, cond, List, ℤ, [], ◌∷◌}
+use Rattle.std.proofs.Common.{◌≡◌, ◌≢◌, ⊎_elim, ℕ, zero, suc, ◌<◌, Bool, true, false, cond, List, ℤ, [], ◌∷◌}
 use Rattle.std.proofs.Common.{length, Option, Some, None, refl, sym, ap, subst, ◌∙◌, arith}
-use Rattle.std.specs.Prelude.{◌==◌, nat_lt, not, replicate, slice_get}
+use Rattle.std.specs.Prelude.{◌==◌, nat_lt, not, slice_get}
 use Rattle.std.proofs.Math.Bool.{Bool-set}
 use Rattle.std.proofs.Math.Bridge.{le_prop}
 use Rattle.std.proofs.Math.Logic.{∥∥₁_elim, ∥∥₁_map}
@@ -254,7 +254,8 @@ module _ (setting : Setting) (stations : List StationView) (k : ℕ) (old : Stat
   deed_joins event.Recover says =
       recover_joins setting.net old.number old.node joins_now setting.restarts (in_world.node ∙ sym in_world.number)
       here_below in_world.alone
-  deed_joins (event.Arm fault rounds) says = record { sure = joins_now.sure; kept = joins_now.kept; live = joins_now.live }
+  deed_joins (event.Arm fault rounds) says =
+      record { sure = joins_now.sure; kept = joins_now.kept; live = joins_now.live }
   deed_joins event.Idle says = joins_now
 
   -- the bytes that come in a deed are spelled

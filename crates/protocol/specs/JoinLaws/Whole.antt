@@ -1,5 +1,6 @@
 -- What is promised of checkpoints that several nodes take together holds.
-use Rattle.std.proofs.Common.{◌≡◌, inl, inr, ℕ, Bool, true, false, List, length, Option, Some, None, option_map, refl, sym, ap}
+use Rattle.std.proofs.Common.{◌≡◌, inl, inr, ℕ, Bool, true, false, List, length, Option, Some, None, option_map, refl}
+use Rattle.std.proofs.Common.{sym, ap}
 use Rattle.std.proofs.Common.{subst, ◌∙◌}
 use Rattle.std.specs.Prelude.{slice_get, slice_set}
 use Rattle.std.proofs.Math.Bridge.{le_prop}
@@ -14,7 +15,8 @@ use Rattle.record.specs.Moves.{with_epoch}
 use Rattle.wire.specs.Queue.{is_due}
 use Rattle.wire.specs.declared.queue.Flight.{Flight}
 use Rattle.protocol.specs.World.Steps.{deliver_plan, plan_of}
-use Rattle.protocol.specs.JoinLaws.Promises.{StandsIn, OpeningHasRun, DeedsRun, DeedsKeepTheLine, InstallsRun, ReleasesRun}
+use Rattle.protocol.specs.JoinLaws.Promises.{StandsIn, OpeningHasRun, DeedsRun, DeedsKeepTheLine, InstallsRun}
+use Rattle.protocol.specs.JoinLaws.Promises.{ReleasesRun}
 use Rattle.protocol.specs.JoinLaws.Promises.{NetworkRuns, LinesAreSound, ReleasesKeepTheLine}
 use Rattle.protocol.specs.Join.Runs.{HasRun}
 use Rattle.protocol.specs.Node.Beginning.{start_prospect}

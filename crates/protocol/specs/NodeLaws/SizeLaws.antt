@@ -1,7 +1,7 @@
 -- Laws of sizes: an image of a valid network whose logs keep to their share is within bounds, so that a record of two
 -- such images fits.
 use Rattle.std.proofs.Common.{◌≡◌, ℕ, suc, ◌+◌, ◌<◌, ◌≤◌, Bool, true, false, cond, ℤ, List, [], ◌∷◌, ◌++◌, length}
-use Rattle.std.proofs.Common.{length-append, get_or, Some, None, ◌⊎◌, inl, inr, arith}
+use Rattle.std.proofs.Common.{length-append, Some, arith}
 use Rattle.std.specs.Prelude.{slice_get, nat_lt}
 use Rattle.std.proofs.Math.Logic.{∥∥₁_elim}
 use Rattle.std.proofs.Math.Bridge.{le_prop}

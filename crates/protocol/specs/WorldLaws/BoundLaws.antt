@@ -1,4 +1,5 @@
--- What a node has now, and the record with that as a tentative image, are within the bounds in which a record fits `MAX_RECORD_BYTES`.
+-- What a node has now, and the record with that as a tentative image, are within the bounds in which a record fits
+-- `MAX_RECORD_BYTES`.
 use Rattle.std.proofs.Common.{ℕ, ℤ, List}
 use Rattle.std.proofs.Math.Logic.{∥∥₁_map}
 use Rattle.kahn_net.specs.Syntax.{Network}

@@ -1,6 +1,6 @@
 -- What is known of each deed: its plan is sound, a node that is down sends nothing by it, and nothing that comes by
 -- it is dropped. A further deed has a case in each of the three laws that go by deeds, at the end of this file.
-use Rattle.std.proofs.Common.{◌≡◌, ℕ, ◌<◌, ◌&&◌, Bool, true, false, cond, ℤ, List, [], map, All, Option, Some, None}
+use Rattle.std.proofs.Common.{◌≡◌, ℕ, ◌<◌, Bool, true, false, cond, ℤ, List, [], map, All, Option, Some, None}
 use Rattle.std.proofs.Common.{option_map, refl, sym, ap, subst, ◌∙◌}
 use Rattle.std.specs.Prelude.{◌==◌, nat_lt, not}
 use Rattle.std.proofs.Math.Bridge.{le_prop}
@@ -23,7 +23,7 @@ use Rattle.wire.specs.declared.queue.Flight.{Flight}
 use Rattle.protocol.specs.Join.Joined.{MayBeAskedFor}
 use Rattle.protocol.specs.JoinLaws.Crossings.{both_true}
 use Rattle.protocol.specs.JoinLaws.Keeps.{current_counts}
-use Rattle.protocol.specs.JoinLaws.Sayable.{ProspectSays, begins_says, concludes_says, hears_says}
+use Rattle.protocol.specs.JoinLaws.Sayable.{begins_says, concludes_says, hears_says}
 use Rattle.protocol.specs.Node.Addresses.{names_right, names_run}
 use Rattle.protocol.specs.Node.ArmedRestarts.{round_later, with_armed}
 use Rattle.protocol.specs.Node.Beginning.{begun, live_asks, live_in, may_start, start_prospect}
@@ -32,20 +32,19 @@ use Rattle.protocol.specs.Node.Delivering.{delivery_of, if_right, packet_for}
 use Rattle.protocol.specs.Node.Hearing.{deliver_prospect, hear_prospect}
 use Rattle.protocol.specs.Node.JobView.{JobView}
 use Rattle.protocol.specs.Node.Modes.{crashed, is_down}
-use Rattle.protocol.specs.Node.NodeView.{Down, InDoubt, ModeView, NodeView, Runs, RunningView, running_in, running_node}
+use Rattle.protocol.specs.Node.NodeView.{Down, InDoubt, ModeView, NodeView, Runs, RunningView, running_node}
 use Rattle.protocol.specs.Node.Plans.{Planned, Prospect, Undue, Exhausted, becoming, if_due, packets_by, putting}
 use Rattle.protocol.specs.Node.Plans.{unless_spent}
 use Rattle.protocol.specs.Node.Recovering.{crash_prospect, recover_prospect, restored, restored_mode}
 use Rattle.protocol.specs.Node.Sending.{IsWritable}
 use Rattle.protocol.specs.Node.Telling.{turn_packets}
-use Rattle.protocol.specs.Node.Verdicts.{commit_packets, concluded, decide_prospect, may_decide}
+use Rattle.protocol.specs.Node.Verdicts.{decide_prospect, may_decide}
 use Rattle.protocol.specs.declared.outcome.Outcome.{Outcome}
 use Rattle.protocol.specs.declared.outcome.Outcome.TheVariants as outcome
 use Rattle.protocol.specs.declared.outcome.Refusal.TheVariants.{Spent, TooLarge}
 use Rattle.protocol.specs.World.EventView.{Deed, ByNode, ByNetwork, Install, Release}
 use Rattle.protocol.specs.World.EventView as event
 use Rattle.protocol.specs.World.InFlight.{OnlyNodesThatAreUpSend}
-use Rattle.protocol.specs.World.Invariant.{outputs_of}
 use Rattle.protocol.specs.World.Replies.{back_reply, delivery_reply, grant_reply}
 use Rattle.protocol.specs.World.ReplyView.{ReplyView}
 use Rattle.protocol.specs.World.ReplyView as reply
@@ -54,7 +53,8 @@ use Rattle.protocol.specs.World.Steps.{Setting, bytes_when, deliver_plan, due_by
 use Rattle.protocol.specs.World.Traffic.{BytesAreSound, SpellsSound, TrafficIsSound}
 use Rattle.protocol.specs.WorldLaws.HeardLaws.{hear_keeps, right_is, whole_sound}
 use Rattle.protocol.specs.WorldLaws.MoveLaws.{decide_keeps, start_keeps}
-use Rattle.protocol.specs.WorldLaws.PlanLaws.{IsSoundProspect, IsSoundSetting, IsSoundStation, ProspectKeeps, back_sound}
+use Rattle.protocol.specs.WorldLaws.PlanLaws.{IsSoundProspect, IsSoundSetting, IsSoundStation, ProspectKeeps}
+use Rattle.protocol.specs.WorldLaws.PlanLaws.{back_sound}
 use Rattle.protocol.specs.WorldLaws.PlanLaws.{down_keeps, grant_sound, keeps_if_due, keeps_still, moved_keeps, runs_at}
 use Rattle.protocol.specs.WorldLaws.PlanLaws.{sound_becoming, sound_if_due, sound_unless_spent, whole_plan}
 use Rattle.protocol.specs.WorldLaws.PlanLaws.{whole_prospect}

@@ -1,7 +1,8 @@
 -- Whatever a node hears, what it makes of its station is sound.
-use Rattle.std.proofs.Common.{◌≡◌, ◌≢◌, ℕ, Bool, true, false, ◌&&◌, cond, List, ℤ, [], Option, Some, None, refl, sym, ap}
+use Rattle.std.proofs.Common.{◌≡◌, ◌≢◌, ℕ, Bool, true, false, ◌&&◌, cond, List, ℤ, [], Option, Some, None, refl, sym}
+use Rattle.std.proofs.Common.{ap}
 use Rattle.std.proofs.Common.{subst, ◌∙◌}
-use Rattle.std.specs.Prelude.{◌==◌, not}
+use Rattle.std.specs.Prelude.{◌==◌}
 use Rattle.std.proofs.Math.Logic.{∥∥₁_map}
 use Rattle.ckpt_codec.specs.SizeLaws.{within_permanent}
 use Rattle.ckpt_codec.specs.declared.lengths.TheConstants.{MAX_RETAINED_ITEMS}
@@ -16,30 +17,30 @@ use Rattle.kahn_net.specs.Syntax.{Network}
 use Rattle.kahn_net.specs.Valid.{IsValid}
 use Rattle.record.specs.Changes.{trimmed_image}
 use Rattle.record.specs.Moves.{with_confirmed, with_permanent, with_tentative, without_tentative}
-use Rattle.record.specs.RecordView.{RecordView}
 use Rattle.recovery_line.specs.Observers.{names}
 use Rattle.protocol.specs.JoinLaws.Crossings.{between_cross}
 use Rattle.protocol.specs.Node.Addresses.{names_right, names_run}
 use Rattle.protocol.specs.Node.Answering.{AskAnswer, Silent, CoveredBefore, TookBefore, TakesNow, Declines, holds}
-use Rattle.protocol.specs.Node.Answering.{answer_packets, answer_to_ask, answering, ask_prospect, kept_then}
+use Rattle.protocol.specs.Node.Answering.{answer_to_ask, answering, ask_prospect}
 use Rattle.protocol.specs.Node.Answering.{with_current_as}
 use Rattle.protocol.specs.Node.Beginning.{live_in}
-use Rattle.protocol.specs.Node.Collecting.{TookAnswer, Ignores, Joins, GivesUp, answer_to_took, give_up_prospect, given_up}
-use Rattle.protocol.specs.Node.Collecting.{hearing_covered, joined_asks, joining, loses, refused_prospect, took_by}
+use Rattle.protocol.specs.Node.Collecting.{TookAnswer, Ignores, Joins, GivesUp, answer_to_took, give_up_prospect}
+use Rattle.protocol.specs.Node.Collecting.{hearing_covered, joining, loses, refused_prospect, took_by}
 use Rattle.protocol.specs.Node.Collecting.{took_prospect}
 use Rattle.protocol.specs.Node.Delivering.{hearing, if_right}
 use Rattle.protocol.specs.Node.Hearing.{hear_prospect}
 use Rattle.protocol.specs.Node.Modes.{with_kept}
-use Rattle.protocol.specs.Node.NodeView.{NodeView, ModeView, Down, InDoubt, Runs, RunningView, RunningNode, running_node}
+use Rattle.protocol.specs.Node.NodeView.{ModeView, Down, InDoubt, Runs, RunningView, RunningNode}
+use Rattle.protocol.specs.Node.NodeView.{running_node}
 use Rattle.protocol.specs.Node.NodeView.{on_running}
-use Rattle.protocol.specs.Node.Plans.{Plan, Planned, becoming, putting, telling}
-use Rattle.protocol.specs.Node.Trimming.{cut_at, with_current}
-use Rattle.protocol.specs.Node.Verdicts.{after_verdict, commit_prospect, ended_prospect, query_prospect, settled_packets}
+use Rattle.protocol.specs.Node.Plans.{Planned, becoming, putting, telling}
+use Rattle.protocol.specs.Node.Trimming.{cut_at}
+use Rattle.protocol.specs.Node.Verdicts.{after_verdict, commit_prospect, ended_prospect}
+use Rattle.protocol.specs.Node.Verdicts.{settled_packets}
 use Rattle.protocol.specs.Node.Verdicts.{settled_prospect, verdict_packets}
 use Rattle.protocol.specs.NodeLaws.TrimLaws.{behind_trimmed}
 use Rattle.protocol.specs.World.Invariant.{outputs_of, RunsSoundly, StationInvariant}
 use Rattle.protocol.specs.World.StationView.{StationView}
-use Rattle.protocol.specs.World.Steps.{moved_to}
 use Rattle.protocol.specs.World.Traffic.{BodyIsSound, BytesAreSound}
 use Rattle.protocol.specs.WorldLaws.CutLaws.{GoesElsewhere, cross_elsewhere, sound_cut}
 use Rattle.protocol.specs.WorldLaws.HearLaws.{body_known, hear_sound, order_heard}

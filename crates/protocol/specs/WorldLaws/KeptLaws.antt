@@ -38,7 +38,8 @@ module _ (setting : Setting) (sure : IsSoundSetting setting) where
       inl (install_kept setting.net.channels done old.node step.applied new.node step.step)
   step_kept room (Release k) came old answer new sound step =
       inl (release_kept setting.round (next_release setting.round old) old answer new step)
-  step_kept room (ByNetwork k place act) came old answer new sound step = inl (ap (λ (s : StationView). s.node.kept) step.1)
+  step_kept room (ByNetwork k place act) came old answer new sound step =
+      inl (ap (λ (s : StationView). s.node.kept) step.1)
 
   -- the record that an event puts is of the same node
   pub next_node : (e : EventView) (old : StationView) → IsSoundStation setting old
@@ -67,7 +68,8 @@ release_number round (Some place) old answer new step = ap (λ (s : StationView)
 
 -- a station keeps its number
 pub step_number : (setting : Setting) (room : RecordView → Bool) (e : EventView) (came : Outcome) (old : StationView)
-    (answer : ReplyView) (new : StationView) → IsStationStep setting room e came old answer new → new.number ≡ old.number
+    (answer : ReplyView) (new : StationView) → IsStationStep setting room e came old answer new
+    → new.number ≡ old.number
 step_number setting room (ByNode k deed) came old answer new step = ap (λ (s : StationView). s.number) step.same
 step_number setting room (Install done) came old answer new step = ap (λ (s : StationView). s.number) step.same
 step_number setting room (Release k) came old answer new step =

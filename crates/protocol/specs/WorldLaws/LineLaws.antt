@@ -1,10 +1,9 @@
 -- Laws of the recovery line: whatever records a crash leaves in an event, the line that follows from them is in order.
 -- It all follows from the run of the abstract machine that a world is.
-use Rattle.std.proofs.Common.{◌≡◌, ◌≢◌, ◌⊎◌, inl, inr, ℕ, zero, suc, ◌+◌, Bool, true, false, cond, List, [], ◌∷◌, map}
+use Rattle.std.proofs.Common.{◌≡◌, ◌≢◌, ◌⊎◌, inl, inr, ℕ, zero, suc, ◌+◌, Bool, cond, List, [], ◌∷◌, map}
 use Rattle.std.proofs.Common.{Option, Some, None, refl, sym, ap, subst, ◌∙◌, arith}
-use Rattle.std.specs.Prelude.{◌==◌, slice_get, slice_set}
+use Rattle.std.specs.Prelude.{slice_get, slice_set}
 use Rattle.std.proofs.lemmas.Bool.{eq-eqb, ne_eqb}
-use Rattle.std.proofs.lemmas.List.{map-set}
 use Rattle.record.specs.RecordView.{RecordView}
 use Rattle.recovery_line.specs.Line.{NotBehind}
 use Rattle.protocol.specs.JoinLaws.Leading.{set_itself}
@@ -18,7 +17,7 @@ use Rattle.protocol.specs.World.RecordSound.{RecordIsSound}
 use Rattle.protocol.specs.World.RecoveryLine.{AreEither, AreInLine, LinesFollow, next_for, next_kept, records_of}
 use Rattle.protocol.specs.World.RecoveryLine.{records_seen}
 use Rattle.protocol.specs.World.ReplyView.{ReplyView}
-use Rattle.protocol.specs.World.StationView.{OutletView, StationView}
+use Rattle.protocol.specs.World.StationView.{StationView}
 use Rattle.protocol.specs.World.Steps.{IsAct, IsActOf, IsStationStep, Setting, WorldView, plan_of, setting_of}
 use Rattle.protocol.specs.WorldLaws.DeedLaws.{deed_sound}
 use Rattle.protocol.specs.WorldLaws.KeptLaws.{step_kept}
@@ -267,9 +266,9 @@ as_act world setting number rooms e came answer new same_setting same_number act
     subst (λ (n : ℕ). IsAct (setting_of world) n rooms e came world.stations answer new) same_number
     (subst (λ (s : Setting). IsAct s number rooms e came world.stations answer new) same_setting act)
 
--- Whatever records a crash of all nodes leaves at moments of an event, of each station the one of before or the one that
--- the event puts there: their line is one of what had left before and of what has left then, and isn't behind the line
--- of before.
+-- Whatever records a crash of all nodes leaves at moments of an event, of each station the one of before or the one
+-- that the event puts there: their line is one of what had left before and of what has left then, and isn't behind the
+-- line of before.
 pub act_in_line : (rooms : List (RecordView → Bool)) (e : EventView) (came : Outcome) (world : WorldView)
     (answer : ReplyView) (setting : Setting) (number : ℕ) (new : List StationView) (records : List RecordView)
     → WorldInvariant world → setting ≡ setting_of world → number ≡ event_node e

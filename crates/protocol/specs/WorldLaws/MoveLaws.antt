@@ -1,16 +1,17 @@
 -- What an event makes of a sound station is sound: its node takes an image, makes one permanent, drops one, or changes
 -- what it has in memory.
-use Rattle.std.proofs.Common.{◌≡◌, ◌≢◌, ℕ, zero, suc, ◌+◌, ◌<◌, ◌≤◌, Bool, true, false, cond, List, ℤ, [], ◌∷◌, length, Option}
+use Rattle.std.proofs.Common.{◌≡◌, ◌≢◌, ℕ, zero, suc, ◌+◌, ◌<◌, ◌≤◌, Bool, true, false, cond, List, ℤ, ◌∷◌, length}
+use Rattle.std.proofs.Common.{Option}
 use Rattle.std.proofs.Common.{Some, None, refl, sym, ap, subst, ◌∙◌, arith}
 use Rattle.std.specs.Prelude.{◌==◌}
 use Rattle.std.proofs.lemmas.Bool.{eqb-true}
-use Rattle.ckpt_codec.specs.SizeLaws.{IsRecordWithin, within_confirmed, within_permanent, within_without_tentative}
+use Rattle.ckpt_codec.specs.SizeLaws.{IsRecordWithin, within_confirmed, within_without_tentative}
 use Rattle.ckpt_codec.specs.declared.lengths.TheConstants.{MAX_RETAINED_ITEMS}
 use Rattle.datagram.specs.declared.packet.Packet.{Packet}
 use Rattle.kahn_net.specs.Syntax.{Network}
 use Rattle.kahn_net.specs.Valid.{IsValid}
 use Rattle.record.specs.DecisionView.{DecisionView}
-use Rattle.record.specs.Moves.{confirmed, highest_seen, with_confirmed, with_decision, with_permanent, with_tentative}
+use Rattle.record.specs.Moves.{confirmed, highest_seen, with_confirmed, with_decision, with_tentative}
 use Rattle.record.specs.Moves.{without_tentative}
 use Rattle.record.specs.RecordView.{RecordView}
 use Rattle.record.specs.declared.record.Tentative.{Tentative}
@@ -25,8 +26,9 @@ use Rattle.protocol.specs.Node.Beginning.{collecting}
 use Rattle.protocol.specs.Node.Layout.{numbers_where}
 use Rattle.protocol.specs.Node.LiveView.{LiveView}
 use Rattle.protocol.specs.Node.Modes.{is_running, with_kept}
-use Rattle.protocol.specs.Node.NodeView.{NodeView, ModeView, Down, InDoubt, Runs, RunningView, RunningNode, running_node}
-use Rattle.protocol.specs.Node.NodeView.{running_in, running_of, on_mode, on_running}
+use Rattle.protocol.specs.Node.NodeView.{NodeView, ModeView, Down, InDoubt, Runs, RunningView, RunningNode}
+use Rattle.protocol.specs.Node.NodeView.{running_node}
+use Rattle.protocol.specs.Node.NodeView.{running_in, on_mode, on_running}
 use Rattle.protocol.specs.Node.Starting.{IsBehind, own_at, with_own, with_own_now}
 use Rattle.protocol.specs.Node.Verdicts.{after_verdict, concluded, decided_now, may_decide, mode_then, participants_of}
 use Rattle.protocol.specs.NodeLaws.SizeLaws.{decided_within}
@@ -75,7 +77,8 @@ module _ (net : Network) (inputs : List (List ℤ)) (old : StationView) (inv : S
       → ((running : RunningView) → node.mode ≡ Runs running
       → RunsSoundly net inputs (running_node node.kept node.version running) (outputs_of old.outlets))
       → StationInvariant net inputs (moved_to node old.failures old.turns old)
-  node_keeps node kept runs = moved_keeps net inputs node old.failures old.turns old kept (λ run is. at node.mode refl run is)
+  node_keeps node kept runs =
+      moved_keeps net inputs node old.failures old.turns old kept (λ run is. at node.mode refl run is)
     where
       at : (mode : ModeView) → node.mode ≡ mode → (run : RunningNode)
           → running_in node.kept node.version mode ≡ Some run → RunsSoundly net inputs run (outputs_of old.outlets)
@@ -215,7 +218,8 @@ module _ (net : Network) (inputs : List (List ℤ)) (old : StationView) (inv : S
       (still : (t : Tentative) → held ≡ Some t → old.node.kept.tentative ≡ Some t)
       (bounded : IsRecordWithin MAX_RETAINED_ITEMS (lessened epoch decisions held old.node.kept)) where
     less_record : RecordIsSound net inputs (lessened epoch decisions held old.node.kept) (outputs_of old.outlets)
-    less_record = record_less net inputs (outputs_of old.outlets) epoch decisions held old.node.kept still bounded inv.kept
+    less_record =
+        record_less net inputs (outputs_of old.outlets) epoch decisions held old.node.kept still bounded inv.kept
 
     -- with a node in this mode, in which it runs as it ran
     pub less_keeps : (mode : ModeView)

@@ -191,7 +191,8 @@ module _ (setting : Setting) (sure : IsSoundSetting setting) where
   place_fits place (Some n) (Some s) e came old answer new room sound act =
       station_fits setting sure n (room n refl) e came s answer act.later (sound s refl) act.step
 
-  act_fits : (place : ℕ) (capacities : List ℕ) (e : EventView) (came : Outcome) (old : List StationView) (answer : ReplyView)
+  act_fits : (place : ℕ) (capacities : List ℕ) (e : EventView) (came : Outcome) (old : List StationView)
+      (answer : ReplyView)
       (new : List StationView) → HasFullRoom place capacities
       → ((s : StationView) → slice_get old place ≡ Some s → IsSoundStation setting s)
       → IsAct setting place (map fits_in capacities) e came old answer new → ¬ (IsTooLarge answer)
@@ -219,12 +220,15 @@ pub never_too_large : {S : Type 0} (world : WorldView) (setting : Setting) (capa
     → WorldInvariant world → setting ≡ setting_of world → number ≡ place → HasFullRoom place (map capacity stations)
     → IsAct setting number (map (λ (s : S). fits_in (capacity s)) stations) e came world.stations answer new
     → ¬ (IsTooLarge answer)
-never_too_large {S} world setting capacity stations number place e came answer new inv same_setting same_number room act =
-    act_fits (setting_of world) (world_sure world inv) place (map capacity stations) e came world.stations answer new room
+never_too_large {S} world setting capacity stations number place e came answer new inv same_setting same_number room
+    act =
+    act_fits (setting_of world) (world_sure world inv) place (map capacity stations) e came world.stations answer new
+    room
     (world_station world inv place)
     (subst (λ (rooms : List (RecordView → Bool)). IsAct (setting_of world) place rooms e came world.stations answer new)
     (rooms_of capacity stations)
     (subst (λ (n : ℕ). IsAct (setting_of world) n (map (λ (s : S). fits_in (capacity s)) stations) e came world.stations
     answer new) same_number
-    (subst (λ (s : Setting). IsAct s number (map (λ (s : S). fits_in (capacity s)) stations) e came world.stations answer
+    (subst (λ (s : Setting). IsAct s number (map (λ (s : S). fits_in (capacity s)) stations) e came world.stations
+    answer
     new) same_setting act)))

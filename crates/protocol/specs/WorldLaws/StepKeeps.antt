@@ -274,7 +274,8 @@ module _ (net : Network) (inputs : List (List ℤ)) where
 
 -- Each event of a station
 module _ (setting : Setting) (sure : IsSoundSetting setting) where
-  pub station_keeps : (fits : RecordView → Bool) (e : EventView) (came : Outcome) (old : StationView) (answer : ReplyView)
+  pub station_keeps : (fits : RecordView → Bool) (e : EventView) (came : Outcome) (old : StationView)
+      (answer : ReplyView)
       (new : StationView) → IsSoundStation setting old
       → IsStationStep setting fits e came old answer new → StationInvariant setting.net setting.inputs new
   station_keeps fits (ByNode k deed) came old answer new sound step =
@@ -338,7 +339,8 @@ pub act_numbered : (setting : Setting) (sure : IsSoundSetting setting) (place : 
     (new : List StationView) → slice_get old place ≡ o
     → ((station : StationView) → slice_get old place ≡ Some station → IsSoundStation setting station)
     → IsNumbered old → IsActOf setting place room o e came old answer new → IsNumbered new
-act_numbered setting sure place None o e came old answer new there here numbered act = subst IsNumbered (sym act.1) numbered
+act_numbered setting sure place None o e came old answer new there here numbered act =
+    subst IsNumbered (sym act.1) numbered
 act_numbered setting sure place (Some room) None e came old answer new there here numbered act =
     subst IsNumbered (sym act.1) numbered
 act_numbered setting sure place (Some room) (Some station) e came old answer new there here numbered act =

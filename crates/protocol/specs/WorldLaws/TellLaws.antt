@@ -1,8 +1,8 @@
 -- What a station sends in its turn may be in flight.
-use Rattle.std.proofs.Common.{◌≡◌, ℕ, ◌<◌, Bool, true, false, List, ℤ, [], ◌++◌, All, Option, Some, None, cond, refl, ap, ◌∙◌}
+use Rattle.std.proofs.Common.{◌≡◌, ◌<◌, List, ℤ, All, Option, Some, None, refl}
+use Rattle.std.proofs.Common.{ap, ◌∙◌}
 use Rattle.std.specs.List.{flat_map}
 use Rattle.std.proofs.lemmas.List.Elements.{All-append, All-nil}
-use Rattle.datagram.specs.declared.packet.Packet.{Packet}
 use Rattle.kahn_net.specs.Nodes.{node_count}
 use Rattle.kahn_net.specs.Syntax.{Network}
 use Rattle.kahn_net.specs.Valid.{IsValid}
@@ -11,8 +11,9 @@ use Rattle.protocol.specs.JoinLaws.Spelled.{asks_sendable, told_sendable}
 use Rattle.protocol.specs.Node.Beginning.{live_asks, live_in}
 use Rattle.protocol.specs.Node.LiveView.{LiveView}
 use Rattle.protocol.specs.Node.Modes.{is_none}
-use Rattle.protocol.specs.Node.NodeView.{Down, InDoubt, ModeView, Runs, RunningNode, RunningView, running_in, running_node}
-use Rattle.protocol.specs.Node.Sending.{inbox_packets, outbox_packets, IsWritable}
+use Rattle.protocol.specs.Node.NodeView.{Down, InDoubt, ModeView, Runs, running_in}
+use Rattle.protocol.specs.Node.NodeView.{running_node}
+use Rattle.protocol.specs.Node.Sending.{inbox_packets, IsWritable}
 use Rattle.protocol.specs.Node.Telling.{turn_packets, verdicts_told}
 use Rattle.protocol.specs.World.Invariant.{StationInvariant, outputs_of}
 use Rattle.protocol.specs.World.StationView.{StationView}
