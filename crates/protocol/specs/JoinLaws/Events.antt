@@ -21,7 +21,7 @@ use Rattle.protocol.specs.World.Steps.{deliver_plan}
 use Rattle.protocol.specs.Node.Hearing.{hear_prospect, told_prospect, deliver_prospect}
 use Rattle.protocol.specs.Join.Joined.{IsJoined}
 use Rattle.protocol.specs.JoinLaws.Promises.{traffic_by}
-use Rattle.protocol.specs.Join.Runs.{Leads, SaysWhatWasSent, Carries, HasRun}
+use Rattle.protocol.specs.Join.Runs.{Leads, SaysWhatWasSent, Carries, HasRun, RunsOn}
 use Rattle.protocol.specs.Join.Seen.{body_seen, live_seen, mode_seen, node_seen, world_seen}
 use Rattle.protocol.specs.JoinLaws.Crossings.{both_true, true_both}
 use Rattle.protocol.specs.JoinLaws.Hears.{hear_leads}
@@ -102,21 +102,21 @@ module _ (net : Network) (stations : List StationView) (k : ℕ) (old : StationV
   pub planned_run : (run : HasRun net stations traffic) (fits : RecordView → Bool) (round : ℕ) (plan : StationPlan)
       (came : Outcome) (answer : ReplyView) (new : StationView) → AnswersSo plan
       → ProspectLeads net stations k old run.sent plan.prospect → IsPlanned fits round plan came old answer new
-      → HasRun net (slice_set stations k new) (traffic_by traffic k round plan came answer)
+      → RunsOn net stations traffic (slice_set stations k new) (traffic_by traffic k round plan came answer)
   planned_run run fits round plan came answer new so leads step = by (has_happened answer) refl
     where
       by : (b : Bool) → has_happened answer ≡ b
-          → HasRun net (slice_set stations k new)
+          → RunsOn net stations traffic (slice_set stations k new)
           (cond b (all_sent round (plan_sendings plan came) (traffic_left traffic k plan.came)) traffic)
       by true happened =
-          subst (λ (s : StationView). HasRun net (slice_set stations k s)
+          subst (λ (s : StationView). RunsOn net stations traffic (slice_set stations k s)
           (all_sent round (plan_sendings plan came) (traffic_left traffic k plan.came))) (sym step.same)
           (made_run net stations k old there traffic run (restart_after old.node.armed step.call round) round
           plan.prospect came new.node new.failures (turns_by plan.turns old.turns came)
           (traffic_left traffic k plan.came) leads (left_carries traffic k plan.came run.sent run.carries) step.step
           step.allowed)
       by false none =
-          subst (λ (s : StationView). HasRun net (slice_set stations k s) traffic) (sym step.same)
+          subst (λ (s : StationView). RunsOn net stations traffic (slice_set stations k s) traffic) (sym step.same)
           (stays_run net stations k old there traffic run new.node new.failures (turns_by plan.turns old.turns came)
           traffic
           (node_stays (restart_after old.node.armed step.call round) plan old.node new.node answer so none came
@@ -181,20 +181,21 @@ module _ (net : Network) (stations : List StationView) (k : ℕ) (old : StationV
 
   pub install_run : (inputs : List (List ℤ)) (run : HasRun net stations traffic) (done : DoneView) (answer : ReplyView)
       (new : StationView) → old.node.kept.node ≡ k → StationInvariant net inputs old → StationInvariant net inputs new
-      → IsInstalled net.channels done old answer new → HasRun net (slice_set stations k new) traffic
+      → IsInstalled net.channels done old answer new → RunsOn net stations traffic (slice_set stations k new) traffic
   install_run inputs run done answer new home inv later step =
-      subst (λ (s : StationView). HasRun net (slice_set stations k s) traffic) (sym step.same)
+      subst (λ (s : StationView). RunsOn net stations traffic (slice_set stations k s) traffic) (sym step.same)
       (by step.applied step.step (subst (StationInvariant net inputs) step.same later))
     where
       by : (applied : Bool)
           → IsInstall net.channels done.job done.after done.taken done.sent old.node applied new.node
           → StationInvariant net inputs (moved_to new.node old.failures old.turns old)
-          → HasRun net (slice_set stations k (moved_to new.node old.failures old.turns old)) traffic
+          → RunsOn net stations traffic (slice_set stations k (moved_to new.node old.failures old.turns old)) traffic
       by false is sound =
           stays_run net stations k old there traffic run new.node old.failures old.turns traffic is.1 run.carries
       by true is sound = record {
+        run = run;
         sent = run.sent;
-        reached = leads_on (net_seen net) _ _ _ run.reached
+        leads =
             (leads_by (net_seen net) (world_seen stations run.sent) _
             (acts stations k old now there (net_seen net) run.sent (outlets_same stations k old now there refl) works));
         carries = run.carries;
@@ -284,9 +285,6 @@ module _ (net : Network) (stations : List StationView) (k : ℕ) (old : StationV
         by None is = ap (λ (s : StationView). s.node.kept) is.1
         by (Some place) is = ap (λ (s : StationView). s.node.kept) is.same
 
-    pub release_run : HasRun net stations traffic → HasRun net (slice_set stations k new) traffic
-    release_run run = record {
-      sent = run.sent;
-      reached = leads_on (net_seen net) _ _ _ run.reached (release_steps run.sent);
-      carries = run.carries;
-    }
+    pub release_run : HasRun net stations traffic → RunsOn net stations traffic (slice_set stations k new) traffic
+    release_run run =
+        record { run = run; sent = run.sent; leads = release_steps run.sent; carries = run.carries }

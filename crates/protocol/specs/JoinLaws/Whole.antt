@@ -13,12 +13,13 @@ use Rattle.kahn_net.specs.Nodes.{node_count}
 use Rattle.kahn_net.specs.Syntax.{Network}
 use Rattle.record.specs.Moves.{with_epoch}
 use Rattle.wire.specs.Queue.{is_due}
+use Rattle.wire.specs.Traffic.{Traffic}
 use Rattle.wire.specs.declared.queue.Flight.{Flight}
 use Rattle.protocol.specs.World.Steps.{deliver_plan, plan_of}
 use Rattle.protocol.specs.JoinLaws.Promises.{StandsIn, OpeningHasRun, DeedsRun, DeedsKeepTheLine, InstallsRun}
 use Rattle.protocol.specs.JoinLaws.Promises.{ReleasesRun}
 use Rattle.protocol.specs.JoinLaws.Promises.{NetworkRuns, LinesAreSound, ReleasesKeepTheLine}
-use Rattle.protocol.specs.Join.Runs.{HasRun}
+use Rattle.protocol.specs.Join.Runs.{HasRun, RunsOn}
 use Rattle.protocol.specs.Node.Beginning.{start_prospect}
 use Rattle.protocol.specs.Node.Telling.{send_prospect}
 use Rattle.protocol.specs.Node.Verdicts.{decide_prospect}
@@ -26,7 +27,9 @@ use Rattle.protocol.specs.JoinLaws.Deeds.{same_leads, grant_leads, starts_lead, 
 use Rattle.protocol.specs.JoinLaws.Events.{AnswersSo, planned_run, come_leads, install_run, release_run, release_steps}
 use Rattle.protocol.specs.JoinLaws.Events.{release_puts_none}
 use Rattle.protocol.specs.JoinLaws.Events.{acted_carries}
-use Rattle.protocol.specs.JoinLaws.Leading.{outlets_same, set_itself}
+use Rattle.protocol.specs.Join.Seen.{world_seen}
+use Rattle.protocol.specs.World.RecoveryLine.{net_seen}
+use Rattle.protocol.specs.JoinLaws.Leading.{leads_here, leads_on, outlets_same, set_itself}
 use Rattle.protocol.specs.JoinLaws.Lines.{line_at_release, line_now}
 use Rattle.protocol.specs.JoinLaws.Opens.{run_opens}
 use Rattle.protocol.specs.JoinLaws.Plans.{ProspectLeads, prospect_line}
@@ -54,6 +57,25 @@ use Rattle.protocol.specs.declared.links.Inbox.{Inbox}
 
 pub opening_has_run : OpeningHasRun
 opening_has_run net failures outlets nothing = ∣ run_opens net (node_count net) outlets 0 failures nothing ∣₁
+
+-- a world that goes on has run then
+pub has_run_then : (net : Network) (before after : List StationView) (traffic flown : Traffic)
+    → RunsOn net before traffic after flown → HasRun net after flown
+has_run_then net before after traffic flown on = record {
+  sent = on.sent;
+  reached = leads_on (net_seen net) _ _ _ on.run.reached on.leads;
+  carries = on.carries;
+}
+
+-- and one in which nothing happens goes on
+pub runs_still : (net : Network) (stations : List StationView) (traffic : Traffic) → HasRun net stations traffic
+    → RunsOn net stations traffic stations traffic
+runs_still net stations traffic run = record {
+  run = run;
+  sent = run.sent;
+  leads = leads_here (net_seen net) (world_seen stations run.sent) (world_seen stations run.sent) refl;
+  carries = run.carries;
+}
 
 -- ---- the bytes that come in a deed, if any do
 
@@ -247,8 +269,9 @@ releases_keep_the_line net inputs stations k old new round answer traffic record
 pub network_runs : NetworkRuns
 network_runs net stations k place act traffic known =
     ∥∥₁_map known (λ run. record {
+      run = run;
       sent = run.sent;
-      reached = run.reached;
+      leads = leads_here (net_seen net) (world_seen stations run.sent) (world_seen stations run.sent) refl;
       carries = acted_carries act traffic k place run.sent run.carries;
     })
 

@@ -2,6 +2,7 @@
 use Rattle.std.proofs.Common.{◌≡◌, ◌≢◌, ◌⊎◌, inl, inr, ℕ, zero, suc, ◌<◌, ◌≤◌, Bool, true, false, cond, List, ℤ, []}
 use Rattle.std.proofs.Common.{◌∷◌, length, map, get_or, Option, Some, None, refl, sym, ap, subst, ◌∙◌, arith}
 use Rattle.std.specs.Prelude.{All, slice_get, slice_set}
+use Rattle.std.proofs.Math.Logic.{∥∥₁_map}
 use Rattle.std.proofs.lemmas.List.{map-set}
 use Rattle.std.proofs.lemmas.List.Elements.{All-map, All-nil}
 use Rattle.std.proofs.lemmas.Bool.{eqb-true, eq-eqb}
@@ -40,10 +41,10 @@ use Rattle.protocol.specs.World.EventView.{NetworkAct, EventView, ByNode, ByNetw
 use Rattle.protocol.specs.World.EventView as event
 use Rattle.protocol.specs.Join.Joined.{IsJoined}
 use Rattle.protocol.specs.JoinLaws.Promises.{StandsIn}
-use Rattle.protocol.specs.Join.Runs.{HasRun}
+use Rattle.protocol.specs.Join.Runs.{HasRun, RunsOn}
 use Rattle.protocol.specs.JoinLaws.Lasting.{deeds_stay_joined, install_joined, release_joined}
 use Rattle.protocol.specs.JoinLaws.Leading.{set_there}
-use Rattle.protocol.specs.JoinLaws.Whole.{deeds_run, installs_run, network_runs, releases_run}
+use Rattle.protocol.specs.JoinLaws.Whole.{deeds_run, has_run_then, installs_run, network_runs, releases_run, runs_still}
 use Rattle.protocol.specs.World.Invariant.{output_of, outputs_of, AreJoined, AreSound, IsNumbered, RunsSoundly}
 use Rattle.protocol.specs.World.Invariant.{StationInvariant, WorldInvariant}
 use Rattle.protocol.specs.World.OutputView.{OutputView}
@@ -530,17 +531,21 @@ module _ (world : WorldView) (inv : WorldInvariant world) (answer : ReplyView) (
   traffic_same true then_is same = same
   traffic_same false then_is same = refl
 
+  still : ∥ RunsOn world.net world.stations world.traffic world.stations world.traffic ∥₁
+  still = ∥∥₁_map inv.run (runs_still world.net world.stations world.traffic)
+
   run_with : (stations : List StationView) (traffic : Traffic) → traffic ≡ world.traffic
-      → ∥ HasRun world.net stations world.traffic ∥₁ → ∥ HasRun world.net stations traffic ∥₁
+      → ∥ RunsOn world.net world.stations world.traffic stations world.traffic ∥₁
+      → ∥ RunsOn world.net world.stations world.traffic stations traffic ∥₁
   run_with stations traffic same run =
-      subst (λ (t : Traffic). ∥ HasRun world.net stations t ∥₁) (sym same) run
+      subst (λ (t : Traffic). ∥ RunsOn world.net world.stations world.traffic stations t ∥₁) (sym same) run
 
   run_then : (room : RecordView → Bool) (e : EventView) (station later : StationView)
       → slice_get world.stations (event_node e) ≡ Some station
       → IsNumbered (slice_set world.stations (event_node e) later)
       → AreSound world.net world.inputs (slice_set world.stations (event_node e) later)
       → IsStationStep (setting_of world) room e came station answer later
-      → ∥ HasRun world.net (slice_set world.stations (event_node e) later)
+      → ∥ RunsOn world.net world.stations world.traffic (slice_set world.stations (event_node e) later)
       (traffic_after (setting_of world) e came answer (Some station)) ∥₁
   run_then room (ByNode k deed) station later there numbered sound step =
       deeds_run (setting_of world) world.stations k station later deed room came answer
@@ -562,25 +567,25 @@ module _ (world : WorldView) (inv : WorldInvariant world) (answer : ReplyView) (
       same : slice_set world.stations k later ≡ world.stations
       same = ap (slice_set world.stations k) step.1 ∙ set_same world.stations k station there
 
-      by : (b : Bool) → ∥ HasRun world.net (slice_set world.stations k later)
+      by : (b : Bool) → ∥ RunsOn world.net world.stations world.traffic (slice_set world.stations k later)
           (cond b (traffic_acted act world.traffic k place) world.traffic) ∥₁
-      by true = subst (λ (xs : List StationView). ∥ HasRun world.net xs (traffic_acted act world.traffic k place) ∥₁)
+      by true = subst (λ (xs : List StationView). ∥ RunsOn world.net world.stations world.traffic xs (traffic_acted act world.traffic k place) ∥₁)
           (sym same) (network_runs world.net world.stations k place act world.traffic inv.run)
-      by false = subst (λ (xs : List StationView). ∥ HasRun world.net xs world.traffic ∥₁) (sym same) inv.run
+      by false = subst (λ (xs : List StationView). ∥ RunsOn world.net world.stations world.traffic xs world.traffic ∥₁) (sym same) still
 
   act_run : (e : EventView) (room : Option (RecordView → Bool)) (o : Option StationView)
       (new : List StationView) → slice_get world.stations (event_node e) ≡ o → IsNumbered new
       → AreSound world.net world.inputs new
       → IsActOf (setting_of world) (event_node e) room o e came world.stations answer new
-      → ∥ HasRun world.net new (traffic_after (setting_of world) e came answer o) ∥₁
+      → ∥ RunsOn world.net world.stations world.traffic new (traffic_after (setting_of world) e came answer o) ∥₁
   act_run e None o new there numbered sound act =
       run_with new _ (traffic_stays e o act.0)
-      (subst (λ (xs : List StationView). ∥ HasRun world.net xs world.traffic ∥₁) (sym act.1) inv.run)
+      (subst (λ (xs : List StationView). ∥ RunsOn world.net world.stations world.traffic xs world.traffic ∥₁) (sym act.1) still)
   act_run e (Some room) None new there numbered sound act =
       run_with new _ (traffic_stays e None act.0)
-      (subst (λ (xs : List StationView). ∥ HasRun world.net xs world.traffic ∥₁) (sym act.1) inv.run)
+      (subst (λ (xs : List StationView). ∥ RunsOn world.net world.stations world.traffic xs world.traffic ∥₁) (sym act.1) still)
   act_run e (Some room) (Some station) new there numbered sound act =
-      subst (λ (xs : List StationView). ∥ HasRun world.net xs
+      subst (λ (xs : List StationView). ∥ RunsOn world.net world.stations world.traffic xs
       (traffic_after (setting_of world) e came answer (Some station)) ∥₁) (sym act.stations)
       (run_then room e station act.later there (subst IsNumbered act.stations numbered)
       (subst (AreSound world.net world.inputs) act.stations sound) act.step)
@@ -609,7 +614,8 @@ step_keeps rooms e old answer new inv step =
     subst (TrafficIsSound old.net old.inputs) (sym step.traffic) flying in
     let run : ∥ HasRun old.net new.stations new.traffic ∥₁ =
     subst (λ (t : Traffic). ∥ HasRun old.net new.stations t ∥₁) (sym step.traffic)
-    (act_run old inv answer step.came e room found new.stations refl numbered stations step.act) in
+    (∥∥₁_map (act_run old inv answer step.came e room found new.stations refl numbered stations step.act)
+    (has_run_then old.net old.stations new.stations old.traffic (traffic_after setting e step.came answer found))) in
     record {
       valid = subst IsValid (sym step.net) inv.valid;
       fits = subst (λ (n : Network). Fits n new.inputs) (sym step.net)
@@ -625,6 +631,23 @@ step_keeps rooms e old answer new inv step =
           (subst (λ (i : List (List ℤ)). TrafficIsSound old.net i new.traffic) (sym step.inputs) flown);
       run = subst (λ (n : Network). ∥ HasRun n new.stations new.traffic ∥₁) (sym step.net) run;
     }
+
+-- And the world goes on by steps of the abstract machine: what is true of two worlds of that machine of which one comes
+-- after the other is true of the worlds before and after each event.
+pub step_runs_on : (rooms : List (RecordView → Bool)) (e : EventView) (old : WorldView) (answer : ReplyView)
+    (new : WorldView) → WorldInvariant old → IsStep rooms e old answer new
+    → ∥ RunsOn old.net old.stations old.traffic new.stations new.traffic ∥₁
+step_runs_on rooms e old answer new inv step =
+    let setting = setting_of old in
+    let sure = world_sure old inv in
+    let room = slice_get rooms (event_node e) in
+    let found = slice_get old.stations (event_node e) in
+    subst (λ (t : Traffic). ∥ RunsOn old.net old.stations old.traffic new.stations t ∥₁) (sym step.traffic)
+    (act_run old inv answer step.came e room found new.stations refl
+    (act_numbered setting sure (event_node e) room found e step.came old.stations answer new.stations refl
+    (world_station old inv (event_node e)) inv.numbered step.act)
+    (act_keeps setting sure (event_node e) room found e step.came old.stations answer new.stations refl
+    (world_station old inv (event_node e)) inv.stations step.act) step.act)
 
 -- the same of an event at the station of this number
 pub act_keeps_world : (rooms : List (RecordView → Bool)) (e : EventView) (came : Outcome) (old : WorldView)
