@@ -25,7 +25,7 @@ use Rattle.protocol.specs.Join.Runs.{Leads, SaysWhatWasSent, Carries, HasRun, Ru
 use Rattle.protocol.specs.Join.Seen.{body_seen, live_seen, mode_seen, node_seen, world_seen}
 use Rattle.protocol.specs.JoinLaws.Crossings.{both_true, true_both}
 use Rattle.protocol.specs.JoinLaws.Hears.{hear_leads}
-use Rattle.protocol.specs.JoinLaws.Leading.{leads_here, leads_by, leads_on, acts, outlets_same, set_itself}
+use Rattle.protocol.specs.JoinLaws.Leading.{leads_here, leads_by, acts, outlets_same, set_itself}
 use Rattle.protocol.specs.JoinLaws.Leaves.{release_leads}
 use Rattle.protocol.specs.JoinLaws.Plans.{ProspectLeads, stays_run, made_run}
 use Rattle.protocol.specs.JoinLaws.Works.{turn_works}

@@ -71,7 +71,8 @@ module _ (net : Network) (stations : List StationView) (k : ℕ) (old : StationV
     (there : slice_get stations k ≡ Some old) (traffic : Traffic) (run : HasRun net stations traffic) where
   -- a station whose node is as it was
   pub stays_run : (node : NodeView) (failures : ℕ) (turns : RoundTurns) (flown : Traffic) → node ≡ old.node
-      → Carries flown run.sent → RunsOn net stations traffic (slice_set stations k (moved_to node failures turns old)) flown
+      → Carries flown run.sent
+      → RunsOn net stations traffic (slice_set stations k (moved_to node failures turns old)) flown
   stays_run node failures turns flown same carries = record {
     run = run;
     sent = run.sent;
@@ -89,7 +90,8 @@ module _ (net : Network) (stations : List StationView) (k : ℕ) (old : StationV
         → Carries flown run.sent → HasFailedAt restart plan.node.kept old.node node
         → RunsOn net stations traffic (slice_set stations k (moved_to node failures turns old)) flown
     failed_run restart node failures turns flown carries (inl same) =
-        subst (λ (n : NodeView). RunsOn net stations traffic (slice_set stations k (moved_to n failures turns old)) flown) (sym same)
+        subst (λ (n : NodeView). RunsOn net stations traffic (slice_set stations k (moved_to n failures turns old))
+        flown) (sym same)
         (record {
           run = run;
           sent = run.sent;
@@ -111,7 +113,8 @@ module _ (net : Network) (stations : List StationView) (k : ℕ) (old : StationV
         (outlets_same made k done down (set_there stations k old done there) refl)
         (falls (net_seen net) k (node_seen done (outlets_seen made)) (node_seen down (outlets_seen made)) refl refl
         refl)))) in
-        subst (λ (n : NodeView). RunsOn net stations traffic (slice_set stations k (moved_to n failures turns old)) flown) (sym same)
+        subst (λ (n : NodeView). RunsOn net stations traffic (slice_set stations k (moved_to n failures turns old))
+        flown) (sym same)
         (record {
           run = run;
           sent = more;
@@ -151,7 +154,8 @@ module _ (net : Network) (stations : List StationView) (k : ℕ) (old : StationV
   held_run restart looks (outcome.Refused Spent) node failures turns flown carries step =
       stays_run node failures turns flown step carries
   held_run restart looks outcome.Failed node failures turns flown carries step =
-      subst (λ (n : NodeView). RunsOn net stations traffic (slice_set stations k (moved_to n failures turns old)) flown) (sym step.1)
+      subst (λ (n : NodeView). RunsOn net stations traffic (slice_set stations k (moved_to n failures turns old))
+      flown) (sym step.1)
       (record {
         run = run;
         sent = run.sent;

@@ -12,8 +12,7 @@ use Rattle.protocol.specs.JoinLaws.Lines.{none_other}
 use Rattle.protocol.specs.Node.Starting.{IsBehind}
 use Rattle.protocol.specs.World.EventView.{EventView, ByNode, ByNetwork, Install, Release, event_node}
 use Rattle.protocol.specs.World.EventView as event
-use Rattle.protocol.specs.World.Invariant.{outputs_of, AreSound, IsNumbered, WorldInvariant}
-use Rattle.protocol.specs.World.RecordSound.{RecordIsSound}
+use Rattle.protocol.specs.World.Invariant.{AreSound, IsNumbered, WorldInvariant}
 use Rattle.protocol.specs.World.RecoveryLine.{AreEither, AreInLine, LinesFollow, next_for, next_kept, records_of}
 use Rattle.protocol.specs.World.RecoveryLine.{records_seen}
 use Rattle.protocol.specs.World.ReplyView.{ReplyView}
@@ -23,24 +22,14 @@ use Rattle.protocol.specs.WorldLaws.DeedLaws.{deed_sound}
 use Rattle.protocol.specs.WorldLaws.KeptLaws.{step_kept}
 use Rattle.protocol.specs.WorldLaws.OrderLaws.{behind_itself}
 use Rattle.protocol.specs.WorldLaws.OutputLaws.{map_at}
-use Rattle.protocol.specs.WorldLaws.PlanLaws.{IsSoundSetting, IsSoundStation, next_record_ahead, next_record_sound}
+use Rattle.protocol.specs.WorldLaws.PlanLaws.{IsSoundSetting, IsSoundStation, next_record_ahead}
 use Rattle.protocol.specs.WorldLaws.StepKeeps.{act_keeps, act_numbered, stands_in, world_station, world_sure}
 use Rattle.protocol.specs.declared.outcome.Outcome.{Outcome}
 
 -- ---- the record that an event puts
 
 module _ (setting : Setting) (sure : IsSoundSetting setting) where
-  -- is as sound as the one before
-  pub next_sound : (e : EventView) (old : StationView) → IsSoundStation setting old
-      → RecordIsSound setting.net setting.inputs (next_kept setting e old) (outputs_of old.outlets)
-  next_sound (ByNode k deed) old sound =
-      next_record_sound setting.net setting.inputs old (plan_of setting k deed old).prospect
-      (deed_sound setting sure old sound k deed) sound.inv
-  next_sound (Install done) old sound = sound.inv.kept
-  next_sound (Release k) old sound = sound.inv.kept
-  next_sound (ByNetwork k place act) old sound = sound.inv.kept
-
-  -- and its permanent image isn't behind
+  -- has a permanent image that isn't behind
   pub next_ahead : (e : EventView) (old : StationView) → IsSoundStation setting old
       → IsBehind old.node.kept.permanent (next_kept setting e old).permanent
   next_ahead (ByNode k deed) old sound =

@@ -292,13 +292,6 @@ module _ (net : Network) (inputs : List (List ℤ)) (old : StationView) where
   next_by P was (Exhausted looks) sound of_plan = was
   next_by P was (Planned plan) sound of_plan = subst P (record_is plan sound) (of_plan plan sound)
 
-  pub next_record_sound : (prospect : Prospect) → IsSoundProspect net inputs old prospect
-      → StationInvariant net inputs old
-      → RecordIsSound net inputs (next_record prospect old.node.kept) (outputs_of old.outlets)
-  next_record_sound prospect sound inv =
-      next_by (λ (r : RecordView). RecordIsSound net inputs r (outputs_of old.outlets)) inv.kept prospect sound
-      (λ plan is. is.keeps.kept)
-
   pub next_record_node : (prospect : Prospect) → IsSoundProspect net inputs old prospect
       → (next_record prospect old.node.kept).node ≡ old.node.kept.node
   next_record_node prospect sound =

@@ -569,9 +569,13 @@ module _ (world : WorldView) (inv : WorldInvariant world) (answer : ReplyView) (
 
       by : (b : Bool) → ∥ RunsOn world.net world.stations world.traffic (slice_set world.stations k later)
           (cond b (traffic_acted act world.traffic k place) world.traffic) ∥₁
-      by true = subst (λ (xs : List StationView). ∥ RunsOn world.net world.stations world.traffic xs (traffic_acted act world.traffic k place) ∥₁)
+      by true =
+          subst (λ (xs : List StationView). ∥ RunsOn world.net world.stations world.traffic xs
+          (traffic_acted act world.traffic k place) ∥₁)
           (sym same) (network_runs world.net world.stations k place act world.traffic inv.run)
-      by false = subst (λ (xs : List StationView). ∥ RunsOn world.net world.stations world.traffic xs world.traffic ∥₁) (sym same) still
+      by false =
+          subst (λ (xs : List StationView). ∥ RunsOn world.net world.stations world.traffic xs world.traffic ∥₁)
+          (sym same) still
 
   act_run : (e : EventView) (room : Option (RecordView → Bool)) (o : Option StationView)
       (new : List StationView) → slice_get world.stations (event_node e) ≡ o → IsNumbered new
@@ -580,10 +584,12 @@ module _ (world : WorldView) (inv : WorldInvariant world) (answer : ReplyView) (
       → ∥ RunsOn world.net world.stations world.traffic new (traffic_after (setting_of world) e came answer o) ∥₁
   act_run e None o new there numbered sound act =
       run_with new _ (traffic_stays e o act.0)
-      (subst (λ (xs : List StationView). ∥ RunsOn world.net world.stations world.traffic xs world.traffic ∥₁) (sym act.1) still)
+      (subst (λ (xs : List StationView). ∥ RunsOn world.net world.stations world.traffic xs world.traffic ∥₁)
+      (sym act.1) still)
   act_run e (Some room) None new there numbered sound act =
       run_with new _ (traffic_stays e None act.0)
-      (subst (λ (xs : List StationView). ∥ RunsOn world.net world.stations world.traffic xs world.traffic ∥₁) (sym act.1) still)
+      (subst (λ (xs : List StationView). ∥ RunsOn world.net world.stations world.traffic xs world.traffic ∥₁)
+      (sym act.1) still)
   act_run e (Some room) (Some station) new there numbered sound act =
       subst (λ (xs : List StationView). ∥ RunsOn world.net world.stations world.traffic xs
       (traffic_after (setting_of world) e came answer (Some station)) ∥₁) (sym act.stations)
