@@ -5,7 +5,7 @@ use Rattle.std.specs.Prelude.{nat_lt}
 use Rattle.std.specs.List.{list_all}
 use Rattle.std.proofs.lemmas.Bool.{ltb-true}
 use Rattle.std.proofs.lemmas.List.Elements.{All-nil}
-use Rattle.datagram.specs.PacketText.{IsPositive, IsBody}
+use Rattle.datagram.specs.PacketText.{IsPositive, IsBody, IsPacket}
 use Rattle.datagram.specs.declared.packet.Body.{Body}
 use Rattle.datagram.specs.declared.packet.Body.TheVariants as says
 use Rattle.datagram.specs.declared.packet.Need.{Need}
@@ -39,7 +39,7 @@ use Rattle.protocol.specs.JoinLaws.Crossings.{both_true}
 use Rattle.protocol.specs.JoinLaws.Keeps.{takes_keeps, drops_keeps, settles_keeps, decides_keeps, confirms_keeps}
 use Rattle.protocol.specs.JoinLaws.Keeps.{begun_sound, covered_sound, joined_sound}
 use Rattle.protocol.specs.JoinLaws.NeedLaws.{has_where_below}
-use Rattle.protocol.specs.JoinLaws.Spelled.{one_sendable, other_of, asks_sendable, new_sendable}
+use Rattle.protocol.specs.JoinLaws.Spelled.{IsSayable, one_sendable, other_of, asks_sendable, new_sendable}
 use Rattle.protocol.specs.JoinLaws.Spelled.{answers_sendable, declined_sendable, commits_sendable, settled_sendable}
 use Rattle.protocol.specs.JoinLaws.Spelled.{verdict_sendable}
 use Rattle.protocol.specs.Node.Addresses.{are_nodes, names_run}
@@ -50,18 +50,20 @@ use Rattle.protocol.specs.Node.Modes.{is_none, is_running, with_kept}
 use Rattle.protocol.specs.Node.NodeView.{NodeView, ModeView, Down, InDoubt, Runs, RunningView, on_mode, on_running}
 use Rattle.protocol.specs.Node.NodeView.{running_in}
 use Rattle.protocol.specs.Node.Plans.{Plan, Prospect, Undue, Exhausted, Planned, becoming, putting, telling, if_due}
-use Rattle.protocol.specs.Node.Plans.{unless_spent}
+use Rattle.protocol.specs.Node.Plans.{packets_by, plan_packets, unless_spent}
+use Rattle.protocol.specs.declared.outcome.Outcome.{Outcome}
+use Rattle.protocol.specs.declared.outcome.Outcome.TheVariants as outcome
+use Rattle.protocol.specs.declared.outcome.Refusal.TheVariants as refusal
 use Rattle.protocol.specs.Node.Starting.{own_at}
 use Rattle.protocol.specs.Node.Trimming.{cut_at}
-use Rattle.protocol.specs.WorldLaws.SendLaws.{IsSendable}
 
 -- of the node of this number that a plan makes, and of what it sends
 pub record PlanSays (net : Network) (inputs : List (List ℤ)) (home : ℕ) (plan : Plan) : Type 0 where
   pub sure : plan.node.mode ≢ InDoubt
   pub kept : KeepsNodes net home plan.node.kept
   pub live : (live : LiveView) → live_in plan.node.mode ≡ Some live → LiveIsSound net home live
-  pub sendable : All (IsSendable net inputs) plan.packets
-  pub refusable : All (IsSendable net inputs) plan.refused
+  pub sendable : All (IsSayable net inputs) plan.packets
+  pub refusable : All (IsSayable net inputs) plan.refused
 
 abbrev pub ProspectSays : Network → List (List ℤ) → ℕ → Prospect → Type 0
 ProspectSays net inputs home Undue = Unit {0}
@@ -72,8 +74,8 @@ module _ (net : Network) (inputs : List (List ℤ)) (valid : IsValid net) (home 
     (old : NodeView) (sure : old.mode ≢ InDoubt) (kept : KeepsNodes net home old.kept)
     (live : (live : LiveView) → live_in old.mode ≡ Some live → LiveIsSound net home live)
     (counts : (running : RunningView) → old.mode ≡ Runs running → MayBeAskedFor net home running.current) where
-  nothing : All (IsSendable net inputs) []
-  nothing = All-nil (IsSendable net inputs)
+  nothing : All (IsSayable net inputs) []
+  nothing = All-nil (IsSayable net inputs)
 
   -- a change of what is in memory leaves no doubt
   surely : (change : RunningView → RunningView) (mode : ModeView) → mode ≢ InDoubt → on_mode change mode ≢ InDoubt
@@ -100,7 +102,7 @@ module _ (net : Network) (inputs : List (List ℤ)) (valid : IsValid net) (home 
       live_same InDoubt = refl
       live_same (Runs running) = same running
 
-  tells : (packets : List Packet) → All (IsSendable net inputs) packets
+  tells : (packets : List Packet) → All (IsSayable net inputs) packets
       → ProspectSays net inputs home (telling packets old)
   tells packets sendable = record { sure = sure; kept = kept; live = live; sendable = sendable; refusable = nothing }
 
@@ -133,7 +135,7 @@ module _ (net : Network) (inputs : List (List ℤ)) (valid : IsValid net) (home 
       (begun_sound net home inputs valid here old.kept running.current less (counts running is))
 
   live_sendable : (o : Option LiveView) → ((l : LiveView) → o ≡ Some l → LiveIsSound net home l)
-      → All (IsSendable net inputs) (live_asks net home o)
+      → All (IsSayable net inputs) (live_asks net home o)
   live_sendable None sound = nothing
   live_sendable (Some l) sound = asks_sendable net inputs valid home here l (sound l refl)
 
@@ -172,7 +174,7 @@ module _ (net : Network) (inputs : List (List ℤ)) (valid : IsValid net) (home 
   decided_kept (Some l) sound = decides_keeps net home old.kept kept l (sound l refl)
 
   decided_told : (o : Option LiveView) → ((l : LiveView) → o ≡ Some l → LiveIsSound net home l)
-      → All (IsSendable net inputs) (commit_packets home (length old.kept.highest) o)
+      → All (IsSayable net inputs) (commit_packets home (length old.kept.highest) o)
   decided_told None sound = nothing
   decided_told (Some l) sound =
       commits_sendable net inputs valid home here l.number (sound l refl).number
@@ -307,7 +309,7 @@ module _ (net : Network) (inputs : List (List ℤ)) (valid : IsValid net) (home 
               (joined_sound net home inputs valid here k p c needs (sound k refl) other asked.3.each parts.1)
 
       asks : (o : Option LiveView) → ((k : LiveView) → o ≡ Some k → LiveIsSound net home k)
-          → All (IsSendable net inputs) (joined_asks net home c needs o)
+          → All (IsSayable net inputs) (joined_asks net home c needs o)
       asks None sound = nothing
       asks (Some k) sound =
           new_sendable net inputs valid home here k.number p (sound k refl).number needs
@@ -412,3 +414,19 @@ module _ (net : Network) (inputs : List (List ℤ)) (valid : IsValid net) (home 
   hears_says from (says.Ended n) is right = ended_says from n
   hears_says from (says.Settled n) is right = settled_says from n
   hears_says from (says.Undone channel epoch count) is right = stays
+
+-- what such a plan sends has a spelling, however it comes out
+plan_allowed : (net : Network) (inputs : List (List ℤ)) (home : ℕ) (plan : Plan) → PlanSays net inputs home plan
+    → (came : Outcome) → All IsPacket (plan_packets plan came)
+plan_allowed net inputs home plan says outcome.NotDue = All-nil IsPacket
+plan_allowed net inputs home plan says outcome.Made = λ k d within. (says.sendable k d within).allowed
+plan_allowed net inputs home plan says (outcome.Refused refusal.TooLarge) =
+    λ k d within. (says.refusable k d within).allowed
+plan_allowed net inputs home plan says (outcome.Refused refusal.Spent) = All-nil IsPacket
+plan_allowed net inputs home plan says outcome.Failed = All-nil IsPacket
+
+pub says_allowed : (net : Network) (inputs : List (List ℤ)) (home : ℕ) (prospect : Prospect)
+    → ProspectSays net inputs home prospect → (came : Outcome) → All IsPacket (packets_by prospect came)
+says_allowed net inputs home Undue says came = All-nil IsPacket
+says_allowed net inputs home (Exhausted looks) says came = All-nil IsPacket
+says_allowed net inputs home (Planned plan) says came = plan_allowed net inputs home plan says came

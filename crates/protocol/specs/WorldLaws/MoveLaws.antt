@@ -71,6 +71,35 @@ where_few test first (suc count) = by (test first) (where_few test (suc first) c
     by true few = omega (arith, few)
     by false few = omega (arith, few)
 
+-- Where a checkpoint may be decided there is room for the decision, since the image that is held is the node's own.
+room_for_decision : (net : Network) (old : StationView) → IsJoined net old → (o : Option LiveView)
+    → may_decide old.number old.node.kept o ≡ true → length old.node.kept.decisions < MAX_DECISIONS
+room_for_decision net old joined None may = absurd (cc)
+room_for_decision net old joined (Some live) may =
+    room old.node.kept.tentative refl (first_true (holds old.number live.number old.node.kept.tentative) _ may)
+  where
+    room : (held : Option Tentative) → old.node.kept.tentative ≡ held → holds old.number live.number held ≡ true
+        → length old.node.kept.decisions < MAX_DECISIONS
+    room None is has = absurd (cc)
+    room (Some held) is has =
+        joined.kept.room held is
+        (eqb-true held.initiator old.number
+        (both_true (held.initiator == old.number) (held.number == live.number) has).0)
+
+pub decision_room : (net : Network) (old : StationView) → IsJoined net old
+    → may_decide old.number old.node.kept (live_in old.node.mode) ≡ true
+    → length old.node.kept.decisions < MAX_DECISIONS
+decision_room net old joined may = room_for_decision net old joined (live_in old.node.mode) may
+
+-- And it names other nodes.
+pub decision_others : (net : Network) (old : StationView) → IsJoined net old → (live : LiveView)
+    → live_in old.node.mode ≡ Some live → has_node old.number live.takers ≡ false
+decision_others net old joined live is = by (has_node old.number live.takers) refl
+  where
+    by : (b : Bool) → has_node old.number live.takers ≡ b → has_node old.number live.takers ≡ false
+    by false none = none
+    by true own = absurd (((joined.live live is).takers old.number own).apart refl)
+
 module _ (net : Network) (inputs : List (List ℤ)) (old : StationView) (inv : StationInvariant net inputs old) where
   -- a station with this node, whose record is sound and which runs soundly if it runs
   pub node_keeps : (node : NodeView) → RecordIsSound net inputs node.kept (outputs_of old.outlets)
@@ -334,15 +363,6 @@ module _ (net : Network) (inputs : List (List ℤ)) (old : StationView) (inv : S
       (record { node = concluded old.node; puts = true; grows = false; packets = packets; refused = refused })
   decide_keeps joined due packets refused = by (live_in old.node.mode) due
     where
-      -- there is room for the decision, since the image that is held is the node's own
-      room : (number : ℕ) (held : Option Tentative) → old.node.kept.tentative ≡ held
-          → holds old.number number held ≡ true → length old.node.kept.decisions < MAX_DECISIONS
-      room number None is has = absurd (cc)
-      room number (Some held) is has =
-          joined.kept.room held is
-          (eqb-true held.initiator old.number
-          (both_true (held.initiator == old.number) (held.number == number) has).0)
-
       by : (o : Option LiveView) → may_decide old.number old.node.kept o ≡ true
           → KeepsStation net inputs old
           (record {
@@ -360,5 +380,4 @@ module _ (net : Network) (inputs : List (List ℤ)) (old : StationView) (inv : S
           decision_keeps live.number (participants_of (length old.node.kept.highest) live.takers)
           (decided_within live.number (participants_of (length old.node.kept.highest) live.takers) old.node.kept
           (omega (arith, few, most))
-          (room live.number old.node.kept.tentative refl (first_true (holds old.number live.number
-          old.node.kept.tentative) _ may)) inv.kept.bounded) packets refused
+          (room_for_decision net old joined (Some live) may) inv.kept.bounded) packets refused

@@ -32,6 +32,7 @@ use Rattle.protocol.specs.Node.Starting.{IsBehind}
 use Rattle.protocol.specs.Join.Joined.{IsJoined}
 use Rattle.protocol.specs.World.Traffic.{TrafficIsSound}
 use Rattle.protocol.specs.JoinLaws.Sayable.{ProspectSays}
+use Rattle.protocol.specs.JoinLaws.Spelled.{all_sendable}
 use Rattle.protocol.specs.WorldLaws.OrderLaws.{behind_itself, order_granted}
 use Rattle.protocol.specs.WorldLaws.RecordLaws.{record_epoch, restarted, restarted_sound, restarted_order}
 use Rattle.protocol.specs.WorldLaws.SendLaws.{IsSendable}
@@ -186,7 +187,9 @@ module _ (net : Network) (inputs : List (List ℤ)) where
       → ProspectSays net inputs home prospect → IsSoundProspect net inputs old prospect
   whole_prospect home old Undue keeps says = tt
   whole_prospect home old (Exhausted looks) keeps says = tt
-  whole_prospect home old (Planned plan) keeps says = whole_plan old plan keeps says.sendable says.refusable
+  whole_prospect home old (Planned plan) keeps says =
+      whole_plan old plan keeps (all_sendable net inputs plan.packets says.sendable)
+      (all_sendable net inputs plan.refused says.refusable)
 
   -- ---- a job that is granted
 

@@ -7,7 +7,7 @@ use Rattle.kahn_net.specs.Nodes.{node_count}
 use Rattle.kahn_net.specs.Syntax.{Network}
 use Rattle.kahn_net.specs.Valid.{IsValid}
 use Rattle.protocol.specs.Join.Joined.{IsJoined, LiveIsSound}
-use Rattle.protocol.specs.JoinLaws.Spelled.{asks_sendable, told_sendable}
+use Rattle.protocol.specs.JoinLaws.Spelled.{all_sendable, asks_sendable, told_sendable}
 use Rattle.protocol.specs.Node.Beginning.{live_asks, live_in}
 use Rattle.protocol.specs.Node.LiveView.{LiveView}
 use Rattle.protocol.specs.Node.Modes.{is_none}
@@ -25,7 +25,9 @@ module _ (net : Network) (inputs : List (List ℤ)) (valid : IsValid net) (stati
   asked : (o : Option LiveView) → ((live : LiveView) → o ≡ Some live → LiveIsSound net station.number live)
       → All (IsSendable net inputs) (live_asks net station.number o)
   asked None sound = All-nil (IsSendable net inputs)
-  asked (Some live) sound = asks_sendable net inputs valid station.number below live (sound live refl)
+  asked (Some live) sound =
+      all_sendable net inputs (live_asks net station.number (Some live))
+      (asks_sendable net inputs valid station.number below live (sound live refl))
 
   in_mode : (mode : ModeView) → station.node.mode ≡ mode
       → All (IsSendable net inputs) (turn_packets net station.number station.node.kept mode)
@@ -40,7 +42,8 @@ module _ (net : Network) (inputs : List (List ℤ)) (valid : IsValid net) (stati
       (All-append (IsSendable net inputs) (live_asks net station.number running.live)
       _ (asked running.live (λ live e. joined.live live (ap live_in is ∙ e)))
       (All-append (IsSendable net inputs) (verdicts_told station.number station.node.kept)
-      _ (told_sendable net inputs valid station.number below station.node.kept joined.kept)
+      _ (all_sendable net inputs (verdicts_told station.number station.node.kept)
+      (told_sendable net inputs valid station.number below station.node.kept joined.kept))
       (outboxes_sendable net inputs valid station.number (outputs_of station.outlets) node named runs
       (is_none station.node.kept.tentative))))
 
