@@ -1,29 +1,20 @@
 -- What is known of each deed: its plan is sound, a node that is down sends nothing by it, and nothing that comes by
 -- it is dropped. A further deed has a case in each of the three laws that go by deeds, at the end of this file.
-use Rattle.std.proofs.Common.{◌≡◌, ℕ, ◌<◌, Bool, true, false, cond, ℤ, List, [], map, All, Option, Some, None}
+use Rattle.std.proofs.Common.{◌≡◌, ℕ, Bool, true, false, cond, ℤ, List, [], map, All, Option, Some, None}
 use Rattle.std.proofs.Common.{option_map, refl, sym, ap, subst, ◌∙◌}
 use Rattle.std.specs.Prelude.{◌==◌, nat_lt, not}
-use Rattle.std.proofs.Math.Bridge.{le_prop}
-use Rattle.std.proofs.Math.Logic.{∥∥₁_elim, ∥∥₁_map}
-use Rattle.std.proofs.lemmas.Bool.{and_from, eqb-true, eq-eqb}
+use Rattle.std.proofs.Math.Logic.{∥∥₁_elim}
+use Rattle.std.proofs.lemmas.Bool.{and_from, eq-eqb}
 use Rattle.std.proofs.lemmas.List.Elements.{All-nil}
 use mathlib.Core.HLevel.{⊥_prop}
 use Rattle.datagram.proofs.Exactness.{whole_again}
-use Rattle.datagram.specs.PacketText.{IsBody, IsPacket}
 use Rattle.datagram.specs.Reading.{whole_at}
-use Rattle.datagram.specs.declared.packet.Body.{Body}
-use Rattle.datagram.specs.declared.packet.Body.TheVariants as says
 use Rattle.datagram.specs.declared.packet.Packet.{Packet}
-use Rattle.kahn_net.specs.Nodes.{node_count}
 use Rattle.kahn_net.specs.Syntax.{Network}
 use Rattle.kahn_net.specs.declared.limits.TheConstants.{MAX_COUNT}
 use Rattle.record.specs.Moves.{highest_seen, with_epoch}
 use Rattle.wire.specs.Queue.{is_due}
 use Rattle.wire.specs.declared.queue.Flight.{Flight}
-use Rattle.protocol.specs.Join.Joined.{MayBeAskedFor}
-use Rattle.protocol.specs.JoinLaws.Crossings.{both_true}
-use Rattle.protocol.specs.JoinLaws.Keeps.{current_counts}
-use Rattle.protocol.specs.JoinLaws.Sayable.{ProspectSays, begins_says, concludes_says, hears_says, says_allowed}
 use Rattle.protocol.specs.Node.Addresses.{names_right, names_run}
 use Rattle.protocol.specs.Node.ArmedRestarts.{round_later, with_armed}
 use Rattle.protocol.specs.Node.Beginning.{begun, live_asks, live_in, may_start, start_prospect}
@@ -32,7 +23,7 @@ use Rattle.protocol.specs.Node.Delivering.{delivery_of, if_right, packet_for}
 use Rattle.protocol.specs.Node.Hearing.{deliver_prospect, hear_prospect}
 use Rattle.protocol.specs.Node.JobView.{JobView}
 use Rattle.protocol.specs.Node.Modes.{crashed, is_down}
-use Rattle.protocol.specs.Node.NodeView.{Down, InDoubt, ModeView, NodeView, Runs, RunningView, running_node}
+use Rattle.protocol.specs.Node.NodeView.{Down, InDoubt, ModeView, NodeView, Runs}
 use Rattle.protocol.specs.Node.Plans.{Planned, Prospect, Undue, Exhausted, becoming, if_due, packets_by, putting}
 use Rattle.protocol.specs.Node.Plans.{unless_spent}
 use Rattle.protocol.specs.Node.Recovering.{crash_prospect, recover_prospect, restored, restored_mode}
@@ -51,15 +42,15 @@ use Rattle.protocol.specs.World.ReplyView as reply
 use Rattle.protocol.specs.World.StationView.{StationView}
 use Rattle.protocol.specs.World.Steps.{Setting, bytes_when, deliver_plan, due_bytes, flight_at, plan_of, sending_of}
 use Rattle.protocol.specs.World.Traffic.{BytesAreSound, SpellsSound, TrafficIsSound}
-use Rattle.protocol.specs.WorldLaws.HeardLaws.{hear_keeps, right_is, whole_sound}
+use Rattle.protocol.specs.WorldLaws.HeardLaws.{hear_keeps, named_here, right_is, whole_sound}
 use Rattle.protocol.specs.WorldLaws.MoveLaws.{decide_keeps, start_keeps}
 use Rattle.protocol.specs.WorldLaws.PlanLaws.{IsSoundProspect, IsSoundSetting, IsSoundStation, ProspectKeeps}
 use Rattle.protocol.specs.WorldLaws.PlanLaws.{back_sound}
-use Rattle.protocol.specs.WorldLaws.PlanLaws.{down_keeps, grant_sound, keeps_if_due, keeps_still, moved_keeps, runs_at}
+use Rattle.protocol.specs.WorldLaws.PlanLaws.{down_keeps, grant_sound, keeps_if_due, keeps_still, moved_keeps}
 use Rattle.protocol.specs.WorldLaws.PlanLaws.{sound_becoming, sound_if_due, sound_unless_spent, whole_plan}
 use Rattle.protocol.specs.WorldLaws.PlanLaws.{whole_prospect}
 use Rattle.protocol.specs.WorldLaws.SendLaws.{IsSendable}
-use Rattle.protocol.specs.WorldLaws.TellLaws.{turn_sendable}
+use Rattle.protocol.specs.WorldLaws.TellLaws.{begins_said, decides_said, hears_said, turn_sendable}
 use Rattle.protocol.specs.WorldLaws.TrafficLaws.{arrives_sound}
 
 -- ---- what is sent
@@ -191,12 +182,6 @@ module _ (setting : Setting) (flying : TrafficIsSound setting.net setting.inputs
           (λ none. ∥∥₁_elim sound ⊥_prop
           (λ says. spells_one setting.net setting.inputs old.number flight.packet says none))
 
--- a packet that has a spelling comes to the node that it is for, and its names are right
-pub record IsHeard (net : Network) (home : ℕ) (packet : Packet) : Type 0 where
-  pub allowed : IsPacket packet
-  pub here : packet.to ≡ home
-  pub names : names_right net packet ≡ true
-
 -- what is sent may be written
 abbrev pub IsWritten : Prospect → Type 0
 IsWritten Undue = Unit {0}
@@ -205,86 +190,8 @@ IsWritten (Planned plan) = All IsWritable plan.packets × All IsWritable plan.re
 
 -- ---- a packet that comes is sound
 
--- that a body may be written is known where it is known to be
-body_written : (body : Body) → ∥ IsBody body ∥₁ → IsBody body
-body_written (says.Data channel position item) known = ∥∥₁_elim known (hlevel (le_prop, ⊥_prop)) (λ b. b)
-body_written (says.Ack channel epoch next) known = ∥∥₁_elim known (hlevel (le_prop, ⊥_prop)) (λ b. b)
-body_written (says.Kept channel count) known = ∥∥₁_elim known (hlevel (le_prop, ⊥_prop)) (λ b. b)
-body_written (says.Ask number channel count) known = ∥∥₁_elim known (hlevel (le_prop, ⊥_prop)) (λ b. b)
-body_written (says.Took number channel count needs) known = ∥∥₁_elim known (hlevel (le_prop, ⊥_prop)) (λ b. b)
-body_written (says.Covered number channel count) known = ∥∥₁_elim known (hlevel (le_prop, ⊥_prop)) (λ b. b)
-body_written (says.Refused number channel reason) known = ∥∥₁_elim known (hlevel (le_prop, ⊥_prop)) (λ b. b)
-body_written (says.Query number) known = ∥∥₁_elim known (hlevel (le_prop, ⊥_prop)) (λ b. b)
-body_written (says.Commit number) known = ∥∥₁_elim known (hlevel (le_prop, ⊥_prop)) (λ b. b)
-body_written (says.Ended number) known = ∥∥₁_elim known (hlevel (le_prop, ⊥_prop)) (λ b. b)
-body_written (says.Settled number) known = ∥∥₁_elim known (hlevel (le_prop, ⊥_prop)) (λ b. b)
-body_written (says.Undone channel epoch sent) known = ∥∥₁_elim known (hlevel (le_prop, ⊥_prop)) (λ b. b)
-
-whole_written : (net : Network) (inputs : List (List ℤ)) (packet : Packet) (to : ℕ) (bytes : List ℕ)
-    → BytesAreSound net inputs to bytes → whole_at bytes ≡ Some packet → IsBody packet.body
-whole_written net inputs packet to bytes sound whole = body_written packet.body (∥∥₁_map sound (λ says.
-    let again : whole_at bytes ≡ Some says.packet = whole_again bytes says.packet says.text in
-    let same : says.packet ≡ packet = cc in
-    subst (λ (p : Packet). IsBody p.body) same says.text.allowed.body))
-
-whole_packet : (net : Network) (inputs : List (List ℤ)) (packet : Packet) (to : ℕ) (bytes : List ℕ)
-    → BytesAreSound net inputs to bytes → whole_at bytes ≡ Some packet → IsPacket packet
-whole_packet net inputs packet to bytes sound whole =
-    let text : ∥ IsPacket packet ∥₁ = ∥∥₁_map sound (λ says.
-    let again : whole_at bytes ≡ Some says.packet = whole_again bytes says.packet says.text in
-    let same : says.packet ≡ packet = cc in
-    subst IsPacket same says.text.allowed) in
-    record {
-      from = ∥∥₁_elim text le_prop (λ p. p.from);
-      to = ∥∥₁_elim text le_prop (λ p. p.to);
-      apart = λ same. ∥∥₁_elim text ⊥_prop (λ p. p.apart same);
-      body = whole_written net inputs packet to bytes sound whole;
-    }
-
 module _ (setting : Setting) (sure : IsSoundSetting setting) (old : StationView) (sound : IsSoundStation setting old)
   where
-    -- what it has now may be asked for
-    counts : (running : RunningView) → old.node.mode ≡ Runs running
-        → MayBeAskedFor setting.net old.number running.current
-    counts running runs =
-        let node = running_node old.node.kept old.node.version running in
-        subst (λ (n : ℕ). MayBeAskedFor setting.net n running.current) sound.named
-        (current_counts setting.net old.node.kept.node setting.inputs sure.valid
-        (subst (λ (n : ℕ). n < node_count setting.net) (sym sound.named) sound.below) node
-        (runs_at setting.net setting.inputs old sound.inv running runs).sound.kept.links)
-
-    -- what it says of what it begins, decides and hears may be said
-    begins_said : ProspectSays setting.net setting.inputs old.number
-        (start_prospect setting.net old.number old.node)
-    begins_said =
-        begins_says setting.net setting.inputs sure.valid old.number sound.below old.node sound.joined.sure
-        sound.joined.kept sound.joined.live counts
-
-    decides_said : ProspectSays setting.net setting.inputs old.number (decide_prospect old.number old.node)
-    decides_said =
-        concludes_says setting.net setting.inputs sure.valid old.number sound.below old.node sound.joined.sure
-        sound.joined.kept sound.joined.live counts
-
-    -- a packet for it
-    right_now_named : (bytes : List ℕ) (packet : Packet) → packet_for setting.net old.number bytes ≡ Some packet
-        → (packet.to ≡ old.number) × (names_right setting.net packet ≡ true)
-    right_now_named bytes packet is =
-        let right = right_is setting.net old.number (whole_at bytes) packet is in
-        let both = both_true (packet.to == old.number) (names_right setting.net packet) right.1 in
-        (eqb-true packet.to old.number both.0, both.1)
-
-    hears_said : (bytes : List ℕ) (to : ℕ) → BytesAreSound setting.net setting.inputs to bytes → (packet : Packet)
-        → packet_for setting.net old.number bytes ≡ Some packet
-        → ProspectSays setting.net setting.inputs old.number
-        (hear_prospect setting.net old.number packet.from packet.body old.node)
-    hears_said bytes to says packet is =
-        let named = right_now_named bytes packet is in
-        hears_says setting.net setting.inputs sure.valid old.number sound.below old.node sound.joined.sure
-        sound.joined.kept sound.joined.live counts packet.from packet.body
-        (whole_written setting.net setting.inputs packet to bytes says
-        (right_is setting.net old.number (whole_at bytes) packet is).0)
-        (ap (λ (n : ℕ). names_run setting.net packet.from n packet.body) (sym named.0) ∙ named.1)
-
     -- ---- what it hears
 
     told_sound : (bytes : List ℕ) (to : ℕ) → BytesAreSound setting.net setting.inputs to bytes
@@ -297,7 +204,7 @@ module _ (setting : Setting) (sure : IsSoundSetting setting) (old : StationView)
         refl)
     told_sound bytes to says (Some packet) is =
         let right = right_is setting.net old.number (whole_at bytes) packet is in
-        let named = right_now_named bytes packet is in
+        let named = named_here setting.net old.number bytes packet is in
         sound_if_due setting.net setting.inputs old (not (is_down old.node.mode))
         (hear_prospect setting.net old.number packet.from packet.body old.node)
         (λ up. whole_prospect setting.net setting.inputs old.number old
@@ -305,7 +212,8 @@ module _ (setting : Setting) (sure : IsSoundSetting setting) (old : StationView)
         (hear_keeps setting.net setting.inputs sure.valid sure.fits old sound.inv sound.joined.sure sound.named
         packet.from packet.body (whole_sound setting.net setting.inputs packet to bytes says right.0)
         (ap (λ (n : ℕ). names_run setting.net packet.from n packet.body) (sym named.0) ∙ named.1))
-        (hears_said bytes to says packet is))
+        (hears_said setting.net setting.inputs sure.valid old sound.inv sound.named sound.below sound.joined
+        bytes to says packet is))
 
     came_sound : (k place : ℕ) (flight : Option Flight) → flight_at setting k place ≡ flight
         → IsSoundProspect setting.net setting.inputs old
@@ -329,7 +237,8 @@ module _ (setting : Setting) (sure : IsSoundSetting setting) (old : StationView)
     begins_sound =
         whole_prospect setting.net setting.inputs old.number old (start_prospect setting.net old.number old.node)
         (keeps_if_due setting.net setting.inputs old (may_start old.node) _
-        (λ due. by due (nat_lt (highest_seen old.number old.node.kept) MAX_COUNT))) begins_said
+        (λ due. by due (nat_lt (highest_seen old.number old.node.kept) MAX_COUNT)))
+        (begins_said setting.net setting.inputs sure.valid old sound.inv sound.named sound.below sound.joined)
       where
         by : may_start old.node ≡ true → (less : Bool)
             → ProspectKeeps setting.net setting.inputs old
@@ -347,7 +256,8 @@ module _ (setting : Setting) (sure : IsSoundSetting setting) (old : StationView)
     decides_sound =
         whole_prospect setting.net setting.inputs old.number old (decide_prospect old.number old.node)
         (keeps_if_due setting.net setting.inputs old (may_decide old.number old.node.kept (live_in old.node.mode)) _
-        (λ due. decide_keeps setting.net setting.inputs old sound.inv sound.joined due _ [])) decides_said
+        (λ due. decide_keeps setting.net setting.inputs old sound.inv sound.joined due _ []))
+        (decides_said setting.net setting.inputs sure.valid old sound.inv sound.named sound.below sound.joined)
 
     -- ---- what it says in its turn
 
@@ -402,37 +312,6 @@ module _ (setting : Setting) (sure : IsSoundSetting setting) (old : StationView)
 
     pub deed_writable : (k : ℕ) (deed : Deed) → IsWritten (plan_of setting k deed old).prospect
     deed_writable k deed = written (plan_of setting k deed old).prospect (deed_sound k deed)
-
-    -- of a start and a decision, however they come out
-    pub start_allowed : (came : Outcome)
-        → All IsPacket (packets_by (start_prospect setting.net old.number old.node) came)
-    start_allowed =
-        says_allowed setting.net setting.inputs old.number (start_prospect setting.net old.number old.node) begins_said
-
-    pub decide_allowed : (came : Outcome) → All IsPacket (packets_by (decide_prospect old.number old.node) came)
-    decide_allowed =
-        says_allowed setting.net setting.inputs old.number (decide_prospect old.number old.node) decides_said
-
-    -- and of a packet for it that sound bytes spell, which may be heard
-    pub heard_allowed : (bytes : List ℕ) (to : ℕ) → BytesAreSound setting.net setting.inputs to bytes
-        → (packet : Packet) → packet_for setting.net old.number bytes ≡ Some packet → (came : Outcome)
-        → All IsPacket
-        (packets_by (hear_prospect setting.net old.number packet.from packet.body old.node) came)
-    heard_allowed bytes to says packet is =
-        says_allowed setting.net setting.inputs old.number
-        (hear_prospect setting.net old.number packet.from packet.body old.node) (hears_said bytes to says packet is)
-
-    pub heard_right : (bytes : List ℕ) (to : ℕ) → BytesAreSound setting.net setting.inputs to bytes
-        → (packet : Packet) → packet_for setting.net old.number bytes ≡ Some packet
-        → IsHeard setting.net old.number packet
-    heard_right bytes to says packet is =
-        let named = right_now_named bytes packet is in
-        record {
-          allowed = whole_packet setting.net setting.inputs packet to bytes says
-              (right_is setting.net old.number (whole_at bytes) packet is).0;
-          here = named.0;
-          names = named.1;
-        }
 
 deed_sends : (setting : Setting) (k : ℕ) (deed : Deed) (station : StationView) (came : Outcome)
     → is_down station.node.mode ≡ true → packets_by (plan_of setting k deed station).prospect came ≡ []

@@ -3,10 +3,14 @@ use Rattle.std.proofs.Common.{◌≡◌, ◌≢◌, ℕ, Bool, true, false, ◌&
 use Rattle.std.proofs.Common.{ap}
 use Rattle.std.proofs.Common.{subst, ◌∙◌}
 use Rattle.std.specs.Prelude.{◌==◌}
-use Rattle.std.proofs.Math.Logic.{∥∥₁_map}
+use Rattle.std.proofs.Math.Bridge.{le_prop}
+use Rattle.std.proofs.Math.Logic.{∥∥₁_elim, ∥∥₁_map}
+use Rattle.std.proofs.lemmas.Bool.{eqb-true}
+use mathlib.Core.HLevel.{⊥_prop}
 use Rattle.ckpt_codec.specs.SizeLaws.{within_permanent}
 use Rattle.ckpt_codec.specs.declared.lengths.TheConstants.{MAX_RETAINED_ITEMS}
 use Rattle.datagram.proofs.Exactness.{whole_again}
+use Rattle.datagram.specs.PacketText.{IsBody, IsPacket}
 use Rattle.datagram.specs.Reading.{whole_at}
 use Rattle.datagram.specs.declared.packet.Body.{Body}
 use Rattle.datagram.specs.declared.packet.Body.TheVariants as says
@@ -18,7 +22,7 @@ use Rattle.kahn_net.specs.Valid.{IsValid}
 use Rattle.record.specs.Changes.{trimmed_image}
 use Rattle.record.specs.Moves.{with_confirmed, with_permanent, with_tentative, without_tentative}
 use Rattle.recovery_line.specs.Observers.{names}
-use Rattle.protocol.specs.JoinLaws.Crossings.{between_cross}
+use Rattle.protocol.specs.JoinLaws.Crossings.{between_cross, both_true}
 use Rattle.protocol.specs.Node.Addresses.{names_right, names_run}
 use Rattle.protocol.specs.Node.Answering.{AskAnswer, Silent, CoveredBefore, TookBefore, TakesNow, Declines, holds}
 use Rattle.protocol.specs.Node.Answering.{answer_to_ask, answering, ask_prospect}
@@ -27,7 +31,7 @@ use Rattle.protocol.specs.Node.Beginning.{live_in}
 use Rattle.protocol.specs.Node.Collecting.{TookAnswer, Ignores, Joins, GivesUp, answer_to_took, give_up_prospect}
 use Rattle.protocol.specs.Node.Collecting.{hearing_covered, joining, loses, refused_prospect, took_by}
 use Rattle.protocol.specs.Node.Collecting.{took_prospect}
-use Rattle.protocol.specs.Node.Delivering.{hearing, if_right}
+use Rattle.protocol.specs.Node.Delivering.{hearing, if_right, packet_for}
 use Rattle.protocol.specs.Node.Hearing.{hear_prospect}
 use Rattle.protocol.specs.Node.Modes.{with_kept}
 use Rattle.protocol.specs.Node.NodeView.{ModeView, Down, InDoubt, Runs, RunningView, RunningNode}
@@ -255,3 +259,64 @@ right_is net home (Some other) packet is = at ((other.to == home) && names_right
         let same : other ≡ packet = cc in
         (e, ap (λ (p : Packet). (p.to == home) && names_right net p) (sym same) ∙ passes)
     at false passes e = absurd (cc)
+
+-- that a body may be written is known where it is known to be
+body_written : (body : Body) → ∥ IsBody body ∥₁ → IsBody body
+body_written (says.Data channel position item) known = ∥∥₁_elim known (hlevel (le_prop, ⊥_prop)) (λ b. b)
+body_written (says.Ack channel epoch next) known = ∥∥₁_elim known (hlevel (le_prop, ⊥_prop)) (λ b. b)
+body_written (says.Kept channel count) known = ∥∥₁_elim known (hlevel (le_prop, ⊥_prop)) (λ b. b)
+body_written (says.Ask number channel count) known = ∥∥₁_elim known (hlevel (le_prop, ⊥_prop)) (λ b. b)
+body_written (says.Took number channel count needs) known = ∥∥₁_elim known (hlevel (le_prop, ⊥_prop)) (λ b. b)
+body_written (says.Covered number channel count) known = ∥∥₁_elim known (hlevel (le_prop, ⊥_prop)) (λ b. b)
+body_written (says.Refused number channel reason) known = ∥∥₁_elim known (hlevel (le_prop, ⊥_prop)) (λ b. b)
+body_written (says.Query number) known = ∥∥₁_elim known (hlevel (le_prop, ⊥_prop)) (λ b. b)
+body_written (says.Commit number) known = ∥∥₁_elim known (hlevel (le_prop, ⊥_prop)) (λ b. b)
+body_written (says.Ended number) known = ∥∥₁_elim known (hlevel (le_prop, ⊥_prop)) (λ b. b)
+body_written (says.Settled number) known = ∥∥₁_elim known (hlevel (le_prop, ⊥_prop)) (λ b. b)
+body_written (says.Undone channel epoch sent) known = ∥∥₁_elim known (hlevel (le_prop, ⊥_prop)) (λ b. b)
+
+pub whole_written : (net : Network) (inputs : List (List ℤ)) (packet : Packet) (to : ℕ) (bytes : List ℕ)
+    → BytesAreSound net inputs to bytes → whole_at bytes ≡ Some packet → IsBody packet.body
+whole_written net inputs packet to bytes sound whole = body_written packet.body (∥∥₁_map sound (λ says.
+    let again : whole_at bytes ≡ Some says.packet = whole_again bytes says.packet says.text in
+    let same : says.packet ≡ packet = cc in
+    subst (λ (p : Packet). IsBody p.body) same says.text.allowed.body))
+
+whole_packet : (net : Network) (inputs : List (List ℤ)) (packet : Packet) (to : ℕ) (bytes : List ℕ)
+    → BytesAreSound net inputs to bytes → whole_at bytes ≡ Some packet → IsPacket packet
+whole_packet net inputs packet to bytes sound whole =
+    let text : ∥ IsPacket packet ∥₁ = ∥∥₁_map sound (λ says.
+    let again : whole_at bytes ≡ Some says.packet = whole_again bytes says.packet says.text in
+    let same : says.packet ≡ packet = cc in
+    subst IsPacket same says.text.allowed) in
+    record {
+      from = ∥∥₁_elim text le_prop (λ p. p.from);
+      to = ∥∥₁_elim text le_prop (λ p. p.to);
+      apart = λ same. ∥∥₁_elim text ⊥_prop (λ p. p.apart same);
+      body = whole_written net inputs packet to bytes sound whole;
+    }
+
+-- a packet that has a spelling comes to the node that it is for, and its names are right
+pub record IsHeard (net : Network) (home : ℕ) (packet : Packet) : Type 0 where
+  pub allowed : IsPacket packet
+  pub here : packet.to ≡ home
+  pub names : names_right net packet ≡ true
+
+pub named_here : (net : Network) (home : ℕ) (bytes : List ℕ) (packet : Packet)
+    → packet_for net home bytes ≡ Some packet → (packet.to ≡ home) × (names_right net packet ≡ true)
+named_here net home bytes packet is =
+    let right = right_is net home (whole_at bytes) packet is in
+    let both = both_true (packet.to == home) (names_right net packet) right.1 in
+    (eqb-true packet.to home both.0, both.1)
+
+-- sound bytes that spell one for the node may be heard
+pub heard_right : (net : Network) (inputs : List (List ℤ)) (home : ℕ) (bytes : List ℕ) (to : ℕ)
+    → BytesAreSound net inputs to bytes → (packet : Packet) → packet_for net home bytes ≡ Some packet
+    → IsHeard net home packet
+heard_right net inputs home bytes to says packet is =
+    let named = named_here net home bytes packet is in
+    record {
+      allowed = whole_packet net inputs packet to bytes says (right_is net home (whole_at bytes) packet is).0;
+      here = named.0;
+      names = named.1;
+    }

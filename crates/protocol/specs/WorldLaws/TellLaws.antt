@@ -1,6 +1,5 @@
--- What a station sends in its turn may be in flight.
+-- What a station sends may be in flight, or has a spelling: in its turn, and as it begins, decides and hears.
 use Rattle.std.proofs.Common.{◌≡◌, ◌<◌, List, ℤ, All, Option, Some, None, refl}
-use Rattle.std.proofs.Common.{ap, ◌∙◌}
 use Rattle.std.specs.List.{flat_map}
 use Rattle.std.proofs.lemmas.List.Elements.{All-append, All-nil}
 use Rattle.kahn_net.specs.Nodes.{node_count}
@@ -18,6 +17,23 @@ use Rattle.protocol.specs.Node.Telling.{turn_packets, verdicts_told}
 use Rattle.protocol.specs.World.Invariant.{StationInvariant, outputs_of}
 use Rattle.protocol.specs.World.StationView.{StationView}
 use Rattle.protocol.specs.WorldLaws.SendLaws.{IsSendable, inboxes_sendable, outboxes_sendable}
+use Rattle.datagram.specs.PacketText.{IsPacket}
+use Rattle.datagram.specs.Reading.{whole_at}
+use Rattle.datagram.specs.declared.packet.Packet.{Packet}
+use Rattle.protocol.specs.Join.Joined.{MayBeAskedFor}
+use Rattle.protocol.specs.JoinLaws.Keeps.{current_counts}
+use Rattle.protocol.specs.JoinLaws.Sayable.{ProspectSays, begins_says, concludes_says, hears_says, says_allowed}
+use Rattle.protocol.specs.Node.Addresses.{names_run}
+use Rattle.protocol.specs.Node.Beginning.{start_prospect}
+use Rattle.protocol.specs.Node.Delivering.{packet_for}
+use Rattle.protocol.specs.Node.Hearing.{hear_prospect}
+use Rattle.protocol.specs.Node.Plans.{packets_by}
+use Rattle.protocol.specs.Node.Verdicts.{decide_prospect}
+use Rattle.protocol.specs.World.Traffic.{BytesAreSound}
+use Rattle.protocol.specs.WorldLaws.HeardLaws.{named_here, right_is, whole_written}
+use Rattle.protocol.specs.declared.outcome.Outcome.{Outcome}
+use Rattle.std.proofs.Common.{sym, subst, ℕ, ap, ◌∙◌}
+use Rattle.protocol.specs.Node.NodeView.{RunningView}
 
 module _ (net : Network) (inputs : List (List ℤ)) (valid : IsValid net) (station : StationView)
     (inv : StationInvariant net inputs station) (named : station.node.kept.node ≡ station.number)
@@ -57,3 +73,52 @@ module _ (net : Network) (inputs : List (List ℤ)) (valid : IsValid net) (stati
       (let may : All (IsSendable net inputs) (turn_packets net station.number station.node.kept station.node.mode) =
       turn_sendable in
       λ k d within. (may k d within).writable)
+
+  -- ---- what it begins, decides, and hears
+
+  -- what it has now may be asked for
+  counts : (running : RunningView) → station.node.mode ≡ Runs running
+      → MayBeAskedFor net station.number running.current
+  counts running runs =
+      let node = running_node station.node.kept station.node.version running in
+      subst (λ (n : ℕ). MayBeAskedFor net n running.current) named
+      (current_counts net station.node.kept.node inputs valid
+      (subst (λ (n : ℕ). n < node_count net) (sym named) below) node
+      (inv.runs node (ap (running_in station.node.kept station.node.version) runs)).sound.kept.links)
+
+  pub begins_said : ProspectSays net inputs station.number (start_prospect net station.number station.node)
+  begins_said =
+      begins_says net inputs valid station.number below station.node joined.sure joined.kept joined.live counts
+
+  pub decides_said : ProspectSays net inputs station.number (decide_prospect station.number station.node)
+  decides_said =
+      concludes_says net inputs valid station.number below station.node joined.sure joined.kept joined.live counts
+
+  pub hears_said : (bytes : List ℕ) (to : ℕ) → BytesAreSound net inputs to bytes → (packet : Packet)
+      → packet_for net station.number bytes ≡ Some packet
+      → ProspectSays net inputs station.number
+      (hear_prospect net station.number packet.from packet.body station.node)
+  hears_said bytes to says packet is =
+      let right = named_here net station.number bytes packet is in
+      hears_says net inputs valid station.number below station.node joined.sure joined.kept joined.live counts
+      packet.from packet.body
+      (whole_written net inputs packet to bytes says
+      (right_is net station.number (whole_at bytes) packet is).0)
+      (ap (λ (n : ℕ). names_run net packet.from n packet.body) (sym right.0) ∙ right.1)
+
+  -- What it sends then has a spelling, however that comes out: of a start, of a decision, and of a packet for it that
+  -- sound bytes spell.
+  pub start_allowed : (came : Outcome)
+      → All IsPacket (packets_by (start_prospect net station.number station.node) came)
+  start_allowed =
+      says_allowed net inputs station.number (start_prospect net station.number station.node) begins_said
+
+  pub decide_allowed : (came : Outcome) → All IsPacket (packets_by (decide_prospect station.number station.node) came)
+  decide_allowed = says_allowed net inputs station.number (decide_prospect station.number station.node) decides_said
+
+  pub heard_allowed : (bytes : List ℕ) (to : ℕ) → BytesAreSound net inputs to bytes → (packet : Packet)
+      → packet_for net station.number bytes ≡ Some packet → (came : Outcome)
+      → All IsPacket (packets_by (hear_prospect net station.number packet.from packet.body station.node) came)
+  heard_allowed bytes to says packet is =
+      says_allowed net inputs station.number
+      (hear_prospect net station.number packet.from packet.body station.node) (hears_said bytes to says packet is)
