@@ -8,7 +8,11 @@ pub mod SoundLaws
 pub mod OrderLaws
 pub mod HandedLaws
 pub mod BoundLaws
+pub mod CutLaws
 pub mod PlanLaws
+pub mod TellLaws
+pub mod MoveLaws
+pub mod HeardLaws
 pub mod DeedLaws
 pub mod KeptLaws
 pub mod StepKeeps

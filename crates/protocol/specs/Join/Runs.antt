@@ -35,3 +35,13 @@ pub record HasRun (net : Network) (stations : List StationView) (traffic : Traff
   pub sent : List Packet
   pub reached : Reachable (net_seen net) (world_seen stations sent)
   pub carries : Carries traffic sent
+
+-- A world goes on: it has run, and steps lead from it to these stations, in which whatever is in flight then was sent,
+-- if it wasn't before. So what is true of two worlds of the machine of which one comes after the other is true of
+-- these.
+pub record RunsOn (net : Network) (before : List StationView) (traffic : Traffic) (after : List StationView)
+    (flown : Traffic) : Type 0 where
+  pub run : HasRun net before traffic
+  pub sent : List Packet
+  pub leads : Leads (net_seen net) (world_seen before run.sent) (world_seen after sent)
+  pub carries : Carries flown sent

@@ -34,7 +34,7 @@ use Rattle.protocol.specs.JoinLaws.Leading.{leads_by, leads_on, acts, outlets_sa
 use Rattle.protocol.specs.JoinLaws.NeedLaws.{has_where, has_where_below}
 use Rattle.protocol.specs.JoinLaws.Sent.{MaySendAll, sends}
 use Rattle.protocol.specs.Node.LiveView.{QuestionView, LiveView}
-use Rattle.protocol.specs.Node.NodeView.{ModeView, Down, Runs, RunningView, on_mode}
+use Rattle.protocol.specs.Node.NodeView.{ModeView, Runs, RunningView, on_mode}
 use Rattle.protocol.specs.World.RecoveryLine.{net_seen, record_or_new, records_of, records_seen, outlets_seen}
 use Rattle.protocol.specs.World.StationView.{StationView}
 use Rattle.protocol.specs.World.Steps.{moved_to}

@@ -256,9 +256,10 @@ code_of_entry net home image k saved laid is = at (slice_get_cases net.codes sav
 site_written : (net : Network) (p : ℕ) (code : Code) (inputs : List (List ℤ)) (m : ℕ) (standing : Standing)
     → IsValid net → slice_get net.codes p ≡ Some code → StandsAt code inputs m standing → HasShortSite standing
 site_written net p code inputs m (NotBegun vars) valid here stands = tt
-site_written net p code inputs m (At point vars) valid here stands =
-    (site_short net p code point valid here (site_of_standing code inputs m (At point vars) stands),
-    passes_few net p code inputs m point vars valid here stands)
+site_written net p code inputs m (At point vars) valid here stands = (
+  site_short net p code point valid here (site_of_standing code inputs m (At point vars) stands),
+  passes_few net p code inputs m point vars valid here stands,
+)
 site_written net p code inputs m (Done vars) valid here stands = tt
 
 -- each process of an image that stands there may be written

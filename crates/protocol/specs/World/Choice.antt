@@ -69,7 +69,8 @@ own_choice net inputs nodes round station =
     if is_some (next_release round station) then Release station.number
     else (if nat_lt (turns_of round station.turns).granted MAX_GRANTS && is_some (node_job net inputs station.node)
     then ByNode station.number event.Grant
-    else (if may_decide station.number station.node.kept (live_in station.node.mode) then ByNode station.number event.Decide
+    else (if may_decide station.number station.node.kept (live_in station.node.mode) then ByNode station.number
+    event.Decide
     else (if wants_checkpoint nodes round station then ByNode station.number event.Start
     else (if not (is_down station.node.mode) && not (has_sent round station) then ByNode station.number event.Send
     else ByNode station.number event.Idle))))

@@ -49,8 +49,8 @@ pub record RecordHasCome (net : Network) (inputs : List (List ℤ)) (kept : Reco
       → IsPrefix output.taken (sent_on output.channel (acts_of net (approximation net inputs n) permanent_acts p))
 
 -- All of it: there is an outlet for each output of the record's node, in order, the permanent image covers what has
--- left, the tentative one isn't behind it, the record is within the bounds in which it fits `MAX_RECORD_BYTES`, and what
--- is said above.
+-- left, the tentative one isn't behind it, the record is within the bounds in which it fits `MAX_RECORD_BYTES`, and
+-- what is said above.
 pub record RecordIsSound (net : Network) (inputs : List (List ℤ)) (kept : RecordView)
     (outputs : List OutputView) : Type 0 where
   pub listed : map (λ (output : OutputView). output.channel) outputs ≡ outputs_on net kept.node

@@ -1,7 +1,8 @@
 -- The recovery line of a world: what all nodes restart from, if they crash together. The words of the line are those of
 -- the abstract machine (the crate `recovery_line`); here stands how a world is seen there, and what it is for a line to
 -- be in order.
-use Rattle.std.specs.Prelude.{◌≡◌, ◌⊎◌, ℕ, List, [], ◌∷◌, map, length, Option, Some, None, slice_get}
+use Rattle.std.specs.Prelude.{◌≡◌, ◌⊎◌, ◌==◌, if◌then◌else◌, ℕ, List, [], ◌∷◌, map, length, Option, Some, None}
+use Rattle.std.specs.Prelude.{slice_get}
 use Rattle.kahn_net.specs.Syntax.{Network}
 use Rattle.record.specs.RecordView.{RecordView}
 use Rattle.recovery_line.specs.Images.{Net}
@@ -10,7 +11,7 @@ use Rattle.recovery_line.specs.Observers.{record_seen}
 use Rattle.recovery_line.specs.Records.{Record, new_record, effective}
 use Rattle.protocol.specs.Node.Layout.{producer_of, consumer_of}
 use Rattle.protocol.specs.Node.Plans.{next_record}
-use Rattle.protocol.specs.World.EventView.{EventView, ByNode, ByNetwork, Install, Release}
+use Rattle.protocol.specs.World.EventView.{EventView, ByNode, ByNetwork, Install, Release, event_node}
 use Rattle.protocol.specs.World.Released.{released_of}
 use Rattle.protocol.specs.World.StationView.{StationView}
 use Rattle.protocol.specs.World.Steps.{Setting, plan_of}
@@ -24,6 +25,11 @@ next_kept setting (ByNode k deed) station = next_record (plan_of setting k deed 
 next_kept setting (Install done) station = station.node.kept
 next_kept setting (Release k) station = station.node.kept
 next_kept setting (ByNetwork k place act) station = station.node.kept
+
+-- of any station of a world in which the event happens: no other station's record is put
+abbrev pub next_for : Setting → EventView → StationView → RecordView
+next_for setting event station =
+    if station.number == event_node event then next_kept setting event station else station.node.kept
 
 -- ---- a world as the abstract machine sees it
 

@@ -6,7 +6,7 @@ use Rattle.protocol.specs.declared.delivery.Delivery.{Delivery}
 use Rattle.protocol.specs.declared.delivery.Delivery.TheVariants as delivery
 use Rattle.protocol.specs.declared.outcome.Outcome.{Outcome}
 use Rattle.protocol.specs.declared.outcome.Outcome.TheVariants as outcome
-use Rattle.protocol.specs.declared.outcome.Refusal.TheVariants.{TooLarge}
+use Rattle.protocol.specs.declared.outcome.Refusal.TheVariants.{TooLarge, Spent}
 use Rattle.protocol.specs.World.EventView.{Deed, NetworkAct, EventView, ByNode, ByNetwork, Install, Release}
 use Rattle.protocol.specs.World.EventView as event
 use Rattle.protocol.specs.World.ReplyView.{ReplyView}
@@ -16,11 +16,11 @@ use Rattle.protocol.specs.World.ReplyView as reply
 
 -- what is answered to a deed that is answered so where it is made, and so where its record is too large
 abbrev pub answer_by : ReplyView → ReplyView → Outcome → ReplyView
-answer_by made declined outcome.NotDue = reply.NotDue
-answer_by made declined outcome.Made = made
-answer_by made declined (outcome.Refused TooLarge) = declined
-answer_by made declined (outcome.Refused Spent) = reply.Refused Spent
-answer_by made declined outcome.Failed = reply.Down
+answer_by made otherwise outcome.NotDue = reply.NotDue
+answer_by made otherwise outcome.Made = made
+answer_by made otherwise (outcome.Refused TooLarge) = otherwise
+answer_by made otherwise (outcome.Refused Spent) = reply.Refused Spent
+answer_by made otherwise outcome.Failed = reply.Down
 
 -- what a node did with bytes that came to it
 abbrev pub delivery_reply : Delivery → ReplyView

@@ -192,8 +192,8 @@ turns_by noted turns outcome.Made = noted
 turns_by noted turns (outcome.Refused refusal) = noted
 turns_by noted turns outcome.Failed = noted
 
--- A deed comes out by its plan, in this way, and is answered so. `fits` is what the node's cell has room for, and `call`
--- the device call that failed, where the device did.
+-- A deed comes out by its plan, in this way, and is answered so. `fits` is what the node's cell has room for, and
+-- `call` the device call that failed, where the device did.
 pub record IsPlanned (fits : RecordView → Bool) (round : ℕ) (plan : StationPlan) (came : Outcome) (old : StationView)
     (answer : ReplyView) (new : StationView) : Type 0 where
   pub call : ℕ

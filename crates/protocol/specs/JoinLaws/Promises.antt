@@ -1,5 +1,5 @@
--- What is promised of checkpoints that several nodes take together, as the contracts of the law calls say it.
-use Rattle.std.specs.Prelude.{◌≡◌, ◌⊎◌, ℕ, ℤ, Bool, if◌then◌else◌, List, [], length, Some, slice_get, slice_set}
+-- What the laws of checkpoints that several nodes take together say, in one form for all events.
+use Rattle.std.specs.Prelude.{◌≡◌, ℕ, ℤ, Bool, true, if◌then◌else◌, List, [], length, Some, slice_get, slice_set}
 use Rattle.kahn_net.specs.Nodes.{node_count}
 use Rattle.kahn_net.specs.Syntax.{Network}
 use Rattle.kahn_net.specs.Valid.{IsValid}
@@ -8,7 +8,7 @@ use Rattle.wire.specs.Traffic.{Traffic, all_sent, opening_traffic}
 use Rattle.protocol.specs.World.Steps.{plan_of}
 use Rattle.protocol.specs.Join.Joined.{IsJoined}
 use Rattle.protocol.specs.World.RecoveryLine.{AreEither, AreInLine}
-use Rattle.protocol.specs.Join.Runs.{HasRun}
+use Rattle.protocol.specs.Join.Runs.{HasRun, RunsOn}
 use Rattle.protocol.specs.Node.Plans.{next_record}
 use Rattle.protocol.specs.World.DoneView.{DoneView}
 use Rattle.protocol.specs.World.EventView.{Deed, NetworkAct}
@@ -21,6 +21,7 @@ use Rattle.protocol.specs.World.StationView.{OutletView, StationView}
 use Rattle.protocol.specs.World.Steps.{Setting, StationPlan, plan_sendings, traffic_left, traffic_acted, next_release}
 use Rattle.protocol.specs.World.Steps.{IsPlanned, IsInstalled, IsRelease}
 use Rattle.protocol.specs.World.Traffic.{TrafficIsSound}
+use Rattle.protocol.specs.declared.outcome.Outcome.{Outcome}
 
 -- nothing has left by these outlets
 abbrev pub HaveTakenNothing : List OutletView → Type 0
@@ -42,6 +43,7 @@ pub record StandsIn (setting : Setting) (stations : List StationView) (k : ℕ) 
   pub node : old.node.kept.node ≡ k
   pub sound : StationInvariant setting.net setting.inputs old
   pub joined : IsJoined setting.net old
+  pub alone : setting.restarts ≡ true → node_count setting.net ≡ 1
   pub traffic : TrafficIsSound setting.net setting.inputs setting.traffic
 
 -- An opening world of outlets that have taken nothing has run, with no step.
@@ -50,16 +52,16 @@ OpeningHasRun =
     (net : Network) (failures : List ℕ) (outlets : List OutletView) → HaveTakenNothing outlets
     → ∥ HasRun net (opening_stations net failures outlets) opening_traffic ∥₁
 
--- However a deed of a node comes out, on which device call ever its device fails, the world has run then: the deed is
--- steps of the machine, and so is half of it with the crash behind it.
+-- However a deed of a node comes out, on which device call ever its device fails, the world goes on by steps of the
+-- machine: the deed is some, and so is half of it with the crash behind it.
 abbrev pub DeedsRun : Type 0
 DeedsRun =
     (setting : Setting) (stations : List StationView) (k : ℕ) (old new : StationView) (deed : Deed)
-    (fits : RecordView → Bool) (answer : ReplyView) → StandsIn setting stations k old
-    → IsPlanned fits setting.round (plan_of setting k deed old) old answer new
+    (fits : RecordView → Bool) (came : Outcome) (answer : ReplyView) → StandsIn setting stations k old
+    → IsPlanned fits setting.round (plan_of setting k deed old) came old answer new
     → ∥ HasRun setting.net stations setting.traffic ∥₁
-    → ∥ HasRun setting.net (slice_set stations k new)
-    (traffic_by setting.traffic k setting.round (plan_of setting k deed old) answer) ∥₁
+    → ∥ RunsOn setting.net stations setting.traffic (slice_set stations k new)
+    (traffic_by setting.traffic k setting.round (plan_of setting k deed old) came answer) ∥₁
 
 -- Whatever records a crash leaves in a deed, of each station the one of before or of this one the one that the deed
 -- puts, the line that follows from them is in order.
@@ -79,7 +81,7 @@ InstallsRun =
     (done : DoneView) (answer : ReplyView) (traffic : Traffic) → slice_get stations k ≡ Some old
     → old.node.kept.node ≡ k → StationInvariant net inputs old → StationInvariant net inputs new
     → IsInstalled net.channels done old answer new → ∥ HasRun net stations traffic ∥₁
-    → ∥ HasRun net (slice_set stations k new) traffic ∥₁
+    → ∥ RunsOn net stations traffic (slice_set stations k new) traffic ∥₁
 
 -- An item that leaves is two steps, one in which it leaves and one in which the log lets go of it; where the outlet
 -- failed it may be the second alone. The line is in order whatever leaves.
@@ -89,7 +91,7 @@ ReleasesRun =
     (round : ℕ) (answer : ReplyView) (traffic : Traffic) → slice_get stations k ≡ Some old → IsNumbered stations
     → AreSound net inputs stations → IsNumbered (slice_set stations k new)
     → AreSound net inputs (slice_set stations k new) → IsRelease round (next_release round old) old answer new
-    → ∥ HasRun net stations traffic ∥₁ → ∥ HasRun net (slice_set stations k new) traffic ∥₁
+    → ∥ HasRun net stations traffic ∥₁ → ∥ RunsOn net stations traffic (slice_set stations k new) traffic ∥₁
 
 -- A release puts no record: the line of those that are kept is in order, with what had left and with what has left
 -- then.
@@ -106,7 +108,8 @@ ReleasesKeepTheLine =
 abbrev pub NetworkRuns : Type 0
 NetworkRuns =
     (net : Network) (stations : List StationView) (k place : ℕ) (act : NetworkAct) (traffic : Traffic)
-    → ∥ HasRun net stations traffic ∥₁ → ∥ HasRun net stations (traffic_acted act traffic k place) ∥₁
+    → ∥ HasRun net stations traffic ∥₁
+    → ∥ RunsOn net stations traffic stations (traffic_acted act traffic k place) ∥₁
 
 -- The line of the records that the stations keep is in order at any time.
 abbrev pub LinesAreSound : Type 0
@@ -116,19 +119,13 @@ LinesAreSound =
 
 -- ---- what may be said
 
--- After each deed, however it comes out, what a station keeps and collects may be said to other nodes; and so it is
--- after a turn that comes back and an item that leaves, and of each station of an opening world.
+-- After each deed, however it comes out, what a station keeps and collects may be said to other nodes; and so it is of
+-- each station of an opening world.
 abbrev pub DeedsStayJoined : Type 0
 DeedsStayJoined =
     (setting : Setting) (stations : List StationView) (k : ℕ) (old new : StationView) (deed : Deed)
-    (fits : RecordView → Bool) (answer : ReplyView) → StandsIn setting stations k old
-    → IsPlanned fits setting.round (plan_of setting k deed old) old answer new → IsJoined setting.net new
-
-abbrev pub OthersStayJoined : Type 0
-OthersStayJoined =
-    (net : Network) (old new : StationView) (done : DoneView) (round : ℕ) (answer : ReplyView)
-    → IsInstalled net.channels done old answer new ⊎ IsRelease round (next_release round old) old answer new
-    → IsJoined net old → IsJoined net new
+    (fits : RecordView → Bool) (came : Outcome) (answer : ReplyView) → StandsIn setting stations k old
+    → IsPlanned fits setting.round (plan_of setting k deed old) came old answer new → IsJoined setting.net new
 
 abbrev pub OpeningIsJoined : Type 0
 OpeningIsJoined =
