@@ -2,4 +2,4 @@ pub mod Posting
 pub mod Passing
 pub mod Seen
 pub mod Staged
-mod Ready
+pub mod Ready

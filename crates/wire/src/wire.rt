@@ -289,8 +289,9 @@ impl Wire {
         round: u64,
     ) -> Result<Batch, AllocError>
         requires { All AreNodes packets.items }
-        ensures { IfOk result
+        ensures ready { IfOk result
             (λ batch. IsStaged (traffic_of self.now) round packets.items batch) }
+        ensures count { IfOk result (λ batch. length batch ≡ NODES) }
     {
         Ok(Batch {
             queues: staged(alloc, &self.queues, &self.rules, packets, round)?,

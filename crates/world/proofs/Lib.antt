@@ -7,8 +7,10 @@ mod OpeningStores
 mod Views
 mod Stations
 mod Planned
+mod Events
 mod Showing
 mod Rests
 mod Places
 mod Packets
+mod Ready
 mod Restarts
