@@ -13,4 +13,5 @@ mod Rests
 mod Places
 mod Packets
 mod Ready
+mod Arriving
 mod Restarts

@@ -1,9 +1,9 @@
 -- Views of stations.
-use Rattle.std.proofs.Common.{◌≡◌, ℕ, zero, suc, ◌<◌, Bool, List, ℤ, [], ◌∷◌, length, get_or, Option, Some, map, refl}
+use Rattle.std.proofs.Common.{◌≡◌, ℕ, zero, suc, ◌<◌, ◌≤◌, Bool, List, ℤ, [], ◌∷◌, length, get_or, Option, Some, map, refl}
 use Rattle.std.proofs.Common.{sym, ap, subst, ◌∙◌, arith}
 use Rattle.std.specs.Prelude.{Result, Ok, Err, IfOk, OnErr, slice_get, slice_set}
 use Rattle.std.proofs.lemmas.List.{length-map, map-set}
-use Rattle.std.proofs.lemmas.Option.{slice_get_read}
+use Rattle.std.proofs.lemmas.Option.{slice_get_past, slice_get_read}
 use Rattle.std.specs.declared.alloc.AllocError.{AllocError}
 use Rattle.kahn_net.specs.Syntax.{Network}
 use Rattle.wire.specs.Traffic.{Traffic}
@@ -19,10 +19,12 @@ use Rattle.world.specs.OutputView.{output_view, outputs_view}
 use Rattle.protocol.specs.World.StationView.{OutletView, StationView}
 use Rattle.world.specs.StationView.{outlet_view, outlet_views}
 use Rattle.protocol.specs.World.Steps.{may_restart, next_release, setting_in, setting_of, IsHanded, IsRelease}
-use Rattle.protocol.specs.World.Steps.{IsActOf, Setting, traffic_after}
+use Rattle.protocol.specs.World.Steps.{IsActOf, IsStep, Setting, WorldView, round_after, traffic_after}
+use Rattle.protocol.specs.World.ReplyView.{NotDue, ReplyView}
+use Rattle.protocol.specs.declared.outcome.Outcome.TheVariants as outcome
 use Rattle.world.specs.Coming.{HasActed, HasCome}
 use Rattle.world.specs.WorldView.{IsCellUnchanged}
-use Rattle.protocol.specs.World.EventView.{EventView}
+use Rattle.protocol.specs.World.EventView.{EventView, event_node}
 use Rattle.world.specs.ReplyView.{reply_view}
 use Rattle.world.specs.declared.station.Station.{Station}
 use Rattle.gate_cell.specs.declared.cell.StableCell.{Ghosts as CellWords}
@@ -181,3 +183,36 @@ pub same_outputs : {O : Type 0} (taken : O → List ℤ) (failures : O → ℕ) 
 same_outputs taken failures [] = refl
 same_outputs taken failures (output ∷ outputs) =
     ap (λ (rest : List OutputView). output_view taken output ∷ rest) (same_outputs taken failures outputs)
+
+-- what was an event at the station of this number is a step of the world
+pub world_steps : (rooms : List (RecordView → Bool)) (e : EventView) (old : WorldView) (answer : ReplyView)
+    (setting : Setting) (number round : ℕ) (stations : List StationView) (flown : Traffic) → setting ≡ setting_of old
+    → number ≡ event_node e → HasActed setting number rooms e old.stations answer stations flown
+    → round ≡ round_after answer old.round stations
+    → IsStep rooms e old answer
+    (record { net = old.net; inputs = old.inputs; stations = stations; traffic = flown; round = round })
+world_steps rooms e old answer setting number round stations flown same_setting same_number acted later =
+    let here =
+    subst (λ (n : ℕ). HasActed (setting_of old) n rooms e old.stations answer stations flown) same_number
+    (subst (λ (s : Setting). HasActed s number rooms e old.stations answer stations flown) same_setting acted) in
+    record {
+      net = refl;
+      inputs = refl;
+      came = here.came;
+      act = here.act;
+      traffic = here.traffic;
+      round = later;
+    }
+
+-- where there is no station, nothing happens
+pub none_acted : {S : Type 0} (setting : Setting) (view : S → StationView) (room : S → RecordView → Bool)
+    (event : EventView) (xs : List S) (place : ℕ) → length xs ≤ place
+    → HasActed setting place (map room xs) event (map view xs) NotDue (map view xs) setting.traffic
+none_acted setting view room event xs place past = record {
+  came = outcome.NotDue;
+  act = subst (λ (f : Option (RecordView → Bool)). IsActOf setting place f (slice_get (map view xs) place) event
+      outcome.NotDue (map view xs) NotDue (map view xs))
+      (sym (slice_get_past (map room xs) place (let many = length-map xs room in omega (arith, past, many))))
+      (refl, refl);
+  traffic = refl;
+}

@@ -1,5 +1,5 @@
 // An event at its station.
-ghost use Rattle.std.specs.Prelude.{◌≡◌, ◌<◌, All, IfOk, OnErr};
+ghost use Rattle.std.specs.Prelude.{◌≡◌, ℕ, ◌<◌, All, IfOk, OnErr};
 ghost use Rattle.kahn_net.specs.Syntax.{network_of};
 ghost use Rattle.ckpt_store.specs.Spelling.{fits_in};
 ghost use Rattle.ckpt_store.specs.StoreView.{cell_in};
@@ -47,11 +47,11 @@ impl<C: SlotCell, O: Outlet> Station<C, O> {
         ensures same { self.new.node ≡ self.old.node }
         ensures refused { OnErr result
             (station_view O.taken O.failures self.new ≡ station_view O.taken O.failures self.old) }
-        ensures come { IfOk result
+        ensures come { (k : ℕ) → IfOk result
             (λ reply. ComesOut (fits_in (C.slot_capacity (cell_in self.old.node.store))) round
             (send_plan (network_of net.now.program) round (station_view O.taken O.failures self.old))
             (station_view O.taken O.failures self.old) (reply_view reply)
-            (station_view O.taken O.failures self.new) self.old.node.number
+            (station_view O.taken O.failures self.new) k
             (traffic_of wire.old) (traffic_of wire.new)) }
         ensures same_traffic { OnErr result (traffic_of wire.new ≡ traffic_of wire.old) }
     {

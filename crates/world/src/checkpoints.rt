@@ -2,7 +2,7 @@
 //
 // What an event says is found, spelled and made ready, and room is made for it, before anything changes: behind the put
 // nothing may fail.
-ghost use Rattle.std.specs.Prelude.{◌≡◌, ◌≤◌, [], All, IfOk, OnErr, map};
+ghost use Rattle.std.specs.Prelude.{◌≡◌, ℕ, ◌≤◌, [], All, IfOk, OnErr, map};
 ghost use Rattle.ckpt_store.specs.Spelling.{fits_in};
 ghost use Rattle.ckpt_store.specs.StoreView.{cell_in};
 ghost use Rattle.datagram.specs.PacketText.{IsPacket};
@@ -131,12 +131,12 @@ impl<C: SlotCell, O: Outlet> Station<C, O> {
         ensures same_setup { LeavesDevice self.old.node.store self.new.node.store }
         ensures refused { OnErr result
             (station_view O.taken O.failures self.new ≡ station_view O.taken O.failures self.old) }
-        ensures come { IfOk result
+        ensures come { (k : ℕ) → IfOk result
             (λ reply. ComesOut (fits_in (C.slot_capacity (cell_in self.old.node.store))) round
             (start_plan (network_of net.now.program) round
             (station_view O.taken O.failures self.old))
             (station_view O.taken O.failures self.old) (reply_view reply)
-            (station_view O.taken O.failures self.new) self.old.node.number
+            (station_view O.taken O.failures self.new) k
             (traffic_of wire.old) (traffic_of wire.new)) }
         ensures same_traffic { OnErr result (traffic_of wire.new ≡ traffic_of wire.old) }
         ensures armed { IfOk result
@@ -176,11 +176,11 @@ impl<C: SlotCell, O: Outlet> Station<C, O> {
         ensures same_setup { LeavesDevice self.old.node.store self.new.node.store }
         ensures refused { OnErr result
             (station_view O.taken O.failures self.new ≡ station_view O.taken O.failures self.old) }
-        ensures come { IfOk result
+        ensures come { (k : ℕ) → IfOk result
             (λ reply. ComesOut (fits_in (C.slot_capacity (cell_in self.old.node.store))) round
             (decide_plan (station_view O.taken O.failures self.old))
             (station_view O.taken O.failures self.old) (reply_view reply)
-            (station_view O.taken O.failures self.new) self.old.node.number
+            (station_view O.taken O.failures self.new) k
             (traffic_of wire.old) (traffic_of wire.new)) }
         ensures same_traffic { OnErr result (traffic_of wire.new ≡ traffic_of wire.old) }
         ensures armed { IfOk result
