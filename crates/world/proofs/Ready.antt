@@ -18,7 +18,7 @@ use Rattle.protocol.specs.declared.outcome.Outcome.{Outcome}
 use Rattle.protocol.specs.declared.outcome.Outcome.TheVariants as outcome
 use Rattle.protocol.specs.declared.outcome.Refusal.TheVariants.{TooLarge, Spent}
 use Rattle.protocol.specs.World.Steps.{sending_of}
-use Rattle.world.specs.Coming.{IsReadyFor, sent_then}
+use Rattle.world.specs.Coming.{IsReadyFor, sent_then, taken_by}
 
 -- what has a spelling may be written
 pub all_writable : (packets : List Packet) → All IsPacket packets → All IsWritable packets
@@ -87,3 +87,28 @@ pub prospect_sent : (prospect : Prospect) (came : Outcome)
 prospect_sent prospect came =
     sendings_are came (packets_by prospect outcome.Made) (packets_by prospect (outcome.Refused TooLarge))
     ∙ ap (map sending_of) (sym (sent_is prospect came))
+
+-- what is in flight behind a packet that was heard
+pub heard_sent : (round : ℕ) (prospect : Prospect) (came : Outcome) (to place : ℕ) (mid before after : Traffic)
+    → mid ≡ before
+    → after
+    ≡ all_sent round
+    (sent_then came (map sending_of (packets_by prospect outcome.Made))
+    (map sending_of (packets_by prospect (outcome.Refused TooLarge)))) (taken_by came mid to place)
+    → after ≡ all_sent round (map sending_of (packets_by prospect came)) (taken_by came before to place)
+heard_sent round prospect came to place mid before after same sent =
+    sent
+    ∙ (ap (λ (list : List Sending). all_sent round list (taken_by came mid to place)) (prospect_sent prospect came)
+    ∙ ap (λ (t : Traffic). all_sent round (map sending_of (packets_by prospect came)) (taken_by came t to place)) same)
+
+-- and behind a deed that has nothing to say where its record is too large
+pub own_sent : (round : ℕ) (prospect : Prospect) (came : Outcome) (mid before after : Traffic) → mid ≡ before
+    → packets_by prospect (outcome.Refused TooLarge) ≡ []
+    → after ≡ all_sent round (sent_then came (map sending_of (packets_by prospect outcome.Made)) []) mid
+    → after ≡ all_sent round (map sending_of (packets_by prospect came)) before
+own_sent round prospect came mid before after same none sent =
+    sent
+    ∙ (ap (λ (declined : List Packet). all_sent round
+    (sent_then came (map sending_of (packets_by prospect outcome.Made)) (map sending_of declined)) mid) (sym none)
+    ∙ (ap (λ (list : List Sending). all_sent round list mid) (prospect_sent prospect came)
+    ∙ ap (λ (t : Traffic). all_sent round (map sending_of (packets_by prospect came)) t) same))

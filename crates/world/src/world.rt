@@ -33,9 +33,10 @@ use wire::Wire;
 
 /// A network that runs on its inputs: shares of both, its stations, one a node, by node number, and the round.
 ///
-/// Its type keeps that the inputs fit the network, that each station is of the node of its number, that the images of each station stand where its processes have come
-/// on one approximation of the network's histories, that what its outlets took is a beginning of what the processes put
-/// there, and that its permanent image covers all of that.
+/// Its type keeps that the inputs fit the network, that each station is of the node of its number, that the images of each
+/// station stand where its processes have come on one approximation of the network's histories, that what its outlets took
+/// is a beginning of what the processes put there, that its permanent image covers all of that, and that steps of the
+/// abstract machine of recovery lines led to it.
 #[derive(Drop)]
 pub struct World<C: SlotCell, O: Outlet> {
     pub net: Arc<Net>,
