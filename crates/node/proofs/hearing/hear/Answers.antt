@@ -38,8 +38,8 @@ returns-in_ok-hear-in-Data-clause-event g c =
 pub returns-in_err-hear-in-Ack-clause-event : goal.returns-in_err-hear-in-Ack-clause-event
 returns-in_err-hear-in-Ack-clause-event g c =
     let old = record_in c.args.store.now in
-    memory_refused g.C.StableCell g.C.SlotCell g.met.C.SlotCell.only_now_whole c.args.store.now c.from_residual.result
-    _ c.args.round (node_view old c.args.state.now) (node_view old c.hear.new.self) c.from_residual.ensures.0
+    memory_refused g.C.StableCell g.C.SlotCell g.met.C.SlotCell.only_now_whole c.args.store.now c.from_residual-in_err-hear-in-Ack.result
+    _ c.args.round (node_view old c.args.state.now) (node_view old c.hear-in-Ack.new.self) c.from_residual-in_err-hear-in-Ack.ensures.0
     (c.in_err-hear-in-Ack.ensures.err old)
 
 pub returns-in_ok-hear-in-Ack-clause-event : goal.returns-in_ok-hear-in-Ack-clause-event
@@ -54,7 +54,7 @@ returns-in_ok-hear-in-Ack-clause-event g c =
       packets = [];
       refused = [];
     }) (hear_prospect net c.args.home c.args.packet.now.from c.args.packet.now.body was) c.args.round was
-    (node_view old c.hear.new.self) refl
+    (node_view old c.hear-in-Ack.new.self) refl
     (ap (λ (b : Body). hear_prospect net c.args.home c.args.packet.now.from b was) c.in-Ack.is) refl
     (c.in_ok-hear-in-Ack.ensures.ok old ∙ ap (λ (b : Body). on_running (hearing b) was) c.in-Ack.is)
 
