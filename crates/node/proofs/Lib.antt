@@ -4,8 +4,10 @@ mod Raising
 mod Checkpoints
 mod Recoveries
 mod Puts
+mod Memory
 mod Starts
 mod Verdicts
+mod Asks
 mod Handing
 mod Slices
 mod Dues

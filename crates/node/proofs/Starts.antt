@@ -26,7 +26,7 @@ none_is : {A : Type 0} (o : Option A) → is_none o ≡ true → o ≡ None
 none_is None is = refl
 none_is (Some x) is = absurd (cc)
 
-both_of : (a b : Bool) → (a && b) ≡ true → (a ≡ true) × (b ≡ true)
+pub both_of : (a b : Bool) → (a && b) ≡ true → (a ≡ true) × (b ≡ true)
 both_of true b is = (refl, is)
 both_of false b is = absurd (cc)
 
@@ -34,7 +34,7 @@ and_false : (a : Bool) → (a && false) ≡ false
 and_false true = refl
 and_false false = refl
 
-all_false : (a b c d : Bool) (w x y z : Option StoreFault) → a ≡ false → b ≡ false → c ≡ false → d ≡ false
+pub all_false : (a b c d : Bool) (w x y z : Option StoreFault) → a ≡ false → b ≡ false → c ≡ false → d ≡ false
     → cond a w (cond b x (cond c y (cond d z None))) ≡ None
 all_false true b c d w x y z p q r s = absurd (cc)
 all_false false true c d w x y z p q r s = absurd (cc)
@@ -42,7 +42,7 @@ all_false false false true d w x y z p q r s = absurd (cc)
 all_false false false false true w x y z p q r s = absurd (cc)
 all_false false false false false w x y z p q r s = refl
 
-none_other : (initiator number : ℕ) (o : Option Tentative) → o ≡ None → is_other_held initiator number o ≡ false
+pub none_other : (initiator number : ℕ) (o : Option Tentative) → o ≡ None → is_other_held initiator number o ≡ false
 none_other initiator number None is = refl
 none_other initiator number (Some held) is = absurd (cc)
 
@@ -121,7 +121,7 @@ start_planned net number highest node seen due less =
     ap (λ (b : Bool). if_due b (unless_spent false (nat_lt (highest_seen number node.kept) MAX_COUNT) plan)) due
     ∙ ap (λ (b : Bool). unless_spent false b plan) spent
   where
-    abbrev plan : Prospect
+    plan : Prospect
     plan = Planned (record {
       node = begun net number node;
       puts = true;

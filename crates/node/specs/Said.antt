@@ -1,8 +1,11 @@
 -- What a node says to a packet, and what it runs from once it was in doubt.
-use Rattle.std.specs.Prelude.{◌≡◌, ◌<◌, ◌&&◌, ◌==◌, ℕ, true, false, if◌then◌else◌, List, length, Option, Some, None}
+use Rattle.std.specs.Prelude.{◌≡◌, ◌<◌, ◌≤◌, ◌&&◌, ◌==◌, ℕ, true, false, if◌then◌else◌, List, length, Option, Some, None}
 use Rattle.datagram.specs.declared.packet.Packet.{Packet}
 use Rattle.record.specs.ImageView.{ImageView}
 use Rattle.record.specs.declared.record.Tentative.{Tentative}
+use Rattle.ckpt_codec.specs.SizeLaws.{IsRecordWithin}
+use Rattle.ckpt_codec.specs.declared.lengths.TheConstants.{MAX_RETAINED_ITEMS}
+use Rattle.kahn_net.specs.declared.limits.TheConstants.{MAX_NODES}
 use Rattle.record.specs.declared.record.TheConstants.{MAX_DECISIONS}
 use Rattle.recovery_line.specs.Observers.{has_node}
 use Rattle.protocol.specs.Node.Beginning.{live_in}
@@ -36,8 +39,10 @@ current_in Down = None
 current_in InDoubt = None
 current_in (Runs running) = Some running.current
 
--- Where a checkpoint is decided for which answers are collected, its decision names other nodes, and there is room for
--- it.
+-- Where a checkpoint is decided for which answers are collected, its decision names other nodes, of no more than there may
+-- be, there is room for it, and the record is within the bounds in which it fits.
 pub record MayBeDecided (number : ℕ) (node : NodeView) : Type 0 where
   pub others : (live : LiveView) → live_in node.mode ≡ Some live → has_node number live.takers ≡ false
   pub room : may_decide number node.kept (live_in node.mode) ≡ true → length node.kept.decisions < MAX_DECISIONS
+  pub few : length node.kept.highest ≤ MAX_NODES
+  pub bounded : IsRecordWithin MAX_RETAINED_ITEMS node.kept

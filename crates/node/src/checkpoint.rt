@@ -166,6 +166,14 @@ fn highest_seen(kept: &Record, number: u8) -> u64
     kept.highest[usize::from(number)]
 }
 
+// Of how many nodes a record lists a number.
+fn count_nodes(kept: &Record) -> u8
+    requires { length kept.now.highest ≤ MAX_NODES }
+    ensures { result ≡ length kept.now.highest }
+{
+    kept.highest.len() as u8
+}
+
 /// Whom a node with this record asks that begins a checkpoint now, if it may begin one.
 pub(crate) fn asks(
     alloc: Global,
@@ -204,7 +212,7 @@ pub(crate) fn commits(
 {
     match state.live() {
         Some(live) if may_decide(number, kept, Some(live)) => {
-            live.commits(alloc, number, kept.highest.len() as u8)
+            live.commits(alloc, number, count_nodes(kept))
         }
         _ => Ok(Vec::new(alloc)),
     }
@@ -274,8 +282,7 @@ pub(crate) fn decide<C: SlotCell>(
     if !may_decide(number, kept, Some(live)) {
         return Ok(Outcome::NotDue);
     }
-    let nodes = kept.highest.len() as u8;
-    let participants = live.participants(alloc, nodes)?;
+    let participants = live.participants(alloc, count_nodes(kept))?;
     let put = store.decide(alloc, live.number(), participants);
     end_put_then(alloc, put, Then::Collects(None), state, store, round)
 }

@@ -4,6 +4,8 @@
 ghost use Rattle.std.specs.Prelude.{◌≡◌, ◌<◌, ◌≤◌, ◌++◌, [], All, false, true, length, IfOk, OnOk, option_copied};
 ghost use Rattle.kahn_net.specs.Nodes.{node_count};
 ghost use Rattle.kahn_net.specs.Syntax.{network_of};
+ghost use Rattle.ckpt_codec.specs.SizeLaws.{IsRecordWithin};
+ghost use Rattle.ckpt_codec.specs.declared.lengths.TheConstants.{MAX_RETAINED_ITEMS};
 ghost use Rattle.ckpt_store.specs.StoreView.{cell_in, record_in};
 ghost use Rattle.ckpt_store.specs.Spelling.{IsLike};
 ghost use Rattle.protocol.specs.Node.Addresses.{names_right};
@@ -263,6 +265,7 @@ fn give_up<C: SlotCell>(
     round: u64,
 ) -> Result<Outcome, AllocError>
     requires kept { HasRecord home (mode_view state.old.mode) store.old }
+    requires bounded { IsRecordWithin MAX_RETAINED_ITEMS (record_in store.old) }
     requires up { is_down (mode_view state.old.mode) ≡ false }
     requires held { holds home number (record_in store.old).tentative ≡ true }
     ensures kept { HasRecord home (mode_view state.new.mode) store.new }
@@ -288,6 +291,7 @@ fn hear_took<C: SlotCell>(
     round: u64,
 ) -> Result<Outcome, AllocError>
     requires kept { HasRecord home (mode_view state.old.mode) store.old }
+    requires bounded { IsRecordWithin MAX_RETAINED_ITEMS (record_in store.old) }
     requires up { is_down (mode_view state.old.mode) ≡ false }
     requires needs { All (λ (need : Need). need.channel < MAX_CHANNELS) needs.now }
     ensures kept { HasRecord home (mode_view state.new.mode) store.new }
@@ -320,6 +324,7 @@ fn hear_refused<C: SlotCell>(
     round: u64,
 ) -> Result<Outcome, AllocError>
     requires kept { HasRecord home (mode_view state.old.mode) store.old }
+    requires bounded { IsRecordWithin MAX_RETAINED_ITEMS (record_in store.old) }
     requires up { is_down (mode_view state.old.mode) ≡ false }
     ensures kept { HasRecord home (mode_view state.new.mode) store.new }
     ensures event { IsPutEvent (refused_prospect home number
@@ -396,6 +401,7 @@ fn hear_ended<C: SlotCell>(
     round: u64,
 ) -> Result<Outcome, AllocError>
     requires kept { HasRecord home (mode_view state.old.mode) store.old }
+    requires bounded { IsRecordWithin MAX_RETAINED_ITEMS (record_in store.old) }
     requires up { is_down (mode_view state.old.mode) ≡ false }
     ensures kept { HasRecord home (mode_view state.new.mode) store.new }
     ensures event { IsPutEvent (ended_prospect from number
@@ -425,6 +431,7 @@ fn hear_settled<C: SlotCell>(
     round: u64,
 ) -> Result<Outcome, AllocError>
     requires kept { HasRecord home (mode_view state.old.mode) store.old }
+    requires bounded { IsRecordWithin MAX_RETAINED_ITEMS (record_in store.old) }
     requires up { is_down (mode_view state.old.mode) ≡ false }
     ensures kept { HasRecord home (mode_view state.new.mode) store.new }
     ensures event { IsPutEvent (settled_prospect from number
@@ -453,6 +460,7 @@ pub(crate) fn hear<C: SlotCell>(
     round: u64,
 ) -> Result<Outcome, AllocError>
     requires kept { HasRecord home (mode_view state.old.mode) store.old }
+    requires bounded { IsRecordWithin MAX_RETAINED_ITEMS (record_in store.old) }
     requires up { is_down (mode_view state.old.mode) ≡ false }
     requires like { IsLikeNow (node_view (record_in store.old) state.old) }
     requires right { names_right (network_of net.now.program) packet.now ≡ true }
@@ -468,20 +476,12 @@ pub(crate) fn hear<C: SlotCell>(
 {
     let from = packet.from;
     match &packet.body {
-        Body::Data {
-            channel,
-            position,
-            item,
-        } => {
-            state.hear_item(*channel, *position, *item)?;
+        Body::Data { .. } => {
+            state.hear(&packet.body)?;
             Ok(Outcome::Made)
         }
-        Body::Ack {
-            channel,
-            epoch,
-            next,
-        } => {
-            state.hear_acknowledgement(*channel, *epoch, *next);
+        Body::Ack { .. } => {
+            state.hear(&packet.body)?;
             Ok(Outcome::Made)
         }
         Body::Kept { channel, count } => {

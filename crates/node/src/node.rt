@@ -1,10 +1,12 @@
 //! A node, and its events.
-ghost use Rattle.std.specs.Prelude.{◌≡◌, ◌⊎◌, ◌+◌, ◌<◌, ◌++◌, [], ◌∷◌, ℤ, List, false, true, not, length, IfErr, IfOk, IsErrOf, IsSome, IsTrue, None, OnErr, OnOk, Some, is_some, option_map};
+ghost use Rattle.std.specs.Prelude.{◌≡◌, ◌⊎◌, ◌+◌, ◌<◌, ◌≤◌, ◌++◌, [], ◌∷◌, ℤ, List, false, true, not, length, IfErr, IfOk, IsErrOf, IsSome, IsTrue, None, OnErr, OnOk, Some, is_some, option_map};
 ghost use Rattle.kahn_net.specs.Streams.{IsPrefix};
 ghost use Rattle.kahn_net.specs.States.{standing_of};
 ghost use Rattle.kahn_net.specs.Syntax.{network_of};
 ghost use Rattle.retained.specs.LogState.{LogState, IsLogOf};
 ghost use Rattle.outlet.specs.Faults.{failures_after};
+ghost use Rattle.ckpt_codec.specs.SizeLaws.{IsRecordWithin};
+ghost use Rattle.ckpt_codec.specs.declared.lengths.TheConstants.{MAX_RETAINED_ITEMS};
 ghost use Rattle.ckpt_store.specs.StoreView.{cell_in, known_in, record_in};
 ghost use Rattle.protocol.specs.Node.ArmedRestarts.{with_armed};
 ghost use Rattle.protocol.specs.Node.Choosing.{node_job, with_grant};
@@ -17,6 +19,7 @@ ghost use Rattle.protocol.specs.Node.Verdicts.{decide_prospect};
 ghost use Rattle.datagram.specs.PacketText.{IsPacket};
 ghost use Rattle.kahn_net.specs.Nodes.{node_count};
 ghost use Rattle.node.specs.Said.{IsSaid, MayBeDecided};
+ghost use Rattle.kahn_net.specs.declared.limits.TheConstants.{MAX_NODES};
 ghost use Rattle.protocol.specs.Node.Installing.{IsInstall, IsOut, TakesTurn};
 ghost use Rattle.node.specs.JobView.{job_view};
 ghost use Rattle.node.specs.NodeView.{mode_view};
@@ -189,6 +192,7 @@ impl<C: SlotCell> Node<C> {
     ) -> Result<Outcome, AllocError>
         requires up { is_down (view_of self.old).mode ≡ false }
         requires like { IsLikeNow (view_of self.old) }
+        requires bounded { IsRecordWithin MAX_RETAINED_ITEMS (view_of self.old).kept }
         requires right { names_right (network_of net.now.program) packet.now ≡ true }
         requires allowed { IsPacket packet.now }
         requires here { packet.now.to ≡ self.old.number }
@@ -251,6 +255,7 @@ impl<C: SlotCell> Node<C> {
     /// What those who take part are told, once the checkpoint is decided for which answers are collected, if it may be decided.
     /// Refuses for want of memory alone.
     pub fn commits(&self, alloc: Global) -> Result<Vec<Packet>, AllocError>
+        requires { length (view_of self.now).kept.highest ≤ MAX_NODES }
         ensures { IfOk result (λ packets. packets.items ≡ packets_by
             (decide_prospect self.now.number (view_of self.now)) Outcome.Made) }
     {

@@ -2,7 +2,7 @@
 ghost use Rattle.std.specs.Prelude.{◌≡◌, ◌↔◌, ◌<◌, if◌then◌else◌, length, IfOk, IfSome, IsErrOf, IsTrue, None, OnErr, OnOk, Some, is_some, option_copied, option_map};
 ghost use Rattle.kahn_net.specs.Syntax.{network_of};
 ghost use Rattle.kahn_net.specs.States.{standing_of};
-ghost use Rattle.protocol.specs.Node.Choosing.{after_grant, may_grant, next_job, next_process};
+ghost use Rattle.protocol.specs.Node.Choosing.{granted, may_grant, next_job, next_process};
 ghost use Rattle.protocol.specs.Node.Granting.{job_for};
 ghost use Rattle.protocol.specs.Node.Collecting.{hearing_covered, joining};
 ghost use Rattle.protocol.specs.Node.Delivering.{hearing};
@@ -131,11 +131,9 @@ impl Running {
         ensures job { IfOk result (λ job. option_map job_view job
             ≡ next_job (network_of net.now.value.program) inputs.now
             (running_node kept.now version (running_view self.old))) }
-        ensures state { IfOk result
-            (λ job. running_node kept.now version (running_view self.new)
-            ≡ after_grant (next_job (network_of net.now.value.program) inputs.now
-            (running_node kept.now version (running_view self.old)))
-            (running_node kept.now version (running_view self.old))) }
+        ensures state { IfOk result (λ job. running_view self.new
+            ≡ granted (next_job (network_of net.now.value.program) inputs.now
+            (running_node kept.now version (running_view self.old))) (running_view self.old)) }
         ensures err { OnErr result (running_view self.new ≡ running_view self.old) }
     {
         let Some(saved) = self.next_process(net, inputs, kept, version) else {
@@ -193,26 +191,28 @@ impl Running {
         Ok(true)
     }
 
-    /// An item of a position of a channel came. Refuses for want of memory alone, and then nothing is changed.
-    pub fn hear_item(
-        &mut self,
-        channel: u16,
-        position: u64,
-        item: i64,
-    ) -> Result<(), AllocError>
-        ensures ok { OnOk result (running_view self.new
-            ≡ hearing (Body.Data channel position item) (running_view self.old)) }
+    /// Hears what a packet says of a channel: an item goes to its inbox, and an acknowledgement to its window. Anything else
+    /// changes nothing here. Refuses for want of memory alone, and then nothing is changed.
+    pub fn hear(&mut self, body: &Body) -> Result<(), AllocError>
+        ensures ok { OnOk result (running_view self.new ≡ hearing body.now (running_view self.old)) }
         ensures err { OnErr result (running_view self.new ≡ running_view self.old) }
     {
-        hear_item(&mut self.inboxes, channel, position, item)
-    }
-
-    /// An acknowledgement came of a channel to another node.
-    pub fn hear_acknowledgement(&mut self, channel: u16, epoch: u64, next: u64)
-        ensures { running_view self.new
-            ≡ hearing (Body.Ack channel epoch next) (running_view self.old) }
-    {
-        hear_acknowledgement(&mut self.outboxes, channel, epoch, next);
+        match body {
+            Body::Data {
+                channel,
+                position,
+                item,
+            } => hear_item(&mut self.inboxes, *channel, *position, *item),
+            Body::Ack {
+                channel,
+                epoch,
+                next,
+            } => {
+                hear_acknowledgement(&mut self.outboxes, *channel, *epoch, *next);
+                Ok(())
+            }
+            _ => Ok(()),
+        }
     }
 
     /// The receiver of a channel keeps so many items for good: the log lets go of them.

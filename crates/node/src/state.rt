@@ -165,31 +165,16 @@ impl NodeState {
         }
     }
 
-    // An item of a position of a channel came, if it runs.
-    pub(crate) fn hear_item(
-        &mut self,
-        channel: u16,
-        position: u64,
-        item: i64,
-    ) -> Result<(), AllocError>
+    // Hears what a packet says of a channel, if it runs.
+    pub(crate) fn hear(&mut self, body: &Body) -> Result<(), AllocError>
         ensures ok { (kept : RecordView) → OnOk result (node_view kept self.new
-            ≡ on_running (hearing (Body.Data channel position item)) (node_view kept self.old)) }
+            ≡ on_running (hearing body.now) (node_view kept self.old)) }
         ensures err { (kept : RecordView) → OnErr result
             (node_view kept self.new ≡ node_view kept self.old) }
     {
         match &mut self.mode {
-            Mode::Running(running) => running.hear_item(channel, position, item),
+            Mode::Running(running) => running.hear(body),
             Mode::Down | Mode::InDoubt => Ok(()),
-        }
-    }
-
-    // An acknowledgement came of a channel to another node, if it runs.
-    pub(crate) fn hear_acknowledgement(&mut self, channel: u16, epoch: u64, next: u64)
-        ensures { (kept : RecordView) → node_view kept self.new
-            ≡ on_running (hearing (Body.Ack channel epoch next)) (node_view kept self.old) }
-    {
-        if let Mode::Running(running) = &mut self.mode {
-            running.hear_acknowledgement(channel, epoch, next);
         }
     }
 
