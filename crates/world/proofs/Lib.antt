@@ -13,5 +13,6 @@ mod Rests
 mod Places
 mod Packets
 mod Ready
+mod Sends
 mod Arriving
 mod Restarts

@@ -1,5 +1,7 @@
 // A packet comes to a station.
 ghost use Rattle.std.specs.Prelude.{◌≡◌, ◌≤◌, ◌<◌, ℕ, false, All, IfOk, IsTrue, List, OnErr, OnOk, Some, length, map, slice_get};
+ghost use Rattle.ckpt_codec.specs.SizeLaws.{IsRecordWithin};
+ghost use Rattle.ckpt_codec.specs.declared.lengths.TheConstants.{MAX_RETAINED_ITEMS};
 ghost use Rattle.ckpt_store.specs.Spelling.{fits_in};
 ghost use Rattle.ckpt_store.specs.StoreView.{cell_in};
 ghost use Rattle.datagram.specs.PacketText.{IsPacket};
@@ -88,6 +90,7 @@ impl<C: SlotCell, O: Outlet> Station<C, O> {
         requires right { IsHeard (network_of net.now.program) self.old.node.number packet.now }
         requires listed { length (view_of self.old.node).kept.highest
             ≡ node_count (network_of net.now.program) }
+        requires bounded { IsRecordWithin MAX_RETAINED_ITEMS (view_of self.old.node).kept }
         requires allowed { (came : OutcomeValue) → All IsPacket (packets_by
             (hear_prospect (network_of net.now.program) self.old.node.number packet.now.from
             packet.now.body (view_of self.old.node)) came) }
@@ -135,6 +138,7 @@ impl<C: SlotCell, O: Outlet> Station<C, O> {
         requires like { IsLikeNow (view_of self.old.node) }
         requires listed { length (view_of self.old.node).kept.highest
             ≡ node_count (network_of net.now.program) }
+        requires bounded { IsRecordWithin MAX_RETAINED_ITEMS (view_of self.old.node).kept }
         requires right { (bytes : List ℕ) (packet : PacketValue)
             → due_bytes round (slice_get (flights_to (traffic_of wire.old) to) place) ≡ Some bytes
             → packet_for (network_of net.now.program) self.old.node.number bytes ≡ Some packet

@@ -72,6 +72,7 @@ decide-requires g c =
         others = decision_others net was c.requires.sound.joined;
         room = decision_room net was c.requires.sound.joined;
         few = omega (arith, few, listed);
+        bounded = c.requires.sound.inv.kept.bounded;
       };
       allowed = decide_allowed net c.args.inputs.now.value c.args.net.now.value.valid was c.requires.sound.inv
           c.requires.sound.named c.requires.sound.below c.requires.sound.joined;
@@ -90,6 +91,7 @@ deliver-requires g c =
       like = like_now (network_of net.program) c.args.inputs.now.value net.valid c.requires.sure.fits was
           c.requires.sound.inv;
       listed = c.requires.sound.joined.kept.listed ∙ ap node_count is;
+      bounded = c.requires.sound.inv.kept.bounded;
       right = arrives_heard setting c.requires.sure was c.requires.sound c.in-Deliver.node c.in-Deliver.place
           (network_of c.deref.result.now.program) is;
       allowed = arrives_allowed setting c.requires.sure was c.requires.sound c.in-Deliver.node c.in-Deliver.place

@@ -1,3 +1,5 @@
+use Rattle.std.proofs.Common.{refl}
+use Rattle.protocol.specs.declared.outcome.Outcome.TheVariants as outcome
 use Rattle.world.proofs.Packets.{are_nodes}
 use Rattle.world.proofs.station.Station.send.Goals as goal
 
