@@ -13,6 +13,7 @@ mod Rests
 mod Places
 mod Packets
 mod Ready
+mod Crashes
 mod Sends
 mod Arriving
 mod Restarts

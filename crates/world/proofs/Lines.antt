@@ -1,5 +1,5 @@
 -- The line of a world with an event: from what a crash leaves of each station to the line of all.
-use Rattle.std.proofs.Common.{◌≡◌, ◌∙◌, ℕ, List, ℤ, [], ◌∷◌, map, refl, ap}
+use Rattle.std.proofs.Common.{◌≡◌, ◌∙◌, ℕ, Bool, List, ℤ, [], ◌∷◌, map, refl, ap}
 use Rattle.std.specs.List.{AllZip}
 use Rattle.std.proofs.Math.Logic.{∥∥₁_map₂}
 use Rattle.kahn_net.specs.Syntax.{Network}

@@ -21,7 +21,7 @@ use Rattle.protocol.specs.Node.Hearing.{deliver_prospect, hear_prospect, told_pr
 use Rattle.protocol.specs.Node.JobView.{JobView}
 use Rattle.protocol.specs.Node.NodeView.{NodeView, ModeView, Down, InDoubt, Runs, on_mode, with_mode}
 use Rattle.protocol.specs.Node.Modes.{is_down}
-use Rattle.protocol.specs.Node.Plans.{Prospect, Undue, becoming, if_due, packets_by, putting, room_for, unless_spent}
+use Rattle.protocol.specs.Node.Plans.{Prospect, Undue, Exhausted, Planned, becoming, if_due, packets_by, putting, room_for, unless_spent}
 use Rattle.protocol.specs.Node.Plans.{IsMade, IsPut}
 use Rattle.protocol.specs.Node.Recovering.{recover_prospect, restored, restored_mode}
 use Rattle.protocol.specs.declared.round_turns.RoundTurns.{RoundTurns}
@@ -153,13 +153,13 @@ back_mode restart old new came step made =
     (subst (λ (o : Outcome). IsMade restart (recover_prospect old) old o new) made step))
 
 -- what is answered where it is made counts there alone
-pub answer_then : (made planned declined : ReplyView) (came : Outcome) → (came ≡ outcome.Made → made ≡ planned)
-    → answer_by made declined came ≡ answer_by planned declined came
-answer_then made planned declined outcome.NotDue right = refl
-answer_then made planned declined outcome.Made right = right refl
-answer_then made planned declined (outcome.Refused TooLarge) right = refl
-answer_then made planned declined (outcome.Refused Spent) right = refl
-answer_then made planned declined outcome.Failed right = refl
+pub answer_then : (made planned otherwise : ReplyView) (came : Outcome) → (came ≡ outcome.Made → made ≡ planned)
+    → answer_by made otherwise came ≡ answer_by planned otherwise came
+answer_then made planned otherwise outcome.NotDue right = refl
+answer_then made planned otherwise outcome.Made right = right refl
+answer_then made planned otherwise (outcome.Refused TooLarge) right = refl
+answer_then made planned otherwise (outcome.Refused Spent) right = refl
+answer_then made planned otherwise outcome.Failed right = refl
 
 -- where nothing is noted what is remembered stays, however it came out
 pub turns_kept : (turns : RoundTurns) (came : Outcome) → turns ≡ turns_by turns turns came

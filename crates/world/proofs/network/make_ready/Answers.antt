@@ -23,5 +23,5 @@ returns-clause-ready c =
       staged = subst (λ (list : List Sending). IsStaged (traffic_of c.make_room.new.self) c.args.round list batch) spelled
           (subst (λ (t : Traffic). IsStaged t c.args.round c.in_ok-sendings.sendings.items batch)
           (sym c.make_room.ensures.traffic) c.in_ok-batch.ensures.ready);
-      room = c.in_ok.ensures.room;
+      room = c.in_ok-make_room.ensures.room;
     }
