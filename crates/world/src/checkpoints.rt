@@ -78,8 +78,9 @@ impl<C: SlotCell, O: Outlet> Station<C, O> {
             self.now.node.number (view_of self.now.node)) Outcome.Made)) ready.made) }
         ensures declined { IfOk result (λ ready. IsReadyFor wire.new round [] ready.declined) }
     {
+        let made = self.node.asks(alloc, net)?;
         let said = Said {
-            made: self.node.asks(alloc, net)?,
+            made,
             declined: Vec::new(alloc),
         };
         prepare(alloc, wire, &said, round)
@@ -101,8 +102,9 @@ impl<C: SlotCell, O: Outlet> Station<C, O> {
             self.now.node.number (view_of self.now.node)) Outcome.Made)) ready.made) }
         ensures declined { IfOk result (λ ready. IsReadyFor wire.new round [] ready.declined) }
     {
+        let made = self.node.commits(alloc)?;
         let said = Said {
-            made: self.node.commits(alloc)?,
+            made,
             declined: Vec::new(alloc),
         };
         prepare(alloc, wire, &said, round)
