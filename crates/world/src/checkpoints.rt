@@ -151,11 +151,7 @@ impl<C: SlotCell, O: Outlet> Station<C, O> {
         let noted = self.turns.of(round).with_start();
         note(&mut self.turns, noted, outcome);
         send_by(wire, ready, outcome);
-        Ok(answer_by(
-            Reply::Started,
-            Reply::Refused(Refusal::TooLarge),
-            outcome,
-        ))
+        Ok(answer_by(Reply::Started, Reply::Refused(Refusal::TooLarge), outcome))
     }
 
     /// Decides the checkpoint for which answers were collected: its image becomes permanent, and those who took part are told.
@@ -193,10 +189,6 @@ impl<C: SlotCell, O: Outlet> Station<C, O> {
         let ready = self.ready_to_decide(alloc, wire, round)?;
         let outcome = self.node.decide(alloc, round)?;
         send_by(wire, ready, outcome);
-        Ok(answer_by(
-            Reply::Decided,
-            Reply::Refused(Refusal::TooLarge),
-            outcome,
-        ))
+        Ok(answer_by(Reply::Decided, Reply::Refused(Refusal::TooLarge), outcome))
     }
 }

@@ -128,7 +128,7 @@ returns-in-Deliver-clause-come g c =
     c.args.restarts c.args.round in
     let fits = fits_in (g.C.SlotCell.slot_capacity (cell_in c.args.self.now.node.store)) in
     let found = due_bytes c.args.round
-        (slice_get (flights_to (traffic_of c.args.wire.now) c.in-Deliver.node) c.in-Deliver.place) in
+    (slice_get (flights_to (traffic_of c.args.wire.now) c.in-Deliver.node) c.in-Deliver.place) in
     deed_came setting fits (event_view c.args.event.now) was _ (traffic_of c.deliver.new.wire) c.deliver.result
     c.in-Deliver.node (view.Deliver c.in-Deliver.place)
     (deliver_plan (network_of c.deref.result.now.program) c.in-Deliver.place found was) (ap event_view c.in-Deliver.is)
@@ -315,7 +315,7 @@ returns-in-Deliver-clause-moved g c =
     c.args.restarts c.args.round in
     let fits = fits_in (g.C.SlotCell.slot_capacity (cell_in c.args.self.now.node.store)) in
     let found = due_bytes c.args.round
-        (slice_get (flights_to (traffic_of c.args.wire.now) c.in-Deliver.node) c.in-Deliver.place) in
+    (slice_get (flights_to (traffic_of c.args.wire.now) c.in-Deliver.node) c.in-Deliver.place) in
     let seen = ap event_view c.in-Deliver.is in
     subst (λ (e : EventView). HasMoved g.C.StableCell.moment g.C.SlotCell.left_since_whole (cell_in c.args.self.now.node.store)
     (cell_in c.deliver.new.self.node.store) was.node.kept (next_kept setting e was)

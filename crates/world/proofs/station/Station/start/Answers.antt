@@ -54,7 +54,7 @@ returns-clause-come g c = λ k.
         put = event.put;
         answers = c.answer_by.ensures;
         allowed = c.requires.allowed came;
-        same = seen_moved seen _ _ _ _ _ c.start.ensures.same_number 
+        same = seen_moved seen _ _ _ _ _ c.start.ensures.same_number
             (c.note.ensures ∙ ap (λ (noted : RoundTurns). turns_by noted was.turns came) noted);
       };
       traffic = own_traffic c.args.round prospect came Started (Refused TooLarge) _ (traffic_of c.args.wire.now)

@@ -41,18 +41,20 @@ pub invariant_of-self : goal.invariant_of-self
 invariant_of-self g c =
     let was = c.args.self.now in
     let view = station_view {cell = g.C.StableCell} {slots = g.C.SlotCell} g.O.Outlet.taken g.O.Outlet.failures in
-    record { sound = step_keeps (rooms was.stations.items) (event_view c.args.event) (world_of was) (reply_view c.in-Ok.reply)
-    (world_view {cell = g.C.StableCell} {slots = g.C.SlotCell} g.O.Outlet.taken g.O.Outlet.failures was.net was.inputs
-    c.act_at.new.stations.items (traffic_of c.act_at.new.wire) c.round_after-self.result) was.sound
-    (world_steps (rooms was.stations.items) (event_view c.args.event) (world_of was) (reply_view c.in-Ok.reply)
-    (setting_in (network_of was.net.value.program) was.inputs.value (traffic_of was.wire)
-    (may_restart (length was.stations.items)) was.round) c.from-number.result c.round_after-self.result
-    (map view c.act_at.new.stations.items) (traffic_of c.act_at.new.wire)
-    (setting_is view (network_of was.net.value.program) was.inputs.value (traffic_of was.wire)
-    was.stations.items was.round) (c.from-number.ensures ∙ c.node.ensures) c.in-Ok.ensures.come
-    (c.round_after-self.ensures
-    ∙ ap (λ (l : List (Station g.row.C.Denot g.row.O.Denot g.C.SlotCell g.C.StableCell)). round_after
-    (reply_view c.in-Ok.reply) was.round (map view l)) c.deref.ensures.value)) }
+    record {
+      sound = step_keeps (rooms was.stations.items) (event_view c.args.event) (world_of was) (reply_view c.in-Ok.reply)
+          (world_view {cell = g.C.StableCell} {slots = g.C.SlotCell} g.O.Outlet.taken g.O.Outlet.failures was.net was.inputs
+          c.act_at.new.stations.items (traffic_of c.act_at.new.wire) c.round_after-self.result) was.sound
+          (world_steps (rooms was.stations.items) (event_view c.args.event) (world_of was) (reply_view c.in-Ok.reply)
+          (setting_in (network_of was.net.value.program) was.inputs.value (traffic_of was.wire)
+          (may_restart (length was.stations.items)) was.round) c.from-number.result c.round_after-self.result
+          (map view c.act_at.new.stations.items) (traffic_of c.act_at.new.wire)
+          (setting_is view (network_of was.net.value.program) was.inputs.value (traffic_of was.wire)
+          was.stations.items was.round) (c.from-number.ensures ∙ c.node.ensures) c.in-Ok.ensures.come
+          (c.round_after-self.ensures
+          ∙ ap (λ (l : List (Station g.row.C.Denot g.row.O.Denot g.C.SlotCell g.C.StableCell)). round_after
+          (reply_view c.in-Ok.reply) was.round (map view l)) c.deref.ensures.value));
+    }
 
 pub returns-in-Ok-clause-prefix : goal.returns-in-Ok-clause-prefix
 returns-in-Ok-clause-prefix g c =
