@@ -18,7 +18,7 @@ pub crashes : (fits : RecordView → Bool) (round restart : ℕ) (old new : Stat
 crashes fits round restart old new answer true is went stays same answers =
     becomes fits round (crash_plan true restart old) old new (crashed restart old.node)
     (ap (λ (b : Bool). if_due b (becoming (crashed restart old.node))) (sym is)) answer answers
-    (same ∙ ap (λ (n : NodeView). moved_to n old.failures old.turns old) (went tt))
+    (same ∙ ap (λ (n : NodeView). moved_to n old.failures old.turns old) (went refl))
 crashes fits round restart old new answer false is went stays same answers =
     not_due fits round (crash_plan true restart old) old new
     (ap (λ (b : Bool). if_due b (becoming (crashed restart old.node))) (sym is)) answer answers
