@@ -3,6 +3,7 @@ use Rattle.ckpt_store.specs.Spelling.{fits_in}
 use Rattle.ckpt_store.specs.StoreView.{cell_in}
 use Rattle.node.specs.NodeOf.{view_of}
 use Rattle.protocol.specs.Node.ArmedRestarts.{round_later}
+use Rattle.protocol.specs.Node.Modes.{crashed}
 use Rattle.protocol.specs.World.Steps.{moved_to}
 use Rattle.world.specs.WorldView.{station_view}
 use Rattle.world.proofs.Cells.{through_crash}
@@ -23,6 +24,6 @@ returns-clause-step g c =
     let crash = c.crash-was_up.ensures in
     crashes (fits_in (g.C.SlotCell.slot_capacity (cell_in was.node.store))) c.args.round
     (round_later c.args.round c.args.rounds) seen _ _ c.crash-was_up.result crash.up
-    (λ up. crash.step up) (λ down. (crash.unchanged down).1)
+    (λ up. crash.step up ∙ ap (λ (n : ℕ). crashed n (view_of was.node)) c.round_later.ensures) (λ down. (crash.unchanged down).1)
     (seen_moved seen _ _ _ _ _ crash.same_number refl
     ∙ ap (λ (f : ℕ). moved_to (view_of c.crash-was_up.new.self) f was.turns seen) crash.failures) c.crash_reply.ensures
