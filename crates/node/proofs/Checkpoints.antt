@@ -188,170 +188,170 @@ by_kind P done memory large device (Err fault.Spent) is = absurd is
 module _ {C : Type 0} {words : CellWords C} {slots : SlotWords C} (next : RecordView) (made : NodeView) (restart : ℕ)
     (old new : Store C slots words) (before after : NodeState) (put : Result (Unit {0}) StoreFault)
     (ends : Ends next made restart old new before after put) where
-    abbrev was : NodeView
-    was = node_view (record_in old) before
+  abbrev was : NodeView
+  was = node_view (record_in old) before
 
-    abbrev now : NodeView
-    now = node_view (record_in new) after
+  abbrev now : NodeView
+  now = node_view (record_in new) after
 
-    same_view : record_in new ≡ record_in old → after ≡ before → now ≡ was
-    same_view kept state = ap (λ (r : RecordView). node_view r after) kept ∙ ap (node_view (record_in old)) state
+  same_view : record_in new ≡ record_in old → after ≡ before → now ≡ was
+  same_view kept state = ap (λ (r : RecordView). node_view r after) kept ∙ ap (node_view (record_in old)) state
 
-    some_is : {x y : Outcome} → Some x ≡ Some y → x ≡ y
-    some_is is = cc
+  some_is : {x y : Outcome} → Some x ≡ Some y → x ≡ y
+  some_is is = cc
 
-    -- how it comes out, where the record may grow, or fits as the one before did
-    ends_step : (plan : Plan) → plan.puts ≡ true → plan.node ≡ made → plan.node.kept ≡ next
-        → (plan.grows ≡ false → fits_in (slots.slot_capacity (cell_in old)) next ≡ true) → (x : Outcome)
-        → put_outcome put ≡ Some x → IsCarriedOut restart plan was x now
-    ends_step plan puts node kept_is short =
-        by_kind (λ p. IsLengthTold (fits_in (slots.slot_capacity (cell_in old)) next) p
-        → OnOk p ((record_in new ≡ next) × IsSome (known_in new) × (node_view next after ≡ made))
-        → OnErr p (has_failed p ≡ false → (record_in new ≡ record_in old) × IsSome (known_in new) × (after ≡ before))
-        → (IsTrue (has_failed p)
-        → ((record_in new ≡ record_in old) ⊎ (record_in new ≡ next))
-        × ((kept : RecordView) → node_view kept after ≡ crashed restart (node_view kept before)))
-        → (x : Outcome) → put_outcome p ≡ Some x → IsCarriedOut restart plan was x now)
-        (λ fits stored refused failed x is.
-        subst (λ (y : Outcome). IsCarriedOut restart plan was y now) (some_is is)
-        (ap (λ (r : RecordView). node_view r after) stored.0 ∙ (stored.2 ∙ sym node)))
-        (λ fits stored refused failed x is. absurd (cc))
-        (λ fits stored refused failed x is.
-        let same = refused refl in
-        subst (λ (y : Outcome). IsCarriedOut restart plan was y now) (some_is is)
-        (it_grows fits, same_view same.0 same.2))
-        (λ fits stored refused failed x is.
-        let down = failed refl in
-        subst (λ (y : Outcome). IsCarriedOut restart plan was y now) (some_is is) (
-          puts,
-          ⊎_elim (λ kept. inl (ap (λ (r : RecordView). node_view r after) kept ∙ down.1 (record_in old)))
-              (λ kept. inr (ap (λ (r : RecordView). node_view r after) (kept ∙ sym kept_is) ∙ down.1 plan.node.kept))
-              down.0,
-        ))
-        put ends.refusals ends.fits ends.stored ends.refused ends.failed
-      where
-        it_grows : fits_in (slots.slot_capacity (cell_in old)) next ≡ false → plan.grows ≡ true
-        it_grows large =
-            by_test plan.grows
-            (λ no. (let some : fits_in (slots.slot_capacity (cell_in old)) next ≡ true = short no in absurd (cc))) (λ is. is)
+  -- how it comes out, where the record may grow, or fits as the one before did
+  ends_step : (plan : Plan) → plan.puts ≡ true → plan.node ≡ made → plan.node.kept ≡ next
+      → (plan.grows ≡ false → fits_in (slots.slot_capacity (cell_in old)) next ≡ true) → (x : Outcome)
+      → put_outcome put ≡ Some x → IsCarriedOut restart plan was x now
+  ends_step plan puts node kept_is short =
+      by_kind (λ p. IsLengthTold (fits_in (slots.slot_capacity (cell_in old)) next) p
+      → OnOk p ((record_in new ≡ next) × IsSome (known_in new) × (node_view next after ≡ made))
+      → OnErr p (has_failed p ≡ false → (record_in new ≡ record_in old) × IsSome (known_in new) × (after ≡ before))
+      → (IsTrue (has_failed p)
+      → ((record_in new ≡ record_in old) ⊎ (record_in new ≡ next))
+      × ((kept : RecordView) → node_view kept after ≡ crashed restart (node_view kept before)))
+      → (x : Outcome) → put_outcome p ≡ Some x → IsCarriedOut restart plan was x now)
+      (λ fits stored refused failed x is.
+      subst (λ (y : Outcome). IsCarriedOut restart plan was y now) (some_is is)
+      (ap (λ (r : RecordView). node_view r after) stored.0 ∙ (stored.2 ∙ sym node)))
+      (λ fits stored refused failed x is. absurd (cc))
+      (λ fits stored refused failed x is.
+      let same = refused refl in
+      subst (λ (y : Outcome). IsCarriedOut restart plan was y now) (some_is is)
+      (it_grows fits, same_view same.0 same.2))
+      (λ fits stored refused failed x is.
+      let down = failed refl in
+      subst (λ (y : Outcome). IsCarriedOut restart plan was y now) (some_is is) (
+        puts,
+        ⊎_elim (λ kept. inl (ap (λ (r : RecordView). node_view r after) kept ∙ down.1 (record_in old)))
+            (λ kept. inr (ap (λ (r : RecordView). node_view r after) (kept ∙ sym kept_is) ∙ down.1 plan.node.kept))
+            down.0,
+      ))
+      put ends.refusals ends.fits ends.stored ends.refused ends.failed
+    where
+      it_grows : fits_in (slots.slot_capacity (cell_in old)) next ≡ false → plan.grows ≡ true
+      it_grows large =
+          by_test plan.grows
+          (λ no. (let some : fits_in (slots.slot_capacity (cell_in old)) next ≡ true = short no in absurd (cc))) (λ is. is)
 
-    -- what the cell has to do with it
-    ends_put : (x : Outcome) → put_outcome put ≡ Some x
-        → IsPut (fits_in (slots.slot_capacity (cell_in old)) next) (words.failure_count (cell_in old))
-        (words.failure_count (cell_in new)) x
-    ends_put =
-        by_kind (λ p. IsLengthTold (fits_in (slots.slot_capacity (cell_in old)) next) p
-        → HasFailures (words.failure_count (cell_in old)) (words.failure_count (cell_in new)) p
-        → (x : Outcome) → put_outcome p ≡ Some x
-        → IsPut (fits_in (slots.slot_capacity (cell_in old)) next) (words.failure_count (cell_in old))
-        (words.failure_count (cell_in new)) x)
-        (λ fits failures x is.
-        subst (IsPut (fits_in (slots.slot_capacity (cell_in old)) next) (words.failure_count (cell_in old))
-        (words.failure_count (cell_in new))) (some_is is) (fits, failures.otherwise (λ e. cc)))
-        (λ fits failures x is. absurd (cc))
-        (λ fits failures x is.
-        subst (IsPut (fits_in (slots.slot_capacity (cell_in old)) next) (words.failure_count (cell_in old))
-        (words.failure_count (cell_in new))) (some_is is) (fits, failures.otherwise (λ e. cc)))
-        (λ fits failures x is.
-        subst (IsPut (fits_in (slots.slot_capacity (cell_in old)) next) (words.failure_count (cell_in old))
-        (words.failure_count (cell_in new))) (some_is is) (fits, failures.device refl))
-        put ends.refusals ends.fits ends.failures
+  -- what the cell has to do with it
+  ends_put : (x : Outcome) → put_outcome put ≡ Some x
+      → IsPut (fits_in (slots.slot_capacity (cell_in old)) next) (words.failure_count (cell_in old))
+      (words.failure_count (cell_in new)) x
+  ends_put =
+      by_kind (λ p. IsLengthTold (fits_in (slots.slot_capacity (cell_in old)) next) p
+      → HasFailures (words.failure_count (cell_in old)) (words.failure_count (cell_in new)) p
+      → (x : Outcome) → put_outcome p ≡ Some x
+      → IsPut (fits_in (slots.slot_capacity (cell_in old)) next) (words.failure_count (cell_in old))
+      (words.failure_count (cell_in new)) x)
+      (λ fits failures x is.
+      subst (IsPut (fits_in (slots.slot_capacity (cell_in old)) next) (words.failure_count (cell_in old))
+      (words.failure_count (cell_in new))) (some_is is) (fits, failures.otherwise (λ e. cc)))
+      (λ fits failures x is. absurd (cc))
+      (λ fits failures x is.
+      subst (IsPut (fits_in (slots.slot_capacity (cell_in old)) next) (words.failure_count (cell_in old))
+      (words.failure_count (cell_in new))) (some_is is) (fits, failures.otherwise (λ e. cc)))
+      (λ fits failures x is.
+      subst (IsPut (fits_in (slots.slot_capacity (cell_in old)) next) (words.failure_count (cell_in old))
+      (words.failure_count (cell_in new))) (some_is is) (fits, failures.device refl))
+      put ends.refusals ends.fits ends.failures
 
-    -- want of memory changed nothing
-    ends_refused : put_outcome put ≡ None
-        → (now ≡ was) × (words.failure_count (cell_in new) ≡ words.failure_count (cell_in old))
-    ends_refused =
-        by_kind (λ p. OnErr p
-        (has_failed p ≡ false → (record_in new ≡ record_in old) × IsSome (known_in new) × (after ≡ before))
-        → HasFailures (words.failure_count (cell_in old)) (words.failure_count (cell_in new)) p → put_outcome p ≡ None
-        → (now ≡ was) × (words.failure_count (cell_in new) ≡ words.failure_count (cell_in old)))
-        (λ refused failures is. absurd (cc))
-        (λ refused failures is. (let same = refused refl in (same_view same.0 same.2, failures.otherwise (λ e. cc))))
-        (λ refused failures is. absurd (cc))
-        (λ refused failures is. absurd (cc))
-        put ends.refusals ends.refused ends.failures
+  -- want of memory changed nothing
+  ends_refused : put_outcome put ≡ None
+      → (now ≡ was) × (words.failure_count (cell_in new) ≡ words.failure_count (cell_in old))
+  ends_refused =
+      by_kind (λ p. OnErr p
+      (has_failed p ≡ false → (record_in new ≡ record_in old) × IsSome (known_in new) × (after ≡ before))
+      → HasFailures (words.failure_count (cell_in old)) (words.failure_count (cell_in new)) p → put_outcome p ≡ None
+      → (now ≡ was) × (words.failure_count (cell_in new) ≡ words.failure_count (cell_in old)))
+      (λ refused failures is. absurd (cc))
+      (λ refused failures is. (let same = refused refl in (same_view same.0 same.2, failures.otherwise (λ e. cc))))
+      (λ refused failures is. absurd (cc))
+      (λ refused failures is. absurd (cc))
+      put ends.refusals ends.refused ends.failures
 
-    -- so all of it
-    pub ends_event : (plan : Plan) → plan.puts ≡ true → plan.node ≡ made → plan.node.kept ≡ next
-        → (plan.grows ≡ false → fits_in (slots.slot_capacity (cell_in old)) next ≡ true)
-        → (prospect : Prospect) (round : ℕ) {E : Type 0} (answer : Result Outcome E)
-        → prospect ≡ Planned plan
-        → restart ≡ restart_after before.armed.items (words.failed_call (cell_in new)) round
-        → IsAnswer (put_outcome put) answer → IsPutEvent prospect round was now old new answer
-    ends_event plan puts node kept_is short prospect round answer planned later is =
-        subst (λ (p : Prospect). IsPutEvent p round was now old new answer) (sym planned) (record {
-          step = is_answered (put_outcome put) answer is
-              (λ outcome. IsMade (restart_after before.armed.items (words.failed_call (cell_in new)) round)
-              (Planned plan) was outcome now)
-              (subst (λ (n : ℕ). (x : Outcome) → put_outcome put ≡ Some x
-              → IsCarriedOut n plan was x now) later (ends_step plan puts node kept_is short));
-          refused = is_refused (put_outcome put) answer is (now ≡ was) (λ none. (ends_refused none).0);
-          refused_failures =
-              is_refused (put_outcome put) answer is
-              (words.failure_count (cell_in new) ≡ words.failure_count (cell_in old)) (λ none. (ends_refused none).1);
-          put = is_answered (put_outcome put) answer is
-              (IsPut (room_for (fits_in (slots.slot_capacity (cell_in old))) (Planned plan))
-              (words.failure_count (cell_in old)) (words.failure_count (cell_in new)))
-              (subst (λ (b : Bool). (x : Outcome) → put_outcome put ≡ Some x
-              → IsPut b (words.failure_count (cell_in old)) (words.failure_count (cell_in new)) x) (sym room_is) ends_put);
-          any_moment =
-              subst (λ (r : RecordView). LeavesNext r old new) (sym record_is) ends.moments;
-          same_setup = ends.same_setup;
-        })
-      where
-        room_is : room_for (fits_in (slots.slot_capacity (cell_in old))) (Planned plan)
-            ≡ fits_in (slots.slot_capacity (cell_in old)) next
-        room_is =
-            ap (λ (b : Bool). cond b (fits_in (slots.slot_capacity (cell_in old)) plan.node.kept) true) puts
-            ∙ ap (fits_in (slots.slot_capacity (cell_in old))) kept_is
+  -- so all of it
+  pub ends_event : (plan : Plan) → plan.puts ≡ true → plan.node ≡ made → plan.node.kept ≡ next
+      → (plan.grows ≡ false → fits_in (slots.slot_capacity (cell_in old)) next ≡ true)
+      → (prospect : Prospect) (round : ℕ) {E : Type 0} (answer : Result Outcome E)
+      → prospect ≡ Planned plan
+      → restart ≡ restart_after before.armed.items (words.failed_call (cell_in new)) round
+      → IsAnswer (put_outcome put) answer → IsPutEvent prospect round was now old new answer
+  ends_event plan puts node kept_is short prospect round answer planned later is =
+      subst (λ (p : Prospect). IsPutEvent p round was now old new answer) (sym planned) (record {
+        step = is_answered (put_outcome put) answer is
+            (λ outcome. IsMade (restart_after before.armed.items (words.failed_call (cell_in new)) round)
+            (Planned plan) was outcome now)
+            (subst (λ (n : ℕ). (x : Outcome) → put_outcome put ≡ Some x
+            → IsCarriedOut n plan was x now) later (ends_step plan puts node kept_is short));
+        refused = is_refused (put_outcome put) answer is (now ≡ was) (λ none. (ends_refused none).0);
+        refused_failures =
+            is_refused (put_outcome put) answer is
+            (words.failure_count (cell_in new) ≡ words.failure_count (cell_in old)) (λ none. (ends_refused none).1);
+        put = is_answered (put_outcome put) answer is
+            (IsPut (room_for (fits_in (slots.slot_capacity (cell_in old))) (Planned plan))
+            (words.failure_count (cell_in old)) (words.failure_count (cell_in new)))
+            (subst (λ (b : Bool). (x : Outcome) → put_outcome put ≡ Some x
+            → IsPut b (words.failure_count (cell_in old)) (words.failure_count (cell_in new)) x) (sym room_is) ends_put);
+        any_moment =
+            subst (λ (r : RecordView). LeavesNext r old new) (sym record_is) ends.moments;
+        same_setup = ends.same_setup;
+      })
+    where
+      room_is : room_for (fits_in (slots.slot_capacity (cell_in old))) (Planned plan)
+          ≡ fits_in (slots.slot_capacity (cell_in old)) next
+      room_is =
+          ap (λ (b : Bool). cond b (fits_in (slots.slot_capacity (cell_in old)) plan.node.kept) true) puts
+          ∙ ap (fits_in (slots.slot_capacity (cell_in old))) kept_is
 
-        record_is : next_record (Planned plan) (record_in old) ≡ next
-        record_is = ap (λ (b : Bool). cond b plan.node.kept (record_in old)) puts ∙ kept_is
+      record_is : next_record (Planned plan) (record_in old) ≡ next
+      record_is = ap (λ (b : Bool). cond b plan.node.kept (record_in old)) puts ∙ kept_is
 
-    -- the record, in any case
-    pub ends_either : (record_in new ≡ record_in old) ⊎ (record_in new ≡ next)
-    ends_either = at put refl
-      where
-        at : (p : Result (Unit {0}) StoreFault) → put ≡ p → (record_in new ≡ record_in old) ⊎ (record_in new ≡ next)
-        at (Ok x) is =
-            inr (subst
-            (λ (p : Result (Unit {0}) StoreFault). OnOk p
-            ((record_in new ≡ next) × IsSome (known_in new) × (node_view next after ≡ made))) is ends.stored).0
-        at (Err e) is =
-            by_test (has_failed put)
-            (λ test. inl
-            ((subst (λ (p : Result (Unit {0}) StoreFault). OnErr p
-            (has_failed p ≡ false → (record_in new ≡ record_in old) × IsSome (known_in new) × (after ≡ before))) is
-            ends.refused) (ap has_failed (sym is) ∙ test)).0)
-            (λ test. (ends.failed test).0)
+  -- the record, in any case
+  pub ends_either : (record_in new ≡ record_in old) ⊎ (record_in new ≡ next)
+  ends_either = at put refl
+    where
+      at : (p : Result (Unit {0}) StoreFault) → put ≡ p → (record_in new ≡ record_in old) ⊎ (record_in new ≡ next)
+      at (Ok x) is =
+          inr (subst
+          (λ (p : Result (Unit {0}) StoreFault). OnOk p
+          ((record_in new ≡ next) × IsSome (known_in new) × (node_view next after ≡ made))) is ends.stored).0
+      at (Err e) is =
+          by_test (has_failed put)
+          (λ test. inl
+          ((subst (λ (p : Result (Unit {0}) StoreFault). OnErr p
+          (has_failed p ≡ false → (record_in new ≡ record_in old) × IsSome (known_in new) × (after ≡ before))) is
+          ends.refused) (ap has_failed (sym is) ∙ test)).0)
+          (λ test. (ends.failed test).0)
 
-    is_up : is_down (mode_view after.mode) ≡ false → IsSome (known_in new)
-    is_up up = at put refl
-      where
-        at : (p : Result (Unit {0}) StoreFault) → put ≡ p → IsSome (known_in new)
-        at (Ok x) is =
-            (subst (λ (p : Result (Unit {0}) StoreFault). OnOk p
-            ((record_in new ≡ next) × IsSome (known_in new) × (node_view next after ≡ made))) is ends.stored).1
-        at (Err e) is =
-            by_test (has_failed put)
-            (λ test. ((subst
-            (λ (p : Result (Unit {0}) StoreFault). OnErr p
-            (has_failed p ≡ false → (record_in new ≡ record_in old) × IsSome (known_in new) × (after ≡ before))) is
-            ends.refused) (ap has_failed (sym is) ∙ test)).1)
-            (λ test. (let down : is_down (mode_view after.mode) ≡ true =
-            ap (λ (n : NodeView). is_down n.mode) ((ends.failed test).1 next) in absurd (cc)))
+  is_up : is_down (mode_view after.mode) ≡ false → IsSome (known_in new)
+  is_up up = at put refl
+    where
+      at : (p : Result (Unit {0}) StoreFault) → put ≡ p → IsSome (known_in new)
+      at (Ok x) is =
+          (subst (λ (p : Result (Unit {0}) StoreFault). OnOk p
+          ((record_in new ≡ next) × IsSome (known_in new) × (node_view next after ≡ made))) is ends.stored).1
+      at (Err e) is =
+          by_test (has_failed put)
+          (λ test. ((subst
+          (λ (p : Result (Unit {0}) StoreFault). OnErr p
+          (has_failed p ≡ false → (record_in new ≡ record_in old) × IsSome (known_in new) × (after ≡ before))) is
+          ends.refused) (ap has_failed (sym is) ∙ test)).1)
+          (λ test. (let down : is_down (mode_view after.mode) ≡ true =
+          ap (λ (n : NodeView). is_down n.mode) ((ends.failed test).1 next) in absurd (cc)))
 
-    -- what a node's type keeps
-    pub ends_kept : (number : ℕ) → HasRecord number (mode_view before.mode) old
-        → length next.highest ≡ length (record_in old).highest → next.node ≡ (record_in old).node
-        → HasRecord number (mode_view after.mode) new
-    ends_kept number has long node = record {
-      listed =
-          ⊎_elim (λ same. subst (λ (r : RecordView). number < length r.highest) (sym same) has.listed)
-          (λ same. subst (λ (r : RecordView). number < length r.highest) (sym same)
-          (subst (λ (n : ℕ). number < n) (sym long) has.listed)) ends_either;
-      named = ⊎_elim (λ same. ap (λ (r : RecordView). r.node) same ∙ has.named)
-          (λ same. ap (λ (r : RecordView). r.node) same ∙ (node ∙ has.named)) ends_either;
-      ready = is_up;
-      settled = ends.settled;
-    }
+  -- what a node's type keeps
+  pub ends_kept : (number : ℕ) → HasRecord number (mode_view before.mode) old
+      → length next.highest ≡ length (record_in old).highest → next.node ≡ (record_in old).node
+      → HasRecord number (mode_view after.mode) new
+  ends_kept number has long node = record {
+    listed =
+        ⊎_elim (λ same. subst (λ (r : RecordView). number < length r.highest) (sym same) has.listed)
+        (λ same. subst (λ (r : RecordView). number < length r.highest) (sym same)
+        (subst (λ (n : ℕ). number < n) (sym long) has.listed)) ends_either;
+    named = ⊎_elim (λ same. ap (λ (r : RecordView). r.node) same ∙ has.named)
+        (λ same. ap (λ (r : RecordView). r.node) same ∙ (node ∙ has.named)) ends_either;
+    ready = is_up;
+    settled = ends.settled;
+  }

@@ -110,8 +110,7 @@ module _ (home nodes : ℕ) (takers : List ℕ) (others : has_node home takers �
           (numbers_where (λ p. has_node p takers) (suc first) count)))
       at false is rest = rest least (omega (arith, low))
       at true is rest = All-cons IsAllowed _
-          (participants home nodes (suc first) (numbers_where (λ p. has_node p takers) (suc first) count))
-          (
+          (participants home nodes (suc first) (numbers_where (λ p. has_node p takers) (suc first) count)) (
             omega (arith, high, few),
             true_both (nat_le least first) (nat_lt first nodes && not (eqb first home)) (le-leb least first low)
                 (true_both (nat_lt first nodes) (not (eqb first home)) (lt-ltb first nodes (omega (arith, high)))

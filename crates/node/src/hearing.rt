@@ -15,7 +15,7 @@ ghost use Rattle.protocol.specs.Node.Collecting.{answer_to_took, give_up_prospec
 ghost use Rattle.protocol.specs.Node.Delivering.{packet_for};
 ghost use Rattle.protocol.specs.Node.Hearing.{hear_prospect};
 ghost use Rattle.protocol.specs.Node.Modes.{is_down};
-ghost use Rattle.protocol.specs.Node.Plans.{packets_by};
+ghost use Rattle.protocol.specs.Node.Plans.{LeavesCell, packets_by};
 ghost use Rattle.protocol.specs.Node.Starting.{IsLikeNow};
 ghost use Rattle.protocol.specs.Node.Verdicts.{commit_prospect, ended_prospect, settled_prospect};
 ghost use Rattle.node.specs.NodeView.{mode_view, node_view};
@@ -206,7 +206,9 @@ pub(crate) fn answers(
             channel,
             needs,
             ..
-        } => say_to_took(alloc, net, home, state, kept, from, *number, *channel, needs),
+        } => say_to_took(
+            alloc, net, home, state, kept, from, *number, *channel, needs,
+        ),
         Body::Query { number } => {
             only(alloc, verdict_of(home, from, *number, kept, state.live()))
         }
@@ -239,6 +241,7 @@ fn take_part<C: SlotCell>(
         (node_view (record_in store.old) state.old)) round
         (node_view (record_in store.old) state.old) (node_view (record_in store.new) state.new)
         store.old store.new result }
+    ensures unchanged { LeavesCell result → cell_in store.new ≡ cell_in store.old }
 {
     let Ok(kept) = store.record() else {
         return Ok(Outcome::NotDue);
@@ -272,6 +275,7 @@ fn give_up<C: SlotCell>(
     ensures event { IsPutEvent (give_up_prospect (node_view (record_in store.old) state.old)) round
         (node_view (record_in store.old) state.old) (node_view (record_in store.new) state.new)
         store.old store.new result }
+    ensures unchanged { LeavesCell result → cell_in store.new ≡ cell_in store.old }
 {
     let put = store.drop_tentative(alloc, home, number);
     end_put_then(alloc, put, Then::Collects(None), state, store, round)
@@ -299,6 +303,7 @@ fn hear_took<C: SlotCell>(
         needs.now (node_view (record_in store.old) state.old)) round
         (node_view (record_in store.old) state.old) (node_view (record_in store.new) state.new)
         store.old store.new result }
+    ensures unchanged { LeavesCell result → cell_in store.new ≡ cell_in store.old }
 {
     let Ok(kept) = store.record() else {
         return Ok(Outcome::NotDue);
@@ -331,6 +336,7 @@ fn hear_refused<C: SlotCell>(
         (node_view (record_in store.old) state.old)) round
         (node_view (record_in store.old) state.old) (node_view (record_in store.new) state.new)
         store.old store.new result }
+    ensures unchanged { LeavesCell result → cell_in store.new ≡ cell_in store.old }
 {
     let Ok(kept) = store.record() else {
         return Ok(Outcome::NotDue);
@@ -378,6 +384,7 @@ fn hear_commit<C: SlotCell>(
         (node_view (record_in store.old) state.old)) round
         (node_view (record_in store.old) state.old) (node_view (record_in store.new) state.new)
         store.old store.new result }
+    ensures unchanged { LeavesCell result → cell_in store.new ≡ cell_in store.old }
 {
     let Ok(kept) = store.record() else {
         return Ok(Outcome::NotDue);
@@ -408,6 +415,7 @@ fn hear_ended<C: SlotCell>(
         (node_view (record_in store.old) state.old)) round
         (node_view (record_in store.old) state.old) (node_view (record_in store.new) state.new)
         store.old store.new result }
+    ensures unchanged { LeavesCell result → cell_in store.new ≡ cell_in store.old }
 {
     let Ok(kept) = store.record() else {
         return Ok(Outcome::NotDue);
@@ -438,6 +446,7 @@ fn hear_settled<C: SlotCell>(
         (node_view (record_in store.old) state.old)) round
         (node_view (record_in store.old) state.old) (node_view (record_in store.new) state.new)
         store.old store.new result }
+    ensures unchanged { LeavesCell result → cell_in store.new ≡ cell_in store.old }
 {
     let Ok(kept) = store.record() else {
         return Ok(Outcome::NotDue);
@@ -473,6 +482,7 @@ pub(crate) fn hear<C: SlotCell>(
         packet.now.body (node_view (record_in store.old) state.old)) round
         (node_view (record_in store.old) state.old) (node_view (record_in store.new) state.new)
         store.old store.new result }
+    ensures unchanged { LeavesCell result → cell_in store.new ≡ cell_in store.old }
 {
     let from = packet.from;
     match &packet.body {
@@ -505,14 +515,14 @@ pub(crate) fn hear<C: SlotCell>(
             alloc, net, home, state, store, from, *number, *channel, needs, round,
         ),
         Body::Covered {
-            number, channel, ..
+            number,
+            channel,
+            ..
         } => {
             state.on_covered(*number, *channel);
             Ok(Outcome::Made)
         }
-        Body::Refused { number, .. } => {
-            hear_refused(alloc, home, state, store, *number, round)
-        }
+        Body::Refused { number, .. } => { hear_refused(alloc, home, state, store, *number, round) }
         Body::Query { .. } => Ok(Outcome::Made),
         Body::Commit { number } => hear_commit(alloc, home, state, store, from, *number, round),
         Body::Ended { number } => hear_ended(alloc, home, state, store, from, *number, round),

@@ -23,10 +23,10 @@ mod sharing;
 mod state;
 mod telling;
 
-pub use mode::Mode;
-pub use node::Node;
 pub use hearing::Said;
 pub use layout::{is_here, node_count};
+pub use mode::Mode;
+pub use node::Node;
 pub use opening::opening_record;
 pub use protocol::{ArmedRestart, Delivery, MAX_JOB_ITEMS, Outcome, Refusal};
 pub use restart::round_later;

@@ -152,12 +152,7 @@ impl<C: SlotCell> Node<C> {
 
     /// The packet for this node that these bytes spell, if they spell one in which each name is right. Refuses for want of
     /// memory alone.
-    pub fn read(
-        &self,
-        alloc: Global,
-        net: &Net,
-        bytes: &[u8],
-    ) -> Result<Option<Packet>, AllocError>
+    pub fn read(&self, alloc: Global, net: &Net, bytes: &[u8]) -> Result<Option<Packet>, AllocError>
         ensures { IfOk result (λ packet. packet
             ≡ packet_for (network_of net.now.program) self.now.number bytes.now) }
     {
@@ -201,9 +196,18 @@ impl<C: SlotCell> Node<C> {
         ensures event { IsPutEvent (hear_prospect (network_of net.now.program) self.old.number
             packet.now.from packet.now.body (view_of self.old)) round
             (view_of self.old) (view_of self.new) self.old.store self.new.store result }
+        ensures unchanged { LeavesCell result → cell_in self.new.store ≡ cell_in self.old.store }
         ensures same_number { self.new.number ≡ self.old.number }
     {
-        hear(alloc, net, self.number, &mut self.state, &mut self.store, packet, round)
+        hear(
+            alloc,
+            net,
+            self.number,
+            &mut self.state,
+            &mut self.store,
+            packet,
+            round,
+        )
     }
 
     /// What the node says in its turn: of each channel from another node how far it has come, what it still asks, what it
@@ -236,12 +240,7 @@ impl<C: SlotCell> Node<C> {
     /// Begins a checkpoint: takes a tentative image of where the node stands now, under its next number, and collects answers for
     /// it. Where the device fails the node goes down, and may be recovered after the rounds that were armed with that call, or
     /// from the next round on. Refuses for want of memory alone, and then nothing is changed.
-    pub fn start(
-        &mut self,
-        alloc: Global,
-        net: &Net,
-        round: u64,
-    ) -> Result<Outcome, AllocError>
+    pub fn start(&mut self, alloc: Global, net: &Net, round: u64) -> Result<Outcome, AllocError>
         requires { IsLikeNow (view_of self.old) }
         ensures event { IsPutEvent (start_prospect (network_of net.now.program) self.old.number
             (view_of self.old)) round
@@ -249,7 +248,14 @@ impl<C: SlotCell> Node<C> {
         ensures unchanged { LeavesCell result → cell_in self.new.store ≡ cell_in self.old.store }
         ensures same_number { self.new.number ≡ self.old.number }
     {
-        start(alloc, net, self.number, &mut self.state, &mut self.store, round)
+        start(
+            alloc,
+            net,
+            self.number,
+            &mut self.state,
+            &mut self.store,
+            round,
+        )
     }
 
     /// What those who take part are told, once the checkpoint is decided for which answers are collected, if it may be decided.

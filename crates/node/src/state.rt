@@ -80,9 +80,7 @@ impl NodeState {
     pub fn can_start(&self, kept: &Record) -> bool
         ensures { result ≡ may_start (node_view kept.now self.now) }
     {
-        self.is_running()
-            && kept.tentative.is_none()
-            && kept.decisions.len() < MAX_DECISIONS
+        self.is_running() && kept.tentative.is_none() && kept.decisions.len() < MAX_DECISIONS
     }
 
     /// The checkpoint for which answers are collected, if there is one.

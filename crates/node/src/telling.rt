@@ -34,11 +34,7 @@ pub(crate) fn add_live_asks(
 }
 
 // Adds what each node is told that a decision names.
-fn add_decision(
-    packets: &mut Vec<Packet>,
-    home: u8,
-    decision: &Decision,
-) -> Result<(), AllocError>
+fn add_decision(packets: &mut Vec<Packet>, home: u8, decision: &Decision) -> Result<(), AllocError>
     ensures { OnOk result (packets.new.items ≡ packets.old.items
         ++ decision_packets home decision.now) }
 {
