@@ -54,6 +54,7 @@ impl<C: SlotCell, O: Outlet> Station<C, O> {
             (station_view O.taken O.failures self.new) k
             (traffic_of wire.old) (traffic_of wire.new)) }
         ensures same_traffic { OnErr result (traffic_of wire.new ≡ traffic_of wire.old) }
+        ensures up { IfOk result (λ reply. reply_view reply ≡ Down → ⊥) }
     {
         let node = &self.node;
         if node.state.is_down() {

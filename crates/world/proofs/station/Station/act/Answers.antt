@@ -1,5 +1,11 @@
-use Rattle.std.proofs.Common.{rules, ◌≡◌, ℤ, Bool, List, Ok, true, false, refl, sym, subst, ap, ◌∙◌, arith}
-use Rattle.std.specs.Prelude.{All, slice_get}
+use Rattle.std.proofs.Common.{rules, ◌≡◌, ◌<◌, Err, Result, ℤ, Bool, List, Ok, true, false, refl, sym, subst, ap, ◌∙◌, arith}
+use Rattle.std.specs.Prelude.{All, IfOk, slice_get}
+use Rattle.std.specs.declared.alloc.AllocError.{AllocError}
+use Rattle.wire.specs.declared.queue.TheConstants.{NODES}
+use Rattle.protocol.specs.World.ReplyView.{Down}
+use Rattle.world.specs.ReplyView.{reply_view}
+use Rattle.world.specs.declared.event.Event.{Event}
+use Rattle.world.specs.declared.event.Reply.{Reply}
 use Rattle.kahn_net.specs.Syntax.{network_of}
 use Rattle.kahn_net.specs.Nodes.{node_count}
 use Rattle.datagram.specs.PacketText.{IsPacket}
@@ -7,7 +13,7 @@ use Rattle.net_check.specs.declared.net.Net.{Net}
 use Rattle.ckpt_store.specs.Spelling.{fits_in}
 use Rattle.ckpt_store.specs.StoreView.{cell_in}
 use Rattle.wire.specs.Traffic.{flights_to, traffic_of}
-use Rattle.protocol.specs.Node.ArmedRestarts.{round_later}
+use Rattle.protocol.specs.Node.ArmedRestarts.{round_later, with_armed}
 use Rattle.protocol.specs.Node.Beginning.{start_prospect}
 use Rattle.protocol.specs.Node.Choosing.{node_job}
 use Rattle.protocol.specs.Node.Installing.{TakesTurn}
@@ -20,7 +26,7 @@ use Rattle.protocol.specs.World.EventView as view
 use Rattle.protocol.specs.World.Pairs.{HasMoved}
 use Rattle.protocol.specs.World.RecoveryLine.{next_kept}
 use Rattle.protocol.specs.World.Steps.{crash_plan, decide_plan, deliver_plan, due_bytes, grant_plan, idle_plan, recover_plan}
-use Rattle.protocol.specs.World.Steps.{arm_plan, send_plan, setting_in, start_plan}
+use Rattle.protocol.specs.World.Steps.{IsInstalled, arm_plan, send_plan, setting_in, start_plan}
 use Rattle.protocol.specs.WorldLaws.ActLaws.{takes_turn, like_now}
 use Rattle.protocol.specs.WorldLaws.DeedLaws.{becoming_sends, crash_sends, grant_sends, recover_sends}
 use Rattle.protocol.specs.WorldLaws.HandedLaws.{next_reached, next_there}
@@ -87,7 +93,7 @@ deliver-requires g c =
     c.args.round in
     let is = ap (λ (n : Net). network_of n.program) (sym c.deref.ensures) in
     record {
-      to = c.requires.node;
+      to = subst (λ (e : Event). view.event_node (event_view e) < NODES) c.in-Deliver.is c.requires.node;
       like = like_now (network_of net.program) c.args.inputs.now.value net.valid c.requires.sure.fits was
           c.requires.sound.inv;
       listed = c.requires.sound.joined.kept.listed ∙ ap node_count is;
@@ -155,7 +161,10 @@ returns-in-Install-clause-come g c =
     c.args.restarts c.args.round in
     let fits = fits_in (g.C.SlotCell.slot_capacity (cell_in c.args.self.now.node.store)) in
     installed_came setting fits (event_view c.args.event.now) was _ (traffic_of c.args.wire.now) c.install.result
-    (done_view c.in-Install.done) (ap event_view c.in-Install.is) refl c.install.ensures.step
+    (done_view c.in-Install.done) (ap event_view c.in-Install.is) refl
+    (subst (λ (n : Net). IfOk c.install.result (λ (r : Reply). IsInstalled n.program.channels.items (done_view c.in-Install.done)
+    was (reply_view r) (station_view g.O.Outlet.taken g.O.Outlet.failures c.install.new.self))) c.deref-in-Install.ensures
+    c.install.ensures.step)
 
 pub returns-in-Send-clause-come : goal.returns-in-Send-clause-come
 returns-in-Send-clause-come g c =
@@ -259,7 +268,8 @@ returns-in-Arm-clause-come g c =
     let fits = fits_in (g.C.SlotCell.slot_capacity (cell_in c.args.self.now.node.store)) in
     quiet_came setting fits (event_view c.args.event.now) was _ (traffic_of c.args.wire.now) c.arm.result _
     (view.Arm c.in-Arm.fault c.in-Arm.rounds) (arm_plan c.in-Arm.fault.call c.in-Arm.rounds was)
-    (ap event_view c.in-Arm.is) refl refl refl (λ came. becoming_sends _ came) c.arm.ensures.step
+    (ap event_view c.in-Arm.is) refl refl refl
+    (λ came. becoming_sends (with_armed c.in-Arm.fault.call c.in-Arm.rounds was.node) came) c.arm.ensures.step
 
 pub returns-in-Idle-clause-come : goal.returns-in-Idle-clause-come
 returns-in-Idle-clause-come g c =
@@ -349,3 +359,12 @@ returns-in-Start-clause-moved g c =
     c.start.ensures.later c.start.ensures.outputs
     (ap (λ (n : Net). next_record (start_prospect (network_of n.program) was.number was.node) was.node.kept)
     c.deref-in-Start.ensures) c.start.ensures.leaves)
+
+-- what nobody answers needs no reason
+never_down : (P : Reply → Type 0) (result : Result Reply AllocError) → IfOk result (λ (r : Reply). reply_view r ≡ Down → ⊥)
+    → IfOk result (λ (r : Reply). reply_view r ≡ Down → P r)
+never_down P (Ok r) none = λ down. absurd (none down)
+never_down P (Err e) none = none
+
+pub returns-in-Send-clause-armed : goal.returns-in-Send-clause-armed
+returns-in-Send-clause-armed g c = never_down _ c.send.result c.send.ensures.up
