@@ -1,4 +1,4 @@
-//! A plain interpreter of the instructions of four processes, over as many items as it is told: the microseconds of each, the least of
+//! A plain interpreter of the instructions of five processes, over as many items as it is told: the microseconds of each, the least of
 //! five readings. `bench/turns` sets it beside the turns of the project.
 
 use std::time::Instant;
@@ -22,6 +22,8 @@ enum Instruction {
     Put,
     Jump(usize),
     JumpIfZero(usize),
+    Repeat(u16),
+    Again(usize),
 }
 
 use Instruction::*;
@@ -38,6 +40,7 @@ enum Statement {
     Assign(usize, Expr),
     PutOut(Expr),
     If(Expr, Vec<Statement>, Vec<Statement>),
+    Repeated(u16, Vec<Statement>),
 }
 
 fn number(value: i64) -> Expr {
@@ -89,6 +92,12 @@ fn emit(code: &mut Vec<Instruction>, statement: &Statement) {
             second.iter().for_each(|it| emit(code, it));
             code[behind] = Jump(code.len());
         }
+        Statement::Repeated(times, body) => {
+            code.push(Repeat(*times));
+            let inside = code.len();
+            body.iter().for_each(|it| emit(code, it));
+            code.push(Again(inside));
+        }
     }
 }
 
@@ -115,6 +124,7 @@ fn run(code: &[Instruction], items: &[i64]) -> Vec<i64> {
     let mut out = Vec::new();
     let mut variables = vec![0i64; 2];
     let mut stack: Vec<i64> = Vec::with_capacity(16);
+    let mut passes: Vec<u16> = Vec::with_capacity(16);
     let mut next = 0;
     let mut at = 0;
     loop {
@@ -141,6 +151,15 @@ fn run(code: &[Instruction], items: &[i64]) -> Vec<i64> {
             }
             JumpIfZero(target) => {
                 if stack.pop().unwrap_or(0) == 0 {
+                    at = target;
+                    continue;
+                }
+            }
+            Repeat(times) => passes.push(times),
+            Again(target) => {
+                let left = passes.pop().unwrap_or(0);
+                if left > 1 {
+                    passes.push(left - 1);
                     at = target;
                     continue;
                 }
@@ -194,6 +213,11 @@ fn choices() -> Vec<Statement> {
     vec![below(4, vec![low], vec![high]), Statement::PutOut(a())]
 }
 
+fn repetitions() -> Vec<Statement> {
+    let inner = Statement::Repeated(5, vec![Statement::Assign(0, of(a(), Add, v()))]);
+    vec![Statement::Repeated(4, vec![inner]), Statement::PutOut(a())]
+}
+
 fn forty() -> Vec<Statement> {
     let mut body: Vec<Statement> = (0..38).map(|_| Statement::Assign(0, of(a(), Add, v()))).collect();
     body.push(Statement::If(of(v(), Equal, number(0)), vec![Statement::PutOut(a())], Vec::new()));
@@ -204,7 +228,8 @@ fn main() {
     let count: usize = std::env::args().nth(1).and_then(|it| it.parse().ok()).unwrap_or(250_000);
     let items = vec![1i64; count];
     let sum = vec![Statement::Assign(0, of(a(), Add, v())), Statement::PutOut(a())];
-    for (name, body) in [("sum", sum), ("expressions", expressions()), ("choices", choices()), ("forty", forty())] {
+    let bodies = [("sum", sum), ("expressions", expressions()), ("choices", choices()), ("repetitions", repetitions()), ("forty", forty())];
+    for (name, body) in bodies {
         let code = looped(&body);
         let mut least = u128::MAX;
         let mut put = 0;

@@ -29,12 +29,15 @@ const CHOICES: &str =
     "if v < 4 { if v < 2 { if v < 1 { a = a + 1; } else { a = a + 2; } } else { a = a + 3; } } \
      else { if v < 6 { a = a + 4; } else { a = a + 5; } } put a to o;";
 
+// Twenty assignments, in repetitions one within the other.
+const REPETITIONS: &str = "repeat 4 { repeat 5 { a = a + v; } } put a to o;";
+
 // A process with an input and an output, two variables, and a loop of a get and these statements, behind a prelude of so many
 // assignments.
 fn network(alloc: Global, prelude: usize, body: &str) -> anyhow::Result<Arc<Net>> {
     let mut text = String::from_str(
         alloc,
-        "kahn 1;\ninput i;\noutput o;\nprocess p on 0 {\n  var a;\n  var v;\n",
+        "kahn 2;\ninput i;\noutput o;\nprocess p on 0 {\n  var a;\n  var v;\n",
     )?;
     for _ in 0..prelude {
         text.push_str("  v = 0;\n")?;
@@ -150,6 +153,8 @@ fn forms(rt: &(impl Print + CpuClock), alloc: Global) -> anyhow::Result<()> {
     println!(rt; "form expressions {ITEMS} {expressions}")?;
     let choices = least_micros(rt, alloc, &network(alloc, 0, CHOICES)?)?;
     println!(rt; "form choices {ITEMS} {choices}")?;
+    let repetitions = least_micros(rt, alloc, &network(alloc, 0, REPETITIONS)?)?;
+    println!(rt; "form repetitions {ITEMS} {repetitions}")?;
     let forty = least_micros(rt, alloc, &forty_statements(alloc)?)?;
     println!(rt; "form forty {ITEMS} {forty}")?;
     Ok(())

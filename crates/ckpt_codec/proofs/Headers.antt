@@ -120,9 +120,14 @@ pub header_alone : (h other : HeaderView) (bytes rest : List ℕ) → IsHeaderTe
     → IsHeaderText other (bytes ++ rest) → (rest ≡ []) × (other ≡ h)
 header_alone h other bytes rest one two = versions.begins_none headers h other bytes rest one two
 
--- what is written spells the header
+-- what spells a header in a version tells that version
+pub told_is_header : (version : ℕ) (h : HeaderView) (bytes : List ℕ) → IsHeaderTextIn version h bytes
+    → IsHeaderText h bytes
+told_is_header version h bytes text = versions.told headers version h bytes (spelt version h bytes text)
+
+-- so what is written spells the header
 pub written_is_header : (h : HeaderView) (bytes : List ℕ) → IsHeaderTextIn VERSION h bytes → IsHeaderText h bytes
-written_is_header h bytes text = versions.told headers VERSION h bytes (spelt VERSION h bytes text)
+written_is_header h bytes text = told_is_header VERSION h bytes text
 
 pub header_caused : (bytes : List ℕ) (r : Result HeaderView CodecFault) → AreBytes bytes
     → Reads (λ (h : HeaderView). h) r (header_at bytes) → IfErr r (IsHeaderFault bytes)

@@ -28,7 +28,7 @@ use Rattle.ckpt_codec.specs.RecordText.{saved_end_fields, ends_fields, processes
 use Rattle.ckpt_codec.specs.RecordText.{tentative_fields, head_fields, record_text, IsRecord}
 use Rattle.ckpt_codec.specs.RecordText.{items_of_end, IsTextIn}
 use Rattle.ckpt_codec.specs.HeaderText.{header_of, instance_of, slot_field, held_fields, header_fields, header_text}
-use Rattle.ckpt_codec.specs.HeaderText.{IsHeaderTextIn, IsImageText, IsImageSpelled}
+use Rattle.ckpt_codec.specs.HeaderText.{IsImageText, IsImageSpelled}
 use Rattle.ckpt_codec.specs.declared.version.TheConstants.{VERSION}
 use Rattle.ckpt_codec.specs.Spelling.{item_text, items_text, mode_text, state_text, process_text, HasShortMode}
 use Rattle.ckpt_codec.specs.Spelling.{IsShortProcess, HasItems, log_text, end_text, saved_end_text, EndHasItems}
@@ -439,11 +439,6 @@ header_allowed slot kept le is =
       decisions = parts.decisions;
       behind = (slot_allowed slot le, held_allowed kept.highest kept.permanent kept.tentative images.1);
     })
-
-pub is_header : (slot : ℕ) (kept : RecordView) (bytes : List ℕ) → slot ≤ 1 → IsRecord kept
-    → bytes ≡ header_spelling VERSION slot kept → IsHeaderTextIn VERSION (header_of slot kept) bytes
-is_header slot kept bytes le is e =
-    record { allowed = header_allowed slot kept le is; spelled = e ∙ sym (header-spelled VERSION slot kept) }
 
 -- ---- items
 

@@ -7,10 +7,10 @@ ghost use Rattle.ckpt_codec.specs.HeaderText.{header_of, IsHeaderTextIn, IsHeade
 ghost use Rattle.ckpt_codec.specs.HeaderView.{HeaderView};
 ghost use Rattle.ckpt_codec.specs.Reading.{Reads, held_at, slots_at, header_body_at, header_at, whole_image_at};
 ghost use Rattle.ckpt_codec.specs.Lengths.{image_length};
-ghost use Rattle.ckpt_codec.specs.RecordText.{image_fields, IsRecord};
+ghost use Rattle.ckpt_codec.specs.RecordText.{image_fields, most_decisions, IsRecord};
 ghost use Rattle.ckpt_codec.specs.Spelling.{header_spelling, IsShortFront};
 ghost use Rattle.ckpt_codec.specs.declared.lengths.TheConstants.{MAX_HEADER_BYTES};
-ghost use Rattle.ckpt_codec.specs.declared.version.TheConstants.{VERSION};
+ghost use Rattle.ckpt_codec.specs.declared.version.TheConstants.{FIRST_VERSION, VERSION};
 ghost use Rattle.ckpt_codec.specs.declared.fault.CodecFault.{CodecFault as FaultValue};
 
 use crate::fault::CodecFault;
@@ -21,6 +21,7 @@ use crate::lengths::{MAX_HEADER_BYTES, spelled_image_length};
 use crate::numbers::put_u8;
 use crate::putting::{put_held, put_image};
 use crate::reading::{front_of, instance_of, most_decisions, version_of};
+use crate::version::VERSION;
 use crate::writing::put_front;
 use record::{Image, Record};
 use std::alloc::{AllocError, Global};
@@ -139,14 +140,35 @@ pub fn read_image(alloc: Global, like: Option<&Image>, bytes: &[u8]) -> Result<I
 }
 
 // The parts of a header, with the permanent image in this slot.
-fn put_header(out: &mut Vec<u8>, kept: &Record, slot: u8) -> Result<(), AllocError>
+fn put_header(out: &mut Vec<u8>, version: u8, kept: &Record, slot: u8) -> Result<(), AllocError>
     requires { IsShortFront kept.now }
     ensures { OnOk result (out.new.items ≡ out.old.items
-        ++ header_spelling VERSION slot kept.now) }
+        ++ header_spelling version slot kept.now) }
 {
-    put_front(out, kept)?;
+    put_front(out, version, kept)?;
     put_u8(out, slot)?;
     put_held(out, &kept.tentative)
+}
+
+/// The spelling of a record's header in this version, of those in which it may have its decisions, with the permanent image
+/// in this slot. Refuses for want of memory alone.
+pub fn write_header_in(
+    alloc: Global,
+    version: u8,
+    kept: &Record,
+    slot: u8,
+) -> Result<Vec<u8>, AllocError>
+    requires kept { IsRecord kept.now }
+    requires version { (FIRST_VERSION ≤ version) × (version ≤ VERSION) }
+    requires few { length kept.now.decisions ≤ most_decisions version }
+    requires slot { slot ≤ 1 }
+    ensures text { IfOk result
+        (λ bytes. IsHeaderTextIn version (header_of slot kept.now) bytes.items) }
+    ensures short { IfOk result (λ bytes. length bytes.items ≤ MAX_HEADER_BYTES) }
+{
+    let mut out = Vec::with_capacity(alloc, MAX_HEADER_BYTES)?;
+    put_header(&mut out, version, kept, slot)?;
+    Ok(out)
 }
 
 /// The spelling of a record's header, in the version in which records are written, with the permanent image in this slot.
@@ -158,9 +180,7 @@ pub fn write_header(alloc: Global, kept: &Record, slot: u8) -> Result<Vec<u8>, A
         (λ bytes. IsHeaderTextIn VERSION (header_of slot kept.now) bytes.items) }
     ensures short { IfOk result (λ bytes. length bytes.items ≤ MAX_HEADER_BYTES) }
 {
-    let mut out = Vec::with_capacity(alloc, MAX_HEADER_BYTES)?;
-    put_header(&mut out, kept, slot)?;
-    Ok(out)
+    write_header_in(alloc, VERSION, kept, slot)
 }
 
 /// The spelling of an image, by itself or beside another: it is the same. Refuses for want of memory alone.

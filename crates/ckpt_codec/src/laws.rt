@@ -13,7 +13,6 @@ ghost use Rattle.ckpt_codec.specs.SizeLaws.{IsImageWithin, IsRecordWithin};
 ghost use Rattle.kahn_net.specs.declared.limits.TheConstants.{MAX_NODES};
 ghost use Rattle.record.specs.declared.record.TheConstants.{MAX_DECISIONS};
 ghost use Rattle.ckpt_codec.specs.declared.lengths.TheConstants.{MAX_HEADER_BYTES, MAX_RECORD_BYTES, MAX_RETAINED_ITEMS};
-ghost use Rattle.ckpt_codec.specs.declared.version.TheConstants.{VERSION};
 
 /// No record's spelling begins another's: where one does, nothing follows it, and the records are one. So each text spells one
 /// record at most.
@@ -63,8 +62,8 @@ pub fn moves_make_no_longer()
 
 /// Of headers: what is written is read, none begins another, and each is short.
 pub fn headers_are_spelled()
-    ensures told { (h : HeaderView) (spelling : List ℕ) → IsHeaderTextIn VERSION h spelling
-        → IsHeaderText h spelling }
+    ensures told { (version : ℕ) (h : HeaderView) (spelling : List ℕ)
+        → IsHeaderTextIn version h spelling → IsHeaderText h spelling }
     ensures alone { (h other : HeaderView) (spelling rest : List ℕ)
         → IsHeaderText h spelling → IsHeaderText other (spelling ++ rest)
         → (rest ≡ []) × (other ≡ h) }

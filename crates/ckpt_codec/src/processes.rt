@@ -31,11 +31,7 @@ pub(crate) fn items_of(
 }
 
 // So many counts of passes, outermost first.
-fn each_pass_of(
-    alloc: Global,
-    count: u8,
-    bytes: &[u8],
-) -> Result<(Vec<u16>, &[u8]), CodecFault>
+fn each_pass_of(alloc: Global, count: u8, bytes: &[u8]) -> Result<(Vec<u16>, &[u8]), CodecFault>
     ensures { Reads (λ x. (x.0.items, x.1.now)) result (so_many_passes_at count bytes.now) }
 {
     let mut left = Vec::new(alloc);

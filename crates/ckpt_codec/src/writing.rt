@@ -12,11 +12,11 @@ use record::Record;
 use std::alloc::{AllocError, Global};
 
 // Version, node, epoch and the highest numbers.
-fn put_head(out: &mut Vec<u8>, kept: &Record) -> Result<(), AllocError>
+fn put_head(out: &mut Vec<u8>, version: u8, kept: &Record) -> Result<(), AllocError>
     requires { length kept.now.highest < 256 }
-    ensures { OnOk result (out.new.items ≡ out.old.items ++ head_text VERSION kept.now) }
+    ensures { OnOk result (out.new.items ≡ out.old.items ++ head_text version kept.now) }
 {
-    put_u8(out, VERSION)?;
+    put_u8(out, version)?;
     put_u8(out, kept.node)?;
     put_u64(out, kept.epoch)?;
     put_u8(out, kept.highest.len() as u8)?;
@@ -24,11 +24,11 @@ fn put_head(out: &mut Vec<u8>, kept: &Record) -> Result<(), AllocError>
 }
 
 // What a record and its header have both: the head and the decisions.
-pub(crate) fn put_front(out: &mut Vec<u8>, kept: &Record) -> Result<(), AllocError>
+pub(crate) fn put_front(out: &mut Vec<u8>, version: u8, kept: &Record) -> Result<(), AllocError>
     requires { IsShortFront kept.now }
-    ensures { OnOk result (out.new.items ≡ out.old.items ++ front_text VERSION kept.now) }
+    ensures { OnOk result (out.new.items ≡ out.old.items ++ front_text version kept.now) }
 {
-    put_head(out, kept)?;
+    put_head(out, version, kept)?;
     put_decisions(out, kept.decisions.as_slice())
 }
 
@@ -37,7 +37,7 @@ fn put_record(out: &mut Vec<u8>, kept: &Record) -> Result<(), AllocError>
     ensures put { OnOk result (out.new.items ≡ out.old.items ++ spelling VERSION kept.now) }
     ensures fit { OnOk result (RecordHasItems kept.now) }
 {
-    put_front(out, kept)?;
+    put_front(out, VERSION, kept)?;
     put_image(out, &kept.permanent)?;
     put_tentative(out, &kept.tentative)
 }

@@ -48,7 +48,16 @@ fn play_round(
         let Some(instruction) = code.get(place) else {
             return Ok(Next::Stops(Flow::RanOut));
         };
-        match perform(*instruction, place, stack, left, variables, unread, room, sent)? {
+        match perform(
+            *instruction,
+            place,
+            stack,
+            left,
+            variables,
+            unread,
+            room,
+            sent,
+        )? {
             Next::Goes(to) => place = to,
             Next::Stops(flow) => return Ok(Next::Stops(flow)),
         }
@@ -183,7 +192,9 @@ fn play_from(
         → Part t room.now unread.old sent.old flow left.new.items variables.new unread.new
         sent.new) }
 {
-    match play_items(code, start, items, stack, left, variables, unread, room, sent)? {
+    match play_items(
+        code, start, items, stack, left, variables, unread, room, sent,
+    )? {
         Next::Stops(flow) => Ok(flow),
         Next::Goes(place) => {
             match play_passes(code, place, 2, stack, left, variables, unread, room, sent)? {

@@ -1,7 +1,7 @@
 -- The stations of a world that opens: what is true of each, as it is said of all.
-use Rattle.std.proofs.Common.{◌≡◌, ◌≢◌, ◌⊎◌, inl, inr, ℕ, suc, ◌+◌, ◌<◌, ◌≤◌, Bool, true, false, cond, List, ℤ}
+use Rattle.std.proofs.Common.{◌≡◌, ◌≢◌, ◌⊎◌, inl, inr, ℕ, zero, suc, ◌+◌, ◌<◌, ◌≤◌, Bool, true, false, cond, List, ℤ}
 use Rattle.std.proofs.Common.{[], ◌∷◌, ◌++◌, map, length, refl, sym, ap, subst, ◌∙◌, arith}
-use Rattle.std.specs.Prelude.{not, filter}
+use Rattle.std.specs.Prelude.{◌↔◌, not, filter, Result, Ok, Err, IfErr, OnOk}
 use Rattle.std.specs.List.{AllByRecursion, AllZip}
 use Rattle.std.proofs.lemmas.List.{length-map, map-append}
 use Rattle.std.proofs.lemmas.List.Filters.{length-filter_both}
@@ -34,6 +34,7 @@ use Rattle.protocol.specs.WorldLaws.OutputLaws.{output_once}
 use Rattle.world.specs.OpeningWorld.{fresh, own_outputs, opening_length, AllNumbered, HasRoom, HaveRoom, HaveOutlets}
 use Rattle.world.specs.OpeningWorld.{IsOpened, IsOpenedNode, IsOpeningRefusal, IsUnused, IsWorldRefusal}
 use Rattle.world.specs.OpeningWorld.{LeaveOnlyRecords}
+use Rattle.world.specs.OpeningWorld.{version_for, AreFormatted, StandsInVersion, IsVersion, AreVersions, AreVersionsFor}
 use Rattle.world.specs.OpeningWorld.{IsNotOpened, IsDiskBack, SomeFailed, AreHandedBack}
 use Rattle.world.specs.StationView.{outlet_view, outlet_views}
 use Rattle.world.specs.WorldView.{station_view}
@@ -53,6 +54,13 @@ numbered_more P number (z ∷ xs) [] x y all one = absurd all
 numbered_more P number (z ∷ xs) (w ∷ ys) x y all one =
     let sum : number + suc (length xs) ≡ suc number + length xs = omega arith in
     (all.0, numbered_more P (suc number) xs ys x y all.1 (subst (λ (n : ℕ). P n x y) sum one))
+
+-- The version for a node is one
+
+pub version_valid : (versions : List ℕ) (number : ℕ) → AreVersions versions → IsVersion (version_for versions number)
+version_valid [] number all = (omega arith, omega arith)
+version_valid (v ∷ versions) zero all = all.0
+version_valid (v ∷ versions) (suc number) all = version_valid versions number all.1
 
 -- The outputs of one node
 
@@ -118,10 +126,10 @@ own_others {O} net home other (x ∷ outputs) apart =
 -- All stations
 
 module _ {D O : Type 0} {disk : DiskWords D} {cell : CellWords (SplitCell D disk)} {slots : SlotWords (SplitCell D disk)} (taken : O → List ℤ)
-    (failures : O → ℕ) (net : Network) where
+    (failures : O → ℕ) (net : Network) (versions : List ℕ) where
   pub opened_views : (outputs : List (Output O)) (number : ℕ) (disks : List D)
       (stations : List (Station (SplitCell D disk) O slots cell))
-      → AllNumbered (IsOpened taken failures net outputs) number disks stations
+      → AllNumbered (IsOpened taken failures net versions outputs) number disks stations
       → map (station_view taken failures) stations
       ≡ stations_from net (node_count net) number (map (λ (d : D). disk.failure_count d) disks)
       (outlet_views taken failures outputs)
@@ -136,7 +144,7 @@ module _ {D O : Type 0} {disk : DiskWords D} {cell : CellWords (SplitCell D disk
 
   pub opened_outlets : (outputs : List (Output O)) (number : ℕ) (disks : List D)
       (stations : List (Station (SplitCell D disk) O slots cell))
-      → AllNumbered (IsOpened taken failures net (map fresh outputs)) number disks stations
+      → AllNumbered (IsOpened taken failures net versions (map fresh outputs)) number disks stations
       → HaveOutlets net number outputs stations
   opened_outlets outputs number [] [] all = tt
   opened_outlets outputs number [] (s ∷ stations) all = absurd all
@@ -146,16 +154,26 @@ module _ {D O : Type 0} {disk : DiskWords D} {cell : CellWords (SplitCell D disk
 
   pub opened_left : (outputs : List (Output O)) (number : ℕ) (disks : List D)
       (stations : List (Station (SplitCell D disk) O slots cell))
-      → AllNumbered (IsOpened taken failures net outputs) number disks stations → LeaveOnlyRecords net number stations
+      → AllNumbered (IsOpened taken failures net versions outputs) number disks stations → LeaveOnlyRecords net number stations
   opened_left outputs number [] [] all = tt
   opened_left outputs number [] (s ∷ stations) all = absurd all
   opened_left outputs number (d ∷ disks) [] all = absurd all
   opened_left outputs number (d ∷ disks) (s ∷ stations) all =
       (all.0.left, opened_left outputs (suc number) disks stations all.1)
 
+  pub opened_versions : (outputs : List (Output O)) (number : ℕ) (disks : List D)
+      (stations : List (Station (SplitCell D disk) O slots cell))
+      → AllNumbered (IsOpened taken failures net versions outputs) number disks stations
+      → AreFormatted net number versions stations
+  opened_versions outputs number [] [] all = tt
+  opened_versions outputs number [] (s ∷ stations) all = absurd all
+  opened_versions outputs number (d ∷ disks) [] all = absurd all
+  opened_versions outputs number (d ∷ disks) (s ∷ stations) all =
+      (all.0.formatted, opened_versions outputs (suc number) disks stations all.1)
+
   pub opened_rooms : (outputs : List (Output O)) (number : ℕ) (disks : List D)
       (stations : List (Station (SplitCell D disk) O slots cell))
-      → AllNumbered (IsOpened taken failures net outputs) number disks stations
+      → AllNumbered (IsOpened taken failures net versions outputs) number disks stations
       → map (λ (station : Station (SplitCell D disk) O slots cell). slots.slot_capacity (cell_in station.node.store)) stations
       ≡ map (λ (d : D). slot_room_on (disk.sector_count d)) disks
   opened_rooms outputs number [] [] all = refl
@@ -170,7 +188,7 @@ module _ {D O : Type 0} {disk : DiskWords D} {cell : CellWords (SplitCell D disk
 
   pub opened_fits : (outputs : List (Output O)) (number : ℕ) (disks : List D)
       (stations : List (Station (SplitCell D disk) O slots cell))
-      → AllNumbered (IsOpened taken failures net outputs) number disks stations
+      → AllNumbered (IsOpened taken failures net versions outputs) number disks stations
       → HaveRoom net number (map (λ (d : D). disk.sector_count d) disks)
   opened_fits outputs number [] [] all = tt
   opened_fits outputs number [] (s ∷ stations) all = absurd all
@@ -194,14 +212,15 @@ fresh_own {O} net home (x ∷ outputs) = at (is_output net home x.channel) (fres
 
 module _ {D O : Type 0} {disk : DiskWords D} {cell : CellWords (SplitCell D disk)} {slots : SlotWords (SplitCell D disk)} (taken : O → List ℤ)
     (failures : O → ℕ)
-    (net : Network) (outputs : List (Output O)) where
+    (net : Network) (versions : List ℕ) (outputs : List (Output O)) where
   -- the station of a node that was opened, with the outputs that are its node's, of those that are left
-  pub station_opened : (nodes number : ℕ) (given : D) (rest own : List (Output O)) (node : Node (SplitCell D disk) slots cell)
-      (station : Station (SplitCell D disk) O slots cell) → nodes ≡ node_count net → IsOpenedNode net nodes number given node
+  pub station_opened : (nodes number version : ℕ) (given : D) (rest own : List (Output O)) (node : Node (SplitCell D disk) slots cell)
+      (station : Station (SplitCell D disk) O slots cell) → nodes ≡ node_count net → version ≡ version_for versions number
+      → IsOpenedNode net nodes number version given node
       → own_outputs net number rest ≡ own_outputs net number outputs → own ≡ map fresh (own_outputs net number rest)
       → station.node ≡ node → station.outputs.items ≡ own → station.turns ≡ no_turns 0
-      → IsOpened taken failures net (map fresh outputs) number given station
-  station_opened nodes number given rest own node station count opened left part same outlets none =
+      → IsOpened taken failures net versions (map fresh outputs) number given station
+  station_opened nodes number version given rest own node station count told opened left part same outlets none =
       let are : station.outputs.items ≡ own_outputs net number (map fresh outputs) =
       outlets ∙ (part ∙ (ap (map fresh) left ∙ fresh_own net number outputs)) in
       record {
@@ -218,6 +237,11 @@ module _ {D O : Type 0} {disk : DiskWords D} {cell : CellWords (SplitCell D disk
         left = λ left might. subst (λ (n : ℕ). Spells (opening_record net n number) left) count
             (opened.left left
             (subst (λ (n : Node (SplitCell D disk) slots cell). slots.may_leave_whole (cell_in n.store) left) same might));
+        formatted =
+            subst (λ (n : Node (SplitCell D disk) slots cell). StandsInVersion (version_for versions number)
+            (opening_record net (node_count net) number) n.store) (sym same)
+            (subst (λ (n : ℕ). StandsInVersion (version_for versions number) (opening_record net n number) node.store) count
+            (subst (λ (v : ℕ). StandsInVersion v (opening_record net nodes number) node.store) told opened.formatted));
         room = ap (λ (n : Node (SplitCell D disk) slots cell). slots.slot_capacity (cell_in n.store)) same ∙ opened.room;
         fits = subst (λ (n : ℕ). HasRoom (disk.sector_count given) (image_length (opening_record net n number).permanent)) count
             opened.fits;
@@ -226,15 +250,15 @@ module _ {D O : Type 0} {disk : DiskWords D} {cell : CellWords (SplitCell D disk
   pub stations_more : (disks all : List D) (given : D) (before after : List (Station (SplitCell D disk) O slots cell))
       (station : Station (SplitCell D disk) O slots cell) (number : ℕ) → all ≡ disks ++ given ∷ [] → number ≡ length disks
       → after ≡ before ++ station ∷ []
-      → AllNumbered (IsOpened taken failures net (map fresh outputs)) 0 disks before
-      → IsOpened taken failures net (map fresh outputs) number given station
-      → AllNumbered (IsOpened taken failures net (map fresh outputs)) 0 all after
+      → AllNumbered (IsOpened taken failures net versions (map fresh outputs)) 0 disks before
+      → IsOpened taken failures net versions (map fresh outputs) number given station
+      → AllNumbered (IsOpened taken failures net versions (map fresh outputs)) 0 all after
   stations_more disks all given before after station number split place pushed opened one =
       let sum : number ≡ 0 + length disks = omega (arith, place) in
-      subst (λ (list : List D). AllNumbered (IsOpened taken failures net (map fresh outputs)) 0 list after) (sym split)
-      (subst (AllNumbered (IsOpened taken failures net (map fresh outputs)) 0 (disks ++ given ∷ [])) (sym pushed)
-      (numbered_more (IsOpened taken failures net (map fresh outputs)) 0 disks before given station opened
-      (subst (λ (n : ℕ). IsOpened taken failures net (map fresh outputs) n given station) sum one)))
+      subst (λ (list : List D). AllNumbered (IsOpened taken failures net versions (map fresh outputs)) 0 list after) (sym split)
+      (subst (AllNumbered (IsOpened taken failures net versions (map fresh outputs)) 0 (disks ++ given ∷ [])) (sym pushed)
+      (numbered_more (IsOpened taken failures net versions (map fresh outputs)) 0 disks before given station opened
+      (subst (λ (n : ℕ). IsOpened taken failures net versions (map fresh outputs) n given station) sum one)))
 
 -- what is left of the outputs has those of the nodes behind this one
 pub others_left : {O : Type 0} (net : Network) (outputs rest others : List (Output O)) (number many : ℕ)
@@ -261,16 +285,16 @@ fewer_left {O} own rest others are =
 -- The world of these stations
 
 module _ {D O : Type 0} {disk : DiskWords D} {cell : CellWords (SplitCell D disk)} {slots : SlotWords (SplitCell D disk)} (taken : O → List ℤ)
-    (failures : O → ℕ) (given net : Net) (disks : List D) (outputs items : List (Output O))
+    (failures : O → ℕ) (given net : Net) (versions : List ℕ) (disks : List D) (outputs items : List (Output O))
     (stations : List (Station (SplitCell D disk) O slots cell))
     (same : given ≡ net) (renewed : items ≡ map fresh outputs)
-    (all : AllNumbered (IsOpened taken failures (network_of given.program) items) 0 disks stations) where
+    (all : AllNumbered (IsOpened taken failures (network_of given.program) versions items) 0 disks stations) where
   -- as they are of the network and the outputs that were given
-  pub opened_all : AllNumbered (IsOpened taken failures (network_of net.program) (map fresh outputs)) 0 disks stations
+  pub opened_all : AllNumbered (IsOpened taken failures (network_of net.program) versions (map fresh outputs)) 0 disks stations
   opened_all =
-      subst (λ (list : List (Output O)). AllNumbered (IsOpened taken failures (network_of net.program) list) 0 disks
+      subst (λ (list : List (Output O)). AllNumbered (IsOpened taken failures (network_of net.program) versions list) 0 disks
       stations) renewed
-      (subst (λ (n : Net). AllNumbered (IsOpened taken failures (network_of n.program) items) 0 disks stations) same
+      (subst (λ (n : Net). AllNumbered (IsOpened taken failures (network_of n.program) versions items) 0 disks stations) same
       all)
 
   pub opened_world : (inputs : List (List ℤ)) (traffic : Traffic) → traffic ≡ opening_traffic
@@ -286,7 +310,7 @@ module _ {D O : Type 0} {disk : DiskWords D} {cell : CellWords (SplitCell D disk
       (outlet_views taken failures outputs)
   opened_world inputs traffic none =
       ap (λ (list : List StationView). world list traffic)
-      (opened_views taken failures (network_of net.program) (map fresh outputs) 0 disks stations opened_all
+      (opened_views taken failures (network_of net.program) versions (map fresh outputs) 0 disks stations opened_all
       ∙ ap (stations_from (network_of net.program) (node_count (network_of net.program)) 0
       (map (λ (d : D). disk.failure_count d) disks)) (fresh_views taken failures outputs))
       ∙ ap (world
@@ -321,6 +345,50 @@ module _ {D O : Type 0} {disk : DiskWords D} {cell : CellWords (SplitCell D disk
       (opened_nothing taken failures outputs empty))
 
 -- Refusals
+
+-- none of a disk is for its version
+no_version : (net : Network) (number : ℕ) (sectors : List ℕ) → ¬ (IsWorldRefusal net number sectors Version)
+no_version net number [] same = absurd (cc)
+no_version net number (s ∷ sectors) (inl refused) = refused
+no_version net number (s ∷ sectors) (inr refused) = no_version net (suc number) sectors refused
+
+pub not_for_version : (net : Network) (sectors : List ℕ) (fault : StoreFault) → IsWorldRefusal net 0 sectors fault
+    → ¬ (fault ≡ Version)
+not_for_version net sectors fault refused same =
+    no_version net 0 sectors (subst (IsWorldRefusal net 0 sectors) same refused)
+
+module _ {W E : Type 0} (fault : E → StoreFault) (net : Network) (sectors : List ℕ) (r : Result W E)
+    (refused : IfErr r (λ e. IsWorldRefusal net 0 sectors (fault e))) where
+  -- so where the versions are right, none is
+  pub never_versions : {Are : Type 0} → Are → IfErr r (λ e. (fault e ≡ Version) ↔ (¬ Are))
+  never_versions {Are} are = at r refused
+    where
+      at : (r : Result W E) → IfErr r (λ e. IsWorldRefusal net 0 sectors (fault e))
+          → IfErr r (λ e. (fault e ≡ Version) ↔ (¬ Are))
+      at (Ok w) refused = tt
+      at (Err e) refused =
+          (λ same. absurd (not_for_version net sectors (fault e) refused same), λ none. absurd (none are))
+
+  pub never_untouched : (P : E → Type 0) → IfErr r (λ e. fault e ≡ Version → P e)
+  never_untouched P = at r refused
+    where
+      at : (r : Result W E) → IfErr r (λ e. IsWorldRefusal net 0 sectors (fault e))
+          → IfErr r (λ e. fault e ≡ Version → P e)
+      at (Ok w) refused = tt
+      at (Err e) refused = λ same. absurd (not_for_version net sectors (fault e) refused same)
+
+  pub otherwise_refused : IfErr r (λ e. (fault e ≡ Version) ⊎ IsWorldRefusal net 0 sectors (fault e))
+  otherwise_refused = at r refused
+    where
+      at : (r : Result W E) → IfErr r (λ e. IsWorldRefusal net 0 sectors (fault e))
+          → IfErr r (λ e. (fault e ≡ Version) ⊎ IsWorldRefusal net 0 sectors (fault e))
+      at (Ok w) refused = tt
+      at (Err e) refused = inr refused
+
+-- versions that were found right
+pub for_all_versions : {W E : Type 0} {Are : Type 0} (r : Result W E) → Are → OnOk r Are
+for_all_versions (Ok w) are = are
+for_all_versions (Err e) are = tt
 
 -- want of memory
 pub world_refused : (net : Network) (number : ℕ) (sectors : List ℕ) → IsWorldRefusal net number sectors NoMemory
@@ -402,10 +470,17 @@ module _ {D : Type 0} (sectors failures : D → ℕ) where
       ∙ (ap (λ (n : ℕ). map failures givens ++ n ∷ []) one ∙ sym (map-append failures givens (given ∷ []))))
 
   -- nothing was done with any disk
+  pub none_done : (givens backs : List D) (fault : StoreFault) → ¬ (fault ≡ Device) → backs ≡ givens
+      → AreHandedBack sectors failures givens backs fault
+  none_done givens backs fault other same =
+      subst (λ (list : List D). AreHandedBack sectors failures givens list fault) (sym same)
+      (record { each = all_back givens; failed = λ device. absurd (other device); otherwise = λ other. refl })
+
   pub none_opened : (givens backs : List D) → backs ≡ givens → AreHandedBack sectors failures givens backs NoMemory
-  none_opened givens backs same =
-      subst (λ (list : List D). AreHandedBack sectors failures givens list NoMemory) (sym same)
-      (record { each = all_back givens; failed = λ device. absurd (cc); otherwise = λ other. refl })
+  none_opened givens backs same = none_done givens backs NoMemory (λ device. cc) same
+
+  pub none_tried : (givens : List D) → AreHandedBack sectors failures givens givens Version
+  none_tried givens = none_done givens givens Version (λ device. cc) refl
 
   -- the last one wasn't opened, and the others weren't tried
   pub last_back : (disks givens backs : List D) (given back : D) (fault : StoreFault) → givens ≡ disks ++ given ∷ []

@@ -16,11 +16,10 @@ use Rattle.gate_cell.specs.declared.fault.CellFault.TheVariants as cell
 use Rattle.record.specs.RecordView.{RecordView}
 use Rattle.record.specs.ImageView.{ImageView}
 use Rattle.ckpt_codec.specs.Fields.{AreAllowed}
-use Rattle.ckpt_codec.specs.HeaderText.{header_of, IsHeaderText, IsHeaderTextIn, IsImageText}
+use Rattle.ckpt_codec.specs.HeaderText.{header_of, header_text, IsHeaderText, IsHeaderTextIn, IsImageText}
 use Rattle.ckpt_codec.specs.RecordText.{image_fields, IsRecord}
 use Rattle.ckpt_codec.specs.SizeLaws.{IsRecordWithin}
-use Rattle.ckpt_codec.specs.declared.version.TheConstants.{VERSION}
-use Rattle.ckpt_codec.proofs.Headers.{written_is_header}
+use Rattle.ckpt_codec.proofs.Headers.{told_is_header}
 use Rattle.ckpt_store.proofs.Parts.{parts_of}
 use Rattle.node.specs.declared.node.Node.{Node}
 use Rattle.protocol.specs.WorldLaws.RoomLaws.{bounded_is_short}
@@ -36,7 +35,7 @@ use Rattle.ckpt_store.specs.declared.fault.StoreFault.TheVariants as store
 use Rattle.ckpt_store.specs.declared.store.Store.{Store}
 use Rattle.ckpt_store.proofs.Seen.{spelled_is}
 use Rattle.ckpt_store.proofs.Spelled.{lies_of}
-use Rattle.world.specs.OpeningWorld.{HasRoom, HasNoRoom, IsNotOpened, IsOpeningRefusal}
+use Rattle.world.specs.OpeningWorld.{HasRoom, HasNoRoom, IsNotOpened, IsOpeningRefusal, StandsInVersion}
 
 -- ---- a store that was opened
 
@@ -57,21 +56,30 @@ stands_first kept whole base header image is says shows alone short = (
 )
 
 -- what is written of a record, on a disk that was formatted and in a slot that was filled, is the record
-pub first_spelled : (kept inside : RecordView) (now formatted base : Whole) (header image header_given image_given : List ℕ)
+pub first_spelled : (version : ℕ) (kept inside : RecordView) (now formatted base : Whole) (header image header_given image_given : List ℕ)
     → inside ≡ kept → formatted ≡ with_header (Some header_given) base → now ≡ with_slot 0 (Some image_given) formatted
-    → header_given ≡ header → image_given ≡ image → IsHeaderTextIn VERSION (header_of 0 kept) header
+    → header_given ≡ header → image_given ≡ image → IsHeaderTextIn version (header_of 0 kept) header
     → ((like : Option ImageView) → AreAllowed (image_fields like inside.permanent)
     → IsImageText like inside.permanent image)
     → IsRecord kept → kept.tentative ≡ None → IsRecordWithin MAX_RETAINED_ITEMS kept → Spells kept now
-first_spelled kept inside now formatted base header image header_given image_given view laid filled header_is image_is
+first_spelled version kept inside now formatted base header image header_given image_given view laid filled header_is image_is
     says shows written alone bounded =
     stands_first kept now base header_given image_given
     (filled ∙ ap (with_slot 0 (Some image_given)) laid)
-    (subst (IsHeaderText (header_of 0 kept)) (sym header_is) (written_is_header (header_of 0 kept) header says))
+    (subst (IsHeaderText (header_of 0 kept)) (sym header_is) (told_is_header version (header_of 0 kept) header says))
     (subst (λ (r : RecordView). IsImageText None r.permanent image_given) view
     (subst (IsImageText None inside.permanent) (sym image_is)
     (shows None (subst (λ (r : RecordView). AreAllowed (image_fields None r.permanent)) (sym view)
     (parts_of kept written).permanent)))) alone (bounded_is_short kept bounded)
+
+-- its header is the one that was written, in its version
+pub first_header : (version : ℕ) (kept : RecordView) (now formatted base : Whole) (header header_given image_given : List ℕ)
+    → formatted ≡ with_header (Some header_given) base → now ≡ with_slot 0 (Some image_given) formatted
+    → header_given ≡ header → IsHeaderTextIn version (header_of 0 kept) header
+    → now.header ≡ Some (header_text version (header_of 0 kept))
+first_header version kept now formatted base header header_given image_given laid filled header_is says =
+    ap (λ (w : Whole). w.header) (filled ∙ ap (with_slot 0 (Some image_given)) laid)
+    ∙ ap Some (header_is ∙ says.spelled)
 
 -- a crash leaves the opening record of a node that was opened
 pub node_left : {C : Type 0} (words : CellWords C) (slots : SlotWords C) (node : Node C slots words)
@@ -81,6 +89,14 @@ node_left {C} words slots node store kept opening same is holds left might =
     subst (Spells opening) (sym (node.kept.settled left might))
     (subst (λ (r : RecordView). Spells r (slots.whole (cell_in node.store))) is
     (subst (λ (s : Store C slots words). Holds s kept) (sym same) holds))
+
+-- and its header stands in the version in which its disk was formatted
+pub node_stands : {C : Type 0} (words : CellWords C) (slots : SlotWords C) (node : Node C slots words)
+    (store : Store C slots words) (kept opening : RecordView) (version : ℕ) → node.store ≡ store → kept ≡ opening
+    → StandsInVersion version kept store → StandsInVersion version opening node.store
+node_stands {C} words slots node store kept opening version same is stands =
+    subst (λ (r : RecordView). StandsInVersion version r node.store) is
+    (subst (λ (s : Store C slots words). StandsInVersion version kept s) (sym same) stands)
 
 answered : (o : Option RecordView) → IsSome o → ¬ (IsErrOf (record_or Reopen o) Device)
 answered None known failed = absurd (cc)
@@ -98,6 +114,11 @@ module _ {C : Type 0} (words : CellWords C) (slots : SlotWords C) (kept : Record
   -- and holds it
   pub opened_holds : Spells kept (slots.whole cell) → Holds recounted kept
   opened_holds spelled = subst (Spells kept) (sym (same.same_whole ∙ load.same_whole)) spelled
+
+  -- its header stands as it stood
+  pub opened_header : (version : ℕ) → (slots.whole cell).header ≡ Some (header_text version (header_of 0 kept))
+      → StandsInVersion version kept recounted
+  opened_header version stands = ap (λ (w : Whole). w.header) (same.same_whole ∙ load.same_whole) ∙ stands
 
   -- the slots of its cell have the room that they had
   pub opened_room : slots.slot_capacity (cell_in recounted) ≡ slots.slot_capacity cell

@@ -1,6 +1,6 @@
 -- What a world is opened with: outputs, and a disk with room for the opening image; and why it isn't opened.
-use Rattle.std.specs.Prelude.{◌≡◌, ◌⊎◌, ◌<◌, ◌≤◌, ℕ, suc, ℤ, List, [], ◌∷◌, filter, map, None}
-use Rattle.std.specs.List.{AllZip}
+use Rattle.std.specs.Prelude.{◌≡◌, ◌⊎◌, ◌<◌, ◌≤◌, ℕ, suc, ℤ, List, [], ◌∷◌, filter, get_or, length, map, Some, None}
+use Rattle.std.specs.List.{AllByRecursion, AllZip}
 use Rattle.kahn_net.specs.Nodes.{node_count}
 use Rattle.kahn_net.specs.Syntax.{Network}
 use Rattle.sector_disk.specs.declared.disk.Disk.{Ghosts as DiskWords}
@@ -11,9 +11,12 @@ use Rattle.gate_cell.specs.declared.cell.StableCell.{Ghosts as CellWords}
 use Rattle.gate_cell.specs.declared.slot_cell.SlotCell.{Ghosts as SlotWords}
 use Rattle.gate_cell.specs.Whole.{Whole}
 use Rattle.record.specs.RecordView.{RecordView}
+use Rattle.ckpt_codec.specs.HeaderText.{header_of, header_text}
 use Rattle.ckpt_codec.specs.Lengths.{image_length}
+use Rattle.ckpt_codec.specs.declared.version.TheConstants.{FIRST_VERSION, VERSION}
 use Rattle.ckpt_store.specs.Spelling.{Spells}
 use Rattle.ckpt_store.specs.StoreView.{cell_in}
+use Rattle.ckpt_store.specs.declared.store.Store.{Store}
 use Rattle.ckpt_store.specs.declared.fault.StoreFault.{StoreFault}
 use Rattle.ckpt_store.specs.declared.fault.StoreFault.TheVariants.{NoMemory, Device, TooLarge, Reopen, Truncated}
 use Rattle.ckpt_store.specs.declared.fault.StoreFault.TheVariants.{Version, Malformed, HoldsOther, PastNumber, NotHeld}
@@ -54,6 +57,39 @@ AllNumbered P number [] [] = Unit {0}
 AllNumbered P number [] (y ∷ ys) = ⊥
 AllNumbered P number (x ∷ xs) [] = ⊥
 AllNumbered P number (x ∷ xs) (y ∷ ys) = P number x y × AllNumbered P (suc number) xs ys
+
+-- ---- in which version a disk is formatted
+
+-- the number of one
+abbrev pub IsVersion : ℕ → Type 0
+IsVersion version = (FIRST_VERSION ≤ version) × (version ≤ VERSION)
+
+abbrev pub AreVersions : List ℕ → Type 0
+AreVersions versions = AllByRecursion IsVersion versions
+
+-- one for each of so many disks
+abbrev pub AreVersionsFor : ℕ → List ℕ → Type 0
+AreVersionsFor disks versions = (length versions ≡ disks) × AreVersions versions
+
+-- the one given for the node of this number; where none is, that in which records are written
+abbrev pub version_for : List ℕ → ℕ → ℕ
+version_for versions number = get_or versions number VERSION
+
+-- the cell of a store holds the header of this record in this version, which says that the permanent image is in slot 0
+abbrev pub StandsInVersion : {C : Type 0} {cell : CellWords C} {slots : SlotWords C} → ℕ → RecordView → Store C slots cell → Type 0
+StandsInVersion {slots = slots} version kept store =
+    (slots.whole (cell_in store)).header ≡ Some (header_text version (header_of 0 kept))
+
+-- the cells of these stations hold the headers of the opening records, from that of the node of this number on, each in the
+-- version given for its node
+abbrev pub AreFormatted : {C O : Type 0} {cell : CellWords C} {slots : SlotWords C} → Network → ℕ → List ℕ
+    → List (Station C O slots cell) → Type 0
+AreFormatted net number versions [] = Unit {0}
+AreFormatted net number versions (station ∷ stations) =
+    StandsInVersion (version_for versions number) (opening_record net (node_count net) number) station.node.store
+    × AreFormatted net (suc number) versions stations
+
+-- ---- room, and why a disk isn't opened
 
 -- a disk of so many sectors has room for header and slots, and a slot for an image of so many bytes; each header fits
 abbrev pub HasRoom : ℕ → ℕ → Type 0
@@ -109,30 +145,35 @@ HaveOutlets net number outputs [] = Unit {0}
 HaveOutlets net number outputs (station ∷ stations) =
     HasOutlets (own_outputs net number outputs) station × HaveOutlets net (suc number) outputs stations
 
--- The node of this number, of so many, was opened on a disk: it runs from the opening record, which is all that a crash
--- leaves, and its slots have the room of the disk, which its image fits.
+-- ---- what was opened
+
+-- The node of this number, of so many, was opened on a disk that was formatted in this version: it runs from the opening
+-- record, which is all that a crash leaves, and its slots have the room of the disk, which its image fits.
 pub record IsOpenedNode {D : Type 0} {disk : DiskWords D} {cell : CellWords (SplitCell D disk)} {slots : SlotWords (SplitCell D disk)} (net : Network)
-    (nodes number : ℕ) (given : D)
+    (nodes number version : ℕ) (given : D)
     (node : Node (SplitCell D disk) slots cell) : Type 0 where
   pub number_is : node.number ≡ number
   pub view : view_of node ≡ opening_node net nodes number
   pub failures : cell.failure_count (cell_in node.store) ≡ disk.failure_count given
   pub left : (left : Whole) → slots.may_leave_whole (cell_in node.store) left
       → Spells (opening_record net nodes number) left
+  pub formatted : StandsInVersion version (opening_record net nodes number) node.store
   pub room : slots.slot_capacity (cell_in node.store) ≡ slot_room_on (disk.sector_count given)
   pub fits : HasRoom (disk.sector_count given) (image_length (opening_record net nodes number).permanent)
 
--- The station of the node of this number was opened on a disk, with those of the outputs that are its node's: it is as
--- it is said of an opening one, a crash leaves the opening record, and its slots have the room of the disk, which its
--- image fits.
+-- The station of the node of this number was opened on a disk, in the version given for it, with those of the outputs that
+-- are its node's: it is as it is said of an opening one, a crash leaves the opening record, and its slots have the room of
+-- the disk, which its image fits.
 pub record IsOpened {D O : Type 0} {disk : DiskWords D} {cell : CellWords (SplitCell D disk)} {slots : SlotWords (SplitCell D disk)} (taken : O → List ℤ)
-    (failures : O → ℕ) (net : Network) (outputs : List (Output O)) (number : ℕ) (given : D)
+    (failures : O → ℕ) (net : Network) (versions : List ℕ) (outputs : List (Output O)) (number : ℕ) (given : D)
     (station : Station (SplitCell D disk) O slots cell) : Type 0 where
   pub view : station_view taken failures station
       ≡ opening_station net (node_count net) number (disk.failure_count given)
       (outlets_on net number (outlet_views taken failures outputs))
   pub outlets : HasOutlets (own_outputs net number outputs) station
   pub left : LeavesOnlyRecord (opening_record net (node_count net) number) station
+  pub formatted : StandsInVersion (version_for versions number) (opening_record net (node_count net) number)
+      station.node.store
   pub room : slots.slot_capacity (cell_in station.node.store) ≡ slot_room_on (disk.sector_count given)
   pub fits : HasRoom (disk.sector_count given) (opening_length net number)
 

@@ -1,5 +1,5 @@
 // A world before its first event.
-ghost use Rattle.std.specs.Prelude.{◌≡◌, ◌+◌, ◌++◌, ◌<◌, ◌≤◌, ◌↔◌, ℕ, IsTrue, None, not, filter, length, map, IfErr, IfOk, IsSome, OnErr, OnOk, vec_capacity, vec_len};
+ghost use Rattle.std.specs.Prelude.{◌≡◌, ◌+◌, ◌++◌, ◌<◌, ◌≤◌, ◌↔◌, ◌⊎◌, ℕ, List, [], IsTrue, None, not, filter, length, map, IfErr, IfOk, IsSome, OnErr, OnOk, vec_capacity, vec_len};
 ghost use Rattle.std.specs.List.{AllByRecursion};
 ghost use Rattle.kahn_net.specs.Nodes.{node_count};
 ghost use Rattle.kahn_net.specs.Fits.{Fits};
@@ -12,6 +12,7 @@ ghost use Rattle.ckpt_codec.specs.RecordText.{IsRecord};
 ghost use Rattle.ckpt_codec.specs.SizeLaws.{IsRecordWithin};
 ghost use Rattle.ckpt_codec.specs.declared.lengths.TheConstants.{MAX_RETAINED_ITEMS};
 ghost use Rattle.ckpt_store.specs.StoreView.{cell_in, known_in, record_in, Holds};
+ghost use Rattle.ckpt_store.specs.declared.fault.StoreFault.TheVariants.{Version};
 ghost use Rattle.protocol.specs.Node.Opening.{opening_record};
 ghost use Rattle.protocol.specs.World.Headline.{AreApproximated};
 ghost use Rattle.protocol.specs.World.OpeningWorld.{opening_world};
@@ -20,6 +21,7 @@ ghost use Rattle.protocol.specs.World.Turns.{no_turns};
 ghost use Rattle.world.specs.OpeningWorld.{fresh, own_outputs, AllNumbered, HasRoom, HaveRoom, HaveOutlets};
 ghost use Rattle.world.specs.OpeningWorld.{IsOpened, IsOpenedNode, IsUnused, LeaveOnlyRecords};
 ghost use Rattle.world.specs.OpeningWorld.{AreHandedBack, IsNotOpened, IsOpeningRefusal, IsWorldRefusal};
+ghost use Rattle.world.specs.OpeningWorld.{version_for, AreFormatted, AreVersions, AreVersionsFor, IsVersion, StandsInVersion};
 ghost use Rattle.world.specs.StationView.{outlet_views};
 ghost use Rattle.world.specs.WholeView.{world_of};
 ghost use Rattle.world.specs.WorldView.{capacities};
@@ -28,7 +30,7 @@ ghost use Rattle.kahn_net.specs.declared.limits.TheConstants.{MAX_NODES};
 use crate::output::Output;
 use crate::station::Station;
 use crate::world::World;
-use ckpt_codec::{spelled_image_length, write_header, write_image};
+use ckpt_codec::{FIRST_VERSION, VERSION, spelled_image_length, write_header_in, write_image};
 use ckpt_store::{Store, StoreFault};
 use gate_cell::{LEAST_SPLIT_SECTORS, SlotCell, SplitCell, slot_room_of};
 use kahn_net::Port;
@@ -83,14 +85,44 @@ fn has_room<D: Disk>(disk: &D, image: &Image) -> bool
     sectors >= LEAST_SPLIT_SECTORS && spelled_image_length(image) <= slot_room_of(sectors)
 }
 
-// A store on a disk that is formatted with this record: its header, and its permanent image in slot 0. The disk's calls are
-// counted from here on. Whether the image fits is found before anything is written.
+// Whether each of these is the number of a version.
+fn are_versions(versions: &[u8]) -> bool
+    ensures { IsTrue result ↔ AreVersions versions.now }
+{
+    let [version, behind @ ..] = versions else {
+        return true;
+    };
+    *version >= FIRST_VERSION && *version <= VERSION && are_versions(behind)
+}
+
+// Whether there is a version for each of so many disks.
+fn are_versions_for(disks: usize, versions: &[u8]) -> bool
+    ensures { IsTrue result ↔ AreVersionsFor disks versions.now }
+{
+    versions.len() == disks && are_versions(versions)
+}
+
+// The version in which the disk of a node is formatted: the one given for it, or else the one in which records are written.
+fn version_for(versions: &[u8], number: u8) -> u8
+    ensures { result ≡ version_for versions.now number }
+{
+    match versions.get(usize::from(number)) {
+        Some(version) => *version,
+        None => VERSION,
+    }
+}
+
+// A store on a disk that is formatted with this record: its header in this version, and its permanent image in slot 0. The
+// disk's calls are counted from here on. Whether the image fits is found before anything is written.
 fn open_store<D: Disk>(
     alloc: Global,
     disk: D,
     kept: &Record,
+    version: u8,
 ) -> Result<Store<SplitCell<D>>, NotOpened<D>>
+    requires version { IsVersion version }
     requires written { IsRecord kept.now }
+    requires settled { kept.now.decisions ≡ [] }
     requires bounded { IsRecordWithin MAX_RETAINED_ITEMS kept.now }
     requires alone { kept.now.tentative ≡ None }
     ensures record { IfOk result (λ store. record_in store ≡ kept.now) }
@@ -98,6 +130,7 @@ fn open_store<D: Disk>(
     ensures failures { IfOk result
         (λ store. failures_of (cell_in store) ≡ D.failure_count disk) }
     ensures holds { IfOk result (λ store. Holds store kept.now) }
+    ensures formatted { IfOk result (StandsInVersion version kept.now) }
     ensures room { IfOk result
         (λ store. slot_capacity_of (cell_in store) ≡ slot_room_on (D.sector_count disk)) }
     ensures fits { OnOk result (HasRoom (D.sector_count disk) (image_length kept.now.permanent)) }
@@ -113,7 +146,7 @@ fn open_store<D: Disk>(
         });
     }
     let (Ok(header), Ok(image)) = (
-        write_header(alloc, kept, 0),
+        write_header_in(alloc, version, kept, 0),
         write_image(alloc, &kept.permanent),
     ) else {
         return Err(NotOpened {
@@ -149,18 +182,20 @@ fn open_store<D: Disk>(
     Ok(store)
 }
 
-// The node of this number, of so many, before its first event: its disk is formatted with the opening record.
+// The node of this number, of so many, before its first event: its disk is formatted with the opening record, in this version.
 fn open_node<D: Disk>(
     alloc: Global,
     net: &Net,
     number: u8,
     nodes: usize,
     disk: D,
+    version: u8,
 ) -> Result<Node<SplitCell<D>>, NotOpened<D>>
     requires here { number < nodes }
     requires few { nodes ≤ MAX_NODES }
+    requires version { IsVersion version }
     ensures opened { IfOk result
-        (IsOpenedNode (network_of net.now.program) nodes number disk) }
+        (IsOpenedNode (network_of net.now.program) nodes number version disk) }
     ensures refused { IfErr result (λ refused. IsOpeningRefusal (D.sector_count disk)
         (image_length (opening_record (network_of net.now.program) nodes number).permanent)
         refused.fault) }
@@ -173,7 +208,7 @@ fn open_node<D: Disk>(
             fault: StoreFault::NoMemory,
         });
     };
-    let store = match open_store(alloc, disk, &first) {
+    let store = match open_store(alloc, disk, &first, version) {
         Ok(store) => store,
         Err(refused) => return Err(refused),
     };
@@ -240,11 +275,13 @@ fn part_outputs<O: Outlet>(
 }
 
 // A station for each of these disks, the last one's first, with those of the outputs that are its node's; the others are
-// left. Where one is refused, all disks and outputs are back in their places.
+// left. Each disk is formatted in the version given for it. Where one is refused, all disks and outputs are back in their
+// places.
 fn open_stations<D: Disk, O: Outlet>(
     alloc: Global,
     net: &Net,
     nodes: usize,
+    versions: &[u8],
     disks: &mut Vec<D>,
     outputs: &mut Vec<Output<O>>,
     stations: &mut Vec<Station<SplitCell<D>, O>>,
@@ -253,9 +290,10 @@ fn open_stations<D: Disk, O: Outlet>(
     requires few { vec_len disks.old ≤ nodes }
     requires none { vec_len stations.old ≡ 0 }
     requires room { vec_len disks.old ≤ vec_capacity stations.old }
+    requires versions { AreVersions versions.now }
     ensures opened { OnOk result (AllNumbered
-        (IsOpened O.taken O.failures (network_of net.now.program) (map fresh outputs.old.items)) 0
-        disks.old.items stations.new.items) }
+        (IsOpened O.taken O.failures (network_of net.now.program) versions.now
+        (map fresh outputs.old.items)) 0 disks.old.items stations.new.items) }
     ensures rest { OnOk result ((home : ℕ) → vec_len disks.old ≤ home
         → own_outputs (network_of net.now.program) home outputs.new.items
         ≡ own_outputs (network_of net.now.program) home outputs.old.items) }
@@ -281,14 +319,15 @@ fn open_stations<D: Disk, O: Outlet>(
         disks.push_reserved(disk);
         return Err(StoreFault::NoMemory);
     };
-    let node = match open_node(alloc, net, number, nodes, disk) {
+    let version = version_for(versions, number);
+    let node = match open_node(alloc, net, number, nodes, disk, version) {
         Ok(node) => node,
         Err(refused) => {
             disks.push_reserved(refused.disk);
             return Err(refused.fault);
         }
     };
-    match open_stations(alloc, net, nodes, disks, outputs, stations) {
+    match open_stations(alloc, net, nodes, versions, disks, outputs, stations) {
         Ok(()) => {
             let given = std::mem::replace(outputs, others);
             part_outputs(net, number, given, &mut own, outputs);
@@ -304,10 +343,85 @@ fn open_stations<D: Disk, O: Outlet>(
     }
 }
 
+// The world of a network before its first event, its disks formatted in the versions given for them.
+fn open_world<D: Disk, O: Outlet>(
+    alloc: Global,
+    net: Arc<Net>,
+    inputs: Arc<Inputs>,
+    disks: Vec<D>,
+    outputs: Vec<Output<O>>,
+    versions: &[u8],
+) -> Result<World<SplitCell<D>, O>, OpeningRefused<D, O>>
+    requires fits { Fits (network_of net.value.program) inputs.value }
+    requires each { length disks.items ≡ node_count (network_of net.value.program) }
+    requires listed { map (λ output. output.channel) outputs.items
+        ≡ output_channels 0 (network_of net.value.program).channels }
+    requires empty { AllByRecursion (IsUnused O.taken) outputs.items }
+    requires versions { AreVersions versions.now }
+    ensures opening { IfOk result
+        (λ world. world_of world
+        ≡ opening_world (network_of net.value.program) inputs.value
+        (map (λ disk. D.failure_count disk) disks.items)
+        (outlet_views O.taken O.failures outputs.items)) }
+    ensures same { IfOk result
+        (λ world. (world.net ≡ net) × (world.inputs ≡ inputs)) }
+    ensures outlets { IfOk result
+        (λ world. HaveOutlets (network_of net.value.program) 0 outputs.items
+        world.stations.items) }
+    ensures prefix { IfOk result (λ world. AreApproximated (world_of world)) }
+    ensures left { IfOk result
+        (λ world. LeaveOnlyRecords (network_of net.value.program) 0 world.stations.items) }
+    ensures formatted { IfOk result
+        (λ world. AreFormatted (network_of net.value.program) 0 versions.now world.stations.items) }
+    ensures room { IfOk result
+        (λ world. capacities world.stations.items
+        ≡ map (λ disk. slot_room_on (D.sector_count disk)) disks.items) }
+    ensures fits { OnOk result (HaveRoom (network_of net.value.program) 0
+        (map (λ disk. D.sector_count disk) disks.items)) }
+    ensures refused { IfErr result (λ refused. IsWorldRefusal (network_of net.value.program) 0
+        (map (λ disk. D.sector_count disk) disks.items) refused.fault) }
+    ensures handed_back { IfErr result (λ refused. AreHandedBack D.sector_count D.failure_count
+        disks.items refused.disks.items refused.fault) }
+    ensures same_outputs { IfErr result (λ refused. refused.outputs.items ≡ outputs.items) }
+{
+    let mut disks = disks;
+    let mut outputs = outputs;
+    let nodes = disks.len();
+    let (Ok(wire), Ok(mut stations)) = (Wire::new(alloc), Vec::with_capacity(alloc, nodes)) else {
+        return Err(OpeningRefused {
+            disks,
+            outputs,
+            fault: StoreFault::NoMemory,
+        });
+    };
+    match open_stations(
+        alloc,
+        &net,
+        nodes,
+        versions,
+        &mut disks,
+        &mut outputs,
+        &mut stations,
+    ) {
+        Ok(()) => Ok(World {
+            net,
+            inputs,
+            stations,
+            wire,
+            round: 0,
+        }),
+        Err(fault) => Err(OpeningRefused {
+            disks,
+            outputs,
+            fault,
+        }),
+    }
+}
+
 impl<D: Disk, O: Outlet> World<SplitCell<D>, O> {
     /// The world of a network before its first event: no process has begun, no item was received or put, and the disks,
-    /// one a node, are formatted with the opening records of their nodes. The outputs are those of the network, in order,
-    /// and nothing has left by them; each goes to the node of its producer.
+    /// one a node, are formatted with the opening records of their nodes, in the version in which records are written. The
+    /// outputs are those of the network, in order, and nothing has left by them; each goes to the node of its producer.
     ///
     /// Refuses for want of memory (1), with 22 where a disk has no room for its record, and with 20 where one has and its
     /// device failed. The disks and the outputs come back then, the outputs as they were; on a disk may stand an opening
@@ -340,6 +454,9 @@ impl<D: Disk, O: Outlet> World<SplitCell<D>, O> {
         // A crash leaves the opening records, and each cell has the room that its disk gives.
         ensures left { IfOk result
             (λ world. LeaveOnlyRecords (network_of net.value.program) 0 world.stations.items) }
+        // Each header stands in the version in which records are written.
+        ensures formatted { IfOk result
+            (λ world. AreFormatted (network_of net.value.program) 0 [] world.stations.items) }
         ensures room { IfOk result
             (λ world. capacities world.stations.items
             ≡ map (λ disk. slot_room_on (D.sector_count disk)) disks.items) }
@@ -354,30 +471,74 @@ impl<D: Disk, O: Outlet> World<SplitCell<D>, O> {
             disks.items refused.disks.items refused.fault) }
         ensures same_outputs { IfErr result (λ refused. refused.outputs.items ≡ outputs.items) }
     {
-        let mut disks = disks;
-        let mut outputs = outputs;
-        let nodes = disks.len();
-        let (Ok(wire), Ok(mut stations)) = (Wire::new(alloc), Vec::with_capacity(alloc, nodes))
-        else {
+        open_world(alloc, net, inputs, disks, outputs, &[])
+    }
+
+    /// As `new`, with the disk of each node formatted in the version given for it, by number. A store that opens on such a disk
+    /// reads either version, and writes its next header in the one in which records are written.
+    ///
+    /// Refuses besides with 31, before anything is written, where there are more or fewer versions than disks, or one of them is
+    /// neither `FIRST_VERSION` nor `VERSION`.
+    pub fn new_from(
+        alloc: Global,
+        net: Arc<Net>,
+        inputs: Arc<Inputs>,
+        disks: Vec<D>,
+        outputs: Vec<Output<O>>,
+        versions: &[u8],
+    ) -> Result<World<SplitCell<D>, O>, OpeningRefused<D, O>>
+        requires fits { Fits (network_of net.value.program) inputs.value }
+        requires each { length disks.items ≡ node_count (network_of net.value.program) }
+        requires listed { map (λ output. output.channel) outputs.items
+            ≡ output_channels 0 (network_of net.value.program).channels }
+        requires empty { AllByRecursion (IsUnused O.taken) outputs.items }
+        // It is the opening world of the network and the inputs, with the outlets that were given.
+        ensures opening { IfOk result
+            (λ world. world_of world
+            ≡ opening_world (network_of net.value.program) inputs.value
+            (map (λ disk. D.failure_count disk) disks.items)
+            (outlet_views O.taken O.failures outputs.items)) }
+        ensures same { IfOk result
+            (λ world. (world.net ≡ net) × (world.inputs ≡ inputs)) }
+        ensures outlets { IfOk result
+            (λ world. HaveOutlets (network_of net.value.program) 0 outputs.items
+            world.stations.items) }
+        // What has left is a prefix of each channel's history.
+        ensures prefix { IfOk result (λ world. AreApproximated (world_of world)) }
+        // A crash leaves the opening records, and each cell has the room that its disk gives.
+        ensures left { IfOk result
+            (λ world. LeaveOnlyRecords (network_of net.value.program) 0 world.stations.items) }
+        // Each header stands in the version that was given for its disk.
+        ensures formatted { IfOk result
+            (λ world. AreFormatted (network_of net.value.program) 0 versions.now world.stations.items) }
+        ensures room { IfOk result
+            (λ world. capacities world.stations.items
+            ≡ map (λ disk. slot_room_on (D.sector_count disk)) disks.items) }
+        // It is made only on disks with room for those records, in versions of which there is one for each disk.
+        ensures fits { OnOk result (HaveRoom (network_of net.value.program) 0
+            (map (λ disk. D.sector_count disk) disks.items)) }
+        ensures versions { OnOk result (AreVersionsFor (length disks.items) versions.now) }
+        // 31 where there isn't, before anything is done with a disk; and no other reasons than those of `new`.
+        ensures version { IfErr result
+            (λ refused. (refused.fault ≡ Version) ↔ (¬ (AreVersionsFor (length disks.items) versions.now))) }
+        ensures untouched { IfErr result
+            (λ refused. refused.fault ≡ Version → refused.disks.items ≡ disks.items) }
+        ensures refused { IfErr result (λ refused. (refused.fault ≡ Version)
+            ⊎ IsWorldRefusal (network_of net.value.program) 0
+            (map (λ disk. D.sector_count disk) disks.items) refused.fault) }
+        // Refused, all that was given is back in its place: the outputs are the same; each disk has the room that it had;
+        // and a device failed in the call exactly where 20 is the reason.
+        ensures handed_back { IfErr result (λ refused. AreHandedBack D.sector_count D.failure_count
+            disks.items refused.disks.items refused.fault) }
+        ensures same_outputs { IfErr result (λ refused. refused.outputs.items ≡ outputs.items) }
+    {
+        if !are_versions_for(disks.len(), versions) {
             return Err(OpeningRefused {
                 disks,
                 outputs,
-                fault: StoreFault::NoMemory,
+                fault: StoreFault::Version,
             });
-        };
-        match open_stations(alloc, &net, nodes, &mut disks, &mut outputs, &mut stations) {
-            Ok(()) => Ok(World {
-                net,
-                inputs,
-                stations,
-                wire,
-                round: 0,
-            }),
-            Err(fault) => Err(OpeningRefused {
-                disks,
-                outputs,
-                fault,
-            }),
         }
+        open_world(alloc, net, inputs, disks, outputs, versions)
     }
 }

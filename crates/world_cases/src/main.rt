@@ -14,6 +14,7 @@
 //! | `inputs i: 1 2 3` | a line of the inputs text |
 //! | `items i 57400 1` | a line of the inputs with so many of one item |
 //! | `sectors 5`, `sectors 5 3` | the sectors of each disk, or of each node's; 5 where it isn't said |
+//! | `versions 1`, `versions 1 2` | the version in which each node's disk is formatted; `none` is an empty list. Where it isn't said, all are in the one of today |
 //! | `fault 0 call 7 fill 0` | a failure that is prepared on the node's disk before the world is made |
 //! | `for CALL 1..12 FILL 0 255` | the case is run for each choice of these numbers, the ends of a range included. The names, in capital letters, stand for them in all its lines, alone or in a sum as `CALL+1` |
 //!

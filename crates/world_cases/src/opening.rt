@@ -82,7 +82,11 @@ pub fn open_world(
     anyhow::ensure!(disks.len() == node_count(&net), "a disk for each node");
     let net = Arc::new(alloc, net)?;
     let inputs = Arc::new(alloc, inputs)?;
-    match World::new(alloc, net, inputs, disks, outputs) {
+    let opened = match &settings.versions {
+        Some(versions) => World::new_from(alloc, net, inputs, disks, outputs, versions),
+        None => World::new(alloc, net, inputs, disks, outputs),
+    };
+    match opened {
         Ok(world) => Ok(Ok(world)),
         Err(refused) => Ok(Err(refused.fault)),
     }

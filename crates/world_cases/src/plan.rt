@@ -27,6 +27,8 @@ pub struct Settings {
     pub inputs: String,
     /// The sectors of each node's disk, or of all where there is one number, or none.
     pub sectors: Vec<usize>,
+    /// The versions in which the disks are formatted, where they are said.
+    pub versions: Option<Vec<u8>>,
     pub faults: Vec<EarlyFault>,
 }
 
@@ -36,6 +38,7 @@ impl Settings {
             net: String::new(alloc),
             inputs: String::new(alloc),
             sectors: Vec::new(alloc),
+            versions: None,
             faults: Vec::new(alloc),
         }
     }
@@ -71,6 +74,18 @@ impl Settings {
         Ok(())
     }
 
+    fn set_versions(&mut self, alloc: Global, text: &str) -> anyhow::Result<()> {
+        anyhow::ensure!(self.versions.is_none(), "versions a second time");
+        let mut versions = Vec::new(alloc);
+        if text != "none" {
+            for word in text.split_whitespace() {
+                versions.push(byte(word)?)?;
+            }
+        }
+        self.versions = Some(versions);
+        Ok(())
+    }
+
     fn add_fault(&mut self, alloc: Global, text: &str) -> anyhow::Result<()> {
         let words: Vec<&str> = text.split_whitespace().collect(alloc)?;
         match words.as_slice() {
@@ -99,6 +114,8 @@ impl Settings {
             self.add_items(alloc, items)?;
         } else if let Some(numbers) = text.strip_prefix("sectors ") {
             self.add_sectors(numbers)?;
+        } else if let Some(numbers) = text.strip_prefix("versions ") {
+            self.set_versions(alloc, numbers)?;
         } else if let Some(fault) = text.strip_prefix("fault ") {
             self.add_fault(alloc, fault)?;
         } else {

@@ -41,7 +41,6 @@ length_sites (IfThen test first second rest) at number =
       length-append
           (sites_at one number first) (sites_at two (number + sites_of first) second),
     )
-
 length_sites (RepeatThen times body rest) at number =
     let repeated = repeat_code at times (λ n. block_code n number body) in
     let theirs = sites_at (at + length repeated) (number + sites_of body) rest in

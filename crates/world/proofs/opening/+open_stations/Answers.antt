@@ -1,4 +1,4 @@
-use Rattle.std.proofs.Common.{rules, ◌≡◌, ◌++◌, vec_len, ◌≤◌, length, map, sym, ap, ◌∙◌, arith}
+use Rattle.std.proofs.Common.{rules, ◌≡◌, ◌++◌, vec_len, ◌≤◌, length, map, sym, ap, subst, ◌∙◌, arith}
 use Rattle.kahn_net.specs.Nodes.{node_count}
 use Rattle.kahn_net.specs.Syntax.{network_of}
 use Rattle.kahn_net.specs.declared.limits.TheConstants.{MAX_NODES}
@@ -8,8 +8,8 @@ use Rattle.protocol.specs.World.Sound.{is_output}
 use Rattle.protocol.specs.NodeLaws.PlaceLaws.{nodes_few}
 use Rattle.world.proofs.OpenedStations.{none_opened, last_back, before_back, world_refused, last_refused}
 use Rattle.world.proofs.OpenedStations.{before_refused, station_opened, stations_more, others_left, nothing_before}
-use Rattle.world.proofs.OpenedStations.{fewer_left}
-use Rattle.world.specs.OpeningWorld.{fresh, own_outputs}
+use Rattle.world.proofs.OpenedStations.{fewer_left, version_valid}
+use Rattle.world.specs.OpeningWorld.{fresh, own_outputs, IsVersion}
 use Rattle.world.proofs.opening.+open_stations.Goals as goal
 
 pub overflow_cast-number : goal.overflow_cast-number
@@ -34,6 +34,11 @@ open_node-requires-clause-few g t c =
     let few : node_count net ≤ MAX_NODES = nodes_few net c.args.net.now.valid in
     omega (arith, few, c.requires.nodes)
 
+pub open_node-requires-clause-version : goal.open_node-requires-clause-version
+open_node-requires-clause-version g t c =
+    subst IsVersion (sym c.version_for-version.ensures)
+    (version_valid c.args.versions.now c.len-number.result c.requires.versions)
+
 pub returns-in-Err-clause-handed_back : goal.returns-in-Err-clause-handed_back
 returns-in-Err-clause-handed_back g t c =
     last_back g.D.Disk.sector_count g.D.Disk.failure_count c.pop.new.self.items c.args.disks.now.items
@@ -54,15 +59,15 @@ pub returns-in-Ok-open_stations-clause-opened : goal.returns-in-Ok-open_stations
 returns-in-Ok-open_stations-clause-opened g t c =
     let net = network_of c.args.net.now.program in
     let place : c.len-number.result ≡ length c.pop.new.self.items = search rules in
-    stations_more g.O.Outlet.taken g.O.Outlet.failures net c.args.outputs.now.items c.pop.new.self.items
+    stations_more g.O.Outlet.taken g.O.Outlet.failures net c.args.versions.now c.args.outputs.now.items c.pop.new.self.items
     c.args.disks.now.items
     c.in-Some.disk c.open_stations.new.stations.items c.push_reserved-in-Ok-open_stations.new.self.items c.new.result
     c.len-number.result c.in-Some.ensures.items place c.push_reserved-in-Ok-open_stations.ensures.items
     c.in-Ok-open_stations.ensures.opened
-    (station_opened g.O.Outlet.taken g.O.Outlet.failures net c.args.outputs.now.items c.args.nodes c.len-number.result
-    c.in-Some.disk
+    (station_opened g.O.Outlet.taken g.O.Outlet.failures net c.args.versions.now c.args.outputs.now.items c.args.nodes
+    c.len-number.result c.version_for-version.result c.in-Some.disk
     c.replace-given.result.items c.forget_failures.new.outputs.items c.in-Ok.node c.new.result c.requires.nodes
-    c.in-Ok.ensures.opened
+    c.version_for-version.ensures c.in-Ok.ensures.opened
     (ap (λ given. own_outputs net c.len-number.result given.items) c.replace-given.ensures.value
     ∙ c.in-Ok-open_stations.ensures.rest c.len-number.result (omega (arith, c.len-number.ensures)))
     (c.forget_failures.ensures

@@ -9,7 +9,7 @@ use Rattle.protocol.specs.NodeLaws.LikeLaws.{opening_allowed}
 use Rattle.record.specs.RecordView.{RecordView}
 use Rattle.ckpt_codec.specs.Lengths.{image_length}
 use Rattle.world.specs.OpeningWorld.{HasRoom}
-use Rattle.world.proofs.OpeningStores.{node_left}
+use Rattle.world.proofs.OpeningStores.{node_left, node_stands}
 use Rattle.world.proofs.opening.open_node.Goals as goal
 
 pub open_store-requires-clause-written : goal.open_store-requires-clause-written
@@ -23,6 +23,9 @@ open_store-requires-clause-bounded g c =
     let net = c.args.net.now in
     subst (IsRecordWithin MAX_RETAINED_ITEMS) (sym c.in-Ok.ensures)
     (opening_within (network_of net.program) c.args.nodes c.args.number net.valid c.requires.few)
+
+pub open_store-requires-clause-settled : goal.open_store-requires-clause-settled
+open_store-requires-clause-settled g c = ap (λ (kept : RecordView). kept.decisions) c.in-Ok.ensures
 
 pub run_from-requires-clause-listed : goal.run_from-requires-clause-listed
 run_from-requires-clause-listed g c =
@@ -41,6 +44,8 @@ returns-in-Ok-run_from-clause-opened g c = record {
   failures = search rules;
   left = node_left _ _ c.in-Ok-run_from.node c.in-Ok-open_store.store _ _ c.in-Ok-run_from.ensures.same.1
       c.in-Ok.ensures c.in-Ok-open_store.ensures.holds;
+  formatted = node_stands _ _ c.in-Ok-run_from.node c.in-Ok-open_store.store _ _ c.args.version
+      c.in-Ok-run_from.ensures.same.1 c.in-Ok.ensures c.in-Ok-open_store.ensures.formatted;
   room = search rules;
   fits = subst (λ (r : RecordView). HasRoom (g.D.Disk.sector_count c.args.disk) (image_length r.permanent))
       c.in-Ok.ensures c.in-Ok-open_store.ensures.fits;

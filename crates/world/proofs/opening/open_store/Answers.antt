@@ -1,13 +1,15 @@
-use Rattle.std.proofs.Common.{ℕ, ◌≡◌, length, sym, ap, subst, ◌∙◌, rules}
+use Rattle.std.proofs.Common.{ℕ, ◌≡◌, ◌≤◌, List, length, sym, ap, subst, ◌∙◌, rules, arith}
 use Rattle.std.specs.Prelude.{IsTrue}
 use Rattle.gate_cell.specs.SplitCell.{slot_capacity_of, is_ready_of}
 use Rattle.gate_cell.specs.SplitLayout.{slot_room_on, whole_on}
+use Rattle.record.specs.DecisionView.{DecisionView}
 use Rattle.record.specs.RecordView.{RecordView}
 use Rattle.ckpt_codec.specs.HeaderText.{IsImageSpelled}
 use Rattle.ckpt_codec.specs.Lengths.{image_length}
+use Rattle.ckpt_codec.specs.RecordText.{most_decisions}
 use Rattle.ckpt_store.proofs.Puts.{permanent_spelled}
 use Rattle.world.specs.OpeningWorld.{HasRoom}
-use Rattle.world.proofs.OpeningStores.{first_spelled, opened_record, opened_failures, opened_holds, fill_refusal, open_refusal, load_back}
+use Rattle.world.proofs.OpeningStores.{first_spelled, opened_record, opened_failures, opened_holds, opened_header, first_header, fill_refusal, open_refusal, load_back}
 use Rattle.world.proofs.opening.open_store.Goals as goal
 
 pub has_room-requires : goal.has_room-requires
@@ -19,6 +21,11 @@ pub write_image-requires : goal.write_image-requires
 write_image-requires g c =
     subst (λ (r : RecordView). IsImageSpelled r.permanent) (sym c.kept.view_is)
     (permanent_spelled c.args.kept.now c.requires.written)
+
+pub write_header_in-requires-clause-few : goal.write_header_in-requires-clause-few
+write_header_in-requires-clause-few g c =
+    subst (λ (decisions : List DecisionView). length decisions ≤ most_decisions c.args.version)
+    (sym c.requires.settled) (omega arith)
 
 pub returns-in-Err-fill-clause-refused : goal.returns-in-Err-fill-clause-refused
 returns-in-Err-fill-clause-refused g c =
@@ -41,7 +48,7 @@ returns-in-Err-open-clause-refused g c =
     let fill = c.in_default-fill.ensures in
     open_refusal _ _ c.args.kept.now c.fill.new.self c.in-Err-open.refused.cell c.in-Err-open.refused.fault sectors
     (image_length c.args.kept.now.permanent) c.in-Err-open.ensures.opens
-    (first_spelled c.args.kept.now _ _ _
+    (first_spelled c.args.version c.args.kept.now _ _ _
     (whole_on (g.D.Disk.sector_count c.args.disk) (g.D.Disk.content c.args.disk)) _ _ c.as_slice.result.now c.as_slice-2.result.now c.kept.view_is
     c.in-Ok.ensures.formatted.holds fill.ok c.as_slice.ensures.value c.as_slice-2.ensures.value c.in-Ok-Ok.ensures.text
     c.in-Ok-Ok.ensures'.text c.requires.written c.requires.alone c.requires.bounded)
@@ -63,10 +70,19 @@ returns-clause-record g c =
     let fill = c.in_default-fill.ensures in
     opened_record _ _ c.args.kept.now c.fill.new.self c.in-Ok-open.store c.recount.new.self c.in-Ok-open.ensures.opens
     c.recount.ensures.untouched
-    (first_spelled c.args.kept.now _ _ _
+    (first_spelled c.args.version c.args.kept.now _ _ _
     (whole_on (g.D.Disk.sector_count c.args.disk) (g.D.Disk.content c.args.disk)) _ _ c.as_slice.result.now c.as_slice-2.result.now c.kept.view_is
     c.in-Ok.ensures.formatted.holds fill.ok c.as_slice.ensures.value c.as_slice-2.ensures.value c.in-Ok-Ok.ensures.text
     c.in-Ok-Ok.ensures'.text c.requires.written c.requires.alone c.requires.bounded)
+
+pub returns-clause-formatted : goal.returns-clause-formatted
+returns-clause-formatted g c =
+    opened_header _ _ c.args.kept.now c.fill.new.self c.in-Ok-open.store c.recount.new.self c.in-Ok-open.ensures.opens
+    c.recount.ensures.untouched c.args.version
+    (first_header c.args.version c.args.kept.now _ _
+    (whole_on (g.D.Disk.sector_count c.args.disk) (g.D.Disk.content c.args.disk)) _ c.as_slice.result.now
+    c.as_slice-2.result.now c.in-Ok.ensures.formatted.holds c.in_default-fill.ensures.ok c.as_slice.ensures.value
+    c.in-Ok-Ok.ensures.text)
 
 pub returns-clause-failures : goal.returns-clause-failures
 returns-clause-failures g c =
@@ -80,7 +96,7 @@ returns-clause-holds g c =
     let fill = c.in_default-fill.ensures in
     opened_holds _ _ c.args.kept.now c.fill.new.self c.in-Ok-open.store c.recount.new.self c.in-Ok-open.ensures.opens
     c.recount.ensures.untouched
-    (first_spelled c.args.kept.now _ _ _
+    (first_spelled c.args.version c.args.kept.now _ _ _
     (whole_on (g.D.Disk.sector_count c.args.disk) (g.D.Disk.content c.args.disk)) _ _ c.as_slice.result.now c.as_slice-2.result.now c.kept.view_is
     c.in-Ok.ensures.formatted.holds fill.ok c.as_slice.ensures.value c.as_slice-2.ensures.value c.in-Ok-Ok.ensures.text
     c.in-Ok-Ok.ensures'.text c.requires.written c.requires.alone c.requires.bounded)
