@@ -27,6 +27,7 @@ pub mod ShownLaws
 pub mod ReleasedLaws
 pub mod ClosedLaws
 pub mod LineLaws
+pub mod CoordinationLaws
 pub mod FlightLaws
 pub mod TrafficLaws
 pub mod HearLaws

@@ -5,6 +5,7 @@ ghost use Rattle.kahn_net.specs.Fits.{Fits};
 ghost use Rattle.kahn_net.specs.Syntax.{network_of};
 ghost use Rattle.protocol.specs.World.EventView.{event_node};
 ghost use Rattle.world.specs.EventView.{event_view};
+ghost use Rattle.protocol.specs.World.Coordination.{AreCoordinated};
 ghost use Rattle.protocol.specs.World.Headline.{AreApproximated};
 ghost use Rattle.kahn_net.specs.Nodes.{node_count};
 ghost use Rattle.protocol.specs.World.Invariant.{AreJoined, AreSound, IsNumbered, WorldInvariant};
@@ -166,6 +167,11 @@ impl<C: SlotCell, O: Outlet> World<C, O> {
             self.old.stations.items self.new.stations.items }
         // By the end of the event one line alone is possible: that of the records which the nodes keep.
         ensures settled { HasOneLine O.taken O.failures self.new.stations.items }
+        // Checkpoints that several nodes take together are coordinated: an instance is decided only while all whom the
+        // decision names hold it, and stays so until it is permanent there; what is said to be ended is over, and stays
+        // over; and whoever takes part had to.
+        ensures coordinated { AreCoordinated (network_of self.old.net.value.program)
+            (world_of self.old).stations (world_of self.new).stations (world_of self.new).traffic }
         // Each stream that has left is a prefix of its channel's history in one approximation on the inputs, the same
         // for all streams of the world.
         ensures prefix { AreApproximated (world_of self.new) }

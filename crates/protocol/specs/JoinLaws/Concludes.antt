@@ -30,7 +30,7 @@ use Rattle.protocol.specs.Node.Verdicts.{all_answered, may_decide, participants_
 use Rattle.protocol.specs.Node.Verdicts.{commit_to, commit_packets}
 use Rattle.protocol.specs.JoinLaws.Crossings.{both_true}
 use Rattle.protocol.specs.JoinLaws.Holding.{IsHeld, held_where, held_seen}
-use Rattle.protocol.specs.JoinLaws.Leading.{leads_by, leads_on, acts, outlets_same, record_at, mode_at, set_there}
+use Rattle.protocol.specs.JoinLaws.Leading.{leads_by, leads_then, acts, outlets_same, record_at, mode_at, set_there}
 use Rattle.protocol.specs.JoinLaws.NeedLaws.{has_where, has_where_below}
 use Rattle.protocol.specs.JoinLaws.Sent.{MaySendAll, sends}
 use Rattle.protocol.specs.Node.LiveView.{QuestionView, LiveView}
@@ -214,15 +214,14 @@ module _ (net : Network) (stations : List StationView) (k : ℕ) (old : StationV
         let new = moved_to (concluded old.node) failures turns old in
         let later = slice_set stations k new in
         let here = set_there stations k old new there in
-        leads_on (net_seen net) (world_seen stations sent) (world_seen later sent) _
+        leads_then (net_seen net) (world_seen stations sent) (world_seen later sent) _
         (leads_by (net_seen net) (world_seen stations sent) (world_seen later sent)
         (acts stations k old new there (net_seen net) sent (outlets_same stations k old new there refl) step))
-        (leads_by (net_seen net) (world_seen later sent) _
         (sends (net_seen net) later (commit_packets k (length old.node.kept.highest) (Some live)) sent
         (commits_may (net_seen net) (world_seen later sent) k live.number
         (participants_of (length old.node.kept.highest) live.takers)
         (λ down. some_not_none (ap current_of down) (ap current_of (mode_at later k new here ∙ mode_now)))
-        (λ p named. (names_it later (record_at later k new here) p named)))))
+        (λ p named. (names_it later (record_at later k new here) p named)))) refl
       where
         live_now : live_in old.node.mode ≡ Some live
         live_now = ap live_in is ∙ live_is

@@ -37,7 +37,7 @@ use Rattle.protocol.specs.JoinLaws.Collects.{covered_leads, give_up_leads, joine
 use Rattle.protocol.specs.JoinLaws.Crossings.{both_true, between_cross, channel_within, goes_cross}
 use Rattle.protocol.specs.JoinLaws.Cuts.{cut_trims, cut_unseen, within_or_out}
 use Rattle.protocol.specs.JoinLaws.Holding.{IsHeld, held_where}
-use Rattle.protocol.specs.JoinLaws.Leading.{leads_here, leads_by, leads_on, hears, outlets_same, unseen}
+use Rattle.protocol.specs.JoinLaws.Leading.{leads_here, leads_by, leads_from, hears, outlets_same, unseen}
 use Rattle.protocol.specs.JoinLaws.Plans.{ProspectLeads}
 use Rattle.protocol.specs.JoinLaws.Settles.{commit_leads, confirm_leads, ended_leads, settled_leads, query_leads}
 use Rattle.protocol.specs.Node.Addresses.{are_nodes, runs_between, names_run}
@@ -305,9 +305,9 @@ module _ (net : Network) (valid : IsValid net) (stations : List StationView) (k 
       → ProspectLeads net stations k old sent (telling packets old.node)
   tells packets leads = record {
     leads = λ failures turns.
-        leads_on (net_seen net) (world_seen stations sent)
+        leads_from (net_seen net) (world_seen stations sent)
         (world_seen (slice_set stations k (moved_to old.node failures turns old)) sent) _
-        (still old.node refl refl failures turns) (leads failures turns);
+        (unseen stations k old (moved_to old.node failures turns old) there sent refl refl refl) (leads failures turns);
     silent = refl;
     keeps = λ e. refl;
   }

@@ -14,7 +14,7 @@ use Rattle.recovery_line.specs.Worlds.{World, Reachable}
 use Rattle.protocol.specs.World.RecoveryLine.{AreEither, AreInLine}
 use Rattle.protocol.specs.Join.Runs.{Leads}
 use Rattle.protocol.specs.Join.Seen.{world_seen}
-use Rattle.protocol.specs.JoinLaws.Leading.{leads_here, leads_on, outlets_same}
+use Rattle.protocol.specs.JoinLaws.Leading.{leads_here, reached_then, outlets_same}
 use Rattle.protocol.specs.JoinLaws.Sent.{waits}
 use Rattle.protocol.specs.World.RecoveryLine.{net_seen, records_of, records_seen, outlets_seen}
 use Rattle.protocol.specs.World.StationView.{StationView}
@@ -41,10 +41,10 @@ LinesHold =
 
 pub lines_hold : LinesHold
 lines_hold net w records left reached to =
-    let there = leads_on net _ w to.world reached to.leads in
+    let there = reached_then net w to.world reached to.leads in
     let moment : AtMoment to.world to.world records left =
     record { of_records = inl (sym to.records_are); of_outlets = inl (sym to.outlets_are) } in
-    let on = line_never_falls_back net w to.world to.world to.leads.0 records left reached to.leads.1
+    let on = line_never_falls_back net w to.world to.world to.leads.worlds records left reached to.leads.run
     (waits net to.world) moment in
     record {
       sound = line_is_sound net to.world to.world records left there (waits net to.world) moment;

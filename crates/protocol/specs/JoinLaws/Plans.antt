@@ -13,8 +13,8 @@ use Rattle.recovery_line.specs.Observers.{record_seen}
 use Rattle.recovery_line.specs.Packets.{Packet}
 use Rattle.protocol.specs.Join.Runs.{Leads, Carries, HasRun, RunsOn}
 use Rattle.protocol.specs.Join.Seen.{mode_seen, all_seen, node_seen, world_seen}
-use Rattle.protocol.specs.JoinLaws.Leading.{leads_here, leads_by, leads_on, acts, outlets_same, set_there, set_again}
-use Rattle.protocol.specs.JoinLaws.Leading.{set_itself, unseen}
+use Rattle.protocol.specs.JoinLaws.Leading.{leads_here, leads_by, leads_then, acts, outlets_same, same_records, set_there}
+use Rattle.protocol.specs.JoinLaws.Leading.{set_again, set_itself, unseen}
 use Rattle.protocol.specs.World.RecoveryLine.{AreEither, AreInLine}
 use Rattle.protocol.specs.JoinLaws.Lines.{line_at_put}
 use Rattle.protocol.specs.JoinLaws.Sent.{carries_still, carries_all}
@@ -106,13 +106,13 @@ module _ (net : Network) (stations : List StationView) (k : ℕ) (old : StationV
         let fallen : Leads (net_seen net) (world_seen stations run.sent) (world_seen (slice_set stations k down) more) =
         subst (λ (xs : List StationView). Leads (net_seen net) (world_seen stations run.sent) (world_seen xs more))
         (set_again stations k done down)
-        (leads_on (net_seen net) (world_seen stations run.sent) (world_seen made more) _
+        (leads_then (net_seen net) (world_seen stations run.sent) (world_seen made more) _
         (by_steps.leads failures turns)
-        (leads_by (net_seen net) (world_seen made more) (world_seen (slice_set made k down) more)
         (acts made k done down (set_there stations k old done there) (net_seen net) more
         (outlets_same made k done down (set_there stations k old done there) refl)
         (falls (net_seen net) k (node_seen done (outlets_seen made)) (node_seen down (outlets_seen made)) refl refl
-        refl)))) in
+        refl))
+        (same_records made k done down (set_there stations k old done there) refl)) in
         subst (λ (n : NodeView). RunsOn net stations traffic (slice_set stations k (moved_to n failures turns old))
         flown) (sym same)
         (record {

@@ -24,7 +24,7 @@ use Rattle.protocol.specs.Join.Runs.{Leads}
 use Rattle.protocol.specs.Join.Seen.{questions_seen, live_seen, mode_seen, all_seen, world_seen}
 use Rattle.protocol.specs.Node.Beginning.{in_front}
 use Rattle.protocol.specs.JoinLaws.Crossings.{both_true}
-use Rattle.protocol.specs.JoinLaws.Leading.{leads_by, leads_on, acts, outlets_same, record_at, mode_at, set_there}
+use Rattle.protocol.specs.JoinLaws.Leading.{leads_by, leads_then, acts, outlets_same, record_at, mode_at, set_there}
 use Rattle.protocol.specs.JoinLaws.NeedLaws.{asks_needs}
 use Rattle.protocol.specs.JoinLaws.Sent.{MaySendAll, sends}
 use Rattle.protocol.specs.Node.LiveView.{QuestionView, LiveView}
@@ -155,10 +155,9 @@ module _ (net : Network) (valid : IsValid net) (stations : List StationView) (k 
   begin_leads failures turns =
       let new = moved_to (begun net k old.node) failures turns old in
       let later = slice_set stations k new in
-      leads_on (net_seen net) (world_seen stations sent) (world_seen later sent) _
+      leads_then (net_seen net) (world_seen stations sent) (world_seen later sent) _
       (leads_by (net_seen net) (world_seen stations sent) (world_seen later sent)
       (acts stations k old new there (net_seen net) sent (outlets_same stations k old new there refl)
       (starts net k old.node.version old.node.kept old.node.mode (outlets_seen stations) valid runs free idle listed)))
-      (leads_by (net_seen net) (world_seen later sent) _
       (sends (net_seen net) later (live_asks net k (live_in (begun net k old.node).mode)) sent
-      (asks_sent later (ap live_of (mode_at later k new (set_there stations k old new there))))))
+      (asks_sent later (ap live_of (mode_at later k new (set_there stations k old new there))))) refl

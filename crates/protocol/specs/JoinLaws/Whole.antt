@@ -29,7 +29,7 @@ use Rattle.protocol.specs.JoinLaws.Events.{release_puts_none}
 use Rattle.protocol.specs.JoinLaws.Events.{acted_carries}
 use Rattle.protocol.specs.Join.Seen.{world_seen}
 use Rattle.protocol.specs.World.RecoveryLine.{net_seen}
-use Rattle.protocol.specs.JoinLaws.Leading.{leads_here, leads_on, outlets_same, set_itself}
+use Rattle.protocol.specs.JoinLaws.Leading.{leads_here, reached_then, outlets_same, set_itself}
 use Rattle.protocol.specs.JoinLaws.Lines.{line_at_release, line_now}
 use Rattle.protocol.specs.JoinLaws.Opens.{run_opens}
 use Rattle.protocol.specs.JoinLaws.Plans.{ProspectLeads, prospect_line}
@@ -63,7 +63,7 @@ pub has_run_then : (net : Network) (before after : List StationView) (traffic fl
     → RunsOn net before traffic after flown → HasRun net after flown
 has_run_then net before after traffic flown on = record {
   sent = on.sent;
-  reached = leads_on (net_seen net) _ _ _ on.run.reached on.leads;
+  reached = reached_then (net_seen net) _ _ on.run.reached on.leads;
   carries = on.carries;
 }
 

@@ -4,6 +4,8 @@ use Rattle.ckpt_store.specs.Spelling.{fits_in}
 use Rattle.ckpt_store.specs.StoreView.{cell_in}
 use Rattle.world.specs.EventView.{event_view}
 use Rattle.protocol.specs.World.Headline.{AreApproximated}
+use Rattle.protocol.specs.World.Coordination.{AreCoordinated}
+use Rattle.protocol.specs.WorldLaws.CoordinationLaws.{coordinated_still, events_are_coordinated}
 use Rattle.protocol.specs.WorldLaws.PrefixLaws.{released_prefix}
 use Rattle.world.specs.ReplyView.{reply_view}
 use Rattle.protocol.specs.WorldLaws.DropLaws.{never_dropped}
@@ -13,7 +15,7 @@ use Rattle.protocol.specs.World.StationView.{StationView}
 use Rattle.protocol.specs.declared.outcome.Outcome.TheVariants as outcome
 use Rattle.protocol.specs.World.Steps.{may_restart, round_after, setting_in}
 use Rattle.protocol.specs.WorldLaws.StepKeeps.{step_keeps}
-use Rattle.wire.specs.Traffic.{traffic_of}
+use Rattle.wire.specs.Traffic.{Traffic, traffic_of}
 use Rattle.world.specs.WholeView.{world_of}
 use Rattle.world.specs.WorldView.{rooms, station_view, world_view}
 use Rattle.world.specs.declared.station.Station.{Station}
@@ -117,6 +119,33 @@ returns-in-Err-clause-line g c =
     (setting_is view (network_of was.net.value.program) was.inputs.value (traffic_of was.wire)
     was.stations.items was.round) (c.from-number.ensures ∙ c.node.ensures) (refl, c.in-Err.ensures.refused.0)
     c.act_at.ensures.line
+
+-- checkpoints are coordinated
+pub returns-in-Ok-clause-coordinated : goal.returns-in-Ok-clause-coordinated
+returns-in-Ok-clause-coordinated g c =
+    let was = c.args.self.now in
+    let view = station_view {cell = g.C.StableCell} {slots = g.C.SlotCell} g.O.Outlet.taken g.O.Outlet.failures in
+    events_are_coordinated (rooms was.stations.items) (event_view c.args.event) (world_of was)
+    (reply_view c.in-Ok.reply)
+    (world_view {cell = g.C.StableCell} {slots = g.C.SlotCell} g.O.Outlet.taken g.O.Outlet.failures was.net was.inputs
+    c.act_at.new.stations.items (traffic_of c.act_at.new.wire) c.round_after-self.result) was.sound
+    (world_steps (rooms was.stations.items) (event_view c.args.event) (world_of was) (reply_view c.in-Ok.reply)
+    (setting_in (network_of was.net.value.program) was.inputs.value (traffic_of was.wire)
+    (may_restart (length was.stations.items)) was.round) c.from-number.result c.round_after-self.result
+    (map view c.act_at.new.stations.items) (traffic_of c.act_at.new.wire)
+    (setting_is view (network_of was.net.value.program) was.inputs.value (traffic_of was.wire)
+    was.stations.items was.round) (c.from-number.ensures ∙ c.node.ensures) c.in-Ok.ensures.come
+    (c.round_after-self.ensures
+    ∙ ap (λ (l : List (Station g.row.C.Denot g.row.O.Denot g.C.SlotCell g.C.StableCell)). round_after
+    (reply_view c.in-Ok.reply) was.round (map view l)) c.deref.ensures.value))
+
+pub returns-in-Err-clause-coordinated : goal.returns-in-Err-clause-coordinated
+returns-in-Err-clause-coordinated g c =
+    let was = c.args.self.now in
+    subst (λ (stations : List StationView). AreCoordinated (network_of was.net.value.program) (world_of was).stations
+    stations (traffic_of c.act_at.new.wire)) (sym c.in-Err.ensures.refused.0)
+    (subst (λ (traffic : Traffic). AreCoordinated (network_of was.net.value.program) (world_of was).stations
+    (world_of was).stations traffic) (sym c.in-Err.ensures.same_traffic) (coordinated_still (world_of was) was.sound))
 
 pub returns-in-Ok-clause-settled : goal.returns-in-Ok-clause-settled
 returns-in-Ok-clause-settled g c =
