@@ -162,7 +162,7 @@ module _ (net : Net) (before after : List StationView) (sent later : List Packet
     commits_while_held = commits;
     stays_committed = stays;
     holders_are_named = λ x n p image. holders_are_named net V x n p image then_reached;
-    ended_is_over = λ to i f within. ended f.packet to (carries to i f within);
+    ended_is_over = λ to i d within. ended _ to (carries to i d within);
     stays_over = λ x n over.
         over_there after later x n
         (stays_over net W V leads.worlds x n reached leads.run (over_here before sent x n over));
@@ -183,12 +183,13 @@ pub events_are_coordinated : (rooms : List (RecordView → Bool)) (e : EventView
     (new : WorldView) → WorldInvariant old → IsStep rooms e old answer new
     → AreCoordinated old.net old.stations new.stations new.traffic
 events_are_coordinated rooms e old answer new inv step =
-    ∥∥₁_map (run_is_coordinated old.net old.stations new.stations old.traffic new.traffic)
-    (step_runs_on rooms e old answer new inv step)
+    ∥∥₁_map (step_runs_on rooms e old answer new inv step)
+    (run_is_coordinated old.net old.stations new.stations old.traffic new.traffic)
 
 -- and where nothing happens
 pub coordinated_still : (world : WorldView) → WorldInvariant world
     → AreCoordinated world.net world.stations world.stations world.traffic
 coordinated_still world inv =
-    ∥∥₁_map (λ run. run_is_coordinated world.net world.stations world.stations world.traffic world.traffic
-    (runs_still world.net world.stations world.traffic run)) inv.run
+    ∥∥₁_map inv.run
+    (λ run. run_is_coordinated world.net world.stations world.stations world.traffic world.traffic
+    (runs_still world.net world.stations world.traffic run))
