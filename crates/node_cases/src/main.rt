@@ -50,13 +50,15 @@
 #![tactic(auto)]
 
 mod answer;
+mod bounds;
+mod checkpoints;
+mod hearing;
 mod judging;
 mod opening;
 mod plan;
 mod run;
 mod settings;
 mod showing;
-mod starting;
 mod step;
 mod taking;
 
