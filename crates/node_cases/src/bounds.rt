@@ -15,7 +15,9 @@ ghost use Rattle.node_cases.specs.Small.{IsSmall, NamesFew};
 
 use crate::opening::CaseNode;
 use ckpt_codec::MAX_RETAINED_ITEMS;
-use kahn_net::{MAX_CHANNELS, MAX_NODES, MAX_PROCESSES, MAX_REPEATS, MAX_VARIABLES, Mode, ProcState};
+use kahn_net::{
+    MAX_CHANNELS, MAX_NODES, MAX_PROCESSES, MAX_REPEATS, MAX_VARIABLES, Mode, ProcState,
+};
 use record::{Decision, End, Image, MAX_DECISIONS, Record, SavedEnd, SavedProcess, Tentative};
 
 fn variables(state: &ProcState) -> usize

@@ -36,13 +36,11 @@ pub fn is_like_now(node: &CaseNode) -> bool
 }
 
 /// Begins a checkpoint.
-pub fn start(
-    alloc: Global,
-    node: &mut CaseNode,
-    net: &Net,
-    round: u64,
-) -> anyhow::Result<Came> {
-    anyhow::ensure!(is_like_now(node), "what it has now is no image beside its permanent one");
+pub fn start(alloc: Global, node: &mut CaseNode, net: &Net, round: u64) -> anyhow::Result<Came> {
+    anyhow::ensure!(
+        is_like_now(node),
+        "what it has now is no image beside its permanent one"
+    );
     let asks = node.asks(alloc, net)?;
     let outcome = node.start(alloc, net, round)?;
     Ok(Came::of(alloc, asks, outcome))
@@ -110,7 +108,10 @@ pub fn decide(alloc: Global, node: &mut CaseNode, round: u64) -> anyhow::Result<
     if state.is_down() {
         return Ok(Came::of(alloc, Vec::new(alloc), Outcome::NotDue));
     }
-    anyhow::ensure!(may_be_decided(alloc, node)?, "its decision would be too long");
+    anyhow::ensure!(
+        may_be_decided(alloc, node)?,
+        "its decision would be too long"
+    );
     let commits = node.commits(alloc)?;
     let outcome = node.decide(alloc, round)?;
     Ok(Came::of(alloc, commits, outcome))

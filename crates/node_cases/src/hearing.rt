@@ -44,10 +44,22 @@ fn hear(
     packet: &Packet,
     round: u64,
 ) -> anyhow::Result<Came> {
-    anyhow::ensure!(is_for(node.number, net, packet), "it read what isn't for it");
-    anyhow::ensure!(is_listed(node, net), "its record is of another number of nodes");
-    anyhow::ensure!(is_bounded(node), "its record is longer than a node's may be");
-    anyhow::ensure!(is_like_now(node), "what it has now is no image beside its permanent one");
+    anyhow::ensure!(
+        is_for(node.number, net, packet),
+        "it read what isn't for it"
+    );
+    anyhow::ensure!(
+        is_listed(node, net),
+        "its record is of another number of nodes"
+    );
+    anyhow::ensure!(
+        is_bounded(node),
+        "its record is longer than a node's may be"
+    );
+    anyhow::ensure!(
+        is_like_now(node),
+        "what it has now is no image beside its permanent one"
+    );
     let said = node.answers(alloc, net, packet)?;
     let outcome = node.hear(alloc, net, packet, round)?;
     Ok(Came::behind(alloc, said, outcome))

@@ -56,10 +56,7 @@ pub struct Row {
 pub enum Step {
     Event(Event),
     Install(Brought),
-    Deliver {
-        round: u64,
-        bytes: Vec<u8>,
-    },
+    Deliver { round: u64, bytes: Vec<u8> },
     DeliverEach(Row),
     Ask(Question),
 }
