@@ -80,7 +80,9 @@ pub fn answer_to_took(
     let Some(live) = live else {
         return TookAnswer::Ignores;
     };
-    if live.number() != number || !live.was_asked(channel) || !holds(&kept.tentative, home, number)
+    if live.number() != number
+        || !live.was_asked(channel)
+        || !holds(&kept.tentative, home, number)
     {
         return TookAnswer::Ignores;
     }

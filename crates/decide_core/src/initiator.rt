@@ -156,10 +156,12 @@ fn add_ask(
         (question_view question.now)) []) }
 {
     match question {
-        Some(Asked {
-            count,
-            answer: Answer::Awaited,
-        }) => {
+        Some(
+            Asked {
+                count,
+                answer: Answer::Awaited,
+            },
+        ) => {
             packets.push(Packet {
                 from: home,
                 to: producer_node(net, channel),
@@ -349,12 +351,7 @@ impl Initiator {
     }
 
     /// Adds the questions that aren't answered, channels ascending. Refuses for want of memory alone.
-    pub fn add_asks(
-        &self,
-        packets: &mut Vec<Packet>,
-        net: &Net,
-        home: u8,
-    ) -> Result<(), AllocError>
+    pub fn add_asks(&self, packets: &mut Vec<Packet>, net: &Net, home: u8) -> Result<(), AllocError>
         ensures { OnOk result (packets.new.items ≡ packets.old.items
             ++ live_asks (network_of net.now.program) home (Some self.now)) }
     {
@@ -427,7 +424,11 @@ impl Initiator {
         ensures err { OnErr result (self.new ≡ self.old) }
     {
         note_taker(from, &mut self.takers)?;
-        note(self.questions.as_mut_slice(), usize::from(channel), Answer::ByTook);
+        note(
+            self.questions.as_mut_slice(),
+            usize::from(channel),
+            Answer::ByTook,
+        );
         note_needs(net, home, needs, self.questions.as_mut_slice());
         Ok(())
     }
@@ -448,12 +449,7 @@ impl Initiator {
     }
 
     /// What those who take part are told, of so many nodes, once it is decided.
-    pub fn commits(
-        &self,
-        alloc: Global,
-        home: u8,
-        nodes: u8,
-    ) -> Result<Vec<Packet>, AllocError>
+    pub fn commits(&self, alloc: Global, home: u8, nodes: u8) -> Result<Vec<Packet>, AllocError>
         ensures { IfOk result
             (λ packets. packets.items ≡ commit_packets home nodes (Some self.now)) }
     {

@@ -4,7 +4,6 @@ use Rattle.std.proofs.Common.{ap, subst, ◌∙◌, All}
 use Rattle.std.specs.Prelude.{is_some, map, nat_lt, not, option_map, IfOk}
 use Rattle.std.specs.declared.alloc.AllocError.{AllocError}
 use Rattle.wire.specs.Traffic.{Traffic, all_sent, traffic_without}
-use Rattle.wire.specs.declared.sending.Sending.{Sending}
 use Rattle.kahn_net.specs.Syntax.{Network}
 use Rattle.kahn_net.specs.declared.limits.TheConstants.{MAX_COUNT}
 use Rattle.std.proofs.lemmas.List.Elements.{All-nil}
@@ -26,12 +25,12 @@ use Rattle.protocol.specs.Node.Plans.{IsMade, IsPut}
 use Rattle.protocol.specs.Node.Recovering.{recover_prospect, restored, restored_mode}
 use Rattle.protocol.specs.declared.round_turns.RoundTurns.{RoundTurns}
 use Rattle.protocol.specs.World.EventView.{EventView, ByNode, Deed}
-use Rattle.protocol.specs.World.Replies.{answer_by, back_reply, delivery_reply, grant_reply, has_happened}
+use Rattle.protocol.specs.World.Replies.{answer_by, delivery_reply, grant_reply, has_happened}
 use Rattle.protocol.specs.World.ReplyView.{ReplyView}
 use Rattle.protocol.specs.World.ReplyView as reply
 use Rattle.protocol.specs.World.StationView.{StationView}
 use Rattle.protocol.specs.World.Steps.{IsPlanned, Setting, StationPlan, deliver_plan, grant_plan, moved_to, plan_of}
-use Rattle.protocol.specs.World.Steps.{plan_sendings, sending_of, traffic_after, traffic_left, turns_by}
+use Rattle.protocol.specs.World.Steps.{plan_sendings, sending_of, traffic_left, turns_by}
 use Rattle.protocol.specs.World.Turns.{turns_of, count_grant}
 use Rattle.protocol.specs.WorldLaws.DeedLaws.{becoming_sends}
 use Rattle.protocol.specs.declared.outcome.Outcome.{Outcome}

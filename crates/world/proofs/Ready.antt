@@ -5,8 +5,8 @@ use Rattle.std.specs.List.{AllZip}
 use Rattle.datagram.specs.PacketText.{IsPacket}
 use Rattle.datagram.specs.declared.packet.Packet.{Packet}
 use Rattle.wire.specs.Queue.{QueueState}
-use Rattle.wire.specs.Staging.{HasNoLessRoom, HasRoom, IsStaged}
-use Rattle.wire.specs.Traffic.{Traffic, all_sent, flights_to, traffic_of, traffic_without}
+use Rattle.wire.specs.Staging.{HasNoLessRoom, IsStaged}
+use Rattle.wire.specs.Traffic.{Traffic, all_sent, flights_to, traffic_of}
 use Rattle.wire.specs.Wire.{WireState, in_flight}
 use Rattle.wire.specs.declared.queue.Flight.{Flight}
 use Rattle.wire.specs.declared.sending.Sending.{Sending}

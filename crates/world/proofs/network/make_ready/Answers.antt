@@ -1,9 +1,8 @@
-use Rattle.std.proofs.Common.{List, map, sym, subst}
+use Rattle.std.proofs.Common.{List, sym, subst}
 use Rattle.std.specs.Prelude.{All}
 use Rattle.wire.specs.Staging.{IsStaged}
 use Rattle.wire.specs.Traffic.{AreNodes, Traffic, traffic_of}
 use Rattle.wire.specs.declared.sending.Sending.{Sending}
-use Rattle.protocol.specs.World.Steps.{sending_of}
 use Rattle.world.proofs.Packets.{are_nodes}
 use Rattle.world.proofs.network.make_ready.Goals as goal
 

@@ -1,5 +1,4 @@
-use Rattle.std.proofs.Common.{rules, ◌≡◌, refl, ap, ◌∙◌}
-use Rattle.kahn_net.specs.Syntax.{network_of}
+use Rattle.std.proofs.Common.{refl}
 use Rattle.ckpt_store.specs.StoreView.{cell_in}
 use Rattle.node.specs.NodeOf.{view_of}
 use Rattle.protocol.specs.Node.Verdicts.{decide_prospect}

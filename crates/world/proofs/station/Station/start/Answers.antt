@@ -11,7 +11,7 @@ use Rattle.protocol.specs.declared.outcome.Refusal.TheVariants.{TooLarge}
 use Rattle.wire.specs.Traffic.{traffic_of}
 use Rattle.world.specs.WorldView.{station_view}
 use Rattle.world.proofs.Cells.{through, untouched}
-use Rattle.world.proofs.Planned.{own_traffic, seen_moved, turns_kept, undue_silent}
+use Rattle.world.proofs.Planned.{own_traffic, seen_moved, undue_silent}
 use Rattle.world.proofs.Ready.{start_declines, own_sent}
 use Rattle.world.proofs.station.Station.start.Goals as goal
 
