@@ -1,2 +1,3 @@
 mod Apart
+mod Deciding
 mod Seen
