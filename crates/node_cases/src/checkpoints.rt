@@ -1,5 +1,5 @@
-//! How a node begins a checkpoint and decides it. Both calls ask for what a run's own node always meets. A case's may not, so that
-//! is tested here first.
+//! How a node begins a checkpoint and decides it. Both calls ask for what a run's own node always meets. A case's may
+//! not, so that is tested here first.
 
 ghost use Rattle.std.specs.Prelude.{◌≡◌, ◌<◌, true, false, IfOk, IsTrue, Some, length, option_copied};
 ghost use Rattle.record.specs.declared.record.TheConstants.{MAX_DECISIONS};
@@ -102,7 +102,8 @@ fn may_be_decided(alloc: Global, node: &CaseNode) -> Result<bool, AllocError>
     }
 }
 
-/// Decides the checkpoint for which answers were collected. A node that is down isn't asked, since its record isn't known then.
+/// Decides the checkpoint for which answers were collected. A node that is down isn't asked, since its record isn't known
+/// then.
 pub fn decide(alloc: Global, node: &mut CaseNode, round: u64) -> anyhow::Result<Came> {
     let state = &node.state;
     if state.is_down() {

@@ -1,5 +1,5 @@
-//! How a packet is heard that comes to a node. The node's calls ask for what a run's own node always meets. A case's may not, so
-//! that is tested here first.
+//! How a packet is heard that comes to a node. The node's calls ask for what a run's own node always meets. A case's may
+//! not, so that is tested here first.
 
 ghost use Rattle.std.specs.Prelude.{◌≡◌, IsTrue, false, length};
 ghost use Rattle.kahn_net.specs.Nodes.{node_count};

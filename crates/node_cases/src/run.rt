@@ -22,8 +22,8 @@ use std::sync::Arc;
 /// The most packets of a row.
 const MAX_ROW: u64 = 10_000;
 
-/// A node with its network and inputs, what came of the jobs that it granted, in order, and what it sent in the last event of
-/// those that send.
+/// A node with its network and inputs, what came of the jobs that it granted, in order, and what it sent in the last event
+/// of those that send.
 #[derive(Drop)]
 pub struct Run {
     net: Arc<Net>,
