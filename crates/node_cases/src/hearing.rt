@@ -43,7 +43,9 @@ fn hear(
     net: &Net,
     packet: &Packet,
     round: u64,
-) -> anyhow::Result<Came> {
+) -> anyhow::Result<Came>
+    requires { is_down (view_of node.old).mode ≡ false }
+{
     anyhow::ensure!(
         is_for(node.number, net, packet),
         "it read what isn't for it"
